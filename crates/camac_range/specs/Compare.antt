@@ -1,0 +1,12 @@
+-- Comparisons of two numbers.
+use Rattle.std.specs.Prelude.{ℕ, Bool, not, nat_eq, nat_lt, nat_le}
+use Rattle.camac_range.specs.declared.comparison.Cmp.{Cmp}
+use Rattle.camac_range.specs.declared.comparison.Cmp.TheVariants.{Less, AtMost, More, AtLeast, Same, Differs}
+
+abbrev pub compared : Cmp → ℕ → ℕ → Bool
+compared Less v w = nat_lt v w
+compared AtMost v w = nat_le v w
+compared More v w = nat_lt w v
+compared AtLeast v w = nat_le w v
+compared Same v w = nat_eq v w
+compared Differs v w = not (nat_eq v w)
