@@ -3,10 +3,10 @@ use Rattle.std.proofs.Common.{◌≡◌, ℕ, zero, suc, ◌+◌, List, [], ◌�
 use Rattle.std.specs.Prelude.{min, drop}
 use Rattle.camac_branch.specs.Branch.{Answer}
 use Rattle.camac_model.specs.State.{State, missed_with, fresh}
-use Rattle.camac_model.specs.Behaviour.{Behaviour, does, ends, stops, Piece, pieces, reached, piece_cost, cost, without_x, piece_misses, misses}
+use Rattle.camac_model.specs.Behaviour.{piece_uses, uses, Behaviour, does, ends, stops, Piece, pieces, reached, piece_cost, cost, without_x, piece_misses, misses}
 use Rattle.camac_model.specs.Run.{service_meaning}
 use Rattle.camac_model.specs.Meaning.{context}
-use Rattle.camac_model.specs.Laws.{piece_uses, uses, ServicesCount}
+use Rattle.camac_model.specs.Laws.{ServicesCount}
 use Rattle.camac_model.proofs.Rules.{Meets}
 use Rattle.camac_model.proofs.Kept.{IsStepwise, script_keeps}
 

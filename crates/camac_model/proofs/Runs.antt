@@ -6,10 +6,10 @@ use Rattle.camac_lang.specs.Tree.{done, next, Script}
 use Rattle.camac_branch.specs.Branch.{pattern_of, Branch, Answer, start}
 use Rattle.camac_branch.specs.Plan.{Layout}
 use Rattle.camac_model.specs.State.{State, stepped, fresh}
-use Rattle.camac_model.specs.Behaviour.{Behaviour, does, ends, stops, Stop, short, overrun, wrong, more, then_do, reached, stop_of, Piece, pieces, item_of, items_in, event_in, events_in, event_left}
+use Rattle.camac_model.specs.Behaviour.{uses, Behaviour, does, ends, stops, Stop, short, overrun, wrong, more, then_do, reached, stop_of, Piece, pieces, item_of, items_in, event_in, events_in, event_left}
 use Rattle.camac_model.specs.Meaning.{effect, block_meaning, context}
 use Rattle.camac_model.specs.Run.{Chosen, service_for, service_meaning, event_of, serve, rounds, run}
-use Rattle.camac_model.specs.Laws.{ThenDoAssociates, BlocksCompose, longer, Extends, SameEnd, RunEnd, is_short, uses, EndsWith, TurnsSuffice, RunTurnsSuffice, AnswersExtend, RunAnswersExtend, RunsGoOn}
+use Rattle.camac_model.specs.Laws.{ThenDoAssociates, BlocksCompose, longer, Extends, SameEnd, RunEnd, is_short, EndsWith, TurnsSuffice, RunTurnsSuffice, AnswersExtend, RunAnswersExtend, RunsGoOn}
 use Rattle.camac_model.proofs.Extends.{Further}
 use Rattle.camac_model.proofs.Longer.{script_extends}
 use Rattle.camac_model.proofs.Counts.{services_count}

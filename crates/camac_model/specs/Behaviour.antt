@@ -137,3 +137,15 @@ piece_misses (event_left e) = 0
 abbrev pub misses : List Piece → ℕ
 misses [] = 0
 misses (p ∷ ps) = piece_misses p + misses ps
+
+-- how many answers a piece used
+abbrev pub piece_uses : Piece → ℕ
+piece_uses (demanded p v) = 1
+piece_uses (cycled at f d r w) = 1
+piece_uses (lock_taken c w) = 1
+piece_uses (lock_released c) = 0
+piece_uses (event_left e) = 0
+
+abbrev pub uses : List Piece → ℕ
+uses [] = 0
+uses (p ∷ ps) = piece_uses p + uses ps

@@ -5,7 +5,7 @@ use Rattle.camac_branch.specs.Branch.{Branch, Answer}
 use Rattle.camac_branch.specs.Plan.{Layout}
 use Rattle.camac_model.specs.State.{State, Variables}
 use Rattle.camac_model.specs.Value.{greatest, value}
-use Rattle.camac_model.specs.Behaviour.{Behaviour, does, ends, stops, Stop, short, overrun, wrong, more, Action, then_do, Piece, demanded, cycled, lock_taken, lock_released, event_left, pieces, items, events, Event, reached, stop_of, cost, without_x, misses}
+use Rattle.camac_model.specs.Behaviour.{Behaviour, does, ends, stops, Stop, short, overrun, wrong, more, Action, then_do, Piece, demanded, cycled, lock_taken, lock_released, event_left, pieces, items, events, Event, reached, stop_of, cost, without_x, misses, uses}
 use Rattle.camac_model.specs.Meaning.{Context, context, block_meaning}
 use Rattle.camac_model.specs.Run.{service_meaning, run}
 
@@ -107,18 +107,6 @@ abbrev pub RunsGoOn : Type 0
 RunsGoOn =
     (plan : Layout) (script : Script) (n : ℕ) (answers bs : List Answer)
     → BeginsWith (run n plan script answers) (run n plan script (answers ++ bs))
-
--- how many answers a piece used
-abbrev pub piece_uses : Piece → ℕ
-piece_uses (demanded p v) = 1
-piece_uses (cycled at f d r w) = 1
-piece_uses (lock_taken c w) = 1
-piece_uses (lock_released c) = 0
-piece_uses (event_left e) = 0
-
-abbrev pub uses : List Piece → ℕ
-uses [] = 0
-uses (p ∷ ps) = piece_uses p + uses ps
 
 -- what a service has counted, wherever it ends or stops, is what its pieces tell
 pub record CountsPieces (answers : List Answer) (o : Behaviour State) : Type 0 where

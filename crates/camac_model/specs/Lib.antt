@@ -6,6 +6,8 @@ pub mod Transfer
 pub mod Meaning
 pub mod Run
 pub mod Safe
+pub mod Moments
 pub mod Fine
+pub mod Headline
 pub mod Sample
 pub mod Laws
