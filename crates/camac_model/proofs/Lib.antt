@@ -10,3 +10,5 @@ pub mod Runs
 pub mod Locks
 pub mod Short
 pub mod Fine
+pub mod Rounds
+pub mod Services

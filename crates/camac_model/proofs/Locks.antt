@@ -26,8 +26,8 @@ use Rattle.camac_model.proofs.Contexts.{AllRoutines, script_block}
 use Rattle.camac_model.proofs.Rules.{Meets, then_meets, weaker, given_meets, decide_meets, unless_meets, cycle_meets, lock_meets, enter_meets, after_one, transfer_meets, turns_meet, counts_meet}
 
 -- each crate is locked in both or in neither
-record SameLocks (b d : Branch) : Type 0 where
-  at : (c : ℕ) → (d c).locked ≡ (b c).locked
+pub record SameLocks (b d : Branch) : Type 0 where
+  pub at : (c : ℕ) → (d c).locked ≡ (b c).locked
 
 same : (b : Branch) → SameLocks b b
 same b = record { at = λ c. refl }
@@ -47,7 +47,7 @@ effects_lock : (b : Branch) (c : ℕ) (o : Option ControllerOp) → SameLocks b 
 effects_lock b c None = same b
 effects_lock b c (Some op) = placed b c (record (b c) { bits = crate_state.effect op (b c).bits }) refl
 
-cycle_locks : (b : Branch) (at : Address) (f : ℕ) → SameLocks b (branch_after at f b)
+pub cycle_locks : (b : Branch) (at : Address) (f : ℕ) → SameLocks b (branch_after at f b)
 cycle_locks b at f = effects_lock b at.crate_no (controller at.station at.sub_address f)
 
 -- a crate that was free, locked for a while and released

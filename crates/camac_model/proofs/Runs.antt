@@ -63,12 +63,12 @@ pub answers_extend : AnswersExtend
 answers_extend plan script n bs b s = script_extends is_short n n bs (more_answers n bs) plan script b s
 
 -- what holds where a behaviour ends or stops holds where it ends
-where_reached : (Q : State → Type 0) (b : Behaviour State) → Q (reached b) → EndsWith Q b
+pub where_reached : (Q : State → Type 0) (b : Behaviour State) → Q (reached b) → EndsWith Q b
 where_reached Q (does p b) q = where_reached Q b q
 where_reached Q (ends s) q = q
 where_reached Q (stops w s) q = tt
 
-drop_length : (k : ℕ) (l : List Answer) → length (drop k l) ≤ length l
+pub drop_length : (k : ℕ) (l : List Answer) → length (drop k l) ≤ length l
 drop_length zero l = omega arith
 drop_length (suc k) [] = omega arith
 drop_length (suc k) (a ∷ l) = let h = drop_length k l in omega arith

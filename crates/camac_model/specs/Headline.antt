@@ -4,7 +4,7 @@ use Rattle.camac_lang.specs.Tree.{Service, Script}
 use Rattle.camac_branch.specs.Branch.{Answer}
 use Rattle.camac_branch.specs.Plan.{Layout}
 use Rattle.camac_model.specs.State.{State}
-use Rattle.camac_model.specs.Behaviour.{Piece, demanded, cycled, lock_taken, lock_released, event_left, piece_uses, Stop, short, overrun, wrong, more, pieces}
+use Rattle.camac_model.specs.Behaviour.{Event, Piece, demanded, cycled, lock_taken, lock_released, event_left, piece_uses, Stop, short, overrun, wrong, more, pieces}
 use Rattle.camac_model.specs.Value.{greatest}
 use Rattle.camac_model.specs.Run.{run, the_run}
 use Rattle.camac_model.specs.Safe.{IsSafePiece}
@@ -59,10 +59,15 @@ pub record WordsFit (words : List ℕ) (k : Bounds) (g : Progress) : Type 0 wher
 abbrev pub CostFits : Bounds → Progress → Type 0
 CostFits k g = g.cost ≤ k.cycles
 
--- its cost is what its cycles and locks have cost, and its steps fit
+-- the cycles that an event tells are what its service has cost
+pub record EventCost (e : Event) (k : Bounds) (g : Progress) : Type 0 where
+  pub counted : e.cycles ≡ g.cost
+  pub most : g.cost ≤ k.cycles
+
+-- where it stopped, a service counts what it has cost, and its steps fit
 pub record StepsFit (s : State) (k : Bounds) (g : Progress) : Type 0 where
-  pub cost : g.cost ≤ k.cycles
   pub counted : s.cycles ≡ g.cost
+  pub most : g.cost ≤ k.cycles
   pub steps : s.steps ≤ k.steps
 
 abbrev pub FewAnswers : Bounds → Progress → Type 0
@@ -76,13 +81,13 @@ EventFits ks m (lock_taken c w) = Unit {0}
 EventFits ks m (lock_released c) = Unit {0}
 EventFits ks m (event_left e) = InService ks m (WordsFit e.words)
 
--- cost within bounds: after each cycle and each lock of a service, and at a stop; steps at a stop
+-- cost within bounds: after each piece of a service, and in its event; cost and steps at a stop
 abbrev pub CostStays : List Bounds → Moment → Piece → Type 0
 CostStays ks m (demanded p v) = Unit {0}
 CostStays ks m (cycled at f d r w) = InService ks (moment_after m (cycled at f d r w)) CostFits
 CostStays ks m (lock_taken c w) = InService ks (moment_after m (lock_taken c w)) CostFits
-CostStays ks m (lock_released c) = InService ks m CostFits
-CostStays ks m (event_left e) = InService ks m CostFits
+CostStays ks m (lock_released c) = InService ks (moment_after m (lock_released c)) CostFits
+CostStays ks m (event_left e) = InService ks m (EventCost e)
 
 -- short only of answers: fewer of them followed the demand of the service than the steps that bound it, and none is left
 abbrev pub IsShortOfAnswers : List Bounds → Moment → Stop → State → Type 0
