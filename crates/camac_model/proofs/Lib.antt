@@ -12,3 +12,4 @@ pub mod Short
 pub mod Fine
 pub mod Rounds
 pub mod Services
+pub mod Headline

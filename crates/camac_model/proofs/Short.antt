@@ -45,7 +45,7 @@ module _ (total : ℕ) where
   Ready s = total < length s.answers + s.steps
 
   abbrev AtStop : Unit {0} → Stop → State → Type 0
-  AtStop x short s = total < s.steps
+  AtStop x short s = (total < s.steps) × (s.answers ≡ [])
   AtStop x (overrun c w) s = Unit {0}
   AtStop x wrong s = Unit {0}
   AtStop x more s = Unit {0}
@@ -62,8 +62,8 @@ module _ (total : ℕ) where
   spent_step : (s : State) → Spent s → Ready (stepped s)
   spent_step s h = omega (arith, h)
 
-  at_short : (s : State) → Ready s → s.answers ≡ [] → total < s.steps
-  at_short s h e = let l : length s.answers ≡ 0 = ap length e in omega (arith, h, l)
+  at_short : (s : State) → Ready s → s.answers ≡ [] → (total < s.steps) × (s.answers ≡ [])
+  at_short s h e = (let l : length s.answers ≡ 0 = ap length e in omega (arith, h, l), e)
 
   -- one answer is used
   spend_one : (s t : State) (a : Answer) → Ready s → s.answers ≡ a ∷ t.answers → t.steps ≡ s.steps → Spent t

@@ -158,16 +158,16 @@ EndsWith Q (does p b) = EndsWith Q b
 EndsWith Q (ends s) = Q s
 EndsWith Q (stops w s) = Unit {0}
 
--- where it is short of answers, it began with fewer than it has made steps
+-- where it is short, no answer is left, and it began with fewer than it has made steps
 abbrev pub ShortOnlyOf : List Answer → Behaviour State → Type 0
 ShortOnlyOf answers (does p b) = ShortOnlyOf answers b
 ShortOnlyOf answers (ends s) = Unit {0}
-ShortOnlyOf answers (stops short s) = length answers < s.steps
+ShortOnlyOf answers (stops short s) = (length answers < s.steps) × (s.answers ≡ [])
 ShortOnlyOf answers (stops (overrun c w) s) = Unit {0}
 ShortOnlyOf answers (stops wrong s) = Unit {0}
 ShortOnlyOf answers (stops more s) = Unit {0}
 
--- a service is short only where there were fewer answers than its steps
+-- a service is short only where there were fewer answers than its steps, and none is left
 abbrev pub ServicesShort : Type 0
 ServicesShort =
     (plan : Layout) (script : Script) (n : ℕ) (v : Service) (b : Branch) (answers : List Answer)
