@@ -8,7 +8,7 @@ use bitflags::{Flag, Flags, bitflag_items};
 use camac_word::Word24;
 use std::marker::Model;
 
-// The two bits as a set.
+// The bits as a set. It stands inside `CrateState`, since a set of flags may hold other bits, and the state of a crate has none.
 #[derive(Clone, Copy, Debug, PartialEq, Eq)]
 struct BitSet(u8);
 
@@ -41,7 +41,7 @@ impl Flags for BitSet {
     }
 }
 
-/// The state of a crate: the common control I (inhibit), and whether its demand output is enabled (EUR 4100, IEEE 583; the demand output own).
+/// The state of a crate: the common control I, inhibit (EUR 4100, IEEE 583), and whether its demand output is enabled (own).
 #[derive(Clone, Copy, Debug, PartialEq, Eq)]
 pub struct CrateState {
     bits: BitSet,
