@@ -1,6 +1,6 @@
 -- The branch: the state of its crates, what a command replies, and the pattern of a graded-L operation.
 use Rattle.std.specs.Prelude.{ℕ, suc, List, [], ◌∷◌, Option, Some, None, Bool, true, false, nat_eq, bit_and, bit_or, if◌then◌else◌}
-use Rattle.camac_crate.specs.declared.controller.ControllerOp.{ControllerOp}
+use Rattle.camac_crate.specs.declared.command.ControllerOp.{ControllerOp}
 use Rattle.camac_crate.specs.Controller.{controller}
 use Rattle.camac_crate.specs.State.{CrateBits, start_bits, reply_word, reply_q, effect}
 use Rattle.camac_branch.specs.Address.{Address}
@@ -41,7 +41,7 @@ with_lock c l b = with_crate c (record (b c) { locked = l }) b
 
 -- the reply to a controller command, which is always accepted (own)
 abbrev pub controller_reply : ControllerOp → CrateBits → ℕ → Reply
-controller_reply op k gl = record { x = true; q = reply_q op k gl; word = reply_word op gl }
+controller_reply op k gl = record { x = true; q = reply_q op k gl; word = reply_word op k gl }
 
 -- the reply of crate c: a controller's, by the graded-L bits of the crate's own stations; else that of a module
 abbrev pub reply_in : Layout → Branch → ℕ → Option ControllerOp → Answer → Reply

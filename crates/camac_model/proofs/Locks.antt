@@ -9,7 +9,7 @@ use Rattle.camac_func.specs.declared.data.DataMove.{DataMove}
 use Rattle.camac_func.specs.declared.data.DataMove.TheVariants as moved
 use Rattle.camac_branch.specs.Address.{Address, address}
 use Rattle.camac_branch.specs.Allowed.{width}
-use Rattle.camac_crate.specs.declared.controller.ControllerOp.{ControllerOp}
+use Rattle.camac_crate.specs.declared.command.ControllerOp.{ControllerOp}
 use Rattle.camac_crate.specs.Controller.{controller}
 use Rattle.camac_crate.specs.State as crate_state
 use Rattle.camac_branch.specs.Branch.{Branch, CrateNow, Reply, effect_in, branch_after, with_crate, with_lock, reply_to}
