@@ -1,6 +1,7 @@
 -- The commands that a plan allows, and their widths.
-use Rattle.std.specs.Prelude.{ℕ, ◌+◌, ◌-◌, map, Option, Some, None, option_map, option_and_then, option_or, unwrap_or}
+use Rattle.std.specs.Prelude.{ℕ, ◌+◌, ◌-◌, map, Option, Some, None, option_map, option_and_then, unwrap_or}
 use Rattle.std.specs.List.{range_with_len}
+use Rattle.std.specs.Option.{option_or}
 use Rattle.camac_module.specs.Commands.{least_and_greatest}
 use Rattle.camac_crate.specs.Controller.{controller}
 use Rattle.camac_branch.specs.Address.{Address, address}

@@ -36,13 +36,13 @@ pub(crate) fn at_number(stations: &[Option<Installed>], number: usize) -> Option
 }
 
 // Whether a station of the crate has the GL bit.
-pub(crate) fn crate_has_bit(stations: &[Option<Installed>], bit: GlBit) -> bool
+fn crate_has_bit(stations: &[Option<Installed>], bit: u32) -> bool
     ensures { result ≡ list_any (has_bit bit) stations.now }
 {
     'stations: for station in stations {
         if let Some(s) = station {
             if let Some(b) = s.gl {
-                if b.get() == bit.get() {
+                if b.get() == bit {
                     return true;
                 }
             }
@@ -52,7 +52,7 @@ pub(crate) fn crate_has_bit(stations: &[Option<Installed>], bit: GlBit) -> bool
 }
 
 // Whether a station of the crates has the GL bit.
-pub(crate) fn uses_bit(crates: &[Option<Crate>], bit: GlBit) -> bool
+fn uses_bit(crates: &[Option<Crate>], bit: u32) -> bool
     ensures { result ≡ list_any (crate_has_bit bit) crates.now }
 {
     'crates: for k in crates {
@@ -71,7 +71,7 @@ pub(crate) fn is_in_use(crates: &[Option<Crate>], gl: &Option<GlBit>) -> bool
     ensures in_range { (b : ℕ) → gl.now ≡ Some b → (1 ≤ b) × (b ≤ 24) }
 {
     match gl {
-        Some(bit) => uses_bit(crates, *bit),
+        Some(bit) => uses_bit(crates, bit.get()),
         None => false,
     }
 }
@@ -124,4 +124,13 @@ pub(crate) fn copied_types(alloc: Global, types: &[Kind]) -> Result<Vec<Kind>, A
         })?;
     }
     Ok(copy)
+}
+
+// The same crates, once more.
+pub(crate) fn copied_crates(crates: &[Option<Crate>; 7]) -> [Option<Crate>; 7]
+    ensures { result ≡ crates.now }
+{
+    let mut copy = [None; 7];
+    copy.copy_from_slice(crates);
+    copy
 }
