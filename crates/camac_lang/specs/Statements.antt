@@ -1,7 +1,7 @@
 -- Which statements may stand in a body, and how many there are.
-use Rattle.std.specs.Prelude.{ℕ, ◌+◌, suc, max, List, ◌∷◌, Option, Some, None, Bool, true, false, not, ◌&&◌, nat_eq, nat_lt, nat_le, length, map, slice_get, option_and_then}
+use Rattle.std.specs.Prelude.{ℕ, ◌+◌, suc, max, List, ◌∷◌, Option, Some, None, Bool, true, not, ◌&&◌, nat_eq, nat_lt, nat_le, length, map, slice_get, option_and_then}
 use Rattle.camac_lang.specs.Expressions.{Scope, expression_fits, condition_fits}
-use Rattle.camac_lang.specs.Tests.{each, has, are_distinct, is_number, is_function}
+use Rattle.camac_lang.specs.Tests.{each, has, unless_broken, are_distinct, is_number, is_function}
 use Rattle.camac_lang.specs.Tree.{Move, no_data, into, from, Keep, Statement, assign, set_register, single, address_scan, q_stop, q_repeat, put, crate_call, lam_call, choose, choose_else, count, repeat, locked, call, Block, done, next}
 
 -- kept variables are distinct, and not the loop's own
@@ -18,11 +18,6 @@ abbrev pub move_fits : Scope → Move → Bool
 move_fits c no_data = true
 move_fits c (into x) = nat_lt x c.variables
 move_fits c (from e) = expression_fits c e
-
--- so many, unless a rule is broken
-abbrev pub unless_broken : Bool → ℕ → Option ℕ
-unless_broken true seen = Some seen
-unless_broken false seen = None
 
 -- the number of registers that are declared after a statement, where so many are before it; none where a rule is broken
 abbrev mutual

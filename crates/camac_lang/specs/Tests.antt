@@ -11,6 +11,11 @@ abbrev pub has : {A : Type 0} → Option A → (A → Bool) → Bool
 has None test = false
 has (Some a) test = test a
 
+-- a value, unless a rule is broken
+abbrev pub unless_broken : {A : Type 0} → Bool → A → Option A
+unless_broken true a = Some a
+unless_broken false a = None
+
 abbrev pub total : {A : Type 0} → (A → ℕ) → List A → ℕ
 total f [] = 0
 total f (a ∷ rest) = f a + total f rest
