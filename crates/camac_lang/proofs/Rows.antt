@@ -1,19 +1,17 @@
 -- Scripts that are well formed, and scripts that break one rule, by computation.
 use Rattle.std.proofs.Common.{◌≡◌, ℕ, zero, suc, List, [], ◌∷◌, Some, refl, Bool, true, false}
-use Rattle.std.specs.Prelude.{codes, replicate}
+use Rattle.std.specs.Prelude.{codes, replicate, IsTrue}
+use Rattle.camac_lang.specs.Example.{adc, adc_service, straight_line}
 use Rattle.camac_lang.specs.declared.word.WordSize.TheVariants.{Full}
 use Rattle.camac_lang.specs.declared.word.LamCall.TheVariants.{Clear}
 use Rattle.camac_lang.specs.Scope.{is_well_formed}
 use Rattle.camac_lang.specs.Tree.{Text, Expression, number, variable, group, add, subtract, multiply, divide, plain, flag_q, into, Statement, done, assign, set_register, single, q_stop, put, lam_call, choose, count, repeat, locked, call, Table, Lam, Procedure, Service, Item, next_table, next_lam, next_variables, next_procedure, next_service, Script}
 use Rattle.camac_lang.specs.View.{block_of}
 
--- the standard opening: a LAM and the variables v and k
-abbrev adc : Lam
-adc = record { line = 1; name = codes "adc"; crate_no = 1; station = 5; sub_address = 12 }
-
 abbrev served : List Text → List Statement → Service
-served registers ss = record { line = 3; lam = 0; cycles = 3; words = 1; registers = registers; body = block_of ss }
+served registers ss = record adc_service { registers = registers; body = block_of ss }
 
+-- a script of the opening of the standard example, with one more variable
 abbrev script : List Text → List Procedure → List Item → List Statement → Script
 script registers procedures items ss = record {
   order = next_lam ∷ next_variables 2 2 ∷ items;
@@ -33,10 +31,10 @@ read = single 5 Full 0 0 (into 0)
 abbrev set : ℕ → Statement
 set r = set_register 4 r (number 1) (number 5) (number 0)
 
--- the script of the standard example
-straight_line : fits (codes "r" ∷ []) (set 0 ∷ read ∷ put 6 (variable 0) ∷ []) ≡ true
+-- the standard example
+pub example_stands : IsTrue (is_well_formed straight_line)
 unfolding is_well_formed
-straight_line = refl
+example_stands = refl
 
 -- a register before its first `cdreg`, one too many and one too few; one named like a variable, one twice
 not_set : fits (codes "r" ∷ []) (read ∷ set 0 ∷ []) ≡ false
