@@ -1,3 +1,10 @@
+mod StraightRows
+mod TransferRows
+mod ControlRows
+mod ControllerRows
+mod DemandRows
+mod LockRows
+mod ProcedureRows
 pub mod Values
 pub mod Contexts
 pub mod Extends
