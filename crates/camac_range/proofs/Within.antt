@@ -1,15 +1,15 @@
 -- Numbers in the intervals that operators, meets, hulls and comparisons give.
-use Rattle.std.proofs.Common.{rules, ◌≡◌, ℕ, ◌+◌, ◌-◌, ◌<◌, ◌≤◌, Bool, true, cond, sym, ◌∙◌, subst, arith, Option, Some, None}
+use Rattle.std.proofs.Common.{rules, ◌≡◌, ℕ, ◌+◌, ◌-◌, ◌<◌, ◌≤◌, true, cond, sym, ◌∙◌, subst, arith, Option, Some, None}
 use Rattle.std.specs.Prelude.{nat_eq}
 use Rattle.std.proofs.lemmas.Bool.{and_parts, leb-true, ltb-true, eqb-true, eqb-false, not-true, cond_both}
 use Rattle.camac_range.specs.declared.comparison.Cmp.{Cmp}
 use Rattle.camac_range.specs.declared.comparison.Cmp.TheVariants.{Less, AtMost, More, AtLeast, Same, Differs}
-use Rattle.camac_range.specs.Compare.{compared, opposite, turned}
+use Rattle.camac_range.specs.Compare.{compared}
 use Rattle.camac_range.specs.Number.{greatest, sum_of, difference_of, product_of, quotient_of, rest_of}
 use Rattle.camac_range.specs.Interval.{Interval, interval, only, IsWithin, is_inside, meet, hull}
 use Rattle.camac_range.specs.Operators.{add, sub, mul, div, rem}
 use Rattle.camac_range.specs.Narrow.{below, above, without, narrow}
-use Rattle.camac_range.specs.Laws.{HasNumber, IsLeft, IsAround, IsInBoth, Operator, IsValueWithin, ContainsValues, IsExact, ContainsRests, SumsAreExact, DifferencesAreExact, MeetIsWhatIsInBoth, OppositeIsNot, TurnedIsSwapped}
+use Rattle.camac_range.specs.Laws.{HasNumber, IsLeft, IsInBoth, Operator, IsValueWithin, ContainsValues, IsExact, ContainsRests, SumsAreExact, DifferencesAreExact, MeetIsWhatIsInBoth, OppositeIsNot, TurnedIsSwapped}
 use Rattle.camac_range.proofs.Products.{products_exact}
 use Rattle.camac_range.proofs.Quotients.{quotients_exact, rests_contained}
 
