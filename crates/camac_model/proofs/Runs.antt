@@ -89,7 +89,7 @@ module _ (open' : Stop → Bool) (n m : ℕ) (bs : List Answer) (k : Further ope
     at_end : (j : ℕ) (b : Branch) → RunEnd bs tt (rounds j (context plan script) m script.services b bs)
     at_end j b e = ap (rounds j (context plan script) m script.services b) e ∙ no_round j b
 
-    rounds_extend : (i j : ℕ) (answers : List Answer) (b : Branch) → length answers ≤ i → length (answers ++ bs) ≤ j → Extends (RunEnd bs) open' bs (rounds i (context plan script) n script.services b answers) (rounds j (context plan script) m script.services b (answers ++ bs))
+    pub rounds_extend : (i j : ℕ) (answers : List Answer) (b : Branch) → length answers ≤ i → length (answers ++ bs) ≤ j → Extends (RunEnd bs) open' bs (rounds i (context plan script) n script.services b answers) (rounds j (context plan script) m script.services b (answers ++ bs))
     rounds_extend zero j [] b le le' = at_end j b
     rounds_extend zero j (a ∷ rest) b le le' = absurd (omega arith)
     rounds_extend (suc i) j [] b le le' = at_end j b
