@@ -1,20 +1,20 @@
 -- How many answers a run uses, and that further rounds change nothing.
-use Rattle.std.proofs.Common.{◌≡◌, ℕ, zero, suc, ◌+◌, ◌≤◌, List, [], ◌∷◌, length, Option, Some, None, Bool, true, false, refl, sym, ◌∙◌, ap, subst, arith}
+use Rattle.std.proofs.Common.{◌≡◌, ℕ, ◌+◌, ◌≤◌, List, [], ◌∷◌, length, Some, None, false, refl, sym, ◌∙◌, ap, subst, arith}
 use Rattle.std.proofs.lemmas.List.{append-nil}
 use Rattle.std.specs.Prelude.{slice_get}
 use Rattle.camac_lang.specs.Tree.{Script}
 use Rattle.camac_branch.specs.Branch.{Branch, Answer, start}
 use Rattle.camac_branch.specs.Plan.{Layout}
 use Rattle.camac_model.specs.State.{State, fresh}
-use Rattle.camac_model.specs.Behaviour.{Piece, demanded, event_left, piece_uses, uses, Behaviour, does, ends, stops, Stop, stop_of, pieces}
+use Rattle.camac_model.specs.Behaviour.{demanded, event_left, piece_uses, Behaviour, does, ends, stops, Stop, stop_of, pieces}
 use Rattle.camac_model.specs.Meaning.{context}
 use Rattle.camac_model.specs.Run.{Chosen, event_of, service_meaning, rounds, run}
-use Rattle.camac_model.specs.Laws.{Extends, RunEnd, UsesAnswers, RunsUseAnswers, RoundsSuffice}
+use Rattle.camac_model.specs.Laws.{Extends, RunEnd, RunsUseAnswers, RoundsSuffice}
 use Rattle.camac_model.proofs.Rules.{Meets}
 use Rattle.camac_model.proofs.Kept.{Still, script_keeps}
 use Rattle.camac_model.proofs.Counts.{adding, AnyPiece, sum_of, Whole, whole_stepwise, all_uses}
 use Rattle.camac_model.proofs.Extends.{Further}
-use Rattle.camac_model.proofs.Rounds.{meets_mapped, AtRunEnd, rounds_meet}
+use Rattle.camac_model.proofs.Rounds.{meets_mapped, rounds_meet}
 use Rattle.camac_model.proofs.Runs.{rounds_extend}
 
 module _ (plan : Layout) (script : Script) (n total : ℕ) where
@@ -41,11 +41,13 @@ module _ (plan : Layout) (script : Script) (n total : ℕ) where
   served x a rest p v b listed e =
       let o : Behaviour State = service_meaning (context plan script) n v.service b rest in
       let before : (x + 1) + length rest ≡ total = omega (arith, e) in
-      let from_zero : (x + 1) + 0 ≡ x + 1 = omega arith in
-      (tt, meets_mapped (adding piece_uses) AnyPiece AtStop AnyPiece AtStop (λ z s. Left z s.answers) (λ y s. AnyPiece y (event_left (event_of v.bit s)) × Left (y + 0) s.answers)
-      (λ y q h. tt) (λ y w s h. h) (λ y s h. (tt, omega (arith, h))) (x + 1) o
-      (subst (λ z. Meets (adding piece_uses) AnyPiece AtStop (λ y s. Left y s.answers) z o) from_zero
-      (further (x + 1) rest before 0 o (script_keeps (adding piece_uses) AnyPiece (Whole rest) (whole_stepwise rest) plan script v.service.body n 0 (fresh b rest) (omega arith)))))
+      let from_zero : (x + 1) + 0 ≡ x + 1 = omega arith in (
+        tt,
+        meets_mapped (adding piece_uses) AnyPiece AtStop AnyPiece AtStop (λ z s. Left z s.answers) (λ y s. AnyPiece y (event_left (event_of v.bit s)) × Left (y + 0) s.answers)
+            (λ y q h. tt) (λ y w s h. h) (λ y s h. (tt, omega (arith, h))) (x + 1) o
+            (subst (λ z. Meets (adding piece_uses) AnyPiece AtStop (λ y s. Left y s.answers) z o) from_zero
+            (further (x + 1) rest before 0 o (script_keeps (adding piece_uses) AnyPiece (Whole rest) (whole_stepwise rest) plan script v.service.body n 0 (fresh b rest) (omega arith)))),
+      )
 
   used : (x : ℕ) (b : Behaviour (Unit {0})) → Meets (adding piece_uses) AnyPiece AtStop (λ y u. Left y []) x b → (x + sum_of piece_uses (pieces b) ≤ total) × (stop_of b ≡ None → x + sum_of piece_uses (pieces b) ≡ total)
   used x (does p b) h = let g = used (x + piece_uses p) b h.1 in ((let le = g.0 in omega arith), λ e. (let all = g.1 e in omega arith))

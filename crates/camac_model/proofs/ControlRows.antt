@@ -1,23 +1,17 @@
 -- Worked rows: loops and conditions.
-use Rattle.std.proofs.Common.{◌≡◌, ℕ, zero, suc, List, [], ◌∷◌, Option, Some, None, Bool, true, false, refl}
-use Rattle.std.specs.Prelude.{codes, option_map}
+use Rattle.std.proofs.Common.{◌≡◌, ℕ, zero, suc, List, [], ◌∷◌, Some, None, true, false, refl}
+use Rattle.std.specs.Prelude.{option_map}
 use Rattle.camac_func.specs.declared.data.DataMove.TheVariants as moved
 use Rattle.camac_range.specs.declared.comparison.Cmp.TheVariants.{More, Less, Same}
-use Rattle.camac_lang.specs.declared.word.WordSize.TheVariants.{Full, Short}
-use Rattle.camac_lang.specs.declared.word.CrateCall.TheVariants as crate_word
+use Rattle.camac_lang.specs.declared.word.WordSize.TheVariants.{Full}
 use Rattle.camac_lang.specs.declared.word.LamCall.TheVariants as lam_word
-use Rattle.camac_lang.specs.Tree.{Text, Expression, plain, negated, compare, flag_q, flag_x, add, subtract, multiply, divide, remainder, number, variable, group, no_data, into, from, Keep, Statement, assign, set_register, single, address_scan, q_stop, q_repeat, put, crate_call, lam_call, choose, choose_else, count, repeat, locked, call, Table, Procedure, Script, Lam, Service, next_lam, next_variables, next_service, next_procedure, next_table}
+use Rattle.camac_lang.specs.Tree.{Expression, plain, negated, compare, flag_q, flag_x, add, subtract, divide, remainder, number, variable, group, no_data, into, assign, set_register, single, put, lam_call, choose, count, repeat, Script}
 use Rattle.camac_lang.specs.View.{block_of}
 use Rattle.camac_lang.specs.Scope.{is_well_formed}
-use Rattle.camac_branch.specs.declared.plan.Crate.{Crate}
-use Rattle.camac_branch.specs.declared.plan.Installed.{Installed}
-use Rattle.camac_branch.specs.Address.{address}
-use Rattle.camac_branch.specs.Branch.{Answer, Reply}
-use Rattle.camac_branch.specs.Plan.{Layout}
-use Rattle.camac_model.specs.State.{State}
-use Rattle.camac_model.specs.Behaviour.{Behaviour, stop_of, items, events, Piece, demanded, cycled, lock_taken, lock_released, event_left, short, overrun, wrong, more}
-use Rattle.camac_model.specs.Run.{run, the_run}
-use Rattle.camac_model.specs.Sample.{times, gap, adc, reg, sample_plan, script_of, opening, v, k, i, t, with_r, with_r_s, r, s, register, script, answer, demand, good, busy, reply, cycle_at, event, called, doing, served, left_by}
+use Rattle.camac_branch.specs.Branch.{Answer}
+use Rattle.camac_model.specs.Behaviour.{stop_of, events, event_left, short, wrong, more}
+use Rattle.camac_model.specs.Run.{run}
+use Rattle.camac_model.specs.Sample.{sample_plan, v, k, i, with_r, r, register, script, answer, demand, good, busy, reply, cycle_at, event, called, doing, served, left_by}
 
 -- poll-loop: Q always 0, and 1 at once
 abbrev poll : Script
@@ -51,8 +45,8 @@ unfolding is_well_formed
 sweep_stands = refl
 
 sweep_run :
-  served sweep (good 2)
-  ≡ doing (called ∷ cycle_at 5 0 0 moved.In (reply true true 2) 0 ∷ cycle_at 6 0 0 moved.In (reply true true 1) 0 ∷ event_left (event 3 2 0 (6 ∷ [])) ∷ [])
+    served sweep (good 2)
+    ≡ doing (called ∷ cycle_at 5 0 0 moved.In (reply true true 2) 0 ∷ cycle_at 6 0 0 moved.In (reply true true 1) 0 ∷ event_left (event 3 2 0 (6 ∷ [])) ∷ [])
 sweep_run = refl
 
 -- empty-for: no turn, and the variable stays
@@ -112,6 +106,10 @@ silent (suc n) = answer false false 0 0 0 ∷ silent n
 
 abbrev missing : Script
 missing = script 196608 0 [] (count 4 i (number 1) (number 65535) [] (block_of (lam_call 4 lam_word.Clear 0 ∷ [])) ∷ lam_call 4 lam_word.Clear 0 ∷ [])
+
+missing_stands : is_well_formed missing ≡ true
+unfolding is_well_formed
+missing_stands = refl
 
 missed_stays : events (served missing (silent 65536)) ≡ event 3 65536 65535 [] ∷ []
 missed_stays = refl

@@ -1,23 +1,13 @@
 -- Worked rows: controller commands and LAM calls.
-use Rattle.std.proofs.Common.{◌≡◌, ℕ, zero, suc, List, [], ◌∷◌, Option, Some, None, Bool, true, false, refl}
-use Rattle.std.specs.Prelude.{codes, option_map}
+use Rattle.std.proofs.Common.{◌≡◌, [], ◌∷◌, true, false, refl}
 use Rattle.camac_func.specs.declared.data.DataMove.TheVariants as moved
-use Rattle.camac_range.specs.declared.comparison.Cmp.TheVariants.{More, Less, Same}
-use Rattle.camac_lang.specs.declared.word.WordSize.TheVariants.{Full, Short}
+use Rattle.camac_lang.specs.declared.word.WordSize.TheVariants.{Full}
 use Rattle.camac_lang.specs.declared.word.CrateCall.TheVariants as crate_word
 use Rattle.camac_lang.specs.declared.word.LamCall.TheVariants as lam_word
-use Rattle.camac_lang.specs.Tree.{Text, plain, negated, compare, flag_q, flag_x, add, subtract, multiply, divide, remainder, number, variable, group, no_data, into, from, Keep, Statement, assign, set_register, single, address_scan, q_stop, q_repeat, put, crate_call, lam_call, choose, choose_else, count, repeat, locked, call, Table, Procedure, Script, Lam, Service, next_lam, next_variables, next_service, next_procedure, next_table}
-use Rattle.camac_lang.specs.View.{block_of}
+use Rattle.camac_lang.specs.Tree.{number, into, single, crate_call, lam_call, Script}
 use Rattle.camac_lang.specs.Scope.{is_well_formed}
-use Rattle.camac_branch.specs.declared.plan.Crate.{Crate}
-use Rattle.camac_branch.specs.declared.plan.Installed.{Installed}
-use Rattle.camac_branch.specs.Address.{address}
-use Rattle.camac_branch.specs.Branch.{Answer, Reply}
-use Rattle.camac_branch.specs.Plan.{Layout}
-use Rattle.camac_model.specs.State.{State}
-use Rattle.camac_model.specs.Behaviour.{Behaviour, stop_of, items, events, Piece, demanded, cycled, lock_taken, lock_released, event_left, short, overrun, wrong, more}
-use Rattle.camac_model.specs.Run.{run, the_run}
-use Rattle.camac_model.specs.Sample.{times, gap, adc, reg, sample_plan, script_of, opening, v, k, i, t, with_r, with_r_s, r, s, register, script, answer, demand, good, busy, reply, cycle_at, event, called, doing, served, left_by}
+use Rattle.camac_model.specs.Behaviour.{items, event_left}
+use Rattle.camac_model.specs.Sample.{times, v, with_r, r, register, script, answer, demand, busy, reply, cycle_at, event, called, doing, served}
 
 -- read-gl: the bits of the crate's own stations
 abbrev read_gl : Script
@@ -50,8 +40,8 @@ unfolding is_well_formed
 lam_calls_stand = refl
 
 lam_calls_run :
-  served lam_calls (answer true true 7 0 0 ∷ answer false true 0 2 0 ∷ answer true true 0 0 0 ∷ answer true false 0 0 0 ∷ [])
-  ≡ doing (called ∷ cycle_at 5 12 24 moved.None (reply true true 7) 0 ∷ cycle_at 5 12 8 moved.None (reply false true 0) 2 ∷ cycle_at 5 12 10 moved.None (reply true true 0) 0 ∷ cycle_at 5 12 26 moved.None (reply true false 0) 0 ∷ event_left (event 3 6 1 []) ∷ [])
+    served lam_calls (answer true true 7 0 0 ∷ answer false true 0 2 0 ∷ answer true true 0 0 0 ∷ answer true false 0 0 0 ∷ [])
+    ≡ doing (called ∷ cycle_at 5 12 24 moved.None (reply true true 7) 0 ∷ cycle_at 5 12 8 moved.None (reply false true 0) 2 ∷ cycle_at 5 12 10 moved.None (reply true true 0) 0 ∷ cycle_at 5 12 26 moved.None (reply true false 0) 0 ∷ event_left (event 3 6 1 []) ∷ [])
 lam_calls_run = refl
 
 -- a demand is present whether or not the demand output is enabled; I is removed; the demand output is enabled again
@@ -61,13 +51,17 @@ tests =
     crate_call 4 crate_word.Clear (number 1) ∷ crate_call 4 crate_word.TestInhibit (number 1) ∷ crate_call 4 crate_word.InhibitOff (number 1) ∷ crate_call 4 crate_word.TestInhibit (number 1) ∷
     crate_call 4 crate_word.DemandOn (number 1) ∷ crate_call 4 crate_word.TestDemandOutput (number 1) ∷ [])
 
+tests_stands : is_well_formed tests ≡ true
+unfolding is_well_formed
+tests_stands = refl
+
 tests_items : items (served tests (answer false true 9 0 4 ∷ answer false true 9 0 4 ∷ answer false true 9 0 3 ∷ times 6 (demand 0) []))
-  ≡ called ∷ cycle_at 28 8 26 moved.None (reply true false 0) 0 ∷ cycle_at 30 11 27 moved.None (reply true true 0) 0 ∷ cycle_at 30 11 27 moved.None (reply true false 0) 0
-  ∷ cycle_at 28 9 26 moved.None (reply true false 0) 0 ∷ cycle_at 30 9 27 moved.None (reply true true 0) 0 ∷ cycle_at 30 9 24 moved.None (reply true false 0) 0
-  ∷ cycle_at 30 9 27 moved.None (reply true false 0) 0 ∷ cycle_at 30 10 26 moved.None (reply true false 0) 0 ∷ cycle_at 30 10 27 moved.None (reply true true 0) 0 ∷ []
+    ≡ called ∷ cycle_at 28 8 26 moved.None (reply true false 0) 0 ∷ cycle_at 30 11 27 moved.None (reply true true 0) 0 ∷ cycle_at 30 11 27 moved.None (reply true false 0) 0
+    ∷ cycle_at 28 9 26 moved.None (reply true false 0) 0 ∷ cycle_at 30 9 27 moved.None (reply true true 0) 0 ∷ cycle_at 30 9 24 moved.None (reply true false 0) 0
+    ∷ cycle_at 30 9 27 moved.None (reply true false 0) 0 ∷ cycle_at 30 10 26 moved.None (reply true false 0) 0 ∷ cycle_at 30 10 27 moved.None (reply true true 0) 0 ∷ []
 tests_items = refl
 
 -- C alone changes neither I nor the demand output
 clear_alone : items (served (script 100 100 [] (crate_call 4 crate_word.Clear (number 1) ∷ crate_call 4 crate_word.TestInhibit (number 1) ∷ crate_call 4 crate_word.TestDemandOutput (number 1) ∷ [])) (times 3 (demand 0) []))
-  ≡ called ∷ cycle_at 28 9 26 moved.None (reply true false 0) 0 ∷ cycle_at 30 9 27 moved.None (reply true false 0) 0 ∷ cycle_at 30 10 27 moved.None (reply true true 0) 0 ∷ []
+    ≡ called ∷ cycle_at 28 9 26 moved.None (reply true false 0) 0 ∷ cycle_at 30 9 27 moved.None (reply true false 0) 0 ∷ cycle_at 30 10 27 moved.None (reply true true 0) 0 ∷ []
 clear_alone = refl

@@ -1,8 +1,8 @@
 -- The counts of a service only grow.
-use Rattle.std.proofs.Common.{◌≡◌, ℕ, ◌+◌, ◌≤◌, List, [], ◌∷◌, ◌++◌, refl, sym, ◌∙◌, ap, arith, append_assoc}
+use Rattle.std.proofs.Common.{ℕ, [], ◌∷◌, ◌++◌, sym, ◌∙◌, ap, arith, append_assoc}
 use Rattle.std.proofs.lemmas.List.{append-nil}
 use Rattle.camac_model.specs.State.{State, with_word}
-use Rattle.camac_model.specs.Behaviour.{Piece, Behaviour, does, ends, stops, Stop, reached}
+use Rattle.camac_model.specs.Behaviour.{Piece, Behaviour, does, ends, stops, reached}
 use Rattle.camac_model.specs.Meaning.{context, block_meaning}
 use Rattle.camac_model.specs.Laws.{HasGrown, CountsGrow}
 use Rattle.camac_model.proofs.Rules.{Meets}

@@ -1,6 +1,5 @@
 -- What a read keeps is a dataway word.
-use Rattle.std.proofs.Common.{◌≡◌, ℕ, zero, ◌^◌, ◌%◌, ◌<◌, ◌≤◌, arith}
-use Rattle.std.specs.Prelude.{min}
+use Rattle.std.proofs.Common.{ℕ, ◌^◌, ◌<◌, ◌≤◌, arith}
 use Rattle.std.proofs.Math.Nat.{mod-lt}
 use Rattle.std.proofs.Math.Pow.{pow_mono}
 use Rattle.std.proofs.lemmas.Nat.{pow_pos}

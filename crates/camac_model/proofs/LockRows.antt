@@ -1,23 +1,16 @@
 -- Worked rows: locks.
-use Rattle.std.proofs.Common.{◌≡◌, ℕ, zero, suc, List, [], ◌∷◌, Option, Some, None, Bool, true, false, refl}
-use Rattle.std.specs.Prelude.{codes, option_map}
+use Rattle.std.proofs.Common.{◌≡◌, ℕ, List, [], ◌∷◌, Some, None, true, false, refl}
+use Rattle.std.specs.Prelude.{option_map}
 use Rattle.camac_func.specs.declared.data.DataMove.TheVariants as moved
-use Rattle.camac_range.specs.declared.comparison.Cmp.TheVariants.{More, Less, Same}
-use Rattle.camac_lang.specs.declared.word.WordSize.TheVariants.{Full, Short}
-use Rattle.camac_lang.specs.declared.word.CrateCall.TheVariants as crate_word
-use Rattle.camac_lang.specs.declared.word.LamCall.TheVariants as lam_word
-use Rattle.camac_lang.specs.Tree.{Text, plain, negated, compare, flag_q, flag_x, add, subtract, multiply, divide, remainder, number, variable, group, no_data, into, from, Keep, Statement, assign, set_register, single, address_scan, q_stop, q_repeat, put, crate_call, lam_call, choose, choose_else, count, repeat, locked, call, Table, Procedure, Script, Lam, Service, next_lam, next_variables, next_service, next_procedure, next_table}
+use Rattle.camac_lang.specs.declared.word.WordSize.TheVariants.{Full}
+use Rattle.camac_lang.specs.Tree.{negated, flag_q, flag_x, number, no_data, into, Statement, set_register, single, put, choose, locked, Script}
 use Rattle.camac_lang.specs.View.{block_of}
 use Rattle.camac_lang.specs.Scope.{is_well_formed}
-use Rattle.camac_branch.specs.declared.plan.Crate.{Crate}
-use Rattle.camac_branch.specs.declared.plan.Installed.{Installed}
-use Rattle.camac_branch.specs.Address.{address}
-use Rattle.camac_branch.specs.Branch.{Answer, Reply}
+use Rattle.camac_branch.specs.Branch.{Answer}
 use Rattle.camac_branch.specs.Plan.{Layout}
-use Rattle.camac_model.specs.State.{State}
-use Rattle.camac_model.specs.Behaviour.{Behaviour, stop_of, items, events, Piece, demanded, cycled, lock_taken, lock_released, event_left, short, overrun, wrong, more}
-use Rattle.camac_model.specs.Run.{run, the_run}
-use Rattle.camac_model.specs.Sample.{times, gap, adc, reg, sample_plan, script_of, opening, v, k, i, t, with_r, with_r_s, r, s, register, script, answer, demand, good, busy, reply, cycle_at, event, called, doing, served, left_by}
+use Rattle.camac_model.specs.Behaviour.{Behaviour, stop_of, items, events, Piece, lock_taken, lock_released, event_left, short, overrun, wrong}
+use Rattle.camac_model.specs.Run.{the_run}
+use Rattle.camac_model.specs.Sample.{gap, sample_plan, v, with_r, with_r_s, r, s, register, script, answer, demand, good, reply, cycle_at, event, called, doing, served, left_by}
 
 -- lockout: a locked crate permits no wait
 abbrev read_v : Statement
@@ -44,8 +37,8 @@ lock_overrun_items = refl
 
 -- lockout-complete
 lock_complete :
-  served lock_four (answer false false 0 2 0 ∷ good 4)
-  ≡ doing (called ∷ lock_taken 1 2 ∷ read_of 4 ∷ read_of 3 ∷ read_of 2 ∷ read_of 1 ∷ lock_released 1 ∷ event_left (event 3 6 0 []) ∷ [])
+    served lock_four (answer false false 0 2 0 ∷ good 4)
+    ≡ doing (called ∷ lock_taken 1 2 ∷ read_of 4 ∷ read_of 3 ∷ read_of 2 ∷ read_of 1 ∷ lock_released 1 ∷ event_left (event 3 6 0 []) ∷ [])
 lock_complete = refl
 
 lock_steps : option_map (λ u. u.steps) (left_by lock_four (answer false false 0 2 0 ∷ good 4)) ≡ Some 7
@@ -54,6 +47,10 @@ lock_steps = refl
 -- lock-empty
 abbrev lock_empty : Script
 lock_empty = script 2 100 [] (locked 4 (number 1) (block_of []) ∷ [])
+
+lock_empty_stands : is_well_formed lock_empty ≡ true
+unfolding is_well_formed
+lock_empty_stands = refl
 
 lock_empty_items : items (served lock_empty (demand 0 ∷ [])) ≡ called ∷ lock_taken 1 0 ∷ lock_released 1 ∷ []
 lock_empty_items = refl

@@ -1,23 +1,13 @@
 -- Worked rows: procedures.
-use Rattle.std.proofs.Common.{◌≡◌, ℕ, zero, suc, List, [], ◌∷◌, Option, Some, None, Bool, true, false, refl}
+use Rattle.std.proofs.Common.{◌≡◌, [], ◌∷◌, Some, true, false, refl}
 use Rattle.std.specs.Prelude.{codes, option_map}
 use Rattle.camac_func.specs.declared.data.DataMove.TheVariants as moved
-use Rattle.camac_range.specs.declared.comparison.Cmp.TheVariants.{More, Less, Same}
-use Rattle.camac_lang.specs.declared.word.WordSize.TheVariants.{Full, Short}
-use Rattle.camac_lang.specs.declared.word.CrateCall.TheVariants as crate_word
-use Rattle.camac_lang.specs.declared.word.LamCall.TheVariants as lam_word
-use Rattle.camac_lang.specs.Tree.{Text, plain, negated, compare, flag_q, flag_x, add, subtract, multiply, divide, remainder, number, variable, group, no_data, into, from, Keep, Statement, assign, set_register, single, address_scan, q_stop, q_repeat, put, crate_call, lam_call, choose, choose_else, count, repeat, locked, call, Table, Procedure, Script, Lam, Service, next_lam, next_variables, next_service, next_procedure, next_table}
+use Rattle.camac_lang.specs.declared.word.WordSize.TheVariants.{Full}
+use Rattle.camac_lang.specs.Tree.{plain, flag_q, add, number, variable, no_data, into, assign, set_register, single, put, choose, locked, call, Procedure, Script}
 use Rattle.camac_lang.specs.View.{block_of}
 use Rattle.camac_lang.specs.Scope.{is_well_formed}
-use Rattle.camac_branch.specs.declared.plan.Crate.{Crate}
-use Rattle.camac_branch.specs.declared.plan.Installed.{Installed}
-use Rattle.camac_branch.specs.Address.{address}
-use Rattle.camac_branch.specs.Branch.{Answer, Reply}
-use Rattle.camac_branch.specs.Plan.{Layout}
-use Rattle.camac_model.specs.State.{State}
-use Rattle.camac_model.specs.Behaviour.{Behaviour, stop_of, items, events, Piece, demanded, cycled, lock_taken, lock_released, event_left, short, overrun, wrong, more}
-use Rattle.camac_model.specs.Run.{run, the_run}
-use Rattle.camac_model.specs.Sample.{times, gap, adc, reg, sample_plan, script_of, opening, v, k, i, t, with_r, with_r_s, r, s, register, script, answer, demand, good, busy, reply, cycle_at, event, called, doing, served, left_by}
+use Rattle.camac_model.specs.Behaviour.{stop_of, items, lock_taken, lock_released, event_left, wrong}
+use Rattle.camac_model.specs.Sample.{script_of, opening, v, k, with_r, r, register, answer, good, reply, cycle_at, event, called, doing, served, left_by}
 
 -- procedure-calls: the callee's variables and registers are its own
 abbrev get : Procedure
@@ -40,8 +30,8 @@ unfolding is_well_formed
 calls_stand = refl
 
 calls_run :
-  served calls (good 2)
-  ≡ doing (called ∷ cycle_at 5 0 0 moved.In (reply true true 2) 0 ∷ cycle_at 5 11 0 moved.In (reply true true 1) 0 ∷ event_left (event 3 2 0 (2 ∷ 1 ∷ [])) ∷ [])
+    served calls (good 2)
+    ≡ doing (called ∷ cycle_at 5 0 0 moved.In (reply true true 2) 0 ∷ cycle_at 5 11 0 moved.In (reply true true 1) 0 ∷ event_left (event 3 2 0 (2 ∷ 1 ∷ [])) ∷ [])
 calls_run = refl
 
 calls_steps : option_map (λ u. u.steps) (left_by calls (good 2)) ≡ Some 8
@@ -49,7 +39,7 @@ calls_steps = refl
 
 -- procedure-in-lock
 in_lock : items (served (script_of opening [] (get ∷ []) 5 1 [] (locked 9 (number 1) (block_of (call 9 0 (number 0 ∷ []) ∷ [])) ∷ [])) (answer false false 0 2 0 ∷ good 1))
-  ≡ called ∷ lock_taken 1 2 ∷ cycle_at 5 0 0 moved.In (reply true true 1) 0 ∷ lock_released 1 ∷ []
+    ≡ called ∷ lock_taken 1 2 ∷ cycle_at 5 0 0 moved.In (reply true true 1) 0 ∷ lock_released 1 ∷ []
 in_lock = refl
 
 -- arguments in the caller's store and in the text's order; the callee begins without registers; afterwards variables and registers are the
@@ -77,8 +67,8 @@ unfolding is_well_formed
 apart_stands = refl
 
 apart_run :
-  served apart (answer false true 0 0 0 ∷ answer true true 1 0 0 ∷ [])
-  ≡ doing (called ∷ cycle_at 6 0 27 moved.None (reply false true 0) 0 ∷ cycle_at 5 3 0 moved.In (reply true true 1) 0 ∷ event_left (event 3 2 1 (6 ∷ 5 ∷ 5 ∷ 6 ∷ 99 ∷ [])) ∷ [])
+    served apart (answer false true 0 0 0 ∷ answer true true 1 0 0 ∷ [])
+    ≡ doing (called ∷ cycle_at 6 0 27 moved.None (reply false true 0) 0 ∷ cycle_at 5 3 0 moved.In (reply true true 1) 0 ∷ event_left (event 3 2 1 (6 ∷ 5 ∷ 5 ∷ 6 ∷ 99 ∷ [])) ∷ [])
 apart_run = refl
 
 -- a callee that sets no register has none
@@ -109,8 +99,8 @@ unfolding is_well_formed
 nested_stands = refl
 
 nested_run :
-  served nested (answer true true 1 0 0 ∷ answer true true 2 0 0 ∷ [])
-  ≡ doing (called ∷ cycle_at 6 0 27 moved.None (reply true true 1) 0 ∷ cycle_at 5 3 0 moved.In (reply true true 2) 0 ∷ event_left (event 3 2 0 (4 ∷ 7 ∷ 2 ∷ [])) ∷ [])
+    served nested (answer true true 1 0 0 ∷ answer true true 2 0 0 ∷ [])
+    ≡ doing (called ∷ cycle_at 6 0 27 moved.None (reply true true 1) 0 ∷ cycle_at 5 3 0 moved.In (reply true true 2) 0 ∷ event_left (event 3 2 0 (4 ∷ 7 ∷ 2 ∷ [])) ∷ [])
 nested_run = refl
 
 -- it sees none after it, nor itself

@@ -1,11 +1,10 @@
 -- Worked rows: which functions read, write or move nothing, and which cycles are safe.
-use Rattle.std.proofs.Common.{◌≡◌, ℕ, ◌^◌, ◌<◌, Some, Option, None, Bool, true, false, refl, ap, arith}
+use Rattle.std.proofs.Common.{◌≡◌, ◌^◌, ◌<◌, Some, None, true, false, refl, ap, arith}
 use Rattle.std.specs.Prelude.{unwrap_or}
 use Rattle.camac_func.specs.declared.code.FunctionClass.TheVariants.{Read, Write, Control}
 use Rattle.camac_func.specs.declared.data.DataMove.TheVariants as moved
-use Rattle.camac_func.specs.Class.{class_of, fits}
+use Rattle.camac_func.specs.Class.{class_of}
 use Rattle.camac_branch.specs.Address.{Address, address}
-use Rattle.camac_branch.specs.Allowed.{allowed}
 use Rattle.camac_model.specs.Safe.{IsSafe}
 use Rattle.camac_model.specs.Sample.{sample_plan}
 

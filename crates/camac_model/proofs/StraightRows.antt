@@ -1,23 +1,13 @@
 -- Worked rows: straight-line services, numbers, words.
-use Rattle.std.proofs.Common.{◌≡◌, ℕ, zero, suc, List, [], ◌∷◌, Option, Some, None, Bool, true, false, refl}
-use Rattle.std.specs.Prelude.{codes, option_map}
+use Rattle.std.proofs.Common.{◌≡◌, [], ◌∷◌, Some, None, true, refl}
+use Rattle.std.specs.Prelude.{codes}
 use Rattle.camac_func.specs.declared.data.DataMove.TheVariants as moved
-use Rattle.camac_range.specs.declared.comparison.Cmp.TheVariants.{More, Less, Same}
 use Rattle.camac_lang.specs.declared.word.WordSize.TheVariants.{Full, Short}
-use Rattle.camac_lang.specs.declared.word.CrateCall.TheVariants as crate_word
-use Rattle.camac_lang.specs.declared.word.LamCall.TheVariants as lam_word
-use Rattle.camac_lang.specs.Tree.{Text, plain, negated, compare, flag_q, flag_x, add, subtract, multiply, divide, remainder, number, variable, group, no_data, into, from, Keep, Statement, assign, set_register, single, address_scan, q_stop, q_repeat, put, crate_call, lam_call, choose, choose_else, count, repeat, locked, call, Table, Procedure, Script, Lam, Service, next_lam, next_variables, next_service, next_procedure, next_table}
-use Rattle.camac_lang.specs.View.{block_of}
+use Rattle.camac_lang.specs.Tree.{add, subtract, multiply, number, variable, group, no_data, into, from, Statement, assign, set_register, single, put, Script}
 use Rattle.camac_lang.specs.Scope.{is_well_formed}
-use Rattle.camac_branch.specs.declared.plan.Crate.{Crate}
-use Rattle.camac_branch.specs.declared.plan.Installed.{Installed}
-use Rattle.camac_branch.specs.Address.{address}
-use Rattle.camac_branch.specs.Branch.{Answer, Reply}
-use Rattle.camac_branch.specs.Plan.{Layout}
-use Rattle.camac_model.specs.State.{State}
-use Rattle.camac_model.specs.Behaviour.{Behaviour, stop_of, items, events, Piece, demanded, cycled, lock_taken, lock_released, event_left, short, overrun, wrong, more}
-use Rattle.camac_model.specs.Run.{run, the_run}
-use Rattle.camac_model.specs.Sample.{times, gap, adc, reg, sample_plan, script_of, opening, v, k, i, t, with_r, with_r_s, r, s, register, script, answer, demand, good, busy, reply, cycle_at, event, called, doing, served, left_by}
+use Rattle.camac_model.specs.Behaviour.{stop_of, items, events, event_left, short, overrun, wrong}
+use Rattle.camac_model.specs.Run.{the_run}
+use Rattle.camac_model.specs.Sample.{sample_plan, script_of, v, with_r, r, register, script, answer, demand, reply, cycle_at, event, called, doing, served}
 
 -- straight-line
 abbrev straight_line : Script
@@ -29,8 +19,8 @@ unfolding is_well_formed
 straight_line_stands = refl
 
 straight_line_run :
-  the_run sample_plan straight_line (demand 4 ∷ answer true true 0x123fff 2 0 ∷ [])
-  ≡ doing (called ∷ cycle_at 5 0 0 moved.In (reply true true 0x123fff) 2 ∷ event_left (event 3 3 0 (0xfff ∷ [])) ∷ [])
+    the_run sample_plan straight_line (demand 4 ∷ answer true true 0x123fff 2 0 ∷ [])
+    ≡ doing (called ∷ cycle_at 5 0 0 moved.In (reply true true 0x123fff) 2 ∷ event_left (event 3 3 0 (0xfff ∷ [])) ∷ [])
 straight_line_run = refl
 
 -- answers-run-out
@@ -74,8 +64,8 @@ unfolding is_well_formed
 short_read_stands = refl
 
 short_read_run :
-  served short_read (answer true true 0x123456 0 0 ∷ [])
-  ≡ doing (called ∷ cycle_at 6 0 0 moved.In (reply true true 0x123456) 0 ∷ event_left (event 3 1 0 (0x3456 ∷ [])) ∷ [])
+    served short_read (answer true true 0x123456 0 0 ∷ [])
+    ≡ doing (called ∷ cycle_at 6 0 0 moved.In (reply true true 0x123456) 0 ∷ event_left (event 3 1 0 (0x3456 ∷ [])) ∷ [])
 short_read_run = refl
 
 -- a short read of a register of 12 bits keeps 12

@@ -1,23 +1,15 @@
 -- Worked rows: the three transfers.
-use Rattle.std.proofs.Common.{◌≡◌, ℕ, zero, suc, List, [], ◌∷◌, Option, Some, None, Bool, true, false, refl}
+use Rattle.std.proofs.Common.{◌≡◌, ℕ, List, [], ◌∷◌, Option, Some, None, true, false, refl}
 use Rattle.std.specs.Prelude.{codes, option_map}
 use Rattle.camac_func.specs.declared.data.DataMove.TheVariants as moved
-use Rattle.camac_range.specs.declared.comparison.Cmp.TheVariants.{More, Less, Same}
-use Rattle.camac_lang.specs.declared.word.WordSize.TheVariants.{Full, Short}
-use Rattle.camac_lang.specs.declared.word.CrateCall.TheVariants as crate_word
-use Rattle.camac_lang.specs.declared.word.LamCall.TheVariants as lam_word
-use Rattle.camac_lang.specs.Tree.{Text, plain, negated, compare, flag_q, flag_x, add, subtract, multiply, divide, remainder, number, variable, group, no_data, into, from, Keep, Statement, assign, set_register, single, address_scan, q_stop, q_repeat, put, crate_call, lam_call, choose, choose_else, count, repeat, locked, call, Table, Procedure, Script, Lam, Service, next_lam, next_variables, next_service, next_procedure, next_table}
+use Rattle.camac_lang.specs.declared.word.WordSize.TheVariants.{Full}
+use Rattle.camac_lang.specs.Tree.{plain, negated, flag_q, flag_x, number, no_data, assign, set_register, single, address_scan, q_stop, q_repeat, put, choose_else, locked, Table, Script}
 use Rattle.camac_lang.specs.View.{block_of}
 use Rattle.camac_lang.specs.Scope.{is_well_formed}
-use Rattle.camac_branch.specs.declared.plan.Crate.{Crate}
-use Rattle.camac_branch.specs.declared.plan.Installed.{Installed}
-use Rattle.camac_branch.specs.Address.{address}
-use Rattle.camac_branch.specs.Branch.{Answer, Reply}
-use Rattle.camac_branch.specs.Plan.{Layout}
+use Rattle.camac_branch.specs.Branch.{Answer}
 use Rattle.camac_model.specs.State.{State}
-use Rattle.camac_model.specs.Behaviour.{Behaviour, stop_of, items, events, Piece, demanded, cycled, lock_taken, lock_released, event_left, short, overrun, wrong, more}
-use Rattle.camac_model.specs.Run.{run, the_run}
-use Rattle.camac_model.specs.Sample.{times, gap, adc, reg, sample_plan, script_of, opening, v, k, i, t, with_r, with_r_s, r, s, register, script, answer, demand, good, busy, reply, cycle_at, event, called, doing, served, left_by}
+use Rattle.camac_model.specs.Behaviour.{stop_of, items, events, demanded, event_left, wrong}
+use Rattle.camac_model.specs.Sample.{script_of, opening, t, with_r, with_r_s, r, s, register, script, answer, good, busy, reply, cycle_at, event, called, doing, served, left_by}
 
 -- scan-through-probes: Q always 1, and the first Q=0
 abbrev scan : Script
@@ -43,6 +35,10 @@ scan_stopped = refl
 abbrev scan_count : Script
 scan_count = script 39 12 with_r_s (register r 5 0 ∷ register s 5 15 ∷ address_scan 6 0 r s (number 12) t ∷ [])
 
+scan_count_stands : is_well_formed scan_count ≡ true
+unfolding is_well_formed
+scan_count_stands = refl
+
 scan_count_cycles : events (served scan_count (good 13)) ≡ event 3 12 0 (13 ∷ 12 ∷ 11 ∷ 10 ∷ 9 ∷ 8 ∷ 7 ∷ 6 ∷ 5 ∷ 4 ∷ 3 ∷ 2 ∷ []) ∷ []
 scan_count_cycles = refl
 
@@ -55,13 +51,13 @@ unfolding is_well_formed
 scan_two_stands = refl
 
 scan_two_run :
-  served scan_two (answer true false 1 0 0 ∷ answer true true 0xffffff 0 0 ∷ [])
-  ≡ doing (called ∷ cycle_at 5 0 0 moved.In (reply true false 1) 0 ∷ cycle_at 6 0 0 moved.In (reply true true 0xffffff) 0 ∷ event_left (event 3 2 0 (0xffffff ∷ [])) ∷ [])
+    served scan_two (answer true false 1 0 0 ∷ answer true true 0xffffff 0 0 ∷ [])
+    ≡ doing (called ∷ cycle_at 5 0 0 moved.In (reply true false 1) 0 ∷ cycle_at 6 0 0 moved.In (reply true true 0xffffff) 0 ∷ event_left (event 3 2 0 (0xffffff ∷ [])) ∷ [])
 scan_two_run = refl
 
 -- from A15 with Q=1 it goes on to A0 of the next station
 scan_over : items (served (script 100 100 with_r_s (register r 5 15 ∷ register s 6 0 ∷ address_scan 4 0 r s (number 9) t ∷ [])) (answer true true 1 0 0 ∷ answer true false 2 0 0 ∷ answer true true 0 0 0 ∷ []))
-  ≡ called ∷ cycle_at 5 15 0 moved.In (reply true true 1) 0 ∷ cycle_at 6 0 0 moved.In (reply true false 2) 0 ∷ demanded 0 None ∷ []
+    ≡ called ∷ cycle_at 5 15 0 moved.In (reply true true 1) 0 ∷ cycle_at 6 0 0 moved.In (reply true false 2) 0 ∷ demanded 0 None ∷ []
 scan_over = refl
 
 -- registers in two crates, even with max 0
@@ -71,6 +67,10 @@ scan_crates = refl
 -- scan-backwards: a first address past the final one gives no cycle
 abbrev scan_backwards : Script
 scan_backwards = script 100 100 with_r_s (register r 5 3 ∷ register s 5 1 ∷ address_scan 6 0 r s (number 4) t ∷ [])
+
+scan_backwards_stands : is_well_formed scan_backwards ≡ true
+unfolding is_well_formed
+scan_backwards_stands = refl
 
 scan_backwards_run : served scan_backwards [] ≡ doing (called ∷ event_left (event 3 0 0 []) ∷ [])
 scan_backwards_run = refl
@@ -107,8 +107,8 @@ unfolding is_well_formed
 send_stands = refl
 
 send_run :
-  served send (answer true true 0 0 0 ∷ answer false false 0 0 0 ∷ [])
-  ≡ doing (called ∷ cycle_at 6 0 16 (moved.Out 1) (reply true true 0) 0 ∷ cycle_at 6 0 16 (moved.Out 2) (reply false false 0) 0 ∷ event_left (event 3 2 1 []) ∷ [])
+    served send (answer true true 0 0 0 ∷ answer false false 0 0 0 ∷ [])
+    ≡ doing (called ∷ cycle_at 6 0 16 (moved.Out 1) (reply true true 0) 0 ∷ cycle_at 6 0 16 (moved.Out 2) (reply false false 0) 0 ∷ event_left (event 3 2 1 []) ∷ [])
 send_run = refl
 
 send_tally : option_map (λ u. u.variables t) (left_by send (answer true true 0 0 0 ∷ answer false false 0 0 0 ∷ [])) ≡ Some 1

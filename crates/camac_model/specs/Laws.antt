@@ -56,7 +56,7 @@ longer bs s = record s { answers = s.answers ++ bs }
 -- how b goes on from a: the same pieces up to where a ends or stops. Where a ends, b is as AtEnd says; where a stops, b does the same
 -- with more answers, unless that stop is open: then b may be anything
 abbrev pub Extends :
-  {A : Type 0} → (A → Behaviour A → Type 0) → (Stop → Bool) → List Answer → Behaviour A → Behaviour A → Type 0
+    {A : Type 0} → (A → Behaviour A → Type 0) → (Stop → Bool) → List Answer → Behaviour A → Behaviour A → Type 0
 Extends {A} AtEnd open' bs (does p a) b = (rest : Behaviour A) × (b ≡ does p rest) × Extends AtEnd open' bs a rest
 Extends {A} AtEnd open' bs (ends v) b = AtEnd v b
 Extends {A} AtEnd open' bs (stops w s) b = open' w ≡ false → b ≡ stops w (longer bs s)
