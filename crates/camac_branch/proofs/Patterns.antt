@@ -1,5 +1,5 @@
 -- The bits of a crate's stations in the graded-L pattern.
-use Rattle.std.proofs.Common.{◌≡◌, ◌≢◌, ◌↔◌, ℕ, ◌-◌, ◌^◌, ◌<◌, ◌≤◌, List, [], ◌∷◌, Option, Some, None, option_and_then, bit_or, max, zero, suc, refl, sym, ◌∙◌, ap, arith, ◌⊎◌, inl, inr}
+use Rattle.std.proofs.Common.{◌≡◌, ◌↔◌, ℕ, ◌-◌, ◌^◌, ◌<◌, ◌≤◌, List, [], ◌∷◌, Option, Some, None, option_and_then, bit_or, zero, suc, refl, ap, arith, ◌⊎◌, inl, inr}
 use Rattle.std.specs.Int.{bit_at}
 use Rattle.std.proofs.lemmas.Bool.{cases_eq}
 use Rattle.std.proofs.lemmas.Nat.{or_lt, pow_pos}
@@ -8,7 +8,7 @@ use Rattle.std.proofs.lemmas.Nat.Bits.{bit_at_or, bit_at-zero, bit_at-lt, bit_at
 use Rattle.camac_module.proofs.Bits.{bit_cases}
 use Rattle.camac_branch.specs.declared.plan.Crate.{Crate}
 use Rattle.camac_branch.specs.declared.plan.Installed.{Installed}
-use Rattle.camac_branch.specs.Plan.{Layout, IsPlan, numbered, crate_at, gl, bit_value, bit_of, bits_of, bits_of_crate, crate_bits, HasBitsOfStations}
+use Rattle.camac_branch.specs.Plan.{Layout, IsPlan, numbered, crate_at, bit_value, bit_of, bits_of, bits_of_crate, crate_bits, HasBitsOfStations}
 use Rattle.camac_branch.proofs.Numbered.{none_is_some}
 
 not_one : (k : ℕ) → bit_at 0 k ≡ 1 → ⊥

@@ -1,4 +1,4 @@
-use Rattle.std.proofs.Common.{◌≡◌, subst}
+use Rattle.std.proofs.Common.{subst}
 use Rattle.camac_branch.specs.Plan.{HasBitsOfStations}
 use Rattle.camac_branch.proofs.Patterns.{has_bits_of_stations}
 use Rattle.camac_branch.proofs.plan.Plan.has_bits_of_stations.Goals as goal
