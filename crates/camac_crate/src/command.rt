@@ -40,7 +40,8 @@ macro_rules! command_in {
     };
 }
 
-/// The controller command that a function makes at a station and sub-address; None for all commands that are not in the controller's table (own, after type A1 of EUR 4600).
+/// The controller command that a function makes at a station and sub-address (own, after type A1 of EUR 4600).
+/// None for each command that is not in the controller's table.
 pub fn controller(
     station: Station,
     sub_address: SubAddress,

@@ -13,7 +13,8 @@ pub enum LockState {
 }
 
 impl LockState {
-    /// Whether a cycle may come after `wait` auxiliary cycles in a crate that allows `waits` of them: always after none, else where the crate is not locked and `wait` is at most `waits` (own, after IEEE 675).
+    /// Whether a cycle may come after `wait` auxiliary cycles, in a crate that allows `waits` of them (own, after IEEE 675):
+    /// always after none, else where the crate is not locked and `wait` is at most `waits`.
     pub fn permits(self, wait: u8, waits: u8) -> bool
         ensures { result ≡ permitted (is_locked self) waits wait }
     {

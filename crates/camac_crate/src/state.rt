@@ -8,7 +8,7 @@ use bitflags::{Flag, Flags, bitflag_items};
 use camac_word::Word24;
 use std::marker::Model;
 
-// The two bits as a set.
+// The bits as a set. It stands inside `CrateState`, since a set of flags may hold other bits, and the state of a crate has none.
 #[derive(Clone, Copy, Debug, PartialEq, Eq)]
 struct BitSet(u8);
 
@@ -41,7 +41,7 @@ impl Flags for BitSet {
     }
 }
 
-/// The state of a crate: the common control I (inhibit), and whether its demand output is enabled.
+/// The state of a crate: the common control I, inhibit (EUR 4100, IEEE 583), and whether its demand output is enabled (own).
 #[derive(Clone, Copy, Debug, PartialEq, Eq)]
 pub struct CrateState {
     bits: BitSet,
@@ -113,39 +113,42 @@ fn no_word() -> Word24
     }
 }
 
-/// Does a controller command and answers the word and Q of its reply. `gl` is the graded-L pattern, restricted to the bits of the crate's stations. Reading it answers it, with Q 1; Q of a test is the tested bit; all other words and Q are 0 (own).
+/// Does a controller command, and answers the word and Q of its reply (own).
+/// `gl` is the graded-L pattern, restricted to the bits of the crate's stations.
+/// Reading it answers it with Q 1. Q of a test is the tested bit; a demand is present where `gl` is not 0, also where the
+/// demand output is disabled. Every other word and Q is 0.
 pub fn apply(state: &mut CrateState, op: ControllerOp, gl: Word24) -> (Word24, bool)
     ensures word { result.0 ≡ reply_word op state.old gl }
     ensures q { result.1 ≡ reply_q op state.old gl }
     ensures next { state.new ≡ effect op state.old }
 {
-    let silent = (no_word(), false);
+    let zero = no_word();
     match op {
         ControllerOp::Initialise => {
             state.set_inhibit(true);
             state.set_demand(false);
-            silent
+            (zero, false)
         }
-        ControllerOp::Clear => silent,
+        ControllerOp::Clear => (zero, false),
         ControllerOp::ReadGl => (gl, true),
         ControllerOp::InhibitOff => {
             state.set_inhibit(false);
-            silent
+            (zero, false)
         }
         ControllerOp::InhibitOn => {
             state.set_inhibit(true);
-            silent
+            (zero, false)
         }
-        ControllerOp::TestInhibit => (no_word(), state.is_inhibited()),
+        ControllerOp::TestInhibit => (zero, state.is_inhibited()),
         ControllerOp::DemandOff => {
             state.set_demand(false);
-            silent
+            (zero, false)
         }
         ControllerOp::DemandOn => {
             state.set_demand(true);
-            silent
+            (zero, false)
         }
-        ControllerOp::TestDemandOutput => (no_word(), state.is_demand_enabled()),
-        ControllerOp::TestDemand => (no_word(), gl.get() != 0),
+        ControllerOp::TestDemandOutput => (zero, state.is_demand_enabled()),
+        ControllerOp::TestDemand => (zero, gl.get() != 0),
     }
 }

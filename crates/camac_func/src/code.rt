@@ -70,14 +70,15 @@ macro_rules! name_part {
     };
 }
 
-/// The class of a function (EUR 4100, IEEE 583). Codes that the standard leaves free have the class of their range (own).
+/// The class of a function (EUR 4100, IEEE 583): F0 to F7 read, F16 to F23 write, all others move no data.
+/// Non-standard and reserved codes have the class of their range (own).
 pub fn class(function: Function) -> FunctionClass
     ensures { result ≡ class_of function }
 {
     by_code!(class_part of function.get())
 }
 
-/// The name of a function (EUR 4100, IEEE 583), in ASCII.
+/// The name of a function (EUR 4100, IEEE 583), in ASCII; `non-standard` or `reserved` where it has none of its own.
 #[tactic(auto, unfolding(crate::specs::Names::name_of))]
 pub fn name(function: Function) -> &'static str
     ensures { result.now ≡ name_of function }

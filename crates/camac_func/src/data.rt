@@ -17,7 +17,8 @@ pub enum DataMove {
     None,
 }
 
-/// Whether a cycle may move this at a function of this class: `In` at a read, `Out` at a write, `None` at a control function (EUR 4100, IEEE 583).
+/// Whether a cycle moves this at a function of this class (EUR 4100, IEEE 583): `In` at a read, `Out` at a write, `None` at a
+/// control function.
 pub fn fits(class: FunctionClass, movement: &DataMove) -> bool
     ensures { result ≡ fits_class class movement.now }
 {
