@@ -24,3 +24,4 @@ pub mod Fine
 pub mod Rounds
 pub mod Services
 pub mod Headline
+pub mod Transferred
