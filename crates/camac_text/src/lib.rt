@@ -1,0 +1,12 @@
+//! Reads the text of a script: tokens first, then the tree that they spell.
+#![tactic(auto)]
+
+mod fault;
+mod scanner;
+mod signs;
+mod token;
+mod words;
+
+pub use fault::{TextFault, TextRule};
+pub use scanner::{Front, tokens};
+pub use token::{Keyword, Sign, Token, TokenKind};
