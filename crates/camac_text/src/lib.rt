@@ -1,12 +1,16 @@
 //! Reads the text of a script: tokens first, then the tree that they spell.
 #![tactic(auto)]
 
+mod cursor;
 mod fault;
+mod names;
+mod naming;
 mod scanner;
 mod signs;
 mod token;
 mod words;
 
+pub use cursor::Parser;
 pub use fault::{TextFault, TextRule};
 pub use scanner::{Front, tokens};
 pub use token::{Keyword, Sign, Token, TokenKind};
