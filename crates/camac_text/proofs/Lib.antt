@@ -1,2 +1,6 @@
 pub mod Scans
 pub mod Searches
+pub mod Steps
+pub mod Loops
+pub mod Moves
+pub mod Uses

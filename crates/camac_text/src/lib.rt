@@ -2,11 +2,13 @@
 #![tactic(auto)]
 
 mod cursor;
+mod declarations;
 mod fault;
 mod names;
 mod naming;
 mod scanner;
 mod signs;
+mod statements;
 mod token;
 mod words;
 
