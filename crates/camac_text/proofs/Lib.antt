@@ -4,3 +4,4 @@ pub mod Steps
 pub mod Loops
 pub mod Moves
 pub mod Uses
+pub mod Acts
