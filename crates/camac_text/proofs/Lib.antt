@@ -5,3 +5,4 @@ pub mod Loops
 pub mod Moves
 pub mod Uses
 pub mod Acts
+pub mod Bodies

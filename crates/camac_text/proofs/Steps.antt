@@ -1,5 +1,5 @@
 -- What follows from an answer of a reader made of others, and of a loop.
-use Rattle.std.proofs.Common.{◌≡◌, ℕ, zero, suc, ◌<◌, Bool, true, false, cond, length, Option, Result, Ok, Err, refl, ◌∙◌, arith}
+use Rattle.std.proofs.Common.{◌≡◌, ℕ, zero, suc, ◌<◌, Bool, true, false, cond, length, Option, Result, Ok, Err, refl, ◌∙◌, subst, ◌⊎◌, inl, inr, arith}
 use Rattle.camac_text.specs.declared.token.TokenKind.{TokenKind}
 use Rattle.camac_text.specs.Fault.{Fault}
 use Rattle.camac_text.specs.Reading.{State, Reader, then_read, ◌>>=◌, give, peek, kind_of, turns, while_next}
@@ -62,3 +62,22 @@ pub while_choice : {A : Type 0} (goes_on : Option TokenKind → Bool) (turn : A 
 unfolding while_next turns
 while_choice goes_on turn progress x s =
     choice_same (goes_on (kind_of s.rest)) (turn x >>= while_next goes_on turn) (turn x >>= turns (length s.rest) goes_on turn) (give x) s (λ on. then_same (turn x s) (while_next goes_on turn) (turns (length s.rest) goes_on turn) (λ y s' took. let less : length s'.rest < length s.rest = progress x s y s' on took in turns_enough goes_on turn progress (suc (length s'.rest)) (length s.rest) y s' (omega arith) (omega arith)))
+
+-- ---- what a loop keeps
+
+turns_choose : {A : Type 0} (b : Bool) (f : Reader A) (x : A) (s : State) (y : A × State) → cond b f (give x) s ≡ Ok y → ((b ≡ true) × (f s ≡ Ok y)) ⊎ ((let p : A × State = (x, s) in p) ≡ y)
+turns_choose true f x s y e = inl (refl, e)
+turns_choose false f x s y e = inr (ok_is (x, s) y e)
+
+turns_keep : {A : Type 0} (P : A → State → Type 0) (goes_on : Option TokenKind → Bool) (turn : A → Reader A) → ((x : A) (s : State) (y : A) (s' : State) → P x s → goes_on (kind_of s.rest) ≡ true → turn x s ≡ Ok (y, s') → P y s') → (n : ℕ) (x : A) (s : State) (y : A × State) → P x s → turns n goes_on turn x s ≡ Ok y → P y.0 y.1
+unfolding turns
+turns_keep P goes_on turn keeps zero x s y p e = subst (λ (q : _ × State). P q.0 q.1) (ok_is (x, s) y e) p
+turns_keep P goes_on turn keeps (suc n) x s y p e =
+    elim (turns_choose (goes_on (kind_of s.rest)) (turn x >>= turns n goes_on turn) x s y e) [
+      | inl h ↦ (let m = then_ok (turn x s) (turns n goes_on turn) y h.1 in turns_keep P goes_on turn keeps n m.0.0 m.0.1 y (keeps x s m.0.0 m.0.1 p h.0 m.1) m.2)
+      | inr h ↦ subst (λ (q : _ × State). P q.0 q.1) h p
+    ]
+
+pub while_keeps : {A : Type 0} (P : A → State → Type 0) (goes_on : Option TokenKind → Bool) (turn : A → Reader A) → ((x : A) (s : State) (y : A) (s' : State) → P x s → goes_on (kind_of s.rest) ≡ true → turn x s ≡ Ok (y, s') → P y s') → (x : A) (s : State) (y : A × State) → P x s → while_next goes_on turn x s ≡ Ok y → P y.0 y.1
+unfolding while_next
+while_keeps P goes_on turn keeps x s y p e = turns_keep P goes_on turn keeps (suc (length s.rest)) x s y p e
