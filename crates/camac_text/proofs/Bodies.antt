@@ -96,7 +96,7 @@ body_ok s y e = while_keeps (λ (xs : List Statement) (u : State). Body s xs u) 
 
 -- ---- a body in its braces
 
-behind_moves : (s t : State) (xs : List Statement) (u : State) → Moves s t → Body t xs u → Body s xs u
+pub behind_moves : (s t : State) (xs : List Statement) (u : State) → Moves s t → Body t xs u → Body s xs u
 behind_moves s t xs u m b =
     let scope : scope_of t ≡ scope_of s = ap scope_of m.same in
     let registers : t.registers ≡ s.registers = ap (λ (w : State). w.registers) m.same in

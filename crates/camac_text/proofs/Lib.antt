@@ -6,3 +6,4 @@ pub mod Moves
 pub mod Uses
 pub mod Acts
 pub mod Bodies
+pub mod Declares

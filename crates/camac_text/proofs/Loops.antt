@@ -5,7 +5,6 @@ use Rattle.camac_text.specs.Fault.{Fault, Fails}
 use Rattle.camac_text.specs.declared.fault.TextFault.{TextFault}
 use Rattle.camac_text.specs.declared.fault.TextFault.TheVariants as fault
 use Rattle.camac_text.specs.Reading.{State, Reader, then_read, give, kind_of, while_next, one_more}
-
 use Rattle.camac_text.proofs.Steps.{Progresses, while_on, while_off}
 
 module _ {A : Type 0} (goes_on : Option TokenKind → Bool) (turn : A → Reader A) (progress : Progresses goes_on turn) (x : A) (s : State) (total : Result (A × State) Fault) where
@@ -27,3 +26,8 @@ module _ {A : Type 0} (goes_on : Option TokenKind → Bool) (read : Reader A) (p
   pub more_fails : (e : TextFault) → goes_on (kind_of s.rest) ≡ true → Fails e (read s) → while_next goes_on (one_more read) xs s ≡ total → Fails e total
   more_fails fault.OutOfMemory on failed so_far = tt
   more_fails (fault.Broken rule line) on failed so_far = fails goes_on (one_more read) progress xs s total (fault.Broken rule line) on (ap (λ (r : Result (A × State) Fault). then_read r (λ y. give (xs ++ y ∷ []))) failed) so_far
+
+-- what fails, fails whatever would follow it
+pub then_fails : {A B : Type 0} (e : TextFault) (r : Result (A × State) Fault) (g : A → Reader B) → Fails e r → Fails e (then_read r g)
+then_fails fault.OutOfMemory r g failed = tt
+then_fails (fault.Broken rule line) r g failed = ap (λ (q : Result (_ × State) Fault). then_read q g) failed

@@ -1,5 +1,5 @@
 -- What is read at each place of the grammar.
-use Rattle.std.specs.Prelude.{ℕ, suc, Bool, true, false, List, [], ◌∷◌, ◌++◌, length, Option, Some, None, nat_lt, ◌==◌, not, if◌then◌else◌}
+use Rattle.std.specs.Prelude.{ℕ, suc, ◌+◌, Bool, true, false, List, [], ◌∷◌, ◌++◌, length, Option, Some, None, nat_lt, ◌==◌, not, if◌then◌else◌}
 use denote.Enum.Bare.{sameb}
 use Rattle.camac_lang.specs.Tests.{is_new}
 use Rattle.camac_lang.specs.Tree.{Text, Expression, number, variable, Move, no_data, into, from, Statement, set_register, single, put, Lam, Block, next_lam, next_variables, next_service}
@@ -251,7 +251,7 @@ lam_declaration line = do
 
 -- one more variable of the same declaration
 abbrev pub one_more_variable : ℕ → Reader ℕ
-one_more_variable count = new_variable >> give (suc count)
+one_more_variable count = new_variable >> give (count + 1)
 
 abbrev pub with_variables_of : ℕ → ℕ → State → State
 with_variables_of line count s = record s { order = s.order ++ next_variables line count ∷ [] }
