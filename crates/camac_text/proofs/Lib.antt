@@ -7,3 +7,5 @@ pub mod Uses
 pub mod Acts
 pub mod Bodies
 pub mod Declares
+pub mod Fitting
+pub mod WellFormed

@@ -33,7 +33,7 @@ run_le : (p : ℕ → Bool) (xs : List ℕ) → length (take_while p xs) ≤ len
 run_le p [] = omega arith
 run_le p (x ∷ xs) = subst (λ (w : List ℕ). length w ≤ suc (length xs)) (sym (take_while-cons p x xs)) (run_short (p x) x (length xs) (take_while p xs) (run_le p xs))
 
-run_some : (p : ℕ → Bool) (x : ℕ) (xs : List ℕ) → p x ≡ true → 0 < length (take_while p (x ∷ xs))
+pub run_some : (p : ℕ → Bool) (x : ℕ) (xs : List ℕ) → p x ≡ true → 0 < length (take_while p (x ∷ xs))
 run_some p x xs e = subst (λ (w : List ℕ). 0 < length w) (sym (take_while-cons p x xs ∙ ap (λ (b : Bool). cond b (x ∷ take_while p xs) []) e)) (let some : 0 < length (x ∷ take_while p xs) = omega arith in some)
 
 -- ---- numbers
@@ -79,7 +79,7 @@ pair_long [] e = absurd cc
 pair_long (a ∷ []) e = absurd cc
 pair_long (a ∷ b ∷ bs) e = omega arith
 
-name_begins : (b : ℕ) → is_ascii_alphabetic b ≡ true → is_name_byte b ≡ true
+pub name_begins : (b : ℕ) → is_ascii_alphabetic b ≡ true → is_name_byte b ≡ true
 name_begins b e = rw e refl
 
 pub sized_front : (b : ℕ) (bs : List ℕ) → Sized (front_of b (b ∷ bs)) (length (b ∷ bs))

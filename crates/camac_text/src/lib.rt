@@ -6,6 +6,7 @@ mod declarations;
 mod fault;
 mod names;
 mod naming;
+mod reading;
 mod scanner;
 mod signs;
 mod statements;
@@ -14,5 +15,6 @@ mod words;
 
 pub use cursor::Parser;
 pub use fault::{TextFault, TextRule};
+pub use reading::parse;
 pub use scanner::{Front, tokens};
 pub use token::{Keyword, Sign, Token, TokenKind};
