@@ -1,0 +1,4 @@
+pub mod Transfers
+pub mod Lists
+pub mod Laws
+pub mod Bounds
