@@ -6,6 +6,7 @@ mod DemandRows
 mod LockRows
 mod ProcedureRows
 mod SafeRows
+mod SamplePlan
 pub mod Values
 pub mod Contexts
 pub mod Extends
