@@ -9,3 +9,4 @@ pub mod Bodies
 pub mod Declares
 pub mod Fitting
 pub mod WellFormed
+pub mod Cuts
