@@ -10,3 +10,4 @@ pub mod Declares
 pub mod Fitting
 pub mod WellFormed
 pub mod Cuts
+pub mod Uncut

@@ -1,5 +1,6 @@
 -- How a text is cut into gaps and tokens, in the words of the language.
-use Rattle.std.specs.Prelude.{◌≡◌, ℕ, ◌+◌, ◌≤◌, ◌<◌, Bool, true, false, not, ◌==◌, List, [], ◌∷◌, ◌++◌, length, count_by, Option, Some, None, ◌⊎◌}
+use Rattle.std.specs.Prelude.{◌≡◌, ℕ, ◌+◌, ◌≤◌, ◌<◌, Bool, true, false, ◌==◌, List, [], ◌∷◌, ◌++◌, length, count_by, Option, Some, None, Result, Ok, Err, ◌⊎◌}
+use Rattle.std.specs.Global.{Vec}
 use Rattle.std.specs.List.{list_all}
 use Rattle.std.specs.Char.{is_ascii_digit, is_ascii_alphabetic}
 use Rattle.camac_text.specs.declared.token.Keyword.{Keyword}
@@ -7,6 +8,8 @@ use Rattle.camac_text.specs.declared.token.Sign.{Sign}
 use Rattle.camac_text.specs.declared.token.Token.{Token}
 use Rattle.camac_text.specs.declared.token.TokenKind.{TokenKind}
 use Rattle.camac_text.specs.declared.token.TokenKind.TheVariants as kind
+use Rattle.camac_text.specs.declared.fault.TextFault.{TextFault}
+use Rattle.camac_text.specs.declared.fault.TextFault.TheVariants as fault
 use Rattle.camac_text.specs.Scanning.{is_name_byte, is_blank, is_no_line_feed, decimal_value, line_number, pair_at}
 use Rattle.camac_text.specs.Words.{spelled_in, keyword, pair_signs, single_signs}
 
@@ -88,3 +91,9 @@ pub record IsCut (text : List ℕ) (tokens : List Token) : Type 0 where
   pub parts : text ≡ joined pieces
   pub stand : ArePieces pieces
   pub tokens_are : tokens ≡ tokens_in 1 pieces
+
+-- The program answered these tokens, unless memory was refused.
+abbrev pub HasTokens : Result (Vec Token) TextFault → List Token → Type 0
+HasTokens (Ok v) tokens = v.items ≡ tokens
+HasTokens (Err fault.OutOfMemory) tokens = Unit {0}
+HasTokens (Err (fault.Broken rule line)) tokens = ⊥
