@@ -9,3 +9,5 @@ pub mod Bodies
 pub mod Declares
 pub mod Fitting
 pub mod WellFormed
+pub mod Cuts
+pub mod Uncut

@@ -1,6 +1,7 @@
 pub mod Words
 pub mod Fault
 pub mod Scanning
+pub mod Cut
 pub mod Names
 pub mod Reading
 pub mod Readers
