@@ -1,0 +1,3 @@
+pub mod Products
+pub mod Quotients
+pub mod Left
