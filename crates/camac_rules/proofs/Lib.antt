@@ -1,0 +1,9 @@
+pub mod Allows
+pub mod Stores
+pub mod Values
+pub mod Walks
+pub mod Regions
+pub mod Sound
+pub mod Locks
+pub mod Cycles
+pub mod Statements
