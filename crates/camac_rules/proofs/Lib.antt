@@ -7,3 +7,4 @@ pub mod Sound
 pub mod Locks
 pub mod Cycles
 pub mod Statements
+pub mod Services
