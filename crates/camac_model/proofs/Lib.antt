@@ -1,0 +1,15 @@
+pub mod Values
+pub mod Contexts
+pub mod Extends
+pub mod Longer
+pub mod Rules
+pub mod Kept
+pub mod Counts
+pub mod Usage
+pub mod Runs
+pub mod Locks
+pub mod Short
+pub mod Fine
+pub mod Rounds
+pub mod Services
+pub mod Headline
