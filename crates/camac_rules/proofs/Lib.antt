@@ -8,3 +8,5 @@ pub mod Locks
 pub mod Cycles
 pub mod Statements
 pub mod Services
+pub mod Orders
+pub mod Accepted

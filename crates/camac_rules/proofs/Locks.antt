@@ -2,7 +2,7 @@
 use Rattle.std.proofs.Common.{◌≡◌, ℕ, Option, Some, None, refl, sym, ap}
 use Rattle.std.specs.Prelude.{nat_eq}
 use Rattle.std.proofs.lemmas.Bool.{eqb-true, cond_both}
-use Rattle.camac_crate.specs.declared.controller.ControllerOp.{ControllerOp}
+use Rattle.camac_crate.specs.declared.command.ControllerOp.{ControllerOp}
 use Rattle.camac_crate.specs.Controller.{controller}
 use Rattle.camac_crate.specs.State.{CrateBits, effect}
 use Rattle.camac_branch.specs.Address.{Address}

@@ -17,6 +17,7 @@ use Rattle.camac_rules.specs.Known.{Known, facts}
 use Rattle.camac_rules.specs.Costs.{costs, Verdict}
 use Rattle.camac_rules.specs.Cycles.{Context, Around, nothing_around}
 use Rattle.camac_rules.specs.Statements.{accept_block}
+use Rattle.camac_rules.specs.Laws.{EventsFit}
 use Rattle.camac_rules.specs.Accept.{at_start, within, accept_service, accept_items}
 use Rattle.camac_rules.proofs.Allows.{Allows, allowed, refused, then_allowed, required_allowed}
 use Rattle.camac_rules.proofs.Stores.{Inside}
@@ -73,6 +74,7 @@ AreAccepted plan script [] vs = Unit {0}
 AreAccepted plan script (k ∷ ks) [] = ⊥
 AreAccepted plan script (k ∷ ks) (v ∷ vs) = IsAccepted plan script v k × AreAccepted plan script ks vs
 
+-- how many services these items name
 abbrev pub services_in : List Item → ℕ
 services_in [] = 0
 services_in (next_table ∷ rest) = services_in rest
@@ -81,11 +83,11 @@ services_in (next_variables line n ∷ rest) = services_in rest
 services_in (next_procedure ∷ rest) = services_in rest
 services_in (next_service ∷ rest) = services_in rest + 1
 
-record AreFirst (plan : Layout) (script : Script) (n : ℕ) (vs : List Service) (ks : List Bounds) : Type 0 where
-  accepted : AreAccepted plan script ks vs
-  count : length ks ≡ min n (length vs)
+pub record AreFirst (plan : Layout) (script : Script) (n : ℕ) (vs : List Service) (ks : List Bounds) : Type 0 where
+  pub accepted : AreAccepted plan script ks vs
+  pub count : length ks ≡ min n (length vs)
 
-items_accepted : (plan : Layout) (script : Script) → HasWidths plan → (items : List Item) (ps : List Procedure) (vs : List Service) → Allows (accept_items (seen (context plan script)) items ps vs) (AreFirst plan script (services_in items) vs)
+pub items_accepted : (plan : Layout) (script : Script) → HasWidths plan → (items : List Item) (ps : List Procedure) (vs : List Service) → Allows (accept_items (seen (context plan script)) items ps vs) (AreFirst plan script (services_in items) vs)
 items_accepted plan script narrow [] ps vs = allowed (record { accepted = tt; count = omega arith })
 items_accepted plan script narrow (next_table ∷ rest) ps vs = items_accepted plan script narrow rest ps vs
 items_accepted plan script narrow (next_lam ∷ rest) ps vs = items_accepted plan script narrow rest ps vs
@@ -103,18 +105,13 @@ items_accepted plan script narrow (next_service ∷ rest) ps (v ∷ vs) =
     then_allowed (items_accepted plan script narrow rest ps vs) (λ ks others.
     allowed (record { accepted = (first, others.accepted); count = let c = others.count in omega arith })))
 
-all_fine : (plan : Layout) (script : Script) (ks : List Bounds) (vs : List Service) → AreAccepted plan script ks vs → length ks ≡ length vs → AreFine plan script ks vs
+pub all_fine : (plan : Layout) (script : Script) (ks : List Bounds) (vs : List Service) → AreAccepted plan script ks vs → length ks ≡ length vs → AreFine plan script ks vs
 all_fine plan script [] [] h e = tt
 all_fine plan script [] (v ∷ vs) h e = absurd (omega arith)
 all_fine plan script (k ∷ ks) [] h e = absurd (omega arith)
 all_fine plan script (k ∷ ks) (v ∷ vs) h e = (h.0.fine, all_fine plan script ks vs h.1 (omega arith))
 
--- each event fits the plan's buffer
-abbrev pub EventsFit : Layout → List Service → Type 0
-EventsFit plan [] = Unit {0}
-EventsFit plan (v ∷ vs) = (v.words ≤ plan.buffer) × EventsFit plan vs
-
-all_within : (plan : Layout) (script : Script) (ks : List Bounds) (vs : List Service) → AreAccepted plan script ks vs → length ks ≡ length vs → EventsFit plan vs → AreWithinHeadings plan ks vs
+pub all_within : (plan : Layout) (script : Script) (ks : List Bounds) (vs : List Service) → AreAccepted plan script ks vs → length ks ≡ length vs → EventsFit plan vs → AreWithinHeadings plan ks vs
 all_within plan script [] [] h e f = tt
 all_within plan script [] (v ∷ vs) h e f = absurd (omega arith)
 all_within plan script (k ∷ ks) [] h e f = absurd (omega arith)

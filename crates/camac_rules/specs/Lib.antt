@@ -9,3 +9,4 @@ pub mod Cycles
 pub mod Statements
 pub mod Accept
 pub mod Capped
+pub mod Laws
