@@ -1,6 +1,6 @@
 -- Entries by their numbers from 1, and what they are after a write.
-use Rattle.std.proofs.Common.{◌≡◌, ◌≢◌, ℕ, ◌+◌, ◌-◌, ◌<◌, ◌≤◌, List, [], ◌∷◌, map, Option, Some, None, length, get_or, set, zero, suc, refl, sym, ◌∙◌, ap, arith, ◌⊎◌, inl, inr, get_or-set_same, get_or-set_other, Bool, true, false, is_some}
-use Rattle.std.proofs.lemmas.Bool.{false≢true}
+use Rattle.std.proofs.Common.{◌≡◌, ◌≢◌, ℕ, ◌-◌, ◌<◌, ◌≤◌, List, [], ◌∷◌, map, Option, Some, None, length, get_or, set, zero, suc, refl, sym, ◌∙◌, ap, arith, ◌⊎◌, inl, inr, get_or-set_same, get_or-set_other, Bool, true, false, is_some}
+use Rattle.std.proofs.lemmas.Bool.{cases_lt, false≢true}
 use Rattle.std.proofs.Math.Bool.{or-true}
 use Rattle.std.specs.List.{list_any}
 use Rattle.std.proofs.lemmas.List.{get_or_past}
@@ -52,3 +52,11 @@ numbered-read xs k d from below = any_default xs (k - 1) d None below ∙ sym (n
 pub is_none : {A : Type 0} (o : Option A) → false ≡ is_some o → o ≡ None
 is_none None e = refl
 is_none (Some x) e = absurd (false≢true e)
+
+-- a number that names something is one of those that there are
+some_at : {A : Type 0} (xs : List (Option A)) (i : ℕ) (x : A) → get_or xs i None ≡ Some x → i < length xs
+some_at xs i x h = elim (cases_lt i (length xs)) [ inl below ↦ below | inr past ↦ absurd (none_is_some x (sym (get_or_past xs i None past) ∙ h)) ]
+
+pub numbered-in_range : {A : Type 0} (xs : List (Option A)) (k : ℕ) (x : A) → numbered xs k ≡ Some x → (1 ≤ k) × (k ≤ length xs)
+numbered-in_range xs zero x h = absurd (none_is_some x h)
+numbered-in_range xs (suc i) x h = let below = some_at xs i x h in (omega arith, omega (arith, below))

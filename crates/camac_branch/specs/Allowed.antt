@@ -1,5 +1,5 @@
 -- The commands that a plan allows, and their widths.
-use Rattle.std.specs.Prelude.{ℕ, ◌+◌, ◌-◌, map, Option, Some, None, option_map, option_and_then, unwrap_or}
+use Rattle.std.specs.Prelude.{◌≡◌, ℕ, ◌+◌, ◌-◌, ◌<◌, ◌≤◌, map, Option, Some, option_map, option_and_then, unwrap_or}
 use Rattle.std.specs.List.{range_with_len}
 use Rattle.std.specs.Option.{option_or}
 use Rattle.camac_module.specs.Commands.{least_and_greatest}
@@ -19,6 +19,20 @@ allowed plan at f = option_or (declared_width plan at.crate_no at.station at.sub
 -- the width of a command, 24 where it is not allowed
 abbrev pub width : Layout → Address → (function : ℕ) → ℕ
 width plan at f = unwrap_or (allowed plan at f) 24
+
+-- a command in numbers that there are, of 1 to 24 bits
+pub record IsCommand (at : Address) (function width : ℕ) : Type 0 where
+  pub crate_from_1 : 1 ≤ at.crate_no
+  pub crate_to_7 : at.crate_no ≤ 7
+  pub station : at.station < 32
+  pub sub_address : at.sub_address < 16
+  pub function_to_31 : function < 32
+  pub width_from_1 : 1 ≤ width
+  pub width_to_24 : width ≤ 24
+
+-- what is true of each plan: it allows such commands alone
+abbrev pub AllowsCommands : Layout → Type 0
+AllowsCommands plan = (at : Address) (f w : ℕ) → allowed plan at f ≡ Some w → IsCommand at f w
 
 -- the least and the greatest width of a function from one sub-address to another, which is not before it
 abbrev pub widths : Layout → (crate_no station function first last : ℕ) → Option (ℕ × ℕ)

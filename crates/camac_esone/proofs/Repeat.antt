@@ -1,12 +1,12 @@
 -- The test of Q-repeat gives the lists of Q-repeat.
-use Rattle.std.proofs.Common.{◌≡◌, ℕ, ◌+◌, ◌-◌, ◌<◌, ◌≤◌, Bool, true, false, List, [], ◌∷◌, ◌++◌, length, refl, sym, ap, ◌∙◌, subst, arith, Option, Some, None, inl, inr}
-use Rattle.std.specs.Prelude.{◌⊎◌, ◌↔◌, ◌&&◌, nat_lt}
+use Rattle.std.proofs.Common.{◌≡◌, ℕ, ◌-◌, ◌<◌, ◌≤◌, Bool, false, List, [], ◌∷◌, ◌++◌, length, sym, ap, ◌∙◌, subst, arith, Some, None, inl, inr}
+use Rattle.std.specs.Prelude.{◌&&◌, nat_lt}
 use Rattle.std.proofs.lemmas.Bool.{and_parts, lt-ltb, ltb-true, cases_lt}
 use Rattle.std.proofs.lemmas.List.{length-append}
 use Rattle.camac_branch.specs.Address.{Address}
-use Rattle.camac_esone.specs.Transfers.{tally, when, repeat_wanted}
-use Rattle.camac_esone.specs.Lists.{Cycle, replies, EachCycle, IsShortest, IsTooFew, IsRepeatList}
-use Rattle.camac_esone.specs.Laws.{IsDriven, IsDrivenToEnd, GivesExactly, RepeatTestGivesQRepeat}
+use Rattle.camac_esone.specs.Transfers.{tally, repeat_wanted}
+use Rattle.camac_esone.specs.Lists.{Cycle, replies, EachCycle, IsRepeatList}
+use Rattle.camac_esone.specs.Laws.{IsDriven, IsDrivenToEnd, RepeatTestGivesQRepeat}
 use Rattle.camac_esone.proofs.Parts.{replies-append, length-replies, empty_or_ending, tally_more, when_true, was_true}
 use Rattle.camac_esone.proofs.Drives.{Falls, asks, gives}
 

@@ -1,11 +1,11 @@
 -- The test of the scan gives the lists of Scan.
-use Rattle.std.proofs.Common.{◌≡◌, ℕ, ◌+◌, ◌-◌, ◌<◌, ◌≤◌, Bool, true, false, cond, List, [], ◌∷◌, ◌++◌, length, refl, sym, ap, ◌∙◌, subst, arith, Option, Some, None, inl, inr, append_assoc}
-use Rattle.std.specs.Prelude.{◌⊎◌, ◌↔◌, ◌&&◌, ◌||◌, nat_eq, nat_lt, nat_le}
-use Rattle.std.proofs.lemmas.Bool.{and_parts, lt-ltb, ltb-true, ltb-false, eqb-true, or_cases, cases_lt, cases_Bool, cond_both}
+use Rattle.std.proofs.Common.{◌≡◌, ℕ, ◌+◌, ◌-◌, ◌<◌, ◌≤◌, Bool, true, false, List, [], ◌∷◌, ◌++◌, refl, sym, ap, ◌∙◌, subst, arith, Some, None, inl, inr, append_assoc}
+use Rattle.std.specs.Prelude.{◌&&◌, nat_eq, nat_lt, nat_le}
+use Rattle.std.proofs.lemmas.Bool.{and_parts, lt-ltb, ltb-true, eqb-true, or_cases, cases_lt, cases_Bool, cond_both}
 use Rattle.camac_branch.specs.Address.{Address}
-use Rattle.camac_esone.specs.Transfers.{tally, when, next_station, successor, address_after, is_by, scan_wanted}
+use Rattle.camac_esone.specs.Transfers.{tally, next_station, successor, address_after, is_by, scan_wanted}
 use Rattle.camac_esone.specs.Lists.{Cycle, replies, EachCycle, next_after, IsScanList}
-use Rattle.camac_esone.specs.Laws.{IsDriven, IsDrivenToEnd, GivesExactly, ScanTestGivesScan}
+use Rattle.camac_esone.specs.Laws.{IsDriven, IsDrivenToEnd, ScanTestGivesScan}
 use Rattle.camac_esone.proofs.Parts.{replies-append, ending_of, empty_or_ending, tally-append, tally_more, when_true, was_true}
 use Rattle.camac_esone.proofs.Drives.{Falls, asks, gives}
 

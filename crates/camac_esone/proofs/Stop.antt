@@ -1,13 +1,13 @@
 -- The test of Q-stop gives the lists of Q-stop.
-use Rattle.std.proofs.Common.{◌≡◌, ℕ, zero, suc, ◌+◌, ◌-◌, ◌<◌, ◌≤◌, Bool, true, false, List, [], ◌∷◌, ◌++◌, length, refl, sym, ap, ◌∙◌, subst, arith, Option, Some, None, inl, inr, append_assoc}
-use Rattle.std.specs.Prelude.{◌⊎◌, ◌↔◌, ◌&&◌, nat_lt, take, drop, option_map}
+use Rattle.std.proofs.Common.{◌≡◌, ℕ, suc, ◌-◌, ◌<◌, ◌≤◌, Bool, true, false, List, [], ◌∷◌, ◌++◌, length, refl, sym, ap, ◌∙◌, subst, arith, Some, None, inl, inr}
+use Rattle.std.specs.Prelude.{◌⊎◌, ◌&&◌, nat_lt, take, option_map}
 use Rattle.std.specs.Option.{unwrap_or}
-use Rattle.std.proofs.lemmas.Bool.{and_parts, lt-ltb, le-ltb, ltb-true, ltb-false, cases_Bool}
-use Rattle.std.proofs.lemmas.List.{length-append, length-take, take_all, take-append-drop}
+use Rattle.std.proofs.lemmas.Bool.{and_parts, lt-ltb, le-ltb, ltb-true, ltb-false}
+use Rattle.std.proofs.lemmas.List.{length-append, length-take, take_all}
 use Rattle.camac_branch.specs.Address.{Address}
-use Rattle.camac_esone.specs.Transfers.{all_true, when, stop_wanted}
-use Rattle.camac_esone.specs.Lists.{Cycle, replies, EachCycle, first_zero, IsStopList}
-use Rattle.camac_esone.specs.Laws.{IsDriven, IsDrivenToEnd, GivesExactly, StopTestGivesQStop}
+use Rattle.camac_esone.specs.Transfers.{all_true, stop_wanted}
+use Rattle.camac_esone.specs.Lists.{Cycle, replies, first_zero, IsStopList}
+use Rattle.camac_esone.specs.Laws.{IsDrivenToEnd, StopTestGivesQStop}
 use Rattle.camac_esone.proofs.Parts.{replies-append, length-replies, empty_or_ending, when_true, when_false, was_true, was_false}
 use Rattle.camac_esone.proofs.Drives.{Falls, gives}
 

@@ -1,5 +1,5 @@
 -- The tests for one more cycle give exactly the lists of the transfers.
-use Rattle.std.specs.Prelude.{◌≡◌, ℕ, List, [], ◌∷◌, ◌++◌, ◌⊎◌, ◌↔◌, Option, Some, None, IsSome, Bool}
+use Rattle.std.specs.Prelude.{◌≡◌, ℕ, List, [], ◌++◌, ◌⊎◌, ◌↔◌, Some, None, IsSome, Bool}
 use Rattle.camac_branch.specs.Address.{Address}
 use Rattle.camac_esone.specs.Transfers.{Wanted, stop_wanted, repeat_wanted, scan_wanted}
 use Rattle.camac_esone.specs.Lists.{Cycle, replies, EachCycle, IsStopList, IsRepeatList, IsScanList, IsCut}

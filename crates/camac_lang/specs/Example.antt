@@ -7,7 +7,7 @@
 --       cfsa 0 r -> v
 --       put v
 --     }
-use Rattle.std.specs.Prelude.{List, [], ◌∷◌, codes}
+use Rattle.std.specs.Prelude.{[], ◌∷◌, codes}
 use Rattle.camac_lang.specs.Tree.{number, variable, into, Statement, set_register, single, put, Lam, Service, next_lam, next_variables, next_service, Script}
 use Rattle.camac_lang.specs.View.{block_of}
 use Rattle.camac_lang.specs.declared.word.WordSize.TheVariants.{Full}

@@ -19,34 +19,47 @@ move_fits c no_data = true
 move_fits c (into x) = nat_lt x c.variables
 move_fits c (from e) = expression_fits c e
 
--- the number of registers that are declared after a statement, where so many are before it; none where a rule is broken
+-- the rules of a statement on all but its blocks, where so many registers are declared before it
+abbrev pub head_fits : Scope → ℕ → Statement → Bool
+head_fits c seen (assign line x e) = nat_lt x c.variables && expression_fits c e
+head_fits c seen (set_register line r k n a) =
+    nat_le r seen && (expression_fits c k && (expression_fits c n && expression_fits c a))
+head_fits c seen (single line size f r m) = is_function f && (nat_lt r seen && move_fits c m)
+head_fits c seen (address_scan line f r1 r2 e x) =
+    is_function f && (nat_lt r1 seen && (nat_lt r2 seen && (expression_fits c e && nat_lt x c.variables)))
+head_fits c seen (q_stop line f r g e x) =
+    is_function f && (nat_lt r seen && (table_fits c g && (expression_fits c e && nat_lt x c.variables)))
+head_fits c seen (q_repeat line f r g e l x) =
+    is_function f && (nat_lt r seen && (table_fits c g && (expression_fits c e && (expression_fits c l && nat_lt x c.variables))))
+head_fits c seen (put line e) = expression_fits c e
+head_fits c seen (crate_call line k e) = expression_fits c e
+head_fits c seen (lam_call line k l) = nat_lt l c.lams
+head_fits c seen (choose line t a) = condition_fits c t
+head_fits c seen (choose_else line t a b) = condition_fits c t
+head_fits c seen (count line x e1 e2 ks body) =
+    nat_lt x c.variables && (expression_fits c e1 && (expression_fits c e2 && keeps_fit c x ks))
+head_fits c seen (repeat line t turns x ks body) =
+    condition_fits c t && (is_number turns && (nat_lt x c.variables && keeps_fit c x ks))
+head_fits c seen (locked line e body) = not c.is_procedure && expression_fits c e
+head_fits c seen (call line p es) =
+    has (slice_get c.callables p) (λ q. nat_eq q.parameters (length es)) && each (expression_fits c) es
+
+-- the number of registers that are declared before a statement's blocks; none where a rule is broken
+abbrev pub begun : Scope → ℕ → Statement → Option ℕ
+begun c seen (set_register line r k n a) = unless_broken (head_fits c seen (set_register line r k n a)) (max seen (suc r))
+begun c seen s = unless_broken (head_fits c seen s) seen
+
+-- and after it
 abbrev mutual
   pub after : Scope → ℕ → Statement → Option ℕ
-  after c seen (assign line x e) = unless_broken (nat_lt x c.variables && expression_fits c e) seen
-  after c seen (set_register line r k n a) =
-      unless_broken (nat_le r seen && (expression_fits c k && (expression_fits c n && expression_fits c a))) (max seen (suc r))
-  after c seen (single line size f r m) = unless_broken (is_function f && (nat_lt r seen && move_fits c m)) seen
-  after c seen (address_scan line f r1 r2 e x) =
-      unless_broken (is_function f && (nat_lt r1 seen && (nat_lt r2 seen && (expression_fits c e && nat_lt x c.variables)))) seen
-  after c seen (q_stop line f r g e x) =
-      unless_broken (is_function f && (nat_lt r seen && (table_fits c g && (expression_fits c e && nat_lt x c.variables)))) seen
-  after c seen (q_repeat line f r g e l x) =
-      unless_broken (is_function f && (nat_lt r seen && (table_fits c g && (expression_fits c e && (expression_fits c l && nat_lt x c.variables))))) seen
-  after c seen (put line e) = unless_broken (expression_fits c e) seen
-  after c seen (crate_call line k e) = unless_broken (expression_fits c e) seen
-  after c seen (lam_call line k l) = unless_broken (nat_lt l c.lams) seen
-  after c seen (choose line t a) = option_and_then (λ s. after_block c s a) (unless_broken (condition_fits c t) seen)
+  after c seen (choose line t a) = option_and_then (λ k. after_block c k a) (begun c seen (choose line t a))
   after c seen (choose_else line t a b) =
-      option_and_then (λ s. after_block c s b) (option_and_then (λ s. after_block c s a) (unless_broken (condition_fits c t) seen))
-  after c seen (count line x e1 e2 ks body) =
-      option_and_then (λ s. after_block c s body)
-      (unless_broken (nat_lt x c.variables && (expression_fits c e1 && (expression_fits c e2 && keeps_fit c x ks))) seen)
+      option_and_then (λ k. after_block c k b) (option_and_then (λ k. after_block c k a) (begun c seen (choose_else line t a b)))
+  after c seen (count line x e1 e2 ks body) = option_and_then (λ k. after_block c k body) (begun c seen (count line x e1 e2 ks body))
   after c seen (repeat line t turns x ks body) =
-      option_and_then (λ s. after_block c s body) (unless_broken (condition_fits c t && (is_number turns && (nat_lt x c.variables && keeps_fit c x ks))) seen)
-  after c seen (locked line e body) =
-      option_and_then (λ s. after_block c s body) (unless_broken (not c.is_procedure && expression_fits c e) seen)
-  after c seen (call line p es) =
-      unless_broken (has (slice_get c.callables p) (λ q. nat_eq q.parameters (length es)) && each (expression_fits c) es) seen
+      option_and_then (λ k. after_block c k body) (begun c seen (repeat line t turns x ks body))
+  after c seen (locked line e body) = option_and_then (λ k. after_block c k body) (begun c seen (locked line e body))
+  after c seen s = begun c seen s
 
   pub after_block : Scope → ℕ → Block → Option ℕ
   after_block c seen done = Some seen

@@ -1,9 +1,9 @@
 -- Which entries there are: in a map of nothing, and after one more was declared.
-use Rattle.std.proofs.Common.{◌≡◌, ◌≢◌, ℕ, ◌<◌, ◌≤◌, Bool, true, false, not, ◌||◌, ◌&&◌, nat_eq, nat_le, List, [], ◌∷◌, Option, Some, None, is_some, option_map, IfSome, map, get_or, set, zero, suc, refl, sym, ◌∙◌, ap, arith, ◌⊎◌, inl, inr, get_or-set_other}
+use Rattle.std.proofs.Common.{◌≡◌, ◌≢◌, ℕ, ◌<◌, ◌≤◌, Bool, true, false, not, ◌||◌, ◌&&◌, nat_eq, nat_le, List, [], ◌∷◌, Option, Some, None, is_some, option_map, IfSome, map, get_or, set, zero, suc, refl, sym, ◌∙◌, ap, ◌⊎◌, inl, inr, get_or-set_other}
 use Rattle.std.proofs.lemmas.Bool.{cases_eq, false≢true, leb-true, eqb-true}
 use Rattle.std.proofs.lemmas.Option.{same_Some}
 use Rattle.std.specs.List.{range_with_len}
-use Rattle.camac_module.specs.Entry.{Entry, Entries, no_entries}
+use Rattle.camac_module.specs.Entry.{Entry, no_entries}
 use Rattle.camac_module.specs.Commands.{Commands, entry, IsDeclarable, IsCommandMap, declared, fits_width, none_declared, with_declared, width}
 use Rattle.camac_module.specs.declared.map.Decl.{Decl}
 
@@ -81,13 +81,19 @@ is_declarable d function place fits =
       probe = probe_width d (and_right (nat_le 1 d.width && nat_le d.width 24) _ fits);
     }
 
-width_of : (m : Commands) → IsCommandMap m → (f a w : ℕ) (o : Option Entry) → entry m f a ≡ o → option_map (λ e. e.width) o ≡ Some w → (1 ≤ w) × (w ≤ 24)
+width_of : (m : Commands) → IsCommandMap m → (f a w : ℕ) (o : Option Entry) → entry m f a ≡ o → option_map (λ e. e.width) o ≡ Some w
+    → (f < 32) × (a < 16) × (1 ≤ w) × (w ≤ 24)
 width_of m is f a w None at h = absurd (none_is_some w h)
-width_of m is f a w (Some e) at h = let entry_is = is f a e at in rw (← same_Some _ _ h) (entry_is.width_from_1, entry_is.width_to_24)
+width_of m is f a w (Some e) at h =
+    let known = is f a e at in
+    rw (← same_Some _ _ h) (known.function, known.sub_address, known.width_from_1, known.width_to_24)
 
--- a declared width is in its range
+-- a declared command has numbers that there are, and a width in its range
+pub width-known : (m : Commands) → IsCommandMap m → (f a w : ℕ) → width m f a ≡ Some w → (f < 32) × (a < 16) × (1 ≤ w) × (w ≤ 24)
+width-known m is f a w h = width_of m is f a w (entry m f a) refl h
+
 pub width-in_range : (m : Commands) → IsCommandMap m → (f a w : ℕ) → width m f a ≡ Some w → (1 ≤ w) × (w ≤ 24)
-width-in_range m is f a w h = width_of m is f a w (entry m f a) refl h
+width-in_range m is f a w h = let known = width-known m is f a w h in (known.2, known.3)
 
 -- the same of a width that there may be
 pub width-if_some : (m : Commands) → IsCommandMap m → (f a : ℕ) (o : Option ℕ) → o ≡ width m f a → IfSome o (λ w. (1 ≤ w) × (w ≤ 24))

@@ -7,7 +7,7 @@ use Rattle.std.proofs.lemmas.List.Sums.{count_by-le-length}
 use lib.Count.{ones}
 use Rattle.camac_module.proofs.Bits.{one_if, bit_cases, bit-and, ones-counted}
 use Rattle.std.proofs.lemmas.List.FromFn.{length-map-range_with_len, get_or-map-range_with_len, fill_by_all}
-use Rattle.camac_module.specs.Entry.{Entry, Entries, no_entries, is_probe_entry, count_commands, count_probes}
+use Rattle.camac_module.specs.Entry.{Entries, no_entries, is_probe_entry, count_commands, count_probes}
 use Rattle.camac_module.specs.Row.{bit, entry_of, entries_of}
 use Rattle.std.proofs.lemmas.List.{get_or-map, map-set, length-map, length-replicate, get_or-replicate}
 use Rattle.camac_module.specs.Commands.{none_declared, with_declared}

@@ -1,11 +1,11 @@
 -- Sums over rows of which those past a place have no entry.
-use Rattle.std.proofs.Common.{◌≡◌, ℕ, ◌+◌, ◌<◌, ◌≤◌, List, [], ◌∷◌, Option, Some, None, is_some, map, get_or, take, zero, suc, length, min, refl, sym, ◌∙◌, ap, arith, ◌⊎◌, inl, inr}
+use Rattle.std.proofs.Common.{◌≡◌, ℕ, ◌<◌, ◌≤◌, List, [], ◌∷◌, Option, Some, None, map, get_or, take, zero, suc, length, min, refl, sym, ◌∙◌, ap, arith, ◌⊎◌, inl, inr}
 use Rattle.std.specs.List.{sum_by}
 use Rattle.std.proofs.lemmas.Bool.{cases_lt}
 use Rattle.std.proofs.Math.Seq.{take-nil}
 use Rattle.std.proofs.lemmas.List.{get_or-map}
 use Rattle.std.proofs.lemmas.List.Sums.{sum_by-cons}
-use Rattle.camac_module.specs.Entry.{Entry, Entries, is_probe_entry, count_commands, count_probes}
+use Rattle.camac_module.specs.Entry.{Entry, Entries, count_commands, count_probes}
 use Rattle.camac_module.specs.Row.{entries_of}
 use Rattle.camac_module.specs.Commands.{Commands, IsCommandMap, entry}
 use Rattle.camac_module.specs.declared.row.Row.{Row}

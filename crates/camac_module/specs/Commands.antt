@@ -1,5 +1,5 @@
 -- The declared commands of a module, by sub-address and function.
-use Rattle.std.specs.Prelude.{◌≡◌, ℕ, ◌+◌, ◌-◌, ◌<◌, ◌≤◌, Bool, true, false, not, ◌&&◌, ◌||◌, nat_le, nat_lt, nat_eq, min, max, List, [], ◌∷◌, map, Option, Some, None, option_map, is_some, if◌then◌else◌, slice_index_or, slice_set, sum_by}
+use Rattle.std.specs.Prelude.{◌≡◌, ℕ, ◌+◌, ◌-◌, ◌<◌, ◌≤◌, Bool, true, not, ◌&&◌, ◌||◌, nat_le, nat_lt, nat_eq, min, max, List, [], ◌∷◌, map, Option, Some, None, option_map, is_some, if◌then◌else◌, slice_index_or, slice_set, sum_by}
 use Rattle.std.specs.List.{range_with_len}
 use Rattle.camac_module.specs.Entry.{Entry, Entries, no_entries, count_commands, count_probes}
 use Rattle.camac_module.specs.declared.map.Decl.{Decl}

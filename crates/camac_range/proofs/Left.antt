@@ -1,14 +1,12 @@
 -- What a comparison leaves of an interval.
-use Rattle.std.proofs.Common.{◌≡◌, ℕ, ◌+◌, ◌-◌, ◌<◌, ◌≤◌, Bool, true, false, cond, refl, sym, ap, ◌∙◌, subst, arith, Option, Some, None, inl, inr}
-use Rattle.std.specs.Prelude.{min, max, nat_lt, nat_le, nat_eq, not}
+use Rattle.std.proofs.Common.{◌≡◌, ℕ, ◌+◌, ◌-◌, ◌<◌, ◌≤◌, cond, refl, sym, ap, subst, arith, Some, None, inl, inr}
+use Rattle.std.specs.Prelude.{min, max, nat_le, nat_eq, not}
 use Rattle.std.proofs.lemmas.Bool.{ltb-true, leb-true, leb-false, eqb-true, eqb-false, lt-ltb, le-leb, eq-eqb, ne_eqb, cases_eq, cond_both, not-true}
-use Rattle.camac_range.specs.declared.comparison.Cmp.{Cmp}
 use Rattle.camac_range.specs.declared.comparison.Cmp.TheVariants.{Less, AtMost, More, AtLeast, Same, Differs}
-use Rattle.camac_range.specs.Compare.{compared}
 use Rattle.camac_range.specs.Number.{greatest}
-use Rattle.camac_range.specs.Interval.{Interval, interval, IsWithin, span, meet}
-use Rattle.camac_range.specs.Narrow.{below, above, without, narrow}
-use Rattle.camac_range.specs.Laws.{HasNumber, IsAround, IsLeft, IsInBoth, Meets, NarrowKeeps}
+use Rattle.camac_range.specs.Interval.{Interval, interval, IsWithin, meet}
+use Rattle.camac_range.specs.Narrow.{below, above, without}
+use Rattle.camac_range.specs.Laws.{HasNumber, IsLeft, IsInBoth, Meets, NarrowKeeps}
 
 -- a property of exactly the numbers that are in both
 record IsMeet (P : ℕ → Type 0) (r s : Interval) : Type 0 where

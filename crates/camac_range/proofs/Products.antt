@@ -1,13 +1,12 @@
 -- Products of the numbers of two intervals.
-use Rattle.std.proofs.Common.{◌≡◌, ℕ, ◌*◌, ◌≤◌, Bool, true, false, cond, sym, ap, subst, arith, Option, Some, None}
+use Rattle.std.proofs.Common.{◌≡◌, ℕ, ◌*◌, ◌≤◌, cond, sym, ap, subst, arith, Some, None}
 use Rattle.std.specs.Prelude.{nat_le}
 use Rattle.std.proofs.Math.Nat.{le_trans}
 use Rattle.std.proofs.lemmas.Bool.{leb-true, le-leb, cond_both}
 use Rattle.std.proofs.lemmas.Nat.{mul-le}
 use Rattle.camac_range.specs.Number.{greatest, in_range, product_of}
 use Rattle.camac_range.specs.Interval.{Interval, interval, IsWithin}
-use Rattle.camac_range.specs.Operators.{mul}
-use Rattle.camac_range.specs.Laws.{HasNumber, IsValueWithin, IsValue, ContainsValues, HasValues, IsExact, ProductsAreExact}
+use Rattle.camac_range.specs.Laws.{HasNumber, IsValueWithin, IsExact, ProductsAreExact}
 
 -- a number up to the greatest has itself as its value
 in_range-at : (n : ℕ) → n ≤ greatest → in_range n ≡ Some n

@@ -1,12 +1,11 @@
 -- Quotients and remainders of the numbers of an interval by one number.
-use Rattle.std.proofs.Common.{◌≡◌, ℕ, ◌-◌, ◌/◌, ◌%◌, ◌<◌, ◌≤◌, Bool, true, false, cond, sym, ap, subst, arith, Option, Some, None}
+use Rattle.std.proofs.Common.{◌≡◌, ℕ, ◌-◌, ◌/◌, ◌%◌, ◌<◌, ◌≤◌, false, cond, sym, ap, subst, arith, Some, None}
 use Rattle.std.specs.Prelude.{nat_eq, nat_lt}
 use Rattle.std.proofs.Math.Nat.{le-div_iff_mul-le, div-mul-le_self, mod-lt, mod-eq_of_lt, le_trans}
 use Rattle.std.proofs.lemmas.Bool.{ltb-true, eqb-true, eqb-false, cond_both}
 use Rattle.camac_range.specs.Number.{quotient_of, rest_of}
 use Rattle.camac_range.specs.Interval.{Interval, interval, only, IsWithin}
-use Rattle.camac_range.specs.Operators.{div, rem}
-use Rattle.camac_range.specs.Laws.{HasNumber, IsValueWithin, IsValue, ContainsValues, HasValues, IsExact, ContainsRests, QuotientsAreExact, RestsAreContained}
+use Rattle.camac_range.specs.Laws.{IsValueWithin, IsExact, ContainsRests, QuotientsAreExact, RestsAreContained}
 
 div_mono : (a b d : ℕ) → 0 < d → a ≤ b → a / d ≤ b / d
 div_mono a b d pos h = (le-div_iff_mul-le pos).1 (le_trans (div-mul-le_self a d) h)

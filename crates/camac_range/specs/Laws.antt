@@ -1,5 +1,5 @@
 -- What the intervals say of the numbers in them.
-use Rattle.std.specs.Prelude.{◌≡◌, ℕ, ◌≤◌, Bool, true, not, Option, Some, None, IsTrue, ◌↔◌, ◌⊎◌}
+use Rattle.std.specs.Prelude.{◌≡◌, ℕ, ◌≤◌, true, not, Option, Some, None, IsTrue, ◌↔◌, ◌⊎◌}
 use Rattle.camac_range.specs.declared.comparison.Cmp.{Cmp}
 use Rattle.camac_range.specs.Compare.{compared, opposite, turned}
 use Rattle.camac_range.specs.Number.{greatest, sum_of, difference_of, product_of, quotient_of, rest_of}

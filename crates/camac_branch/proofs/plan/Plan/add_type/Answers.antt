@@ -1,4 +1,4 @@
-use Rattle.std.proofs.Common.{◌≡◌, ◌<◌, sym, subst, List, length, rules}
+use Rattle.std.proofs.Common.{◌<◌, sym, subst, List, length, rules}
 use Rattle.camac_branch.specs.Plan.{IsPlan, Layout}
 use Rattle.camac_branch.specs.declared.plan.Kind.{Kind}
 use Rattle.camac_branch.proofs.Plans.{is_plan-with_type}

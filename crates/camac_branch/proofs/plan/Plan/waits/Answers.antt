@@ -1,4 +1,4 @@
-use Rattle.std.proofs.Common.{◌≡◌, ◌-◌, ◌<◌, ◌≤◌, length, sym, ◌∙◌, ap, option_map, Some, arith}
+use Rattle.std.proofs.Common.{◌≡◌, ◌-◌, ◌<◌, length, sym, ◌∙◌, ap, option_map, Some, arith}
 use Rattle.camac_branch.specs.Plan.{numbered}
 use Rattle.camac_branch.proofs.Numbered.{numbered-read}
 use Rattle.camac_branch.proofs.plan.Plan.waits.Goals as goal

@@ -8,4 +8,4 @@ use Rattle.camac_branch.proofs.plan.Plan.widths.Given as goal
 abbrev pub invariant-places : goal.invariant-places
 invariant-places l =
     extremes (l.least, l.greatest) (map (λ a. allowed l.self (address l.c l.n a) l.f) (range_with_len l.a (l.a-end - l.a)))
-      ≡ widths l.self l.c l.n l.f l.fn.first l.fn.last
+    ≡ widths l.self l.c l.n l.f l.fn.first l.fn.last

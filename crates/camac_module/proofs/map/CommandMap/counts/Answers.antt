@@ -1,7 +1,5 @@
-use Rattle.std.proofs.Common.{◌≡◌, ◌≤◌, ◌⊎◌, inl, inr, length, take, ◌∙◌, refl}
-use Rattle.std.specs.List.{sum_by}
+use Rattle.std.proofs.Common.{◌≤◌, ◌⊎◌, length, take, ◌∙◌, refl}
 use Rattle.std.proofs.lemmas.List.{take_all}
-use Rattle.camac_module.specs.Commands.{counts}
 use Rattle.camac_module.proofs.Sums.{commands-counted, probes-counted, min_enough}
 use Rattle.camac_module.proofs.map.CommandMap.counts.Goals as goal
 

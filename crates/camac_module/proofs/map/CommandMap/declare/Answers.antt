@@ -1,4 +1,4 @@
-use Rattle.std.proofs.Common.{◌≡◌, ◌<◌, ◌∙◌, length, arith, subst, sym, map}
+use Rattle.std.proofs.Common.{◌<◌, length, subst, sym, map}
 use Rattle.camac_module.specs.Row.{entries_of}
 use Rattle.camac_module.specs.Commands.{IsCommandMap}
 use Rattle.camac_module.proofs.Rows.{map-entries_of-declared}

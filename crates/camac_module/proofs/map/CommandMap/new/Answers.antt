@@ -1,5 +1,5 @@
-use Rattle.std.proofs.Common.{◌≡◌, subst, sym}
-use Rattle.camac_module.specs.Commands.{Commands, IsCommandMap}
+use Rattle.std.proofs.Common.{subst, sym}
+use Rattle.camac_module.specs.Commands.{IsCommandMap}
 use Rattle.camac_module.proofs.Rows.{map-new}
 use Rattle.camac_module.proofs.Entries.{is_command_map-none_declared}
 use Rattle.camac_module.proofs.map.CommandMap.new.Goals as goal

@@ -1,5 +1,4 @@
-use Rattle.std.proofs.Common.{refl, rules, sym, ◌∙◌, ◌≡◌, Some, arith}
-use Rattle.std.proofs.lemmas.Grind.{common_steps}
+use Rattle.std.proofs.Common.{sym, ◌∙◌, ◌≡◌, Some}
 use Rattle.camac_module.specs.Commands.{width}
 use Rattle.camac_module.proofs.Widths.{extremes-first, extremes-next}
 use Rattle.camac_module.proofs.map.CommandMap.widths.Goals as goal
