@@ -122,12 +122,14 @@ control_sound : (c : Context) (around : Around) (line : ℕ) (size : WordSize) (
 control_sound c around line size f r k =
     then_allowed (given_allowed (region_at k.registers r) _ line) (λ g set.
     then_allowed (command_allowed c.plan line f g) (λ w every.
-    required_allowed _ line (λ class. allows (record { each = λ n le s i.
-      let a = can_cycle c.plan around g w f r k s set every i in
-      with_given c.plan around (Some k) (costs (cycle_cost c.plan around.locked g.crates) 0 1) s (stepped s) (s.registers r) (λ at. act c.plan at f size no_data) a.at a.is
-      (register_sound c.plan around (Some k) k s g w f r moved.None (λ reply. ends) a i
-      (record { width = a.allowed.width; is_allowed = a.allowed.allowed; is_of_class = controls (class_of f) class; fits_width = tt })
-      (λ reply wait rest le. cycle_ends c.plan around k s a.at f (cycle_cost c.plan around.locked g.crates) reply wait rest i le)); }))))
+    required_allowed _ line (λ class. allows (record {
+      each = λ n le s i.
+          let a = can_cycle c.plan around g w f r k s set every i in
+          with_given c.plan around (Some k) (costs (cycle_cost c.plan around.locked g.crates) 0 1) s (stepped s) (s.registers r) (λ at. act c.plan at f size no_data) a.at a.is
+          (register_sound c.plan around (Some k) k s g w f r moved.None (λ reply. ends) a i
+          (record { width = a.allowed.width; is_allowed = a.allowed.allowed; is_of_class = controls (class_of f) class; fits_width = tt })
+          (λ reply wait rest le. cycle_ends c.plan around k s a.at f (cycle_cost c.plan around.locked g.crates) reply wait rest i le));
+    }))))
 
 sized_least : (size : WordSize) (v w : ℕ) → v ≤ w → sized size v ≤ sized size w
 sized_least Full v w h = h
@@ -174,26 +176,28 @@ read_sound c narrow around line size f r x k =
     required_allowed _ line (λ may.
     then_allowed (given_allowed (region_at k.registers r) _ line) (λ g set.
     then_allowed (command_allowed c.plan line f g) (λ w every.
-    required_allowed _ line (λ class. allows (record { each = λ n le s i.
-      let u : ℕ = cycle_cost c.plan around.locked g.crates in
-      let range : Interval = interval 0 (2 ^ sized size w.hi - 1) in
-      let a = can_cycle c.plan around g w f r k s set every i in
-      let go : Reply → Action = λ reply t. ends (with_variable x (kept (sized size (width c.plan a.at f)) reply) t) in
-      with_given c.plan around (Some (with_range x range k)) (costs u 0 1) s (stepped s) (s.registers r) (λ at. act c.plan at f size (into x)) a.at a.is
-      (register_sound c.plan around (Some (with_range x range k)) k s g w f r moved.In go a i
-      (record { width = a.allowed.width; is_allowed = a.allowed.allowed; is_of_class = reads (class_of f) class; fits_width = tt })
-      (λ reply wait rest lt.
-      let t : State = after_cycle a.at f reply wait rest (stepped s) in
-      let is : a.allowed.width ≡ width c.plan a.at f = ap (λ o. unwrap_or o 24) (sym a.allowed.allowed) in
-      let word : Fits range (kept (sized size (width c.plan a.at f)) reply) =
-      subst (λ v. Fits range (reply.word % 2 ^ sized size v)) is
-      (kept_fits size a.allowed.width w.hi reply.word a.allowed.high (narrow a.at f a.allowed.width a.allowed.allowed)) in
-      let v : ℕ = kept (sized size (width c.plan a.at f)) reply in
-      record {
-        reaches = inside_written around k x v range t (inside_cycle around k a.at f reply wait rest s i) word;
-        paid = paid_written (costs u 0 1) x v s t (paid_cycle a.at f reply wait u rest s lt);
-        untouched = written_other around x v s.variables may;
-      })); })))))
+    required_allowed _ line (λ class. allows (record {
+      each = λ n le s i.
+          let u : ℕ = cycle_cost c.plan around.locked g.crates in
+          let range : Interval = interval 0 (2 ^ sized size w.hi - 1) in
+          let a = can_cycle c.plan around g w f r k s set every i in
+          let go : Reply → Action = λ reply t. ends (with_variable x (kept (sized size (width c.plan a.at f)) reply) t) in
+          with_given c.plan around (Some (with_range x range k)) (costs u 0 1) s (stepped s) (s.registers r) (λ at. act c.plan at f size (into x)) a.at a.is
+          (register_sound c.plan around (Some (with_range x range k)) k s g w f r moved.In go a i
+          (record { width = a.allowed.width; is_allowed = a.allowed.allowed; is_of_class = reads (class_of f) class; fits_width = tt })
+          (λ reply wait rest lt.
+          let t : State = after_cycle a.at f reply wait rest (stepped s) in
+          let is : a.allowed.width ≡ width c.plan a.at f = ap (λ o. unwrap_or o 24) (sym a.allowed.allowed) in
+          let word : Fits range (kept (sized size (width c.plan a.at f)) reply) =
+          subst (λ v. Fits range (reply.word % 2 ^ sized size v)) is
+          (kept_fits size a.allowed.width w.hi reply.word a.allowed.high (narrow a.at f a.allowed.width a.allowed.allowed)) in
+          let v : ℕ = kept (sized size (width c.plan a.at f)) reply in
+          record {
+            reaches = inside_written around k x v range t (inside_cycle around k a.at f reply wait rest s i) word;
+            paid = paid_written (costs u 0 1) x v s t (paid_cycle a.at f reply wait u rest s lt);
+            untouched = written_other around x v s.variables may;
+          }));
+    })))))
 
 -- a value up to one that fits the word's size
 size_fits : (size : WordSize) (v most : ℕ) → v ≤ most → fits_size size most ≡ true → fits_size size v ≡ true
@@ -206,22 +210,24 @@ write_sound c around line size f r e k =
     then_allowed (given_allowed (region_at k.registers r) _ line) (λ g set.
     then_allowed (command_allowed c.plan line f g) (λ w every.
     required_allowed _ line (λ class.
-    required_allowed _ line (λ fitting. allows (record { each = λ n le s i.
-      let u : ℕ = cycle_cost c.plan around.locked g.crates in
-      let a = can_cycle c.plan around g w f r k s set every i in
-      let sent = value_of (value e s.variables) v (gives s.variables i.variables) in
-      let both = and_parts (nat_lt v.hi (2 ^ w.lo)) (fits_size size v.hi) fitting in
-      let pos : 0 < 2 = omega arith in
-      let below : v.hi < 2 ^ w.lo = ltb-true v.hi (2 ^ w.lo) both.0 in
-      let most : sent.number ≤ v.hi = sent.fits.within.high in
-      let more : 2 ^ w.lo ≤ 2 ^ a.allowed.width = pow-le-pow_right pos a.allowed.low in
-      let send : ℕ → Action = λ m t. cycle c.plan a.at f (moved.Out m) t.answers (λ reply. ends) t in
-      with_given c.plan around (Some k) (costs u 0 1) s (stepped s) (s.registers r) (λ at. act c.plan at f size (from e)) a.at a.is
-      (with_given c.plan around (Some k) (costs u 0 1) s (stepped s) (value e s.variables) (λ m. unless_wrong (fits_size size m) (send m)) sent.number sent.is
-      (with_test c.plan around (Some k) (costs u 0 1) s (stepped s) (fits_size size sent.number) (send sent.number) (size_fits size sent.number v.hi most both.1)
-      (register_sound c.plan around (Some k) k s g w f r (moved.Out sent.number) (λ reply. ends) a i
-      (record { width = a.allowed.width; is_allowed = a.allowed.allowed; is_of_class = writes (class_of f) sent.number class; fits_width = omega arith })
-      (λ reply wait rest lt. cycle_ends c.plan around k s a.at f u reply wait rest i lt)))); }))))))
+    required_allowed _ line (λ fitting. allows (record {
+      each = λ n le s i.
+          let u : ℕ = cycle_cost c.plan around.locked g.crates in
+          let a = can_cycle c.plan around g w f r k s set every i in
+          let sent = value_of (value e s.variables) v (gives s.variables i.variables) in
+          let both = and_parts (nat_lt v.hi (2 ^ w.lo)) (fits_size size v.hi) fitting in
+          let pos : 0 < 2 = omega arith in
+          let below : v.hi < 2 ^ w.lo = ltb-true v.hi (2 ^ w.lo) both.0 in
+          let most : sent.number ≤ v.hi = sent.fits.within.high in
+          let more : 2 ^ w.lo ≤ 2 ^ a.allowed.width = pow-le-pow_right pos a.allowed.low in
+          let send : ℕ → Action = λ m t. cycle c.plan a.at f (moved.Out m) t.answers (λ reply. ends) t in
+          with_given c.plan around (Some k) (costs u 0 1) s (stepped s) (s.registers r) (λ at. act c.plan at f size (from e)) a.at a.is
+          (with_given c.plan around (Some k) (costs u 0 1) s (stepped s) (value e s.variables) (λ m. unless_wrong (fits_size size m) (send m)) sent.number sent.is
+          (with_test c.plan around (Some k) (costs u 0 1) s (stepped s) (fits_size size sent.number) (send sent.number) (size_fits size sent.number v.hi most both.1)
+          (register_sound c.plan around (Some k) k s g w f r (moved.Out sent.number) (λ reply. ends) a i
+          (record { width = a.allowed.width; is_allowed = a.allowed.allowed; is_of_class = writes (class_of f) sent.number class; fits_width = omega arith })
+          (λ reply wait rest lt. cycle_ends c.plan around k s a.at f u reply wait rest i lt))));
+    }))))))
 
 single_sound : (c : Context) → HasWidths c.plan → (around : Around) (line : ℕ) (size : WordSize) (f r : ℕ) (m : Move) (k : Facts) → Allows (single_rule (seen c) around line size f r m k) (SoundFor c.plan around (Some k) (λ n s. effect c n (single line size f r m) (stepped s)))
 single_sound c narrow around line size f r no_data k = control_sound c around line size f r k
@@ -235,42 +241,46 @@ words_push (w ∷ ws) v h a = (a.0, words_push ws v h a.1)
 put_sound : (c : Context) (around : Around) (line : ℕ) (e : Expression) (k : Facts) → Allows (put_rule line e k) (SoundFor c.plan around (Some k) (λ n s. effect c n (put line e) (stepped s)))
 put_sound c around line e k =
     then_allowed (range_each line e k.ranges) (λ r gives.
-    required_allowed _ line (λ small. allows (record { each = λ n le s i.
-      let v = value_of (value e s.variables) r (gives s.variables i.variables) in
-      let most : r.hi ≤ greatest_word = leb-true r.hi greatest_word small in
-      let high : v.number ≤ r.hi = v.fits.within.high in
-      let long : length (s.words ++ v.number ∷ []) ≡ length s.words + 1 = length-append s.words (v.number ∷ []) in
-      with_given c.plan around (Some k) (costs 0 1 1) s (stepped s) (value e s.variables) (λ w t. ends (with_word w t)) v.number v.is
-      (record {
-        reaches = record { variables = i.variables; registers = i.registers; locks = i.locks };
-        paid = record { cycles = omega arith; words = omega arith; steps = omega arith; are_words = words_push s.words v.number (omega arith) };
-        untouched = λ y among. refl;
-      }); })))
+    required_allowed _ line (λ small. allows (record {
+      each = λ n le s i.
+          let v = value_of (value e s.variables) r (gives s.variables i.variables) in
+          let most : r.hi ≤ greatest_word = leb-true r.hi greatest_word small in
+          let high : v.number ≤ r.hi = v.fits.within.high in
+          let long : length (s.words ++ v.number ∷ []) ≡ length s.words + 1 = length-append s.words (v.number ∷ []) in
+          with_given c.plan around (Some k) (costs 0 1 1) s (stepped s) (value e s.variables) (λ w t. ends (with_word w t)) v.number v.is
+          (record {
+            reaches = record { variables = i.variables; registers = i.registers; locks = i.locks };
+            paid = record { cycles = omega arith; words = omega arith; steps = omega arith; are_words = words_push s.words v.number (omega arith) };
+            untouched = λ y among. refl;
+          });
+    })))
 
 register_set_sound : (c : Context) (around : Around) (line r : ℕ) (e1 e2 e3 : Expression) (k : Facts) → Allows (register_rule line r e1 e2 e3 k) (SoundFor c.plan around (Some k) (λ n s. effect c n (set_register line r e1 e2 e3) (stepped s)))
 register_set_sound c around line r e1 e2 e3 k =
     then_allowed (range_each line e1 k.ranges) (λ cs gives_c.
     then_allowed (range_each line e2 k.ranges) (λ ns gives_n.
-    then_allowed (range_each line e3 k.ranges) (λ subs gives_a. allows (record { each = λ n le s i.
-      let after : Known = Some (with_region r (region cs ns subs) k) in
-      let x = value_of (value e1 s.variables) cs (gives_c s.variables i.variables) in
-      let y = value_of (value e2 s.variables) ns (gives_n s.variables i.variables) in
-      let z = value_of (value e3 s.variables) subs (gives_a s.variables i.variables) in
-      let third : ℕ → ℕ → ℕ → Action = λ p q m t. ends (with_register r (address p q m) t) in
-      let second : ℕ → ℕ → Action = λ p q. given (value e3 s.variables) (third p q) in
-      let inside : InRegion (region cs ns subs) (address x.number y.number z.number) = record { crate_no = x.fits.within; station = y.fits.within; sub_address = z.fits.within } in
-      with_given c.plan around after (costs 0 0 1) s (stepped s) (value e1 s.variables) (λ p. given (value e2 s.variables) (second p)) x.number x.is
-      (with_given c.plan around after (costs 0 0 1) s (stepped s) (value e2 s.variables) (second x.number) y.number y.is
-      (with_given c.plan around after (costs 0 0 1) s (stepped s) (value e3 s.variables) (third x.number y.number) z.number z.is
-      (record {
-        reaches = record {
-          variables = i.variables;
-          registers = registers_write k.registers s.registers r (region cs ns subs) (address x.number y.number z.number) i.registers inside;
-          locks = i.locks;
-        };
-        paid = record { cycles = omega arith; words = omega arith; steps = omega arith; are_words = λ w. w };
-        untouched = λ q among. refl;
-      }))); }))))
+    then_allowed (range_each line e3 k.ranges) (λ subs gives_a. allows (record {
+      each = λ n le s i.
+          let after : Known = Some (with_region r (region cs ns subs) k) in
+          let x = value_of (value e1 s.variables) cs (gives_c s.variables i.variables) in
+          let y = value_of (value e2 s.variables) ns (gives_n s.variables i.variables) in
+          let z = value_of (value e3 s.variables) subs (gives_a s.variables i.variables) in
+          let third : ℕ → ℕ → ℕ → Action = λ p q m t. ends (with_register r (address p q m) t) in
+          let second : ℕ → ℕ → Action = λ p q. given (value e3 s.variables) (third p q) in
+          let inside : InRegion (region cs ns subs) (address x.number y.number z.number) = record { crate_no = x.fits.within; station = y.fits.within; sub_address = z.fits.within } in
+          with_given c.plan around after (costs 0 0 1) s (stepped s) (value e1 s.variables) (λ p. given (value e2 s.variables) (second p)) x.number x.is
+          (with_given c.plan around after (costs 0 0 1) s (stepped s) (value e2 s.variables) (second x.number) y.number y.is
+          (with_given c.plan around after (costs 0 0 1) s (stepped s) (value e3 s.variables) (third x.number y.number) z.number z.is
+          (record {
+            reaches = record {
+              variables = i.variables;
+              registers = registers_write k.registers s.registers r (region cs ns subs) (address x.number y.number z.number) i.registers inside;
+              locks = i.locks;
+            };
+            paid = record { cycles = omega arith; words = omega arith; steps = omega arith; are_words = λ w. w };
+            untouched = λ q among. refl;
+          })));
+    }))))
 
 pub statement_sound : (c : Context) → HasWidths c.plan → (around : Around) (st : Statement) (k : Facts) → Allows (accept_statement (seen c) around st k) (SoundFor c.plan around (Some k) (λ n s. effect c n st (stepped s)))
 statement_sound c narrow around (set_register line r e1 e2 e3) k = register_set_sound c around line r e1 e2 e3 k
@@ -298,5 +308,7 @@ block_sound c narrow around (next st rest) k =
     then_allowed
     (if_reached_allowed unreached first.after (accept_block (seen c) around rest) (λ known. SoundFor c.plan around known (λ n. block_meaning c n rest))
     (record { each = λ n le s i. absurd i }) (λ q. block_sound c narrow around rest q)) (λ second g.
-    allows (record { each = λ n le s i.
-      sound_then c.plan around first.after second.after first.costs second.costs s (effect c n st (stepped s)) (block_meaning c n rest) (h.each n le s i) (λ t j. g.each n le t j); })))
+    allows (record {
+      each = λ n le s i.
+          sound_then c.plan around first.after second.after first.costs second.costs s (effect c n st (stepped s)) (block_meaning c n rest) (h.each n le s i) (λ t j. g.each n le t j);
+    })))

@@ -24,7 +24,7 @@ in_plan plan c = is_some (crate_waits plan c)
 
 -- a station that has a module, or that the controller answers for
 abbrev pub is_station : Layout → ℕ → ℕ → Bool
-is_station plan c n = in_plan plan c && (is_some (station plan c n) || (nat_eq n 28 || nat_eq n 30))
+is_station plan c n = is_some (station plan c n) || (nat_eq n 28 || nat_eq n 30)
 
 -- all numbers of a range are below an end and pass a test
 abbrev pub all_in : ℕ → Interval → (ℕ → Bool) → Bool
