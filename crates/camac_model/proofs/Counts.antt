@@ -1,5 +1,5 @@
 -- What a service counts is what its pieces tell.
-use Rattle.std.proofs.Common.{◌≡◌, ℕ, zero, suc, ◌+◌, List, [], ◌∷◌, Bool, true, false, refl, sym, ◌∙◌, ap, subst, arith}
+use Rattle.std.proofs.Common.{◌≡◌, ℕ, zero, suc, ◌+◌, List, [], ◌∷◌, Bool, true, false, refl, sym, ◌∙◌, ap, subst, arith, length}
 use Rattle.std.specs.Prelude.{min, drop}
 use Rattle.camac_branch.specs.Branch.{Answer}
 use Rattle.camac_model.specs.State.{State, missed_with, fresh}
@@ -11,10 +11,10 @@ use Rattle.camac_model.proofs.Rules.{Meets}
 use Rattle.camac_model.proofs.Kept.{IsStepwise, script_keeps}
 
 -- a number that each piece adds to
-abbrev adding : (Piece → ℕ) → ℕ → Piece → ℕ
+abbrev pub adding : (Piece → ℕ) → ℕ → Piece → ℕ
 adding f x p = x + f p
 
-abbrev sum_of : (Piece → ℕ) → List Piece → ℕ
+abbrev pub sum_of : (Piece → ℕ) → List Piece → ℕ
 sum_of f [] = 0
 sum_of f (p ∷ ps) = f p + sum_of f ps
 
@@ -28,7 +28,7 @@ module _ (f : Piece → ℕ) (I : ℕ → State → Type 0) where
   in_all x (ends s) h k e = let same : x ≡ k = omega (arith, e) in subst (λ j. I j s) same h
   in_all x (stops w s) h k e = let same : x ≡ k = omega (arith, e) in subst (λ j. I j s) same h
 
-abbrev AnyPiece : ℕ → Piece → Type 0
+abbrev pub AnyPiece : ℕ → Piece → Type 0
 AnyPiece x p = Unit {0}
 
 abbrev Cycles : ℕ → State → Type 0
@@ -88,6 +88,23 @@ left_stepwise answers = record {
   on_release = λ x c s i. let same : x ≡ x + 0 = omega arith in (tt, i ∙ ap (λ j. drop j answers) same);
 }
 
+-- answers used and answers left are all the answers
+abbrev pub Whole : List Answer → ℕ → State → Type 0
+Whole answers x s = x + length s.answers ≡ length answers
+
+whole_one : (answers : List Answer) (x : ℕ) (s : State) (a : Answer) (rest : List Answer) → s.answers ≡ a ∷ rest → Whole answers x s → (x + 1) + length rest ≡ length answers
+whole_one answers x s a rest e i = let l : length s.answers ≡ length (a ∷ rest) = ap length e in omega (arith, i, l)
+
+pub whole_stepwise : (answers : List Answer) → IsStepwise (adding piece_uses) AnyPiece (Whole answers)
+whole_stepwise answers = record {
+  on_step = λ x s i. i;
+  on_store = λ x env regs s i. i;
+  on_word = λ x w s i. i;
+  on_cycle = λ x at f d r a rest s e i. (tt, whole_one answers x s a rest e i);
+  on_lock = λ x c a rest s e i. (tt, whole_one answers x s a rest e i);
+  on_release = λ x c s i. (tt, omega (arith, i));
+}
+
 costs : (ps : List Piece) → cost ps ≡ sum_of piece_cost ps
 costs [] = refl
 costs (p ∷ ps) = ap (λ k. piece_cost p + k) (costs ps)
@@ -96,7 +113,7 @@ all_misses : (ps : List Piece) → misses ps ≡ sum_of piece_misses ps
 all_misses [] = refl
 all_misses (p ∷ ps) = ap (λ k. piece_misses p + k) (all_misses ps)
 
-all_uses : (ps : List Piece) → uses ps ≡ sum_of piece_uses ps
+pub all_uses : (ps : List Piece) → uses ps ≡ sum_of piece_uses ps
 all_uses [] = refl
 all_uses (p ∷ ps) = ap (λ k. piece_uses p + k) (all_uses ps)
 
@@ -107,4 +124,6 @@ services_count plan script n v b answers =
       cycles = in_all piece_cost Cycles 0 o (script_keeps (adding piece_cost) AnyPiece Cycles cycles_stepwise plan script v.body n 0 (fresh b answers) refl) (cost (pieces o)) (omega (arith, costs (pieces o)));
       missed = in_all piece_misses Missed 0 o (script_keeps (adding piece_misses) AnyPiece Missed missed_stepwise plan script v.body n 0 (fresh b answers) refl) (misses (pieces o)) (omega (arith, all_misses (pieces o)));
       answers_left = in_all piece_uses (Left answers) 0 o (script_keeps (adding piece_uses) AnyPiece (Left answers) (left_stepwise answers) plan script v.body n 0 (fresh b answers) refl) (uses (pieces o)) (omega (arith, all_uses (pieces o)));
+      no_more =
+          let whole = in_all piece_uses (Whole answers) 0 o (script_keeps (adding piece_uses) AnyPiece (Whole answers) (whole_stepwise answers) plan script v.body n 0 (fresh b answers) (omega arith)) (uses (pieces o)) (omega (arith, all_uses (pieces o))) in omega (arith, whole);
     }

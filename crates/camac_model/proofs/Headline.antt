@@ -71,13 +71,14 @@ module _ (plan : Layout) (script : Script) (ks : List Bounds) (fine : AreFineSer
       let k : Bounds = h.0 in
       let its : slice_get ks i ≡ Some k = h.1 in
       let x : Moment = moment_after m (demanded p (Some i)) in
-      let o : Behaviour State = service_meaning (context plan script) 65535 v.service b rest in
-      (on_demand m p (Some i),
-      meets_mapped moment_after (AtPiece i rest plan ks k its) (AtStop i rest plan ks k its) S P (AtEnd i rest plan ks k its) (λ y s. S y (event_left (event_of v.bit s)) × Between (moment_after y (event_left (event_of v.bit s))) s.answers)
-      (on_piece i rest k its) (on_stop i rest k its) (λ y s e. (on_event i rest k its y v.bit s e, finish i rest y s v.bit e.is_here)) x o
-      (fine_walk i rest plan ks k its x o
-      (script_keeps moment_after (InIt i rest) (IsHere i rest) (stepwise i rest) plan script v.service.body 65535 x (fresh b rest) (begin m a rest p i b r))
-      (h.2 65535 enough b rest) (services_short plan script 65535 v.service b rest)))
+      let o : Behaviour State = service_meaning (context plan script) 65535 v.service b rest in (
+        on_demand m p (Some i),
+        meets_mapped moment_after (AtPiece i rest plan ks k its) (AtStop i rest plan ks k its) S P (AtEnd i rest plan ks k its) (λ y s. S y (event_left (event_of v.bit s)) × Between (moment_after y (event_left (event_of v.bit s))) s.answers)
+            (on_piece i rest k its) (on_stop i rest k its) (λ y s e. (on_event i rest k its y v.bit s e, finish i rest y s v.bit e.is_here)) x o
+            (fine_walk i rest plan ks k its x o
+            (script_keeps moment_after (InIt i rest) (IsHere i rest) (stepwise i rest) plan script v.service.body 65535 x (fresh b rest) (begin m a rest p i b r))
+            (h.2 65535 enough b rest) (services_short plan script 65535 v.service b rest)),
+      )
 
   run_meets : (answers : List Answer) → Meets moment_after S P (AtRunEnd moment_after S P plan script 65535 Between (λ x a rest p r. (on_demand x p None, idle x a rest p r)) served) (first_moment answers) (the_run plan script answers)
   run_meets answers =
@@ -118,9 +119,10 @@ module _ (i : ℕ) (rest : List Answer) (plan : Layout) (ks : List Bounds) (k : 
   short_here short s h =
       let few = h.few.0 in
       let steps = h.within.steps in
-      let none : length s.answers ≡ 0 = ap length h.few.1 in
-      (ap (λ x. x.left) h.is_here ∙ none,
-      in_service i rest plan ks k its m s.cycles FewAnswers (progress_of s h.is_here) (omega (arith, few, steps)))
+      let none : length s.answers ≡ 0 = ap length h.few.1 in (
+        ap (λ x. x.left) h.is_here ∙ none,
+        in_service i rest plan ks k its m s.cycles FewAnswers (progress_of s h.is_here) (omega (arith, few, steps)),
+      )
   short_here (overrun c w) s h = tt
   short_here wrong s h = tt
   short_here more s h = tt
@@ -165,13 +167,14 @@ module _ (plan : Layout) (script : Script) where
   told_service : (l : Locked) (a : Answer) (rest : List Answer) (p : ℕ) (v : Chosen) (b : Branch) → slice_get script.services v.number ≡ Some v.service → NoneTold l (a ∷ rest)
       → NoneHeld l (demanded p (Some v.number)) × Meets locked_after NoneHeld AnyStop (λ y s. NoneHeld y (event_left (event_of v.bit s)) × NoneTold y s.answers) l (service_meaning (context plan script) 65535 v.service b rest)
   told_service l a rest p v b listed none =
-      let o : Behaviour State = service_meaning (context plan script) 65535 v.service b rest in
-      (tt,
-      meets_mapped locked_after NoneHeld (Still locked_after NoneHeld Told) NoneHeld AnyStop (λ y s. Told y s × NoneLocked s) (λ y s. NoneHeld y (event_left (event_of v.bit s)) × NoneTold y s.answers)
-      (λ x q h. h) (λ x w s h. tt) (λ y s h. (λ c. sym (h.0.at c) ∙ h.1 c, λ c. sym (h.0.at c) ∙ h.1 c)) l o
-      (meets_where locked_after NoneHeld (Still locked_after NoneHeld Told) Told NoneLocked l o
-      (script_keeps locked_after NoneHeld Told told_stepwise plan script v.service.body 65535 l (fresh b rest) (record { at = λ c. sym (none c) }))
-      (services_unlock plan script 65535 v.service b rest)))
+      let o : Behaviour State = service_meaning (context plan script) 65535 v.service b rest in (
+        tt,
+        meets_mapped locked_after NoneHeld (Still locked_after NoneHeld Told) NoneHeld AnyStop (λ y s. Told y s × NoneLocked s) (λ y s. NoneHeld y (event_left (event_of v.bit s)) × NoneTold y s.answers)
+            (λ x q h. h) (λ x w s h. tt) (λ y s h. (λ c. sym (h.0.at c) ∙ h.1 c, λ c. sym (h.0.at c) ∙ h.1 c)) l o
+            (meets_where locked_after NoneHeld (Still locked_after NoneHeld Told) Told NoneLocked l o
+            (script_keeps locked_after NoneHeld Told told_stepwise plan script v.service.body 65535 l (fresh b rest) (record { at = λ c. sym (none c) }))
+            (services_unlock plan script 65535 v.service b rest)),
+      )
 
   locks_told : (answers : List Answer) → Meets locked_after NoneHeld AnyStop Any (λ c. false) (the_run plan script answers)
   locks_told answers =
@@ -230,6 +233,7 @@ fine_services_run plan script ks fine = record {
   where
     weaken_end : (S : Moment → Piece → Type 0) (P : Moment → Stop → State → Type 0) (m : Moment) (b : Behaviour (Unit {0})) → Meets moment_after S P (λ x u. Between x []) m b → Meets moment_after S P Any m b
     weaken_end S P m b h = meets_mapped moment_after S P S P (λ x u. Between x []) Any (λ x p g. g) (λ x w s g. g) (λ x u g. tt) m b h
+
     at_run_end : (S : Moment → Piece → Type 0) (P : Moment → Stop → State → Type 0) (m : Moment) (b : Behaviour (Unit {0})) → Meets moment_after S P (λ x u. Between x []) m b → Meets moment_after S P IsOver m b
     at_run_end S P m b h =
         meets_mapped moment_after S P S P (λ x u. Between x []) IsOver (λ x p g. g) (λ x w s g. g) (λ x u g. record { none_left = ap (λ y. y.left) g; none_in_progress = ap (λ y. y.progress) g }) m b h

@@ -1,3 +1,11 @@
+mod StraightRows
+mod TransferRows
+mod ControlRows
+mod ControllerRows
+mod DemandRows
+mod LockRows
+mod ProcedureRows
+mod SafeRows
 pub mod Values
 pub mod Contexts
 pub mod Extends
@@ -7,6 +15,9 @@ pub mod Kept
 pub mod Counts
 pub mod Usage
 pub mod Runs
+pub mod Grown
+pub mod AnswersUsed
+pub mod KeptWords
 pub mod Locks
 pub mod Short
 pub mod Fine

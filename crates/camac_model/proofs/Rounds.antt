@@ -37,9 +37,11 @@ first_listed c (suc m) k pattern vs v e = go (first_listed c m (k + 1) pattern v
         let number = h.1 in
         let same : h.0 ≡ v.number = omega arith in
         subst (λ j. slice_get vs j ≡ Some v.service) same h.2
+
     either : (first_service c m (k + 1) pattern vs ≡ Some v → slice_get vs v.number ≡ Some v.service) → (o : Option Chosen) → (o ≡ Some v → slice_get vs v.number ≡ Some v.service) → or_next o (first_service c m (k + 1) pattern vs) ≡ Some v → slice_get vs v.number ≡ Some v.service
     either ih None h e' = ih e'
     either ih (Some w) h e' = h e'
+
     go : (first_service c m (k + 1) pattern vs ≡ Some v → slice_get vs v.number ≡ Some v.service) → (t : Bool) → or_next (if t then with_bit c k 0 vs else None) (first_service c m (k + 1) pattern vs) ≡ Some v → slice_get vs v.number ≡ Some v.service
     go ih true e' = either ih (with_bit c k 0 vs) here e'
     go ih false e' = ih e'
@@ -61,7 +63,7 @@ module _ {X : Type 0} (step : X → Piece → X) (S : X → Piece → Type 0) (P
   module _ (plan : Layout) (script : Script) (n : ℕ) (R : X → List Answer → Type 0)
       (idle : (x : X) (a : Answer) (rest : List Answer) (p : ℕ) → R x (a ∷ rest) → S x (demanded p None) × R (step x (demanded p None)) rest)
       (served : (x : X) (a : Answer) (rest : List Answer) (p : ℕ) (v : Chosen) (b : Branch) → slice_get script.services v.number ≡ Some v.service → R x (a ∷ rest)
-          → S x (demanded p (Some v.number)) × Meets step S P (λ y s. S y (event_left (event_of v.bit s)) × R (step y (event_left (event_of v.bit s))) s.answers) (step x (demanded p (Some v.number))) (service_meaning (context plan script) n v.service b rest)) where
+      → S x (demanded p (Some v.number)) × Meets step S P (λ y s. S y (event_left (event_of v.bit s)) × R (step y (event_left (event_of v.bit s))) s.answers) (step x (demanded p (Some v.number))) (service_meaning (context plan script) n v.service b rest)) where
     abbrev pub AtRunEnd : X → Unit {0} → Type 0
     AtRunEnd x u = R x []
 
@@ -85,7 +87,9 @@ module _ {X : Type 0} (step : X → Piece → X) (S : X → Piece → Type 0) (P
             let fewer : length (reached o).answers ≤ length rest = subst (λ l. length l ≤ length rest) (sym left) (drop_length (uses (pieces o)) rest) in
             let Q : X → State → Type 0 = λ y s. S y (event_left (event_of v.bit s)) × R (step y (event_left (event_of v.bit s))) s.answers in
             let E : State → Type 0 = λ s. length s.answers ≤ length rest in
-            let x' : X = step x (demanded (pattern_of plan b a.gl) (Some v.number)) in
-            (h.0, then_meets step S P (λ y s. Q y s × E s) AtRunEnd x' o (λ s. does (event_left (event_of v.bit s)) (rounds i (context plan script) n script.services s.branch s.answers))
-            (meets_where Q E x' o h.1 (where_reached E o fewer))
-            (λ y s q. (q.0.0, ih (step y (event_left (event_of v.bit s))) s.branch s.answers q.1 q.0.1)))
+            let x' : X = step x (demanded (pattern_of plan b a.gl) (Some v.number)) in (
+              h.0,
+              then_meets step S P (λ y s. Q y s × E s) AtRunEnd x' o (λ s. does (event_left (event_of v.bit s)) (rounds i (context plan script) n script.services s.branch s.answers))
+                  (meets_where Q E x' o h.1 (where_reached E o fewer))
+                  (λ y s q. (q.0.0, ih (step y (event_left (event_of v.bit s))) s.branch s.answers q.1 q.0.1)),
+            )

@@ -89,14 +89,16 @@ module _ (open' : Stop → Bool) (n m : ℕ) (bs : List Answer) (k : Further ope
     at_end : (j : ℕ) (b : Branch) → RunEnd bs tt (rounds j (context plan script) m script.services b bs)
     at_end j b e = ap (rounds j (context plan script) m script.services b) e ∙ no_round j b
 
-    rounds_extend : (i j : ℕ) (answers : List Answer) (b : Branch) → length answers ≤ i → length (answers ++ bs) ≤ j → Extends (RunEnd bs) open' bs (rounds i (context plan script) n script.services b answers) (rounds j (context plan script) m script.services b (answers ++ bs))
+    pub rounds_extend : (i j : ℕ) (answers : List Answer) (b : Branch) → length answers ≤ i → length (answers ++ bs) ≤ j → Extends (RunEnd bs) open' bs (rounds i (context plan script) n script.services b answers) (rounds j (context plan script) m script.services b (answers ++ bs))
     rounds_extend zero j [] b le le' = at_end j b
     rounds_extend zero j (a ∷ rest) b le le' = absurd (omega arith)
     rounds_extend (suc i) j [] b le le' = at_end j b
     rounds_extend (suc i) zero (a ∷ rest) b le le' = absurd (omega arith)
-    rounds_extend (suc i) (suc j) (a ∷ rest) b le le' =
-        (serve (context plan script) m (service_for (context plan script) (pattern_of plan b a.gl) script.services) b (rest ++ bs) (rounds j (context plan script) m script.services), refl,
-        go (service_for (context plan script) (pattern_of plan b a.gl) script.services) (λ answers b' l. rounds_extend i j answers b' (omega arith) (omega (arith, length-append answers bs, length-append rest bs))))
+    rounds_extend (suc i) (suc j) (a ∷ rest) b le le' = (
+      serve (context plan script) m (service_for (context plan script) (pattern_of plan b a.gl) script.services) b (rest ++ bs) (rounds j (context plan script) m script.services),
+      refl,
+      go (service_for (context plan script) (pattern_of plan b a.gl) script.services) (λ answers b' l. rounds_extend i j answers b' (omega arith) (omega (arith, length-append answers bs, length-append rest bs))),
+    )
       where
         go : (o : Option Chosen) → ((answers : List Answer) (b' : Branch) → length answers ≤ length rest → Extends (RunEnd bs) open' bs (rounds i (context plan script) n script.services b' answers) (rounds j (context plan script) m script.services b' (answers ++ bs))) → Extends (RunEnd bs) open' bs (serve (context plan script) n o b rest (rounds i (context plan script) n script.services)) (serve (context plan script) m o b (rest ++ bs) (rounds j (context plan script) m script.services))
         go None ih = ih rest b (omega arith)

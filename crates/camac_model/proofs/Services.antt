@@ -51,16 +51,19 @@ module _ (i : ℕ) (answers : List Answer) where
     on_step = λ m s e. e;
     on_store = λ m env regs s e. e;
     on_word = λ m w s e. e;
-    on_cycle = λ m at f d r a rest s l e.
-        (in_it m s (cycled at f d r a.wait) e tt,
-        after_one m s (cycled at f d r a.wait) (here (after_cycle at f r a.wait rest s)) e (ap (λ k. record { left = k; progress = Some (at_cost (s.cycles + (1 + a.wait))) }) (one_less s a rest l)));
-    on_lock = λ m c a rest s l e.
-        (in_it m s (lock_taken c a.wait) e tt,
-        after_one m s (lock_taken c a.wait) (here (after_lock c a.wait rest s)) e (ap (λ k. record { left = k; progress = Some (at_cost (s.cycles + a.wait)) }) (one_less s a rest l)));
+    on_cycle = λ m at f d r a rest s l e. (
+      in_it m s (cycled at f d r a.wait) e tt,
+      after_one m s (cycled at f d r a.wait) (here (after_cycle at f r a.wait rest s)) e (ap (λ k. record { left = k; progress = Some (at_cost (s.cycles + (1 + a.wait))) }) (one_less s a rest l)),
+    );
+    on_lock = λ m c a rest s l e. (
+      in_it m s (lock_taken c a.wait) e tt,
+      after_one m s (lock_taken c a.wait) (here (after_lock c a.wait rest s)) e (ap (λ k. record { left = k; progress = Some (at_cost (s.cycles + a.wait)) }) (one_less s a rest l)),
+    );
     on_release = λ m c s e.
-        let same : length s.answers - 0 ≡ length s.answers = omega arith in
-        (in_it m s (lock_released c) e tt,
-        after_one m s (lock_released c) (here (after_release c s)) e (ap (λ k. record { left = k; progress = Some (at_cost s.cycles) }) same));
+        let same : length s.answers - 0 ≡ length s.answers = omega arith in (
+          in_it m s (lock_released c) e tt,
+          after_one m s (lock_released c) (here (after_release c s)) e (ap (λ k. record { left = k; progress = Some (at_cost s.cycles) }) same),
+        );
   }
 
   abbrev pub Walks : Moment → Behaviour State → Type 0
@@ -114,8 +117,9 @@ module _ (i : ℕ) (answers : List Answer) where
     pub fine_walk : (m : Moment) (b : Behaviour State) → Walks m b → IsFine plan k b → ShortOnlyOf answers b → Meets moment_after AtPiece AtStop AtEnd m b
     fine_walk m (does p b) h f g =
         let c : ℕ = h.0.cost + piece_cost p in
-        let e : (moment_after m p).progress ≡ Some (at_cost c) = next_in m p h.0.cost h.0.is_in h.0.is_piece in
-        (record { is_piece = h.0.is_piece; cost = in_service (moment_after m p) c CostFits e (most (moment_after m p) c e b h.1 f.1) },
-        fine_walk (moment_after m p) b h.1 f.1 g)
+        let e : (moment_after m p).progress ≡ Some (at_cost c) = next_in m p h.0.cost h.0.is_in h.0.is_piece in (
+          record { is_piece = h.0.is_piece; cost = in_service (moment_after m p) c CostFits e (most (moment_after m p) c e b h.1 f.1) },
+          fine_walk (moment_after m p) b h.1 f.1 g,
+        )
     fine_walk m (ends s) h f g = record { is_here = h; within = f }
     fine_walk m (stops w s) h f g = record { is_here = h; of_answers = f.0; within = f.1; few = g }

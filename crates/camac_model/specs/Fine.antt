@@ -1,12 +1,12 @@
 -- What is promised of each service by itself: the checker gives it, and the runner takes it.
-use Rattle.std.specs.Prelude.{ℕ, ◌^◌, ◌<◌, ◌≤◌, List, [], ◌∷◌, length}
-use Rattle.camac_lang.specs.Tree.{Service, Script}
+use Rattle.std.specs.Prelude.{◌≡◌, ℕ, ◌^◌, ◌<◌, ◌≤◌, List, [], ◌∷◌, length, Some, slice_get}
+use Rattle.camac_lang.specs.Tree.{Parameter, Procedure, Service, Script}
 use Rattle.camac_branch.specs.Branch.{Branch, Answer}
 use Rattle.camac_branch.specs.Plan.{Layout}
-use Rattle.camac_model.specs.State.{State}
-use Rattle.camac_model.specs.Behaviour.{Behaviour, does, ends, stops, Stop, short, overrun, wrong, more}
+use Rattle.camac_model.specs.State.{State, fresh}
+use Rattle.camac_model.specs.Behaviour.{Behaviour, does, ends, stops, Stop, short, overrun, wrong, more, Action}
 use Rattle.camac_model.specs.Safe.{IsSafePiece}
-use Rattle.camac_model.specs.Meaning.{context}
+use Rattle.camac_model.specs.Meaning.{entered, context}
 use Rattle.camac_model.specs.Run.{service_meaning}
 
 -- the most turns that a loop of an accepted script makes (own)
@@ -59,3 +59,26 @@ AreFine plan script (k ∷ ks) (v ∷ vs) = IsFineService plan script k v × Are
 
 abbrev pub AreFineServices : Layout → Script → List Bounds → Type 0
 AreFineServices plan script ks = AreFine plan script ks script.services
+
+-- these arguments are in the ranges of the parameters, one each
+abbrev pub AreInRanges : List ℕ → List Parameter → Type 0
+AreInRanges [] [] = Unit {0}
+AreInRanges [] (p ∷ ps) = ⊥
+AreInRanges (v ∷ vs) [] = ⊥
+AreInRanges (v ∷ vs) (p ∷ ps) = (p.low ≤ v) × (v ≤ p.high) × AreInRanges vs ps
+
+-- the bounds that a procedure's heading gives
+abbrev pub annotated : Procedure → Bounds
+annotated p = record { cycles = p.cycles; words = p.words; steps = p.steps }
+
+-- a procedure's body is fine by itself: on all arguments in range, whatever the branch is like, its locks too, and answers
+abbrev pub IsFineProcedure : Layout → Procedure → (ℕ → Action) → Type 0
+IsFineProcedure plan p body =
+    (n : ℕ) → most_turns ≤ n → (vs : List ℕ) → AreInRanges vs p.parameters → (b : Branch) (answers : List Answer)
+    → IsFine plan (annotated p) (body n (entered vs (record (fresh b answers) { branch = b })))
+
+-- each procedure of a script, where its body sees those before it
+abbrev pub AreFineProcedures : Layout → Script → Type 0
+AreFineProcedures plan script =
+    (j : ℕ) (p : Procedure) (body : ℕ → Action) → slice_get script.procedures j ≡ Some p
+    → slice_get (context plan script).routines j ≡ Some body → IsFineProcedure plan p body

@@ -1,13 +1,17 @@
 -- Laws of the meaning, on which every later proof stands.
-use Rattle.std.specs.Prelude.{◌≡◌, ◌≢◌, ℕ, ◌+◌, ◌<◌, ◌≤◌, length, List, [], ◌∷◌, ◌++◌, Option, Some, None, Bool, true, false, min, drop}
+use Rattle.std.specs.Prelude.{◌≡◌, ◌≢◌, ℕ, ◌+◌, ◌^◌, ◌<◌, ◌≤◌, length, List, [], ◌∷◌, ◌++◌, Option, Some, None, Bool, true, false, min, drop}
 use Rattle.camac_lang.specs.Tree.{Expression, number, variable, group, add, subtract, multiply, divide, remainder, Block, done, next, Service, Script}
-use Rattle.camac_branch.specs.Branch.{Branch, Answer}
-use Rattle.camac_branch.specs.Plan.{Layout}
+use Rattle.camac_lang.specs.declared.word.WordSize.{WordSize}
+use Rattle.camac_branch.specs.Address.{Address}
+use Rattle.camac_branch.specs.Allowed.{width}
+use Rattle.camac_branch.specs.Branch.{Branch, Answer, Reply}
+use Rattle.camac_branch.specs.Plan.{Layout, IsPlan}
 use Rattle.camac_model.specs.State.{State, Variables}
 use Rattle.camac_model.specs.Value.{greatest, value}
 use Rattle.camac_model.specs.Behaviour.{Behaviour, does, ends, stops, Stop, short, overrun, wrong, more, Action, then_do, Piece, demanded, cycled, lock_taken, lock_released, event_left, pieces, items, events, Event, reached, stop_of, cost, without_x, misses, uses}
 use Rattle.camac_model.specs.Meaning.{Context, context, block_meaning}
-use Rattle.camac_model.specs.Run.{service_meaning, run}
+use Rattle.camac_model.specs.Run.{service_meaning, rounds, run}
+use Rattle.camac_model.specs.Cycle.{sized, kept}
 
 -- a value from 0 to M
 abbrev pub InRange : Option ℕ → Type 0
@@ -52,7 +56,7 @@ longer bs s = record s { answers = s.answers ++ bs }
 -- how b goes on from a: the same pieces up to where a ends or stops. Where a ends, b is as AtEnd says; where a stops, b does the same
 -- with more answers, unless that stop is open: then b may be anything
 abbrev pub Extends :
-  {A : Type 0} → (A → Behaviour A → Type 0) → (Stop → Bool) → List Answer → Behaviour A → Behaviour A → Type 0
+    {A : Type 0} → (A → Behaviour A → Type 0) → (Stop → Bool) → List Answer → Behaviour A → Behaviour A → Type 0
 Extends {A} AtEnd open' bs (does p a) b = (rest : Behaviour A) × (b ≡ does p rest) × Extends AtEnd open' bs a rest
 Extends {A} AtEnd open' bs (ends v) b = AtEnd v b
 Extends {A} AtEnd open' bs (stops w s) b = open' w ≡ false → b ≡ stops w (longer bs s)
@@ -112,8 +116,9 @@ RunsGoOn =
 pub record CountsPieces (answers : List Answer) (o : Behaviour State) : Type 0 where
   pub cycles : (reached o).cycles ≡ cost (pieces o)
   pub missed : (reached o).missed ≡ min 65535 (misses (pieces o))
-  -- answers are used in order, one for each cycle and each lock taken
+  -- answers are used in order, one for each cycle and each lock taken, and no more of them than there are
   pub answers_left : (reached o).answers ≡ drop (uses (pieces o)) answers
+  pub no_more : uses (pieces o) ≤ length answers
 
 abbrev pub ServicesCount : Type 0
 ServicesCount =
@@ -181,3 +186,38 @@ abbrev pub ServicesUnlock : Type 0
 ServicesUnlock =
     (plan : Layout) (script : Script) (n : ℕ) (v : Service) (b : Branch) (answers : List Answer)
     → EndsWith NoneLocked (service_meaning (context plan script) n v b answers)
+
+-- the later state has counted at least what the earlier one has: steps, cycles, and words behind those that were there
+pub record HasGrown (before after : State) : Type 0 where
+  pub steps : before.steps ≤ after.steps
+  pub cycles : before.cycles ≤ after.cycles
+  pub words : (ws : List ℕ) × (after.words ≡ before.words ++ ws)
+
+-- the counts of a service only grow along a block, wherever it ends or stops: so each moment of it has counted at most what the run
+-- has where it is short on fewer answers
+abbrev pub CountsGrow : Type 0
+CountsGrow =
+    (plan : Layout) (script : Script) (n : ℕ) (b : Block) (s : State)
+    → HasGrown s (reached (block_meaning (context plan script) n b s))
+
+-- a run uses no more answers than there are, and where it ends it has used all of them
+pub record UsesAnswers (answers : List Answer) (b : Behaviour (Unit {0})) : Type 0 where
+  pub no_more : uses (pieces b) ≤ length answers
+  pub all_at_end : stop_of b ≡ None → uses (pieces b) ≡ length answers
+
+abbrev pub RunsUseAnswers : Type 0
+RunsUseAnswers =
+    (plan : Layout) (script : Script) (n : ℕ) (answers : List Answer) → UsesAnswers answers (run n plan script answers)
+
+-- graded-L operations beyond the number of answers change nothing
+abbrev pub RoundsSuffice : Type 0
+RoundsSuffice =
+    (plan : Layout) (script : Script) (n k : ℕ) (b : Branch) (answers : List Answer) → length answers ≤ k
+    → rounds k (context plan script) n script.services b answers
+    ≡ rounds (length answers) (context plan script) n script.services b answers
+
+-- what a read keeps under a plan is a dataway word, of 24 bits at most, and of the bits that it keeps
+abbrev pub ReadsKeepWords : Type 0
+ReadsKeepWords =
+    (plan : Layout) → IsPlan plan → (at : Address) (f : ℕ) (size : WordSize) (r : Reply)
+    → (kept (sized size (width plan at f)) r < 2 ^ width plan at f) × (kept (sized size (width plan at f)) r < 2 ^ 24)

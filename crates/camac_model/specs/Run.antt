@@ -55,7 +55,7 @@ event_of bit s = record { bit = bit; cycles = s.cycles; missed = s.missed; words
 
 -- runs the service, if one is called, leaves its event and goes on
 abbrev pub serve :
-  Context → ℕ → Option Chosen → Branch → List Answer → (Branch → List Answer → Behaviour (Unit {0})) → Behaviour (Unit {0})
+    Context → ℕ → Option Chosen → Branch → List Answer → (Branch → List Answer → Behaviour (Unit {0})) → Behaviour (Unit {0})
 serve c n None b answers go = go b answers
 serve c n (Some v) b answers go =
     then_do (service_meaning c n v.service b answers) (λ s. does (event_left (event_of v.bit s)) (go s.branch s.answers))

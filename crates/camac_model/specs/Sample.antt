@@ -1,14 +1,18 @@
 -- The sample plan, and the standard opening of the worked rows.
-use Rattle.std.specs.Prelude.{ℕ, zero, suc, List, [], ◌∷◌, Option, Some, None, codes, Bool, true, false, length}
+use Rattle.std.specs.Prelude.{ℕ, zero, suc, List, [], ◌∷◌, Option, Some, None, codes, Bool, true, false, length, option_map, slice_get}
 use Rattle.camac_module.specs.Entry.{Entry, Entries}
-use Rattle.camac_lang.specs.Tree.{Text, Block, done, next, Statement, Table, Lam, next_table, next_lam, next_variables, next_procedure, next_service, Procedure, Script}
+use Rattle.camac_lang.specs.View.{block_of}
+use Rattle.camac_lang.specs.Tree.{Text, number, Statement, set_register, Table, Lam, next_table, next_lam, next_variables, next_procedure, next_service, Procedure, Script}
 use Rattle.camac_func.specs.declared.data.DataMove.{DataMove}
 use Rattle.camac_branch.specs.declared.plan.Kind.{Kind}
 use Rattle.camac_branch.specs.declared.plan.Crate.{Crate}
 use Rattle.camac_branch.specs.Address.{address}
-use Rattle.camac_branch.specs.Branch.{Answer, Reply}
+use Rattle.camac_branch.specs.Branch.{Answer, Reply, start}
 use Rattle.camac_branch.specs.Plan.{Layout}
-use Rattle.camac_model.specs.Behaviour.{Piece, cycled}
+use Rattle.camac_model.specs.State.{State}
+use Rattle.camac_model.specs.Behaviour.{Piece, demanded, cycled, Event, Behaviour, does, ends, reached}
+use Rattle.camac_model.specs.Meaning.{context}
+use Rattle.camac_model.specs.Run.{service_meaning, the_run}
 
 -- the same so many times, and then the rest
 abbrev pub times : {A : Type 0} → ℕ → A → List A → List A
@@ -52,10 +56,6 @@ crate_one = record {
 abbrev pub sample_plan : Layout
 sample_plan = record { buffer = 4096; types = adc ∷ reg ∷ []; crates = Some crate_one ∷ gap 6 [] }
 
-abbrev pub block : List Statement → Block
-block [] = done
-block (s ∷ ss) = next s (block ss)
-
 -- `cdlam adc 1 1 5 12`
 abbrev pub adc_lam : Lam
 adc_lam = record { line = 1; name = codes "adc"; crate_no = 1; station = 5; sub_address = 12 }
@@ -68,7 +68,7 @@ script_of variables tables procedures cycles words registers ss = record {
   lams = adc_lam ∷ [];
   variables = variables;
   procedures = procedures;
-  services = record { line = 3; lam = 0; cycles = cycles; words = words; registers = registers; body = block ss } ∷ [];
+  services = record { line = 3; lam = 0; cycles = cycles; words = words; registers = registers; body = block_of ss } ∷ [];
 }
 
 -- the variables of the standard opening, and their numbers
@@ -86,6 +86,23 @@ i = 2
 
 abbrev pub t : ℕ
 t = 3
+
+-- the registers of a service that has one or two, and their numbers
+abbrev pub with_r : List Text
+with_r = codes "r" ∷ []
+
+abbrev pub with_r_s : List Text
+with_r_s = codes "r" ∷ codes "s" ∷ []
+
+abbrev pub r : ℕ
+r = 0
+
+abbrev pub s : ℕ
+s = 1
+
+-- `cdreg` of a register, on line 4, in crate 1
+abbrev pub register : ℕ → ℕ → ℕ → Statement
+register g n a = set_register 4 g (number 1) (number n) (number a)
 
 -- the standard opening with this heading and these registers
 abbrev pub script : ℕ → ℕ → List Text → List Statement → Script
@@ -115,3 +132,24 @@ reply x q word = record { x = x; q = q; word = word }
 -- a cycle in crate 1
 abbrev pub cycle_at : ℕ → ℕ → ℕ → DataMove → Reply → ℕ → Piece
 cycle_at n a f d r wait = cycled (address 1 n a) f d r wait
+
+abbrev pub event : ℕ → ℕ → ℕ → List ℕ → Event
+event bit cycles missed words = record { bit = bit; cycles = cycles; missed = missed; words = words }
+
+-- a demand of the LAM's service
+abbrev pub called : Piece
+called = demanded 4 (Some 0)
+
+-- what a run does, piece by piece, until it ends
+abbrev pub doing : List Piece → Behaviour (Unit {0})
+doing [] = ends tt
+doing (p ∷ ps) = does p (doing ps)
+
+-- the run of a script under the sample plan, where a demand of its service comes first
+abbrev pub served : Script → List Answer → Behaviour (Unit {0})
+served script' answers = the_run sample_plan script' (demand 4 ∷ answers)
+
+-- where the service of a script comes out, by itself from the branch's start
+abbrev pub left_by : Script → List Answer → Option State
+left_by script' answers =
+    option_map (λ service. reached (service_meaning (context sample_plan script') 65535 service start answers)) (slice_get script'.services 0)
