@@ -10,3 +10,4 @@ pub mod Statements
 pub mod Services
 pub mod Orders
 pub mod Accepted
+mod Rows

@@ -5,11 +5,11 @@ use Rattle.std.proofs.Math.Nat.{le-div_iff_mul-le, div-mul-le_self, mod-lt, mod-
 use Rattle.std.proofs.lemmas.Bool.{ltb-true, ltb-false, leb-true, eqb-false, le-leb, cond_both}
 use Rattle.std.proofs.lemmas.Nat.{mul-le}
 use Rattle.camac_lang.specs.Tree.{Expression, number, variable, group, add, subtract, multiply, divide, remainder}
-use Rattle.camac_range.specs.Number.{greatest}
+use Rattle.camac_range.specs.Number.{greatest, in_range, difference_of, quotient_of, rest_of}
 use Rattle.camac_range.specs.Interval.{Interval, interval, only, IsWithin}
 use Rattle.camac_range.specs.Operators as range
 use Rattle.camac_model.specs.State.{Variables}
-use Rattle.camac_model.specs.Value.{in_range, difference, quotient, rest_of, both, value}
+use Rattle.camac_model.specs.Value.{both, value}
 use Rattle.camac_rules.specs.Expressions.{range_of}
 use Rattle.camac_rules.proofs.Allows.{Allows, allowed, then_allowed, required_allowed, given_then, for_each}
 use Rattle.camac_rules.proofs.Stores.{VariablesInside}
@@ -46,19 +46,19 @@ add_gives (Some x) (Some y) r s i gx gy e =
     subst (Gives (in_range (x + y))) p.1
     (small_gives (x + y) (interval (r.lo + s.lo) (r.hi + s.hi)) (record { low = omega (arith, gx.within, gy.within); high = omega (arith, gx.within, gy.within) }) (omega (arith, gx.within, gy.within)))
 
-subtract_gives : (x y : Option ℕ) (r s i : Interval) → Gives x r → Gives y s → range.sub r s ≡ Some i → Gives (both difference x y) i
+subtract_gives : (x y : Option ℕ) (r s i : Interval) → Gives x r → Gives y s → range.sub r s ≡ Some i → Gives (both difference_of x y) i
 subtract_gives None y r s i gx gy e = absurd gx
 subtract_gives (Some x) None r s i gx gy e = absurd gy
 subtract_gives (Some x) (Some y) r s i gx gy e =
     let p = some_if (nat_le s.hi r.lo) (interval (r.lo - s.hi) (r.hi - s.lo)) i e in
     let le : s.hi ≤ r.lo = leb-true s.hi r.lo p.0 in
     let yx : y ≤ x = omega (arith, gx.within, gy.within) in
-    let is : difference x y ≡ Some (x - y) = ap (λ b. cond b (Some (x - y)) None) (le-leb y x yx) in
+    let is : difference_of x y ≡ Some (x - y) = ap (λ b. cond b (Some (x - y)) None) (le-leb y x yx) in
     let fits : Fits (interval (r.lo - s.hi) (r.hi - s.lo)) (x - y) = record {
       within = record { low = omega (arith, gx.within, gy.within); high = omega (arith, gx.within, gy.within) };
       small = omega (arith, gx.small);
     } in
-    subst (Gives (difference x y)) p.1 (subst (λ o. Gives o (interval (r.lo - s.hi) (r.hi - s.lo))) (sym is) fits)
+    subst (Gives (difference_of x y)) p.1 (subst (λ o. Gives o (interval (r.lo - s.hi) (r.hi - s.lo))) (sym is) fits)
 
 multiply_gives : (x y : Option ℕ) (r s i : Interval) → Gives x r → Gives y s → range.mul r s ≡ Some i → Gives (both (λ v w. in_range (v * w)) x y) i
 multiply_gives None y r s i gx gy e = absurd gx
@@ -75,18 +75,18 @@ div_mono a b d pos h = (le-div_iff_mul-le pos).1 (le_trans (div-mul-le_self a d)
 div_small : (a d : ℕ) → 0 < d → a / d ≤ a
 div_small a d pos = omega arith
 
-divide_gives : (d : ℕ) (x : Option ℕ) (r i : Interval) → Gives x r → range.div r d ≡ Some i → Gives (option_and_then (λ v. quotient v d) x) i
+divide_gives : (d : ℕ) (x : Option ℕ) (r i : Interval) → Gives x r → range.div r d ≡ Some i → Gives (option_and_then (λ v. quotient_of v d) x) i
 divide_gives d None r i g e = absurd g
 divide_gives d (Some x) r i g e =
     let p = none_if (nat_eq d 0) (interval (r.lo / d) (r.hi / d)) i e in
     let ne = eqb-false d 0 p.0 in
     let pos : 0 < d = omega arith in
-    let is : quotient x d ≡ Some (x / d) = ap (λ b. cond b None (Some (x / d))) p.0 in
+    let is : quotient_of x d ≡ Some (x / d) = ap (λ b. cond b None (Some (x / d))) p.0 in
     let fits : Fits (interval (r.lo / d) (r.hi / d)) (x / d) = record {
       within = record { low = div_mono r.lo x d pos g.within.low; high = div_mono x r.hi d pos g.within.high };
       small = le_trans (div_small x d pos) g.small;
     } in
-    subst (Gives (quotient x d)) p.1 (subst (λ o. Gives o (interval (r.lo / d) (r.hi / d))) (sym is) fits)
+    subst (Gives (quotient_of x d)) p.1 (subst (λ o. Gives o (interval (r.lo / d) (r.hi / d))) (sym is) fits)
 
 rest_fits : (d x : ℕ) (r : Interval) → 0 < d → Fits r x → Fits (cond (nat_lt r.hi d) r (interval 0 (d - 1))) (x % d)
 rest_fits d x r pos g =
