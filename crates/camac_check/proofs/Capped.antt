@@ -1,11 +1,11 @@
 -- Costs that are cut at 64 bits are judged as the costs themselves.
-use Rattle.std.proofs.Common.{◌≡◌, ℕ, ◌-◌, ◌^◌, ◌<◌, ◌≤◌, Bool, true, false, Option, Some, None, Result, Ok, Err, List, [], refl, sym, ap, ◌∙◌, ⊎_elim, lit<, arith}
+use Rattle.std.proofs.Common.{◌≡◌, ℕ, ◌-◌, ◌^◌, ◌<◌, ◌≤◌, Bool, true, false, Option, Some, None, Result, Ok, Err, refl, sym, ap, ◌∙◌, ⊎_elim, lit<, arith}
 use Rattle.std.specs.Prelude.{◌&&◌, min, nat_lt, nat_le}
 use Rattle.std.proofs.lemmas.Bool.{leb-true, lt-leb, le-leb, cases_lt}
 use Rattle.camac_func.specs.Class.{class_of}
 use Rattle.camac_func.specs.declared.code.FunctionClass.TheVariants.{Read, Write, Control}
 use Rattle.camac_lang.specs.declared.word.WordSize.{WordSize}
-use Rattle.camac_lang.specs.Tree.{Expression, Move, no_data, into, from, Statement, assign, set_register, single, address_scan, q_stop, q_repeat, put, crate_call, lam_call, choose, choose_else, count, repeat, locked, call, Block, done, next, Service}
+use Rattle.camac_lang.specs.Tree.{Move, no_data, into, from, Statement, assign, set_register, single, address_scan, q_stop, q_repeat, put, crate_call, lam_call, choose, choose_else, count, repeat, locked, call, Block, done, next, Service}
 use Rattle.camac_branch.specs.Plan.{Layout}
 use Rattle.camac_model.specs.Fine.{Bounds}
 use Rattle.camac_model.specs.Meaning.{fits_size}
@@ -13,14 +13,14 @@ use Rattle.camac_range.specs.Number.{greatest}
 use Rattle.camac_rules.specs.declared.rule.CheckRule.{CheckRule}
 use Rattle.camac_rules.specs.declared.rule.CheckRule.TheVariants.{WrongDirection, ValueTooWide, RegisterUnset, LoopVariableAssigned, WordTooWide, TooManyWords, TooManyCycles, TooManySteps}
 use Rattle.camac_rules.specs.Fault.{Fault}
-use Rattle.camac_rules.specs.Refusal.{go_on, ◌>>=◌, ◌>>◌, required, given, if_reached}
+use Rattle.camac_rules.specs.Refusal.{go_on, required, given, if_reached}
 use Rattle.camac_rules.specs.Known.{region_at, Facts}
 use Rattle.camac_rules.specs.Expressions.{range_of}
 use Rattle.camac_rules.specs.Costs.{costs, plus, Verdict, verdict, unreached}
 use Rattle.camac_rules.specs.Capped.{capped}
 use Rattle.camac_rules.specs.Addresses.{command_widths}
-use Rattle.camac_rules.specs.Cycles.{Around, nothing_around, may_write, same_class, control_rule, read_rule, write_rule, single_rule}
-use Rattle.camac_rules.specs.Statements.{greatest_word, register_rule, put_rule, accept_statement, accept_block}
+use Rattle.camac_rules.specs.Cycles.{Around, nothing_around, may_write, same_class, single_rule}
+use Rattle.camac_rules.specs.Statements.{greatest_word, accept_statement, accept_block}
 use Rattle.camac_rules.specs.Accept.{at_start, within, accept_service}
 use Rattle.camac_check.specs.Gives.{by_code, by_rules}
 

@@ -3,3 +3,4 @@ pub mod Walks
 pub mod Lists
 pub mod Capped
 pub mod Judged
+pub mod Blocks

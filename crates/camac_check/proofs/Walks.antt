@@ -1,11 +1,11 @@
 -- Walks over ranges, a number at a time, and what there is not in crate 0.
-use Rattle.std.proofs.Common.{◌≡◌, ℕ, zero, suc, ◌+◌, ◌-◌, ◌<◌, ◌≤◌, Bool, true, false, List, [], ◌∷◌, map, Option, Some, None, Result, Ok, Err, refl, sym, ap, ◌∙◌, subst, arith}
-use Rattle.std.specs.Prelude.{IfOk, ◌&&◌, min, max, nat_le, nat_lt, option_map, if◌then◌else◌}
+use Rattle.std.proofs.Common.{◌≡◌, ℕ, zero, suc, ◌+◌, ◌-◌, ◌<◌, ◌≤◌, Bool, true, false, List, ◌∷◌, map, Option, Some, None, Result, Ok, Err, refl, ap, ◌∙◌, subst, arith}
+use Rattle.std.specs.Prelude.{IfOk, ◌&&◌, min, max, nat_lt, option_map, if◌then◌else◌}
 use Rattle.std.specs.List.{range_with_len}
-use Rattle.std.proofs.lemmas.Bool.{le-leb, cond_both}
-use Rattle.camac_range.specs.Interval.{Interval, interval, span}
+use Rattle.std.proofs.lemmas.Bool.{cond_both}
+use Rattle.camac_range.specs.Interval.{Interval, interval}
 use Rattle.camac_module.specs.Commands.{extremes, least_and_greatest}
-use Rattle.camac_branch.specs.Address.{Address, address}
+use Rattle.camac_branch.specs.Address.{address}
 use Rattle.camac_branch.specs.Allowed.{allowed, widths, AllowsCommands}
 use Rattle.camac_branch.specs.Plan.{Layout}
 use Rattle.camac_rules.specs.Known.{Region}

@@ -1,5 +1,5 @@
 -- What the checker's code answers, seen as what the rules say.
-use Rattle.std.specs.Prelude.{◌≡◌, ℕ, Result, Ok, Err}
+use Rattle.std.specs.Prelude.{◌≡◌, Result, Ok, Err}
 use Rattle.camac_branch.specs.Plan.{Layout}
 use Rattle.camac_rules.specs.Fault.{Fault, broken, not_served}
 use Rattle.camac_rules.specs.Capped.{capped}

@@ -8,7 +8,7 @@ use std::marker::Model;
 
 /// Bounds on the dataway cycles with those of auxiliary controllers, on the event words and on the steps. A number that would pass 64 bits
 /// stays at their greatest.
-#[derive(Clone, Copy, Debug, PartialEq, Eq)]
+#[derive(Clone, Copy)]
 pub struct Costs {
     cycles: u64,
     words: u64,

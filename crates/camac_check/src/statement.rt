@@ -3,6 +3,7 @@
 ghost use Rattle.std.specs.Prelude.{◌≡◌};
 ghost use Rattle.camac_lang.specs.View.{expression_of, statement_of, statements_of};
 ghost use Rattle.camac_rules.specs.Costs.{unreached};
+ghost use Rattle.camac_rules.specs.Refusal.{if_reached};
 ghost use Rattle.camac_rules.specs.Statements.{register_rule, put_rule, accept_statement, accept_block};
 ghost use Rattle.camac_check.specs.Gives.{Gives, by_code, verdict_of};
 
@@ -25,7 +26,6 @@ pub struct Findings {
 }
 
 /// Checks a block from what is known at its begin.
-#[tactic(auto, unfolding(camac_rules::specs::Refusal::go_on, camac_rules::specs::Refusal::if_reached))]
 pub fn accept_block(
     alloc: Global,
     plan: &Plan,
@@ -35,22 +35,40 @@ pub fn accept_block(
 ) -> Result<Findings, CheckFault>
     ensures { Gives verdict_of result (accept_block (by_code plan.now) around.now (statements_of block.now) known.now) }
 {
-    match block {
-        [] => Ok(Findings {
-            known: Some(known.try_clone(alloc)?),
+    let mut found = Findings {
+        known: Some(known.try_clone(alloc)?),
+        costs: Costs::new(0, 0, 0),
+    };
+    'statements: for statement in block {
+        let next = match accept_next(alloc, plan, around, statement, &found.known) {
+            Ok(next) => next,
+            Err(fault) => return Err(fault),
+        };
+        found = Findings {
+            known: next.known,
+            costs: found.costs.then(next.costs),
+        };
+    }
+    Ok(found)
+}
+
+// Checks a statement, if it can be reached.
+#[tactic(auto, unfolding(camac_rules::specs::Refusal::if_reached))]
+fn accept_next(
+    alloc: Global,
+    plan: &Plan,
+    around: &Around,
+    statement: &Stmt,
+    known: &Option<Facts>,
+) -> Result<Findings, CheckFault>
+    ensures { Gives verdict_of result (if_reached unreached known.now (accept_statement (by_code plan.now) around.now (statement_of statement.now))) }
+{
+    match known {
+        None => Ok(Findings {
+            known: None,
             costs: Costs::new(0, 0, 0),
         }),
-        [statement, rest @ ..] => {
-            let first = accept_statement(alloc, plan, around, statement, known)?;
-            let second = match &first.known {
-                None => not_reached(),
-                Some(known) => accept_block(alloc, plan, around, rest, known)?,
-            };
-            Ok(Findings {
-                known: second.known,
-                costs: first.costs.then(second.costs),
-            })
-        }
+        Some(known) => accept_statement(alloc, plan, around, statement, known),
     }
 }
 
@@ -109,16 +127,6 @@ fn not_served(line: u32) -> Result<Findings, CheckFault>
     ensures { result ≡ Err (CheckFault.NotServed line) }
 {
     Err(CheckFault::NotServed { line })
-}
-
-// What a statement that is not reached leaves.
-fn not_reached() -> Findings
-    ensures { verdict_of result ≡ unreached }
-{
-    Findings {
-        known: None,
-        costs: Costs::new(0, 0, 0),
-    }
 }
 
 // `cdreg`.

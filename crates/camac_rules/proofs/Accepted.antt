@@ -1,7 +1,6 @@
 -- Accepted scripts keep the promises of acceptance.
-use Rattle.std.proofs.Common.{◌≡◌, List, length, Ok, subst, arith}
-use Rattle.std.specs.Prelude.{IfOk, IsTrue, min}
-use Rattle.camac_lang.specs.Scope.{is_well_formed}
+use Rattle.std.proofs.Common.{◌≡◌, List, Ok, subst, arith}
+use Rattle.std.specs.Prelude.{IfOk}
 use Rattle.camac_lang.specs.Tree.{Script}
 use Rattle.camac_branch.specs.Plan.{Layout, IsPlan}
 use Rattle.camac_branch.proofs.Allowed.{allowed-in_range}

@@ -1,6 +1,6 @@
 -- One cycle at an address that is allowed.
-use Rattle.std.proofs.Common.{◌≡◌, ℕ, ◌+◌, ◌<◌, ◌≤◌, Bool, true, false, List, Option, Some, None, refl, sym, ap, ◌∙◌, subst, ◌⊎◌, inl, inr, ⊎_elim, arith}
-use Rattle.std.specs.Prelude.{◌||◌, nat_eq, nat_le, unwrap_or, if◌then◌else◌, min}
+use Rattle.std.proofs.Common.{◌≡◌, ℕ, ◌+◌, ◌<◌, ◌≤◌, Bool, true, false, List, Some, refl, sym, ap, ◌∙◌, subst, ◌⊎◌, inl, inr, ⊎_elim, arith}
+use Rattle.std.specs.Prelude.{◌||◌, nat_eq, nat_le, unwrap_or, if◌then◌else◌}
 use Rattle.std.proofs.lemmas.Bool.{eqb-true, leb-true}
 use Rattle.camac_range.specs.Interval.{Interval, IsWithin}
 use Rattle.camac_branch.specs.Address.{Address}
@@ -21,7 +21,7 @@ use Rattle.camac_rules.specs.Addresses.{crate_end, is_among, waits_in, cycle_cos
 use Rattle.camac_rules.specs.Cycles.{Around}
 use Rattle.camac_rules.proofs.Stores.{Inside}
 use Rattle.camac_rules.proofs.Walks.{greatest_from_at}
-use Rattle.camac_rules.proofs.Sound.{Paid, Ended, Stopped, step, SafePiece, StopsWell, EndsWell, Sound}
+use Rattle.camac_rules.proofs.Sound.{Paid, step, SafePiece, StopsWell, EndsWell, Sound}
 use Rattle.camac_rules.proofs.Locks.{cycle_locks}
 
 either : (b c : Bool) → (b || c) ≡ true → (b ≡ true) ⊎ (c ≡ true)

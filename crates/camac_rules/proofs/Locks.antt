@@ -6,7 +6,7 @@ use Rattle.camac_crate.specs.declared.command.ControllerOp.{ControllerOp}
 use Rattle.camac_crate.specs.Controller.{controller}
 use Rattle.camac_crate.specs.State.{CrateBits, effect}
 use Rattle.camac_branch.specs.Address.{Address}
-use Rattle.camac_branch.specs.Branch.{Branch, CrateNow, effect_in, branch_after, with_crate}
+use Rattle.camac_branch.specs.Branch.{Branch, effect_in, branch_after, with_crate}
 
 placed : (b : Branch) (c d : ℕ) (bits : CrateBits) → (with_crate c (record (b c) { bits = bits }) b d).locked ≡ (b d).locked
 placed b c d bits =

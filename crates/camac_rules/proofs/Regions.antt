@@ -1,7 +1,7 @@
 -- A command that is accepted at a region is allowed at each of its addresses.
-use Rattle.std.proofs.Common.{◌≡◌, ℕ, ◌+◌, ◌-◌, ◌<◌, ◌≤◌, Bool, true, false, cond, Option, Some, None, refl, sym, ap, ◌∙◌, subst, arith}
-use Rattle.std.specs.Prelude.{min, nat_lt, is_some, option_map, unwrap_or, if◌then◌else◌}
-use Rattle.std.proofs.lemmas.Bool.{and_parts, ltb-true, cond_both}
+use Rattle.std.proofs.Common.{◌≡◌, ℕ, ◌+◌, ◌-◌, ◌<◌, ◌≤◌, Bool, true, false, Option, Some, None, refl, subst, arith}
+use Rattle.std.specs.Prelude.{nat_lt, is_some, option_map, if◌then◌else◌}
+use Rattle.std.proofs.lemmas.Bool.{and_parts}
 use Rattle.camac_range.specs.Interval.{Interval, interval, IsWithin}
 use Rattle.camac_branch.specs.Address.{Address, address}
 use Rattle.camac_branch.specs.Allowed.{allowed, widths}
@@ -11,7 +11,7 @@ use Rattle.camac_rules.specs.Walks.{count_below}
 use Rattle.camac_rules.specs.Addresses.{crate_end, station_end, sub_address_end, in_plan, is_station, all_in, are_stations_in, are_stations, station_widths, crate_widths, region_widths, command_widths}
 use Rattle.camac_rules.proofs.Allows.{Allows, required_allowed, given_then}
 use Rattle.camac_rules.proofs.Stores.{InRegion}
-use Rattle.camac_rules.proofs.Walks.{all_in_at, IsPart, within_part, hull_from_at, IsWidth, least_and_greatest_at}
+use Rattle.camac_rules.proofs.Walks.{all_in_at, IsPart, hull_from_at, IsWidth, least_and_greatest_at}
 
 -- a command that is allowed in a crate of the plan, with a width in a range
 pub record IsAllowed (plan : Layout) (at : Address) (f : ℕ) (w : Interval) : Type 0 where

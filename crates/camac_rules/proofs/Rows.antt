@@ -2,7 +2,7 @@
 use Rattle.std.proofs.Common.{◌≡◌, ℕ, List, [], ◌∷◌, Ok, Err, refl}
 use Rattle.std.specs.Prelude.{codes}
 use Rattle.camac_lang.specs.declared.word.WordSize.TheVariants.{Full, Short}
-use Rattle.camac_lang.specs.Tree.{Text, Expression, add, subtract, multiply, divide, remainder, group, number, variable, no_data, into, from, Statement, assign, set_register, single, put, next_lam, next_variables, next_procedure, next_service, Procedure, Script}
+use Rattle.camac_lang.specs.Tree.{Text, Expression, add, subtract, multiply, divide, remainder, group, number, variable, no_data, into, from, Statement, assign, set_register, single, put, Script}
 use Rattle.camac_model.specs.Sample.{sample_plan, script, script_of, v}
 use Rattle.camac_rules.specs.declared.rule.CheckRule.TheVariants.{StationNotInstalled, CommandNotDeclared, WrongDirection, ValueOutOfRange, ValueTooWide, RegisterUnset, TooManyWords, TooManyCycles, WordTooWide}
 use Rattle.camac_rules.specs.Fault.{broken, not_served}

@@ -1,6 +1,6 @@
 -- Services that are accepted are fine by their costs, and within their headings.
-use Rattle.std.proofs.Common.{◌≡◌, ℕ, ◌+◌, ◌≤◌, List, [], ◌∷◌, length, Option, Some, None, Result, Ok, Err, true, refl, sym, ◌∙◌, subst, arith}
-use Rattle.std.specs.Prelude.{IfOk, nat_le, min}
+use Rattle.std.proofs.Common.{◌≡◌, ℕ, ◌+◌, ◌≤◌, List, [], ◌∷◌, length, Result, Ok, Err, refl, arith}
+use Rattle.std.specs.Prelude.{min}
 use Rattle.camac_rules.specs.Fault.{Fault}
 use Rattle.camac_model.specs.Headline.{AreWithinHeadings}
 use Rattle.std.proofs.lemmas.Bool.{leb-true}
@@ -13,15 +13,13 @@ use Rattle.camac_model.specs.State.{State, fresh}
 use Rattle.camac_model.specs.Behaviour.{Behaviour, does, ends, stops}
 use Rattle.camac_model.specs.Meaning.{context, block_meaning}
 use Rattle.camac_model.specs.Fine.{Bounds, IsWithin as IsWithinBounds, IsFine, IsFineService, AreFine}
-use Rattle.camac_rules.specs.Known.{Known, facts}
-use Rattle.camac_rules.specs.Costs.{costs, Verdict}
-use Rattle.camac_rules.specs.Cycles.{Context, Around, nothing_around}
-use Rattle.camac_rules.specs.Statements.{accept_block}
+use Rattle.camac_rules.specs.Known.{Known}
+use Rattle.camac_rules.specs.Cycles.{Around, nothing_around}
 use Rattle.camac_rules.specs.Laws.{EventsFit}
-use Rattle.camac_rules.specs.Accept.{at_start, within, accept_service, accept_items}
+use Rattle.camac_rules.specs.Accept.{at_start, accept_service, accept_items}
 use Rattle.camac_rules.proofs.Allows.{Allows, allowed, refused, then_allowed, required_allowed}
 use Rattle.camac_rules.proofs.Stores.{Inside}
-use Rattle.camac_rules.proofs.Sound.{Paid, Sound, SoundFor}
+use Rattle.camac_rules.proofs.Sound.{Paid, Sound}
 use Rattle.camac_rules.proofs.Statements.{HasWidths, seen, block_sound}
 
 zero_within : IsWithin (only 0) 0

@@ -1,5 +1,5 @@
 -- What the rules promise of a behaviour, and how the promises of parts join.
-use Rattle.std.proofs.Common.{◌≡◌, ℕ, ◌+◌, ◌≤◌, length, List, Option, Some, None, true, refl, sym, ◌∙◌, arith}
+use Rattle.std.proofs.Common.{◌≡◌, ℕ, ◌+◌, ◌≤◌, length, true, ◌∙◌, arith}
 use Rattle.camac_branch.specs.Plan.{Layout}
 use Rattle.camac_model.specs.Moments.{Meets}
 use Rattle.camac_model.specs.State.{State}
@@ -8,7 +8,7 @@ use Rattle.camac_model.specs.Safe.{IsSafePiece}
 use Rattle.camac_model.specs.Fine.{Bounds, AreWords, IsOfAnswers, most_turns}
 use Rattle.camac_model.proofs.Rules.{then_meets}
 use Rattle.camac_rules.specs.Known.{Known}
-use Rattle.camac_rules.specs.Costs.{costs, no_costs, plus, Verdict}
+use Rattle.camac_rules.specs.Costs.{no_costs, plus, Verdict}
 use Rattle.camac_rules.specs.Addresses.{is_among}
 use Rattle.camac_rules.specs.Cycles.{Around}
 use Rattle.camac_rules.proofs.Stores.{Reaches}

@@ -1,14 +1,13 @@
 -- What the rules accept of statements runs safely: one induction over statements.
 use Rattle.std.proofs.Common.{◌≡◌, ℕ, ◌+◌, ◌-◌, ◌%◌, ◌^◌, ◌<◌, ◌≤◌, Bool, true, false, List, [], ◌∷◌, ◌++◌, length, length-append, Option, Some, None, refl, sym, ap, ◌∙◌, subst, arith}
-use Rattle.std.specs.Prelude.{◌&&◌, not, min, nat_eq, nat_lt, nat_le, unwrap_or}
+use Rattle.std.specs.Prelude.{nat_eq, nat_lt, unwrap_or}
 use Rattle.std.proofs.Math.Nat.{mod-lt, pow-le-pow_right, le_trans}
 use Rattle.std.proofs.lemmas.Nat.{pow_pos}
 use Rattle.std.proofs.lemmas.Bool.{and_parts, cond_both, ltb-true, leb-true, le-leb, eqb-true, not-true, false≢true}
 use Rattle.camac_lang.specs.declared.word.WordSize.{WordSize}
 use Rattle.camac_lang.specs.declared.word.WordSize.TheVariants.{Full, Short}
 use Rattle.camac_lang.specs.Tree.{Expression, Move, no_data, into, from, Statement, assign, set_register, single, address_scan, q_stop, q_repeat, put, crate_call, lam_call, choose, choose_else, count, repeat, locked, call, Block, done, next}
-use Rattle.camac_range.specs.Number.{greatest}
-use Rattle.camac_range.specs.Interval.{Interval, interval, IsWithin}
+use Rattle.camac_range.specs.Interval.{Interval, interval}
 use Rattle.camac_func.specs.declared.code.FunctionClass.{FunctionClass}
 use Rattle.camac_func.specs.declared.code.FunctionClass.TheVariants.{Read, Write, Control}
 use Rattle.camac_branch.specs.Address.{Address, address}
@@ -18,26 +17,26 @@ use Rattle.camac_branch.specs.Plan.{Layout}
 use Rattle.camac_crate.specs.Lock.{permitted}
 use Rattle.camac_func.specs.Class.{class_of}
 use Rattle.camac_model.specs.State.{State, Variables, stepped, set_at, with_variable, with_register, with_word}
-use Rattle.camac_model.specs.Behaviour.{Behaviour, ends, Action, given, unless_wrong}
+use Rattle.camac_model.specs.Behaviour.{ends, Action, given, unless_wrong}
 use Rattle.camac_model.specs.Value.{value}
 use Rattle.camac_model.specs.Cycle.{cycle, after_cycle, sized, kept}
 use Rattle.camac_model.specs.Meaning.{Context, fits_size, act, effect, block_meaning}
 use Rattle.camac_func.specs.declared.data.DataMove.{DataMove}
 use Rattle.camac_func.specs.declared.data.DataMove.TheVariants as moved
 use Rattle.camac_func.specs.Class.{fits}
-use Rattle.camac_model.specs.Safe.{FitsWidth, IsSafe}
+use Rattle.camac_model.specs.Safe.{IsSafe}
 use Rattle.camac_model.specs.Fine.{Bounds, AreWords}
-use Rattle.camac_rules.specs.Known.{Region, region, range_at, region_at, Facts, Known, with_range, with_region}
-use Rattle.camac_rules.specs.Costs.{costs, no_costs, plus, Verdict, verdict, unreached}
+use Rattle.camac_rules.specs.Known.{Region, region, region_at, Facts, Known, with_range, with_region}
+use Rattle.camac_rules.specs.Costs.{costs, unreached}
 use Rattle.camac_rules.specs.Addresses.{is_among, cycle_cost}
 use Rattle.camac_rules.specs.Cycles as rules
 use Rattle.camac_rules.specs.Cycles.{Around, may_write, same_class, control_rule, read_rule, write_rule, single_rule}
 use Rattle.camac_rules.specs.Statements.{greatest_word, register_rule, put_rule, accept_statement, accept_block}
 use Rattle.camac_rules.proofs.Allows.{Allows, allowed as allows, refused, then_allowed, required_allowed, given_allowed, if_reached_allowed}
-use Rattle.camac_rules.proofs.Stores.{InRegion, IsSetInside, Inside, Reaches, variables_write, registers_write}
+use Rattle.camac_rules.proofs.Stores.{InRegion, IsSetInside, Inside, variables_write, registers_write}
 use Rattle.camac_rules.proofs.Values.{Fits, Gives, range_each}
 use Rattle.camac_rules.proofs.Regions.{IsAllowed, command_allowed}
-use Rattle.camac_rules.proofs.Sound.{Paid, Ended, Untouched, Sound, SoundFor, paid_nothing, sound_then}
+use Rattle.camac_rules.proofs.Sound.{Paid, Sound, SoundFor, paid_nothing, sound_then}
 use Rattle.camac_rules.proofs.Cycles.{cost_counted, paid_cycle, inside_cycle, cycle_sound}
 
 -- the widths of a plan are those of 24 lines at most

@@ -1,5 +1,5 @@
 -- States that are inside what the checker knows.
-use Rattle.std.proofs.Common.{◌≡◌, ℕ, zero, suc, ◌≤◌, List, [], ◌∷◌, Option, Some, None, get_or, refl, sym, ap, subst, true, false, arith}
+use Rattle.std.proofs.Common.{◌≡◌, ℕ, zero, suc, ◌≤◌, List, [], ◌∷◌, Option, Some, None, get_or, refl, sym, ap, subst}
 use Rattle.std.specs.Prelude.{nat_eq}
 use Rattle.std.proofs.lemmas.Bool.{cond_both, eqb-true, eqb-false}
 use Rattle.camac_range.specs.Number.{greatest}
@@ -7,7 +7,7 @@ use Rattle.camac_range.specs.Interval.{Interval, only, IsWithin}
 use Rattle.camac_branch.specs.Address.{Address}
 use Rattle.camac_branch.specs.Branch.{Branch}
 use Rattle.camac_model.specs.State.{State, Variables, Registers, set_at}
-use Rattle.camac_rules.specs.Known.{write, Region, range_at, region_at, Facts, facts, Known}
+use Rattle.camac_rules.specs.Known.{write, Region, range_at, region_at, Facts, Known}
 use Rattle.camac_rules.specs.Addresses.{is_among}
 use Rattle.camac_rules.specs.Cycles.{Around}
 

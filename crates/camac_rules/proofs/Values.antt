@@ -1,8 +1,8 @@
 -- What the rules say of expressions is true of their values.
-use Rattle.std.proofs.Common.{◌≡◌, ℕ, zero, suc, ◌+◌, ◌-◌, ◌*◌, ◌/◌, ◌%◌, ◌<◌, ◌≤◌, Bool, true, false, cond, List, refl, sym, ap, ◌∙◌, subst, arith, Option, Some, None}
+use Rattle.std.proofs.Common.{◌≡◌, ℕ, ◌+◌, ◌-◌, ◌*◌, ◌/◌, ◌%◌, ◌<◌, ◌≤◌, Bool, true, false, cond, List, refl, sym, ap, subst, arith, Option, Some, None}
 use Rattle.std.specs.Prelude.{nat_eq, nat_lt, nat_le, option_and_then}
 use Rattle.std.proofs.Math.Nat.{le-div_iff_mul-le, div-mul-le_self, mod-lt, mod-eq_of_lt, le_trans}
-use Rattle.std.proofs.lemmas.Bool.{ltb-true, ltb-false, leb-true, eqb-false, le-leb, cond_both}
+use Rattle.std.proofs.lemmas.Bool.{ltb-true, leb-true, eqb-false, le-leb, cond_both}
 use Rattle.std.proofs.lemmas.Nat.{mul-le}
 use Rattle.camac_lang.specs.Tree.{Expression, number, variable, group, add, subtract, multiply, divide, remainder}
 use Rattle.camac_range.specs.Number.{greatest, in_range, difference_of, quotient_of, rest_of}

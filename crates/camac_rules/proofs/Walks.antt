@@ -1,9 +1,9 @@
 -- What a walk over the numbers of a range says of each of them.
-use Rattle.std.proofs.Common.{◌≡◌, ℕ, zero, suc, ◌+◌, ◌-◌, ◌<◌, ◌≤◌, ◌∷◌, Bool, true, Option, Some, None, List, map, refl, sym, ap, ◌∙◌, subst, ⊎_elim, arith}
+use Rattle.std.proofs.Common.{◌≡◌, ℕ, zero, suc, ◌+◌, ◌<◌, ◌≤◌, ◌∷◌, Bool, true, Option, Some, None, map, refl, subst, ⊎_elim, arith}
 use Rattle.std.specs.Prelude.{min, max, nat_lt}
 use Rattle.std.specs.List.{range_with_len}
 use Rattle.std.proofs.lemmas.Bool.{and_parts, cases_lt, ltb-true}
-use Rattle.camac_range.specs.Interval.{Interval, interval, hull, IsWithin}
+use Rattle.camac_range.specs.Interval.{Interval, hull, IsWithin}
 use Rattle.camac_module.specs.Commands.{extremes, least_and_greatest}
 use Rattle.camac_rules.specs.Walks.{count_below, all_from, greatest_from, hull_with, hull_from}
 use Rattle.camac_rules.specs.Addresses.{all_in}

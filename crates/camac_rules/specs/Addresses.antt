@@ -1,5 +1,5 @@
 -- Which addresses of a region are installed, and how wide a command is there.
-use Rattle.std.specs.Prelude.{ℕ, ◌+◌, Bool, ◌&&◌, ◌||◌, List, [], ◌∷◌, false, Option, Some, None, Result, nat_eq, nat_lt, is_some, option_map, unwrap_or, if◌then◌else◌}
+use Rattle.std.specs.Prelude.{ℕ, ◌+◌, Bool, ◌&&◌, ◌||◌, List, [], ◌∷◌, false, Option, None, Result, nat_eq, nat_lt, is_some, option_map, unwrap_or, if◌then◌else◌}
 use Rattle.camac_range.specs.Interval.{Interval, interval}
 use Rattle.camac_branch.specs.Allowed.{widths}
 use Rattle.camac_branch.specs.Plan.{Layout, crate_waits, station}

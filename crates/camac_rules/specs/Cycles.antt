@@ -1,11 +1,10 @@
 -- The rules of single actions. A rule's lines stand in the order of its tests.
 use Rattle.std.specs.Prelude.{ℕ, ◌-◌, ◌^◌, Bool, true, false, not, ◌&&◌, List, [], Some, Result, Ok, nat_lt}
 use Rattle.camac_lang.specs.declared.word.WordSize.{WordSize}
-use Rattle.camac_lang.specs.Tree.{Expression, Move, no_data, into, from, Procedure}
+use Rattle.camac_lang.specs.Tree.{Expression, Move, no_data, into, from}
 use Rattle.camac_range.specs.Interval.{Interval, interval}
 use Rattle.camac_func.specs.declared.code.FunctionClass.{FunctionClass}
 use Rattle.camac_func.specs.declared.code.FunctionClass.TheVariants.{Read, Write, Control}
-use Rattle.camac_branch.specs.Address.{Address}
 use Rattle.camac_branch.specs.Plan.{Layout}
 use Rattle.camac_func.specs.Class.{class_of}
 use Rattle.camac_model.specs.Cycle.{sized}

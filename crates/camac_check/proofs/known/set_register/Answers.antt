@@ -1,4 +1,4 @@
-use Rattle.std.proofs.Common.{◌<◌, ◌≤◌, [], ◌∷◌, ◌++◌, Option, Some, None, ap, ◌∙◌, length, arith}
+use Rattle.std.proofs.Common.{◌<◌, ◌≤◌, Option, Some, None, ap, ◌∙◌, length, arith}
 use Rattle.camac_rules.specs.Known.{write, Region}
 use Rattle.camac_check.proofs.Lists.{write_pad, write_set}
 use Rattle.camac_check.proofs.known.set_register.Goals as goal
