@@ -6,6 +6,7 @@ pub mod Regions
 pub mod Sound
 pub mod Locks
 pub mod Cycles
+pub mod Actions
 pub mod Statements
 pub mod Services
 pub mod Orders

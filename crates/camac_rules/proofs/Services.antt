@@ -20,7 +20,8 @@ use Rattle.camac_rules.specs.Accept.{at_start, accept_service, accept_items}
 use Rattle.camac_rules.proofs.Allows.{Allows, allowed, refused, then_allowed, required_allowed}
 use Rattle.camac_rules.proofs.Stores.{Inside}
 use Rattle.camac_rules.proofs.Sound.{Paid, Sound}
-use Rattle.camac_rules.proofs.Statements.{HasWidths, seen, block_sound}
+use Rattle.camac_rules.proofs.Actions.{HasWidths, seen}
+use Rattle.camac_rules.proofs.Statements.{block_sound}
 
 zero_within : IsWithin (only 0) 0
 zero_within = record { low = omega arith; high = omega arith }
