@@ -1,5 +1,5 @@
 -- A fault is at a token, and no token behind it matters.
-use Rattle.std.proofs.Common.{◌≡◌, ℕ, List, Result, Ok, Err, refl, sym, ap}
+use Rattle.std.proofs.Common.{◌≡◌, ℕ, List, Result, Ok, Err, sym, ap}
 use Rattle.camac_lang.specs.Tree.{Script}
 use Rattle.camac_text.specs.declared.token.Token.{Token}
 use Rattle.camac_text.specs.declared.fault.TextFault.{TextFault}

@@ -1,17 +1,15 @@
 -- Each reader of the grammar is local: what it answers depends on no token behind the one where it stops.
-use Rattle.std.proofs.Common.{◌≡◌, ℕ, suc, ◌+◌, Bool, true, not, cond, nat_lt, eqb, List, [], ◌∷◌, ◌++◌, length, Option, Some, None, Result, Ok, Err, refl, sym, subst}
+use Rattle.std.proofs.Common.{◌≡◌, ℕ, suc, ◌+◌, cond, nat_lt, eqb, [], ◌∷◌, ◌++◌, length, Option, Some, None, Ok, refl, sym, subst}
 use Rattle.camac_lang.specs.Tests.{is_new}
-use Rattle.camac_lang.specs.Tree.{Text, Expression, number, variable, Move, no_data, into, from, Statement, set_register, single, put, Lam}
+use Rattle.camac_lang.specs.Tree.{Text, number, variable, no_data, into, from, set_register, single, put, Lam}
 use Rattle.camac_lang.specs.declared.word.WordSize.TheVariants.{Full}
 use Rattle.camac_text.specs.declared.fault.TextRule.TheVariants.{UnexpectedToken, NumberTooLarge, DeclaredTwice, NotDeclared, LimitPassed, BranchNotOne}
 use Rattle.camac_text.specs.declared.token.Keyword.{Keyword}
 use Rattle.camac_text.specs.declared.token.Keyword.TheVariants as word
 use Rattle.camac_text.specs.declared.token.Sign.{Sign}
 use Rattle.camac_text.specs.declared.token.Sign.TheVariants as sign
-use Rattle.camac_text.specs.declared.token.Token.{Token}
 use Rattle.camac_text.specs.declared.token.TokenKind.{TokenKind}
 use Rattle.camac_text.specs.declared.token.TokenKind.TheVariants as kind
-use Rattle.camac_text.specs.Fault.{Fault}
 use Rattle.camac_text.specs.Names.{place_of, lam_place}
 use Rattle.camac_text.specs.Reading.{State, Reader, ◌>>=◌, ◌>>◌, give, ask, change, peek, advance, fail, check, kind_of, line_of, while_next, one_more, many}
 use Rattle.camac_text.specs.Readers.{is_keyword, is_sign, is_name, expect, expect_sign, name_of, name_here, number_of, number_here, any_number, branch_number, function_number, sub_address_number, new_name, with_variable, new_variable, with_register, register_at, set_name, used_at, used_register, used_variable, used_lam, literal, operand_by, operand, begin, register_setting, move_by, move_at, single_action, put_action, statement_by, statement_at, is_no_end, block_at, with_lam, lam_declaration, one_more_variable, with_variables_of, variable_declaration, with_service, service_declaration, declaration_by, declaration_at, is_token, declarations_at}

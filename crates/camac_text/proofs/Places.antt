@@ -1,5 +1,5 @@
 -- Where readers stop: what a reader answers depends on no token behind the one where it stops.
-use Rattle.std.proofs.Common.{◌≡◌, ℕ, zero, suc, ◌+◌, ◌≤◌, ◌<◌, Bool, true, false, cond, List, [], ◌∷◌, ◌++◌, length, Option, Some, Result, Ok, Err, refl, sym, ap, subst, ◌∙◌, append_assoc, length-append, arith, ◌⊎◌, inl, inr}
+use Rattle.std.proofs.Common.{◌≡◌, ℕ, zero, suc, ◌<◌, Bool, true, false, cond, List, [], ◌∷◌, ◌++◌, length, Option, Result, Ok, Err, refl, sym, ap, subst, ◌∙◌, append_assoc, arith, ◌⊎◌, inl, inr}
 use Rattle.camac_text.specs.declared.token.Token.{Token}
 use Rattle.camac_text.specs.declared.token.TokenKind.{TokenKind}
 use Rattle.camac_text.specs.declared.fault.TextRule.{TextRule}
