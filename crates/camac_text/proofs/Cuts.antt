@@ -1,5 +1,5 @@
 -- The tokens of a text are those of its pieces.
-use Rattle.std.proofs.Common.{◌≡◌, ℕ, zero, suc, ◌+◌, ◌≤◌, ◌<◌, Bool, true, false, not, cond, ltb, eqb, ◌&&◌, List, [], ◌∷◌, ◌++◌, length, take, drop, Option, Some, None, Result, Ok, Err, refl, sym, ap, subst, ◌∙◌, ◌⊎◌, inl, inr, length-drop, Vec, Global, arith}
+use Rattle.std.proofs.Common.{◌≡◌, ℕ, zero, suc, ◌+◌, ◌≤◌, ◌<◌, Bool, true, false, cond, ltb, eqb, ◌&&◌, List, [], ◌∷◌, ◌++◌, length, take, drop, Option, Some, None, Result, Ok, Err, refl, sym, ap, subst, ◌∙◌, inl, inr, length-drop, Vec, Global, arith}
 use Rattle.std.specs.Prelude.{take_while, IfOk}
 use Rattle.std.specs.List.{list_all}
 use Rattle.std.specs.Char.{is_ascii_digit, is_ascii_alphabetic}
@@ -16,9 +16,9 @@ use Rattle.camac_text.specs.declared.scanner.Front.TheVariants as front
 use Rattle.camac_text.specs.declared.fault.TextRule.TheVariants.{LimitPassed, NumberTooLarge}
 use Rattle.camac_text.specs.declared.fault.TextFault.{TextFault}
 use Rattle.camac_text.specs.Fault.{Fault, AnswersList}
-use Rattle.camac_text.specs.Words.{spelled_in, keyword, pair_signs, single_signs}
-use Rattle.camac_text.specs.Scanning.{is_name_byte, is_blank, is_no_line_feed, decimal_value, keyword_or, name_or_fault, pair_at, single_at, pair_or_single, front_of, size, added, wrong, line_number, line_after, tokens_by, tokens_from, tokens_of}
-use Rattle.camac_text.specs.Cut.{begins, IsRun, IsWord, IsName, IsKeyword, IsNumber, IsSign, IsBlank, IsGap, Piece, IsPiece, joined, token_at, tokens_in, ArePieces, IsCut}
+use Rattle.camac_text.specs.Words.{keyword}
+use Rattle.camac_text.specs.Scanning.{is_name_byte, is_blank, is_no_line_feed, decimal_value, keyword_or, pair_at, single_at, pair_or_single, front_of, size, added, wrong, line_number, line_after, tokens_by, tokens_from, tokens_of}
+use Rattle.camac_text.specs.Cut.{begins, IsRun, IsWord, IsName, IsKeyword, IsNumber, IsGap, Piece, IsPiece, joined, token_at, tokens_in, ArePieces, IsCut}
 use Rattle.camac_text.proofs.Scans.{line_feeds, take_run, name_begins, sized_front, with_all, front_step}
 
 -- ---- runs of bytes

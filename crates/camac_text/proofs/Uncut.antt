@@ -1,5 +1,5 @@
 -- A text that is cut into pieces has the tokens of the pieces, and no others.
-use Rattle.std.proofs.Common.{◌≡◌, ℕ, zero, suc, ◌+◌, ◌≤◌, ◌<◌, Bool, true, false, cond, nat_le, ltb, eqb, ◌&&◌, ◌||◌, List, [], ◌∷◌, ◌++◌, length, take, drop, Option, Some, None, Result, Ok, Err, refl, sym, ap, subst, ◌∙◌, ◌⊎◌, inl, inr, Vec, Global, arith}
+use Rattle.std.proofs.Common.{◌≡◌, ℕ, ◌+◌, ◌≤◌, ◌<◌, Bool, true, false, cond, ltb, eqb, ◌&&◌, List, [], ◌∷◌, ◌++◌, length, take, drop, Option, Some, None, Result, Ok, Err, refl, sym, ap, subst, ◌∙◌, inl, inr, Vec, Global, arith}
 use Rattle.std.specs.Prelude.{take_while}
 use Rattle.std.specs.List.{list_all}
 use Rattle.std.specs.Str.{bytes_eq}
@@ -7,7 +7,6 @@ use Rattle.std.specs.Char.{is_ascii_digit, is_ascii_alphabetic}
 use Rattle.std.proofs.Math.Seq.{take-append_seam, drop-append_seam}
 use Rattle.std.proofs.lemmas.Bool.{lt-ltb, le-ltb, eqb-true}
 use Rattle.std.proofs.lemmas.Bool.Decides.{nat_tests}
-use Rattle.std.proofs.lemmas.List.{append-nil}
 use Rattle.std.proofs.lemmas.List.Sums.{take_while-cons}
 use Rattle.std.proofs.lemmas.Slice.Eq.{bytes_eq-Decides}
 use Rattle.camac_text.specs.declared.token.Keyword.{Keyword}
@@ -18,13 +17,12 @@ use Rattle.camac_text.specs.declared.token.TokenKind.{TokenKind}
 use Rattle.camac_text.specs.declared.token.TokenKind.TheVariants as kind
 use Rattle.camac_text.specs.declared.scanner.Front.{Front}
 use Rattle.camac_text.specs.declared.scanner.Front.TheVariants as front
-use Rattle.camac_text.specs.declared.fault.TextRule.TheVariants.{BadByte, LimitPassed, NumberTooLarge}
 use Rattle.camac_text.specs.declared.fault.TextFault.{TextFault}
 use Rattle.camac_text.specs.declared.fault.TextFault.TheVariants as fault
 use Rattle.camac_text.specs.Fault.{Fault, AnswersList}
 use Rattle.camac_text.specs.Words.{Spelling, spelled_in, keyword, pair_signs, single_signs}
-use Rattle.camac_text.specs.Scanning.{is_name_byte, is_blank, is_no_line_feed, decimal_value, keyword_or, number_or_fault, pair_at, single_at, pair_or_single, front_of, size, added, wrong, line_number, line_after, tokens_by, tokens_from, tokens_of}
-use Rattle.camac_text.specs.Cut.{begins, IsRun, IsWord, IsName, IsKeyword, IsNumber, IsSign, IsBlank, IsGap, Piece, IsPiece, joined, token_at, tokens_in, ArePieces, IsCut, HasTokens}
+use Rattle.camac_text.specs.Scanning.{is_name_byte, is_blank, is_no_line_feed, decimal_value, keyword_or, number_or_fault, pair_at, pair_or_single, front_of, size, added, wrong, line_number, tokens_from, tokens_of}
+use Rattle.camac_text.specs.Cut.{begins, IsRun, IsWord, IsName, IsKeyword, IsNumber, IsSign, IsGap, Piece, IsPiece, joined, token_at, tokens_in, ArePieces, IsCut, HasTokens}
 use Rattle.camac_text.proofs.Scans.{line_feeds, with_all, front_step}
 
 -- ---- bytes

@@ -6,3 +6,4 @@ pub mod Names
 pub mod Reading
 pub mod Readers
 pub mod Parser
+pub mod Places
