@@ -4,6 +4,8 @@
 mod code;
 mod line;
 mod refusal;
+mod verdict;
 
 pub use code::{AnswerCode, CheckCode, CodeText, EventCode, LinkCode, PlanCode, TextCode};
 pub use refusal::{Refusal, write_refusal};
+pub use verdict::write_verdict;
