@@ -72,9 +72,9 @@ pub enum TextCode {
     /// S3: a number above the greatest that may stand there.
     NumberTooLarge,
     /// S4: a name that is declared already.
-    NameTwice,
+    DeclaredTwice,
     /// S5: a name that is not declared.
-    NameUnknown,
+    NotDeclared,
     /// S6: one more than a limit allows.
     LimitPassed,
     /// S7: a branch other than the one that there is.
@@ -91,8 +91,8 @@ impl TextCode {
             TextCode::BadByte => ("S1", "bad byte"),
             TextCode::UnexpectedToken => ("S2", "unexpected token"),
             TextCode::NumberTooLarge => ("S3", "number too large"),
-            TextCode::NameTwice => ("S4", "name declared twice"),
-            TextCode::NameUnknown => ("S5", "name not declared"),
+            TextCode::DeclaredTwice => ("S4", "name declared twice"),
+            TextCode::NotDeclared => ("S5", "name not declared"),
             TextCode::LimitPassed => ("S6", "limit passed"),
             TextCode::BranchNotOne => ("S7", "branch not 1"),
         };
@@ -137,7 +137,7 @@ pub enum CheckCode {
     /// E2: the module may not declare the command.
     CommandNotDeclared,
     /// E3: the function moves data the other way, or none.
-    DirectionMisfit,
+    WrongDirection,
     /// E4: an expression may leave the numbers of the machine.
     ValueOutOfRange,
     /// E5: a value may be wider than its register.
@@ -157,7 +157,7 @@ pub enum CheckCode {
     /// E12: a service may take more cycles than annotated.
     TooManyCycles,
     /// E13: a scan's registers may be in two crates.
-    CratesDiffer,
+    ScanCratesDiffer,
     /// E14: a transfer may send more words than its table has.
     CountAboveTable,
     /// E15: the crate is not in the plan, or is locked already.
@@ -181,7 +181,7 @@ impl CheckCode {
         let (name, meaning) = match self {
             CheckCode::StationNotInstalled => ("E1", "station may not be installed"),
             CheckCode::CommandNotDeclared => ("E2", "command may not be declared"),
-            CheckCode::DirectionMisfit => ("E3", "data direction does not fit"),
+            CheckCode::WrongDirection => ("E3", "data direction does not fit"),
             CheckCode::ValueOutOfRange => ("E4", "value out of range"),
             CheckCode::ValueTooWide => ("E5", "value too wide"),
             CheckCode::RegisterUnset => ("E6", "register may be unset"),
@@ -191,7 +191,7 @@ impl CheckCode {
             CheckCode::TooManyTurns => ("E10", "too many turns"),
             CheckCode::TooManyWords => ("E11", "more event words than annotated"),
             CheckCode::TooManyCycles => ("E12", "more cycles than annotated"),
-            CheckCode::CratesDiffer => ("E13", "crates of a scan differ"),
+            CheckCode::ScanCratesDiffer => ("E13", "crates of a scan differ"),
             CheckCode::CountAboveTable => ("E14", "count above the table"),
             CheckCode::CrateUnfit => ("E15", "crate unfit for the call"),
             CheckCode::WordTooWide => ("E16", "word above 24 bits"),

@@ -5,18 +5,26 @@ ghost use Rattle.camac_tool.specs.declared.fault.ToolFault.TheVariants.{Memory, 
 
 use camac_word::WriteFault;
 use std::alloc::AllocError;
+use thiserror::Error;
 
 /// Why an engine stopped before its verdict.
-#[derive(Clone, Copy, Debug, PartialEq, Eq)]
+#[derive(Clone, Copy, Debug, PartialEq, Eq, Error)]
 pub enum ToolFault {
-    /// A reader answered an error.
+    /// G1: a reader answered an error.
+    #[error("fault read")]
     Read,
-    /// A writer answered an error, or took nothing.
+    /// G2: a writer answered an error, or took nothing.
+    #[error("fault write")]
     Write,
-    /// There was no memory.
+    /// G3: a growth of memory was refused.
+    #[error("fault memory")]
     Memory,
-    /// An input is longer than its limit.
+    /// G4: an input is longer than its limit.
+    #[error("fault input too long")]
     TooLong,
+    /// What is asked for is not served yet.
+    #[error("fault not served yet")]
+    NotServed,
 }
 
 impl From<AllocError> for ToolFault {
