@@ -10,3 +10,21 @@ compared More v w = nat_lt w v
 compared AtLeast v w = nat_le w v
 compared Same v w = nat_eq v w
 compared Differs v w = not (nat_eq v w)
+
+-- the comparison that holds where this one does not
+abbrev pub opposite : Cmp → Cmp
+opposite Less = AtLeast
+opposite AtMost = More
+opposite More = AtMost
+opposite AtLeast = Less
+opposite Same = Differs
+opposite Differs = Same
+
+-- the comparison read from the right
+abbrev pub turned : Cmp → Cmp
+turned Less = More
+turned AtMost = AtLeast
+turned More = Less
+turned AtLeast = AtMost
+turned Same = Same
+turned Differs = Differs

@@ -1,0 +1,87 @@
+#!/usr/bin/env python3
+"""Makes large inputs of camac, runs the built program on each, and prints seconds, peak memory and the first line of the answer.
+
+usage: bench/large_inputs.py [PROGRAM]     PROGRAM is crates/camac/out/camac unless given (built by: cd crates/camac && rt run)
+
+Each input comes in two sizes, one twice the other, so that work which grows faster than the input shows.
+"""
+import os
+import subprocess
+import sys
+import tempfile
+import time
+
+TOP = os.path.dirname(os.path.dirname(os.path.abspath(__file__)))
+OPENING = "cdlam adc 1 1 5 12\nvar v\n"
+
+
+def comments(size):
+    """A script of one comment a line, of about this many bytes."""
+    line = "# " + "x" * 61 + "\n"
+    return line * (size // len(line))
+
+
+def blanks(size):
+    return " " * size
+
+
+def service(statements, cycles):
+    """A service of this many statements, a third of them cycles."""
+    body = "cdreg r 1 1 5 0\n"
+    turn = ["cfsa 0 r -> v\n", "put v\n", "cdreg r 1 1 5 0\n"]
+    lines = "".join(turn[i % 3] for i in range(statements - 1))
+    return f"{OPENING}service adc within {cycles} cycles event 4096 words {{\n{body}{lines}}}\n"
+
+
+def names(count):
+    """So many variables with names of 32 bytes, and a put of each in turn."""
+    word = lambda i: f"v{i:02}" + "y" * 29
+    declared = " ".join(word(i) for i in range(count))
+    puts = "\n".join(f"put {word(i % count)}" for i in range(4000))
+    return f"cdlam adc 1 1 5 12\nvar {declared}\nservice adc within 0 cycles event 4096 words {{\n{puts}\n}}\n"
+
+
+def registers(count):
+    """So many registers, and cycles at each in turn."""
+    declared = "\n".join(f"cdreg r{i} 1 1 5 {i % 12}" for i in range(count))
+    cycles = "\n".join(f"cfsa 0 r{i % count} -> v" for i in range(4000))
+    return f"{OPENING}service adc within 4294967295 cycles event 0 words {{\n{declared}\n{cycles}\n}}\n"
+
+
+CASES = [
+    ("comments, half a megabyte", comments(524_288)),
+    ("comments, one megabyte", comments(1_048_576)),
+    ("blanks, half a megabyte", blanks(524_288)),
+    ("blanks, one megabyte", blanks(1_048_576)),
+    ("2,048 statements", service(2048, 4_294_967_295)),
+    ("4,096 statements", service(4096, 4_294_967_295)),
+    ("32 variables, 4,000 puts", names(32)),
+    ("64 variables, 4,000 puts", names(64)),
+    ("32 registers, 4,000 cycles", registers(32)),
+    ("64 registers, 4,000 cycles", registers(64)),
+    ("one byte too long", blanks(1_048_577)),
+]
+
+
+def main():
+    program = sys.argv[1] if len(sys.argv) > 1 else os.path.join(TOP, "crates/camac/out/camac")
+    if not os.access(program, os.X_OK):
+        sys.exit(f"{program} is not there: build it by 'cd crates/camac && rt run'")
+    print(f"{'input':32} {'bytes':>9} {'seconds':>8} {'MiB':>6}  answer")
+    for name, text in CASES:
+        with tempfile.NamedTemporaryFile("w") as script:
+            script.write(text)
+            script.flush()
+            started = time.perf_counter()
+            child = subprocess.Popen(
+                [program, "check", "@sample", script.name], stdout=subprocess.PIPE, stderr=subprocess.STDOUT
+            )
+            out = child.stdout.read().decode()
+            _, status, usage = os.wait4(child.pid, 0)
+            seconds = time.perf_counter() - started
+        first = out.splitlines()[0] if out else ""
+        print(f"{name:32} {len(text):9} {seconds:8.3f} {usage.ru_maxrss / 1024:6.1f}  {os.waitstatus_to_exitcode(status)} {first}")
+
+
+if __name__ == "__main__":
+    main()

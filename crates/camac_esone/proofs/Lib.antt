@@ -1,0 +1,5 @@
+pub mod Parts
+pub mod Drives
+pub mod Stop
+pub mod Repeat
+pub mod Scan

@@ -1,0 +1,5 @@
+use Rattle.camac_esone.proofs.Stop.{stop_gives}
+use Rattle.camac_esone.proofs.laws.stop_test_gives_q_stop.Goals as goal
+
+pub returns : goal.returns
+returns c = stop_gives

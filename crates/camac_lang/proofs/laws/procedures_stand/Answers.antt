@@ -1,0 +1,5 @@
+use Rattle.camac_lang.proofs.Standing as standing
+use Rattle.camac_lang.proofs.laws.procedures_stand.Goals as goal
+
+pub returns : goal.returns
+returns c = standing.procedures_stand

@@ -1,0 +1,58 @@
+-- How many brackets and braces are open at once.
+use Rattle.std.specs.Prelude.{ℕ, suc, max, List, Option, Some, None, slice_get}
+use Rattle.camac_lang.specs.Expressions.{Callable}
+use Rattle.camac_lang.specs.Tests.{most}
+use Rattle.camac_lang.specs.Tree.{Expression, number, variable, group, add, subtract, multiply, divide, remainder, Test, flag_q, flag_x, compare, Part, plain, negated, Move, no_data, into, from, Statement, assign, set_register, single, address_scan, q_stop, q_repeat, put, crate_call, lam_call, choose, choose_else, count, repeat, locked, call, Block, done, next}
+
+-- the most open brackets and braces at once
+abbrev pub expression_depth : Expression → ℕ
+expression_depth (number n) = 0
+expression_depth (variable x) = 0
+expression_depth (group e) = suc (expression_depth e)
+expression_depth (add a b) = max (expression_depth a) (expression_depth b)
+expression_depth (subtract a b) = max (expression_depth a) (expression_depth b)
+expression_depth (multiply a b) = max (expression_depth a) (expression_depth b)
+expression_depth (divide e d) = expression_depth e
+expression_depth (remainder e d) = expression_depth e
+
+abbrev pub test_depth : Test → ℕ
+test_depth flag_q = 0
+test_depth flag_x = 0
+test_depth (compare a k b) = max (expression_depth a) (expression_depth b)
+
+abbrev pub part_depth : Part → ℕ
+part_depth (plain t) = test_depth t
+part_depth (negated t) = test_depth t
+
+abbrev pub move_depth : Move → ℕ
+move_depth no_data = 0
+move_depth (into x) = 0
+move_depth (from e) = expression_depth e
+
+abbrev pub depth_of : Option Callable → ℕ
+depth_of None = 0
+depth_of (Some q) = q.depth
+
+-- of a statement, and of a block from its brace on; a call counts the procedure called
+abbrev mutual
+  pub statement_depth : List Callable → Statement → ℕ
+  statement_depth qs (assign line x e) = expression_depth e
+  statement_depth qs (set_register line r k n a) = max (expression_depth k) (max (expression_depth n) (expression_depth a))
+  statement_depth qs (single line size f r m) = move_depth m
+  statement_depth qs (address_scan line f r1 r2 e x) = expression_depth e
+  statement_depth qs (q_stop line f r g e x) = expression_depth e
+  statement_depth qs (q_repeat line f r g e l x) = max (expression_depth e) (expression_depth l)
+  statement_depth qs (put line e) = expression_depth e
+  statement_depth qs (crate_call line k e) = expression_depth e
+  statement_depth qs (lam_call line k l) = 0
+  statement_depth qs (choose line t a) = max (most part_depth t) (suc (inner_depth qs a))
+  statement_depth qs (choose_else line t a b) = max (most part_depth t) (max (suc (inner_depth qs a)) (suc (inner_depth qs b)))
+  statement_depth qs (count line x e1 e2 ks body) =
+      max (expression_depth e1) (max (expression_depth e2) (suc (inner_depth qs body)))
+  statement_depth qs (repeat line t turns x ks body) = max (most part_depth t) (suc (inner_depth qs body))
+  statement_depth qs (locked line e body) = max (expression_depth e) (suc (inner_depth qs body))
+  statement_depth qs (call line p es) = max (suc (most expression_depth es)) (depth_of (slice_get qs p))
+
+  pub inner_depth : List Callable → Block → ℕ
+  inner_depth qs done = 0
+  inner_depth qs (next s rest) = max (statement_depth qs s) (inner_depth qs rest)

@@ -1,0 +1,145 @@
+-- A script's tree as definitions see it: no boxes, no vectors.
+-- Each use of a variable, register, table, LAM or procedure is its number; names stand where they are declared.
+use Rattle.std.specs.Prelude.{ℕ, List, Option}
+use Rattle.camac_range.specs.declared.comparison.Cmp.{Cmp}
+use Rattle.camac_lang.specs.declared.word.CrateCall.{CrateCall}
+use Rattle.camac_lang.specs.declared.word.LamCall.{LamCall}
+use Rattle.camac_lang.specs.declared.word.WordSize.{WordSize}
+
+-- a name's bytes
+abbrev pub Text : Type 0
+Text = List ℕ
+
+pub data Expression : Type 0 where
+  number : ℕ → Expression
+  variable : ℕ → Expression
+  -- an expression in brackets
+  group : Expression → Expression
+  add : Expression → Expression → Expression
+  subtract : Expression → Expression → Expression
+  multiply : Expression → Expression → Expression
+  -- by a literal from 1
+  divide : Expression → ℕ → Expression
+  remainder : Expression → ℕ → Expression
+
+pub data Test : Type 0 where
+  -- the flags of the last cycle
+  flag_q : Test
+  flag_x : Test
+  compare : Expression → Cmp → Expression → Test
+
+pub data Part : Type 0 where
+  plain : Test → Part
+  negated : Test → Part
+
+-- parts joined by `and`
+abbrev pub Condition : Type 0
+Condition = List Part
+
+-- what a single action moves
+pub data Move : Type 0 where
+  no_data : Move
+  -- a read into a variable
+  into : ℕ → Move
+  -- a write of a value
+  from : Expression → Move
+
+-- a variable that a loop keeps in a range
+pub record Keep : Type 0 where
+  pub variable : ℕ
+  pub low : ℕ
+  pub high : ℕ
+
+-- Each statement begins with the line of its first token.
+mutual
+  pub data Statement : Type 0 where
+    -- a variable and its value
+    assign : (line : ℕ) → ℕ → Expression → Statement
+    -- a register, and its crate, station and sub-address
+    set_register : (line : ℕ) → ℕ → Expression → Expression → Expression → Statement
+    -- one cycle: function, register and data
+    single : (line : ℕ) → WordSize → ℕ → ℕ → Move → Statement
+    -- function, first and final register, most words, tally
+    address_scan : (line : ℕ) → ℕ → ℕ → ℕ → Expression → ℕ → Statement
+    -- function, register, table of a write, most cycles, tally
+    q_stop : (line : ℕ) → ℕ → ℕ → Option ℕ → Expression → ℕ → Statement
+    -- function, register, table of a write, most words, most cycles, tally
+    q_repeat : (line : ℕ) → ℕ → ℕ → Option ℕ → Expression → Expression → ℕ → Statement
+    put : (line : ℕ) → Expression → Statement
+    -- with the crate
+    crate_call : (line : ℕ) → CrateCall → Expression → Statement
+    -- with the LAM
+    lam_call : (line : ℕ) → LamCall → ℕ → Statement
+    -- `if`, without and with `else`
+    choose : (line : ℕ) → Condition → Block → Statement
+    choose_else : (line : ℕ) → Condition → Block → Block → Statement
+    -- `for`: variable, first and last value, kept ranges, body
+    count : (line : ℕ) → ℕ → Expression → Expression → List Keep → Block → Statement
+    -- `while`: condition, annotated turns, measure, kept ranges, body
+    repeat : (line : ℕ) → Condition → ℕ → ℕ → List Keep → Block → Statement
+    -- `lock`: crate, body
+    locked : (line : ℕ) → Expression → Block → Statement
+    -- procedure, arguments
+    call : (line : ℕ) → ℕ → List Expression → Statement
+
+  pub data Block : Type 0 where
+    done : Block
+    next : Statement → Block → Block
+
+pub record Table : Type 0 where
+  pub line : ℕ
+  pub name : Text
+  pub words : List ℕ
+
+pub record Lam : Type 0 where
+  pub line : ℕ
+  pub name : Text
+  pub crate_no : ℕ
+  pub station : ℕ
+  pub sub_address : ℕ
+
+-- a parameter and its range
+pub record Parameter : Type 0 where
+  pub name : Text
+  pub low : ℕ
+  pub high : ℕ
+
+-- in its body a variable is its place among the parameters
+pub record Procedure : Type 0 where
+  pub line : ℕ
+  pub name : Text
+  pub parameters : List Parameter
+  -- annotated
+  pub cycles : ℕ
+  pub words : ℕ
+  pub steps : ℕ
+  -- in the order of their first `cdreg`
+  pub registers : List Text
+  pub body : Block
+
+-- in its body a variable is its place among those of the script
+pub record Service : Type 0 where
+  pub line : ℕ
+  pub lam : ℕ
+  -- annotated
+  pub cycles : ℕ
+  pub words : ℕ
+  -- in the order of their first `cdreg`
+  pub registers : List Text
+  pub body : Block
+
+-- what stands next in the text: the next of its kind, or so many further variables
+pub data Item : Type 0 where
+  next_table : Item
+  next_lam : Item
+  next_variables : (line : ℕ) → (count : ℕ) → Item
+  next_procedure : Item
+  next_service : Item
+
+pub record Script : Type 0 where
+  pub order : List Item
+  pub tables : List Table
+  pub lams : List Lam
+  pub variables : List Text
+  pub procedures : List Procedure
+  pub services : List Service

@@ -1,0 +1,202 @@
+// The commands that a type of module declares.
+
+ghost use Rattle.std.specs.Prelude.{◌≡◌, ◌≤◌, IfSome, OnOk, OnErr};
+ghost use Rattle.std.specs.Result.{result_err};
+ghost use Rattle.camac_module.specs.Commands.{width, counts, widths, none_declared, with_declared, declare_fault, fits_width, IsCommandMap};
+
+use crate::row::Row;
+use camac_word::{Function, SubAddress};
+use std::alloc::{AllocError, Global};
+use std::marker::Model;
+use thiserror::Error;
+
+/// A command as a plan declares it (own).
+#[derive(Clone, Copy, Debug)]
+pub struct Decl {
+    pub f: Function,
+    pub a: SubAddress,
+    /// The bits that it moves, 1 to 24.
+    pub width: u8,
+    /// Whether it stands for a sub-address without a register that a scan may reach. Its width is then 24.
+    pub probe: bool,
+}
+
+/// Why a declaration is refused (own).
+#[derive(Clone, Copy, Debug, PartialEq, Eq, Error)]
+pub enum ModuleFault {
+    /// M1: the command is declared already.
+    #[error("the command is declared already")]
+    DeclaredBefore,
+    /// M2: the width is not 1 to 24 bits, or not 24 at a probe.
+    #[error("the width is not 1 to 24 bits, or not 24 at a probe")]
+    WidthOutOfRange,
+    /// M4: the map has no such sub-address.
+    #[error("the map has no such sub-address")]
+    NoSuchSubAddress,
+}
+
+/// The commands that a module declares at its first `A` sub-addresses. No sub-address is above 15 (IEEE 583).
+#[derive(Drop)]
+pub struct CommandMap<const A: usize> {
+    rows: [Row; A],
+}
+
+/// The commands of a type of module.
+pub type ModuleType = CommandMap<16>;
+
+impl<const A: usize> Model for CommandMap<A> {
+    ghost use Rattle.std.specs.Prelude.{map};
+    ghost use Rattle.camac_module.specs.Commands.{Commands, IsCommandMap};
+    ghost use Rattle.camac_module.specs.Row.{entries_of};
+
+    ghost Value = { Commands };
+
+    ghost view = { λ m. map entries_of m.rows };
+
+    ghost invariant = { λ m. IsCommandMap (map entries_of m.rows) };
+}
+
+impl<const A: usize> CommandMap<A> {
+    /// A map in which nothing is declared.
+    pub fn new(_alloc: Global) -> Self
+        ensures { result ≡ none_declared A }
+    {
+        CommandMap {
+            rows: [Row::new(); A],
+        }
+    }
+
+    /// A copy, which takes no memory.
+    pub fn try_clone(&self, _alloc: Global) -> Result<Self, AllocError>
+        ensures { result ≡ Ok self.now }
+    {
+        Ok(CommandMap { rows: self.rows })
+    }
+
+    /// Declares a command. Refused are a width out of range, then a sub-address that the map lacks, then a command that is
+    /// declared already; the map stays then.
+    pub fn declare(&mut self, d: Decl) -> Result<(), ModuleFault>
+        ensures refused { result_err result ≡ declare_fault A self.old d }
+        ensures ok { OnOk result (self.new ≡ with_declared self.old d) }
+        ensures err { OnErr result (self.new ≡ self.old) }
+    {
+        if !fits_width(&d) {
+            return Err(ModuleFault::WidthOutOfRange);
+        }
+        let a = d.a.get() as usize;
+        if a >= A {
+            return Err(ModuleFault::NoSuchSubAddress);
+        }
+        if self.rows[a].width(d.f.get()).is_some() {
+            return Err(ModuleFault::DeclaredBefore);
+        }
+        self.rows[a].declare(d.f.get(), d.width, d.probe);
+        Ok(())
+    }
+
+    /// The width of a declared command, 1 to 24 bits.
+    pub fn width(&self, f: Function, a: SubAddress) -> Option<u8>
+        ensures value { result ≡ width self.now f a }
+        ensures in_range { IfSome result (λ w. (1 ≤ w) × (w ≤ 24)) }
+    {
+        let a = a.get() as usize;
+        if a < A {
+            self.rows[a].width(f.get())
+        } else {
+            None
+        }
+    }
+
+    /// The number of commands, and of probes among them.
+    pub fn counts(&self) -> (u32, u32)
+        ensures { result ≡ counts self.now }
+    {
+        let mut commands = 0;
+        let mut probes = 0;
+        let reachable = &self.rows[..A.min(16)];
+        'rows: for row in reachable {
+            let (c, p) = row.counts();
+            commands += c;
+            probes += p;
+        }
+        (commands, probes)
+    }
+
+    /// The least and the greatest width of a function from one sub-address to another, unless one of them lacks it.
+    pub fn widths(&self, f: Function, first: SubAddress, last: SubAddress) -> Option<(u8, u8)>
+        requires { first ≤ last }
+        ensures { result ≡ widths self.now f first last }
+    {
+        let mut least = self.width(f, first)?;
+        let mut greatest = least;
+        'places: for a in first.get() + 1..last.get() + 1 {
+            let w = self.width(f, SubAddress::new(a)?)?;
+            least = least.min(w);
+            greatest = greatest.max(w);
+        }
+        Some((least, greatest))
+    }
+
+    /// The law that each declared command is 1 to 24 bits wide, and each probe 24.
+    pub fn is_command_map(&self)
+        ensures { IsCommandMap self.now }
+    {
+        let _ = &self.rows;
+    }
+}
+
+// Whether the width is one that a command can have.
+fn fits_width(d: &Decl) -> bool
+    ensures { result ≡ fits_width d.now }
+{
+    1 <= d.width && d.width <= 24 && (!d.probe || d.width == 24)
+}
+
+#[cfg(test)]
+mod tests {
+    use super::*;
+
+    fn decl(f: u32, a: u32, width: u8, probe: bool) -> Option<Decl> {
+        Some(Decl {
+            f: Function::new(f)?,
+            a: SubAddress::new(a)?,
+            width,
+            probe,
+        })
+    }
+
+    // What `declare` answers to a command with these numbers.
+    fn declared<const A: usize>(
+        map: &mut CommandMap<A>,
+        f: u32,
+        a: u32,
+        width: u8,
+        probe: bool,
+    ) -> Option<Result<(), ModuleFault>> {
+        match decl(f, a, width, probe) {
+            Some(d) => Some(map.declare(d)),
+            None => None,
+        }
+    }
+
+    #[test]
+    fn small_command_map(rt: HostRuntime) {
+        let mut map = CommandMap::<4>::new(rt.alloc());
+        let at_4 = declared(&mut map, 0, 4, 12, false);
+        assert_eq!(rt; at_4, Some(Err(ModuleFault::NoSuchSubAddress)));
+        let wide = declared(&mut map, 0, 4, 25, false);
+        assert_eq!(rt; wide, Some(Err(ModuleFault::WidthOutOfRange)));
+    }
+
+    #[test]
+    fn builder_faults_of_a_type(rt: HostRuntime) {
+        let mut adc = ModuleType::new(rt.alloc());
+        assert_eq!(rt; declared(&mut adc, 0, 0, 12, false), Some(Ok(())));
+        let again = declared(&mut adc, 0, 0, 12, false);
+        assert_eq!(rt; again, Some(Err(ModuleFault::DeclaredBefore)));
+        let wide = declared(&mut adc, 1, 0, 25, false);
+        assert_eq!(rt; wide, Some(Err(ModuleFault::WidthOutOfRange)));
+        let probe = declared(&mut adc, 1, 0, 12, true);
+        assert_eq!(rt; probe, Some(Err(ModuleFault::WidthOutOfRange)));
+    }
+}
