@@ -1,3 +1,4 @@
 pub mod Transfers
 pub mod Lists
 pub mod Laws
+pub mod Bounds

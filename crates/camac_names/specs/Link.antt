@@ -1,0 +1,61 @@
+-- The rules of linking, in the order in which they are tested (own).
+use Rattle.std.specs.Prelude.{ℕ, Bool, false, not, ◌&&◌, ◌||◌, List, [], ◌∷◌, ◌++◌, Option, Some, None, is_some, nat_eq, nat_le, option_and_then, slice_get, if◌then◌else◌}
+use Rattle.camac_lang.specs.Tree.{Lam, Service, Script}
+use Rattle.camac_branch.specs.Plan.{Layout, installed, gl}
+use Rattle.camac_names.specs.declared.fault.LinkFault.{LinkFault}
+use Rattle.camac_names.specs.declared.fault.LinkFault.TheVariants.{Broken}
+use Rattle.camac_names.specs.declared.fault.LinkRule.{LinkRule}
+use Rattle.camac_names.specs.declared.fault.LinkRule.TheVariants.{LamNotInstalled, StationWithoutBit, StationServedTwice, EventAboveBuffer}
+
+-- a fault on this line, unless the test holds; and else the next
+abbrev pub unless : Bool → LinkRule → ℕ → Option LinkFault → Option LinkFault
+unless test rule line next = if test then next else Some (Broken rule line)
+
+-- L1 of each LAM in text order
+abbrev pub lams_fault : Layout → List Lam → Option LinkFault
+lams_fault plan [] = None
+lams_fault plan (l ∷ ls) = unless (is_some (installed plan l.crate_no l.station)) LamNotInstalled l.line (lams_fault plan ls)
+
+-- the graded-L bit of a service: that of its LAM's station
+abbrev pub lam_bit : Layout → Lam → Option ℕ
+lam_bit plan l = gl plan l.crate_no l.station
+
+abbrev pub service_bit : Layout → List Lam → Service → Option ℕ
+service_bit plan lams v = option_and_then (lam_bit plan) (slice_get lams v.lam)
+
+abbrev pub same_station : Lam → Lam → Bool
+same_station l m = nat_eq l.crate_no m.crate_no && nat_eq l.station m.station
+
+-- whether one of these services is on the LAM's station
+abbrev pub is_on : Lam → Option Lam → Bool
+is_on l None = false
+is_on l (Some m) = same_station l m
+
+abbrev pub is_served : List Lam → Lam → List Service → Bool
+is_served lams l [] = false
+is_served lams l (v ∷ vs) = is_on l (slice_get lams v.lam) || is_served lams l vs
+
+-- L2, L3 and L4 of a service on this LAM, after these services
+abbrev pub served_fault : Layout → List Lam → List Service → Service → Option Lam → Option LinkFault
+served_fault plan lams earlier v None = Some (Broken LamNotInstalled v.line)
+served_fault plan lams earlier v (Some l) =
+    unless (is_some (lam_bit plan l)) StationWithoutBit v.line
+    (unless (not (is_served lams l earlier)) StationServedTwice v.line
+    (unless (nat_le v.words plan.buffer) EventAboveBuffer v.line None))
+
+abbrev pub service_fault : Layout → List Lam → List Service → Service → Option LinkFault
+service_fault plan lams earlier v = served_fault plan lams earlier v (slice_get lams v.lam)
+
+abbrev pub or_else : Option LinkFault → Option LinkFault → Option LinkFault
+or_else None next = next
+or_else (Some e) next = Some e
+
+-- service by service in text order
+abbrev pub services_fault : Layout → List Lam → List Service → List Service → Option LinkFault
+services_fault plan lams earlier [] = None
+services_fault plan lams earlier (v ∷ vs) =
+    or_else (service_fault plan lams earlier v) (services_fault plan lams (earlier ++ v ∷ []) vs)
+
+-- the first rule that is broken, and its line
+abbrev pub link_fault : Layout → Script → Option LinkFault
+link_fault plan script = or_else (lams_fault plan script.lams) (services_fault plan script.lams [] script.services)

@@ -1,0 +1,10 @@
+//! Linking: each LAM of a script stands at an installed station, and each service on a graded-L bit of its own.
+#![tactic(auto)]
+
+mod fault;
+mod link;
+mod linked;
+
+pub use fault::{LinkFault, LinkRule};
+pub use link::resolve;
+pub use linked::Linked;
