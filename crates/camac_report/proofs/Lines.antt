@@ -8,7 +8,7 @@ use Rattle.camac_word.specs.Writing.{AppendsFront, Writes}
 use Rattle.camac_word.proofs.Fronts.{IsUnderWay}
 use Rattle.camac_lang.specs.Tree.{Lam, Service}
 use Rattle.camac_branch.specs.Plan.{Layout}
-use Rattle.camac_check.specs.declared.checked.Bounds.{Bounds}
+use Rattle.camac_model.specs.Fine.{Bounds}
 use Rattle.camac_report.specs.Verdict.{service_text, service_texts}
 
 -- the next line was written

@@ -3,7 +3,7 @@ use Rattle.std.specs.Prelude.{ℕ, List, [], ◌∷◌, ◌++◌, codes, decimal
 use Rattle.camac_lang.specs.Tree.{Text, Lam, Service, Script}
 use Rattle.camac_branch.specs.Plan.{Layout}
 use Rattle.camac_names.specs.Link.{service_bit}
-use Rattle.camac_check.specs.declared.checked.Bounds.{Bounds}
+use Rattle.camac_model.specs.Fine.{Bounds}
 
 -- what the checker found of a service, each beside the number of its heading
 abbrev pub service_line : Text → ℕ → Service → Bounds → List ℕ

@@ -2,7 +2,7 @@
 
 ghost use Rattle.std.specs.Prelude.{◌≡◌, ◌<◌, ◌≤◌, ◌||◌, ◌++◌, length, is_err, slice_get, Some, map};
 ghost use Rattle.camac_branch.specs.Plan.{Layout};
-ghost use Rattle.camac_check.specs.declared.checked.Bounds.{Bounds as BoundsFound};
+ghost use Rattle.camac_model.specs.Fine.{Bounds as BoundsFound};
 ghost use Rattle.camac_lang.specs.Tree.{Service as ServiceTree};
 ghost use Rattle.camac_lang.specs.View.{lam_of, service_of};
 ghost use Rattle.camac_names.specs.Link.{service_bit};
