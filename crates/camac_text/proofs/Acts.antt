@@ -55,8 +55,8 @@ new_push [] x known e free new = both (is_new x known) true free refl
 new_push (y ∷ ys) x known e free new =
     both (is_new y known) (are_new (ys ++ x ∷ []) (y ∷ known)) (first_of_both (is_new y known) (are_new ys (y ∷ known)) e)
     (new_push ys x (y ∷ known) (second_of_both (is_new y known) (are_new ys (y ∷ known)) e)
-      (both (not (bytes_eq x y)) (is_new x known) (first_of_both (not (bytes_eq x y)) (is_new x ys) new) free)
-      (second_of_both (not (bytes_eq x y)) (is_new x ys) new))
+    (both (not (bytes_eq x y)) (is_new x known) (first_of_both (not (bytes_eq x y)) (is_new x ys) new) free)
+    (second_of_both (not (bytes_eq x y)) (is_new x ys) new))
 
 pub declarable_push : (xs : List Text) (x : Text) (known : List Text) → are_declarable xs known ≡ true → is_name x ≡ true → is_new x known ≡ true → is_new x xs ≡ true → are_declarable (xs ++ x ∷ []) known ≡ true
 declarable_push xs x known e name free new =
@@ -159,8 +159,8 @@ put_is s k line y next e =
     let read = operand_ok (begun s) b.0 b.1 in
     subst (λ (p : Statement × State). Acts s p.0 p.1) (ok_is (put line b.0.0, b.0.1) y b.2)
     (acts s (put line b.0.0) k b.0.1 next begins.0 read.moves
-      (λ h. ap (λ (holds : Bool). unless_broken holds (length s.registers)) (read.fits ((moved s).fit h)))
-      read.flat refl)
+    (λ h. ap (λ (holds : Bool). unless_broken holds (length s.registers)) (read.fits ((moved s).fit h)))
+    read.flat refl)
 
 single_is : (s : State) (k : TokenKind) (line : ℕ) (y : Statement × State) → kind_of s.rest ≡ Some k → single_action line s ≡ Ok y → Acts s y.0 y.1
 unfolding single_action
@@ -181,10 +181,10 @@ single_is s k line y next e =
     let register_fits : nat_lt c.0.0 (length s.registers) ≡ true = subst (λ (u : State). nat_lt c.0.0 (length u.registers) ≡ true) to_b.same (lt-ltb c.0.0 (length b.0.1.registers) r.0) in
     subst (λ (p : Statement × State). Acts s p.0 p.1) (ok_is (single line Full b.0.0 c.0.0 d.0.0, d.0.1) y d.2)
     (acts s (single line Full b.0.0 c.0.0 d.0.0) k d.0.1 next begins.0 (then_moves (begun s) c.0.1 d.0.1 to_c m.moves)
-      (λ h.
-        let move_stands : move_fits (scope_of s) d.0.0 ≡ true = subst (λ (scope : Scope). move_fits scope d.0.0 ≡ true) (same_scope (begun s) c.0.1 to_c) (m.fits (to_c.fit ((moved s).fit h))) in
-        ap (λ (holds : Bool). unless_broken holds (length s.registers)) (both (is_function b.0.0) _ function_fits (both (nat_lt c.0.0 (length s.registers)) _ register_fits move_stands)))
-      m.flat refl)
+    (λ h.
+    let move_stands : move_fits (scope_of s) d.0.0 ≡ true = subst (λ (scope : Scope). move_fits scope d.0.0 ≡ true) (same_scope (begun s) c.0.1 to_c) (m.fits (to_c.fit ((moved s).fit h))) in
+    ap (λ (holds : Bool). unless_broken holds (length s.registers)) (both (is_function b.0.0) _ function_fits (both (nat_lt c.0.0 (length s.registers)) _ register_fits move_stands)))
+    m.flat refl)
 
 -- three numbers at 0 depth
 no_depth : (a b c : ℕ) → a ≡ 0 → b ≡ 0 → c ≡ 0 → max a (max b c) ≡ 0
@@ -225,13 +225,13 @@ setting_is s k line y next e =
       less = omega arith;
       room = begins.0;
       after = λ h.
-        let h_b : AllFit b.0.1.rest = r.fit ((moved s).fit h) in
-        ap (λ (holds : Bool). unless_broken holds (max (length s.registers) (suc b.0.0)))
+          let h_b : AllFit b.0.1.rest = r.fit ((moved s).fit h) in
+          ap (λ (holds : Bool). unless_broken holds (max (length s.registers) (suc b.0.0)))
           (both (nat_le b.0.0 (length s.registers)) _ (below_le b.0.0 (length s.registers) r.within)
           (both (expression_fits (scope_of s) u2.0.0) _ (stands u1.0.1 u2.0.0 to_1 (l2.fits (to_1.fit h_b)))
           (both (expression_fits (scope_of s) u3.0.0) _ (stands u2.0.1 u3.0.0 to_2 (l3.fits (to_2.fit h_b)))
           (stands u3.0.1 u4.0.0 to_3 (l4.fits (to_3.fit h_b))))))
-        ∙ ap (λ (n : ℕ). Some n) (sym r.more ∙ ap (λ (rs : List Text). length rs) (sym registers));
+          ∙ ap (λ (n : ℕ). Some n) (sym r.more ∙ ap (λ (rs : List Text). length rs) (sym registers));
       registers = λ h fits. subst (λ (rs : List Text). RegistersFit s.declared rs) (sym registers) (r.registers ((moved s).fit h) fits);
       flat = no_depth _ _ _ l2.flat l3.flat l4.flat;
       one = refl;

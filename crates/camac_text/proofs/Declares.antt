@@ -36,13 +36,15 @@ new_variable_ok s y e =
     let h = new_name_ok s m.0 m.1 in
     let rest : Reader (Unit {0}) = λ u. then_read (check (nat_lt (length u.variables) 64) LimitPassed u) (λ _. advance >> change (with_variable m.0.0)) in
     let at : rest s ≡ Ok y = subst (λ (u : State). rest u ≡ Ok y) h.left m.2 in
-    let c = check_ok (nat_lt (length s.variables) 64) LimitPassed (advance >> change (with_variable m.0.0)) s y at in
-    (m.0.0, record {
-      next = h.next;
-      free = h.free;
-      room = ltb-true (length s.variables) 64 c.0;
-      left = sym (ap (λ (p : Unit {0} × State). p.1) (ok_is (tt, with_variable m.0.0 (record s { rest = behind s.rest })) y c.1));
-    })
+    let c = check_ok (nat_lt (length s.variables) 64) LimitPassed (advance >> change (with_variable m.0.0)) s y at in (
+      m.0.0,
+      record {
+        next = h.next;
+        free = h.free;
+        room = ltb-true (length s.variables) 64 c.0;
+        left = sym (ap (λ (p : Unit {0} × State). p.1) (ok_is (tt, with_variable m.0.0 (record s { rest = behind s.rest })) y c.1));
+      },
+    )
 
 pub one_variable_less : (s : State) (x : Text) (s' : State) → DeclaresOne s x s' → length s'.rest < length s.rest
 one_variable_less s x s' d = subst (λ (u : State). length u.rest < length s.rest) (sym d.left) (behind_less s.rest (kind.Name x) d.next)
@@ -99,10 +101,10 @@ one_variable_more s n u x t d one =
       names = d.names ++ x ∷ [];
       counted = omega arith;
       same = one.left
-        ∙ ap (λ (w : State). with_variable x (record w { rest = behind u.rest })) d.same
-        ∙ ap (λ (ts : _). record s { rest = ts; variables = (s.variables ++ d.names) ++ x ∷ []; declared = (s.declared ++ d.names) ++ x ∷ [] }) (sym t_rest)
-        ∙ ap (λ (xs : List Text). record s { rest = t.rest; variables = xs; declared = (s.declared ++ d.names) ++ x ∷ [] }) (append_assoc s.variables d.names (x ∷ []))
-        ∙ ap (λ (xs : List Text). record s { rest = t.rest; variables = s.variables ++ (d.names ++ x ∷ []); declared = xs }) (append_assoc s.declared d.names (x ∷ []));
+          ∙ ap (λ (w : State). with_variable x (record w { rest = behind u.rest })) d.same
+          ∙ ap (λ (ts : _). record s { rest = ts; variables = (s.variables ++ d.names) ++ x ∷ []; declared = (s.declared ++ d.names) ++ x ∷ [] }) (sym t_rest)
+          ∙ ap (λ (xs : List Text). record s { rest = t.rest; variables = xs; declared = (s.declared ++ d.names) ++ x ∷ [] }) (append_assoc s.variables d.names (x ∷ []))
+          ∙ ap (λ (xs : List Text). record s { rest = t.rest; variables = s.variables ++ (d.names ++ x ∷ []); declared = xs }) (append_assoc s.declared d.names (x ∷ []));
       fit = λ h. subst (λ (w : State). AllFit w.rest) (sym one.left) ((moved u).fit (d.fit h));
       shorter = omega arith;
       few = λ h. omega arith;
@@ -130,8 +132,8 @@ pub record VariableDeclaration (s s' : State) : Type 0 where
 at_least : (s : State) (n : ℕ) (u : State) → 1 ≤ n → (y : ℕ × State) → DeclaresVariables s n u → while_next next_is_name one_more_variable n u ≡ Ok y → DeclaresVariables s y.0 y.1 × (1 ≤ y.0)
 at_least s n u some y d e =
     while_keeps (λ (m : ℕ) (t : State). DeclaresVariables s m t × (1 ≤ m)) next_is_name one_more_variable (λ m t k v both on took.
-      let a = then_ok (new_variable t) (λ _. give (m + 1)) (k, v) took in
-      (variables_turn s m t k v both.0 took, subst (λ (p : ℕ × State). 1 ≤ p.0) (ok_is (m + 1, a.0.1) (k, v) a.2) (let h : 1 ≤ m + 1 = omega arith in h))) n u y (d, some) e
+    let a = then_ok (new_variable t) (λ _. give (m + 1)) (k, v) took in
+    (variables_turn s m t k v both.0 took, subst (λ (p : ℕ × State). 1 ≤ p.0) (ok_is (m + 1, a.0.1) (k, v) a.2) (let h : 1 ≤ m + 1 = omega arith in h))) n u y (d, some) e
 
 variables_is : (s : State) (k : TokenKind) (line : ℕ) (y : Unit {0} × State) → kind_of s.rest ≡ Some k → variable_declaration line s ≡ Ok y → VariableDeclaration s y.1
 unfolding variable_declaration

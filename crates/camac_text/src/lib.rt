@@ -18,3 +18,6 @@ pub use fault::{TextFault, TextRule};
 pub use reading::parse;
 pub use scanner::{Front, tokens};
 pub use token::{Keyword, Sign, Token, TokenKind};
+
+#[cfg(test)]
+mod tests;
