@@ -8,8 +8,8 @@ use Rattle.camac_names.specs.Link.{link_fault}
 use Rattle.camac_names.specs.declared.fault.LinkFault.{LinkFault}
 use Rattle.camac_names.specs.declared.fault.LinkFault.TheVariants as link_fault_of
 use Rattle.camac_rules.specs.Fault.{Fault as CheckFault, broken, not_served}
-use Rattle.camac_check.specs.Accept.{accept}
-use Rattle.camac_check.specs.declared.checked.Bounds.{Bounds}
+use Rattle.camac_rules.specs.Accept.{accept}
+use Rattle.camac_model.specs.Fine.{Bounds}
 use Rattle.camac_report.specs.Refusal.{refusal_text}
 use Rattle.camac_report.specs.Verdict.{verdict_text}
 use Rattle.camac_report.specs.declared.refusal.Refusal.{Refusal}

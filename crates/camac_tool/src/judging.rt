@@ -1,8 +1,8 @@
 // The judgement on a script: its text, then its links to the plan, then the checker's rules.
 
 ghost use Rattle.std.specs.Prelude.{◌≡◌, IfOk, IfErr};
-ghost use Rattle.camac_check.specs.Accept.{accept};
 ghost use Rattle.camac_names.specs.Link.{link_fault};
+ghost use Rattle.camac_rules.specs.Accept.{accept};
 ghost use Rattle.camac_tool.specs.Engine.{Judges};
 ghost use Rattle.camac_tool.specs.Report.{report, report_linked, report_accepted};
 
