@@ -28,7 +28,7 @@ placed tokens end_line f e =
       parts = a.parts;
       line = a.line;
       rule = a.rule;
-      settled = λ t behind others here. ap tree_in (a.again t behind others here);
+      settled = λ t behind others last here. ap tree_in (a.again t behind others last here);
     }
 
 fault_behind : (made : Result (List Token) Fault) (end_line : ℕ) (f : Fault) → tree_behind made end_line ≡ Err f → HasFaultBehind made end_line f

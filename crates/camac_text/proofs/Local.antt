@@ -81,30 +81,30 @@ local_new_name : (s : State) → IsLocal new_name s
 unfolding new_name
 local_new_name s =
     local_then name_here (λ x. ask (λ u. u.declared) >>= λ known. check (is_new x known) DeclaredTwice >> give x) s (local_name s) (λ x u took.
-    local_ask (λ w. w.declared) (λ w ts. refl) (λ known. check (is_new x known) DeclaredTwice >> give x) u
+    local_ask (λ w. w.declared) (λ w ts n. refl) (λ known. check (is_new x known) DeclaredTwice >> give x) u
     (local_check (is_new x u.declared) DeclaredTwice (give x) u (x, name_at s x u took) (λ _. local_give x u)))
 
 local_new_variable : (s : State) → IsLocal new_variable s
 unfolding new_variable
 local_new_variable s =
     local_then new_name (λ x. ask (λ u. u.variables) >>= λ known. check (nat_lt (length known) 64) LimitPassed >> (advance >> change (with_variable x))) s (local_new_name s) (λ x u _.
-    local_ask (λ w. w.variables) (λ w ts. refl) (λ known. check (nat_lt (length known) 64) LimitPassed >> (advance >> change (with_variable x))) u
+    local_ask (λ w. w.variables) (λ w ts n. refl) (λ known. check (nat_lt (length known) 64) LimitPassed >> (advance >> change (with_variable x))) u
     (local_check (nat_lt (length u.variables) 64) LimitPassed (advance >> change (with_variable x)) u tt (λ _.
-    local_then advance (λ _. change (with_variable x)) u (local_advance u) (λ _ v _. local_change (with_variable x) (λ w ts. refl) (λ w. refl) v))))
+    local_then advance (λ _. change (with_variable x)) u (local_advance u) (λ _ v _. local_change (with_variable x) (λ w ts n. refl) (λ w. refl) v))))
 
 local_register_at : (x : Text) (place : Option ℕ) (s : State) → IsLocal (register_at x place) s
 local_register_at x (Some place) s = local_take place s
 local_register_at x None s =
-    local_ask (λ u. u.registers) (λ w ts. refl) (λ known. check (nat_lt (length known) 64) LimitPassed >> (advance >> (change (with_register x) >> give (length known)))) s
+    local_ask (λ u. u.registers) (λ w ts n. refl) (λ known. check (nat_lt (length known) 64) LimitPassed >> (advance >> (change (with_register x) >> give (length known)))) s
     (local_check (nat_lt (length s.registers) 64) LimitPassed (advance >> (change (with_register x) >> give (length s.registers))) s tt (λ _.
     local_then advance (λ _. change (with_register x) >> give (length s.registers)) s (local_advance s) (λ _ u _.
-    local_then (change (with_register x)) (λ _. give (length s.registers)) u (local_change (with_register x) (λ w ts. refl) (λ w. refl) u) (λ _ v _. local_give (length s.registers) v))))
+    local_then (change (with_register x)) (λ _. give (length s.registers)) u (local_change (with_register x) (λ w ts n. refl) (λ w. refl) u) (λ _ v _. local_give (length s.registers) v))))
 
 local_set_name : (s : State) → IsLocal set_name s
 unfolding set_name
 local_set_name s =
     local_then new_name (λ x. ask (λ u. u.registers) >>= λ known. register_at x (place_of x known)) s (local_new_name s) (λ x u _.
-    local_ask (λ w. w.registers) (λ w ts. refl) (λ known. register_at x (place_of x known)) u (local_register_at x (place_of x u.registers) u))
+    local_ask (λ w. w.registers) (λ w ts n. refl) (λ known. register_at x (place_of x known)) u (local_register_at x (place_of x u.registers) u))
 
 local_used_at : (x : Text) (place : Option ℕ) (s : State) → kind_of s.rest ≡ Some (kind.Name x) → IsLocal (used_at place) s
 local_used_at x (Some place) s at = local_take place s
@@ -114,19 +114,19 @@ local_used_register : (s : State) → IsLocal used_register s
 unfolding used_register
 local_used_register s =
     local_then name_here (λ x. ask (λ u. u.registers) >>= λ known. used_at (place_of x known)) s (local_name s) (λ x u took.
-    local_ask (λ w. w.registers) (λ w ts. refl) (λ known. used_at (place_of x known)) u (local_used_at x (place_of x u.registers) u (name_at s x u took)))
+    local_ask (λ w. w.registers) (λ w ts n. refl) (λ known. used_at (place_of x known)) u (local_used_at x (place_of x u.registers) u (name_at s x u took)))
 
 local_used_variable : (s : State) → IsLocal used_variable s
 unfolding used_variable
 local_used_variable s =
     local_then name_here (λ x. ask (λ u. u.variables) >>= λ known. used_at (place_of x known)) s (local_name s) (λ x u took.
-    local_ask (λ w. w.variables) (λ w ts. refl) (λ known. used_at (place_of x known)) u (local_used_at x (place_of x u.variables) u (name_at s x u took)))
+    local_ask (λ w. w.variables) (λ w ts n. refl) (λ known. used_at (place_of x known)) u (local_used_at x (place_of x u.variables) u (name_at s x u took)))
 
 local_used_lam : (s : State) → IsLocal used_lam s
 unfolding used_lam
 local_used_lam s =
     local_then name_here (λ x. ask (λ u. u.lams) >>= λ known. used_at (lam_place x known)) s (local_name s) (λ x u took.
-    local_ask (λ w. w.lams) (λ w ts. refl) (λ known. used_at (lam_place x known)) u (local_used_at x (lam_place x u.lams) u (name_at s x u took)))
+    local_ask (λ w. w.lams) (λ w ts n. refl) (λ known. used_at (lam_place x known)) u (local_used_at x (lam_place x u.lams) u (name_at s x u took)))
 
 -- ---- expressions
 
@@ -148,9 +148,9 @@ local_operand s = local_peek operand_by s (local_operand_by (kind_of s.rest) s)
 local_begin : (s : State) → IsLocal begin s
 unfolding begin
 local_begin s =
-    local_ask (λ u. u.statements) (λ w ts. refl) (λ count. check (nat_lt count 4096) LimitPassed >> (change (λ u. record u { statements = suc u.statements }) >> advance)) s
+    local_ask (λ u. u.statements) (λ w ts n. refl) (λ count. check (nat_lt count 4096) LimitPassed >> (change (λ u. record u { statements = suc u.statements }) >> advance)) s
     (local_check (nat_lt s.statements 4096) LimitPassed (change (λ u. record u { statements = suc u.statements }) >> advance) s tt (λ _.
-    local_then (change (λ u. record u { statements = suc u.statements })) (λ _. advance) s (local_change (λ u. record u { statements = suc u.statements }) (λ w ts. refl) (λ w. refl) s) (λ _ u _. local_advance u)))
+    local_then (change (λ u. record u { statements = suc u.statements })) (λ _. advance) s (local_change (λ u. record u { statements = suc u.statements }) (λ w ts n. refl) (λ w. refl) s) (λ _ u _. local_advance u)))
 
 local_setting : (line : ℕ) (s : State) → IsLocal (register_setting line) s
 unfolding register_setting
@@ -220,7 +220,7 @@ made line x c n a = record { line = line; name = x; crate_no = c; station = n; s
 local_lam : (line : ℕ) (s : State) → IsLocal (lam_declaration line) s
 unfolding lam_declaration
 local_lam line s =
-    local_ask (λ u. u.lams) (λ w ts. refl) (λ known. check (nat_lt (length known) 64) LimitPassed >> (advance >> (new_name >>= λ x. advance >> (branch_number >> (any_number >>= λ c. any_number >>= λ n. sub_address_number >>= λ a. change (with_lam (made line x c n a))))))) s
+    local_ask (λ u. u.lams) (λ w ts n. refl) (λ known. check (nat_lt (length known) 64) LimitPassed >> (advance >> (new_name >>= λ x. advance >> (branch_number >> (any_number >>= λ c. any_number >>= λ n. sub_address_number >>= λ a. change (with_lam (made line x c n a))))))) s
     (local_check (nat_lt (length s.lams) 64) LimitPassed (advance >> (new_name >>= λ x. advance >> (branch_number >> (any_number >>= λ c. any_number >>= λ n. sub_address_number >>= λ a. change (with_lam (made line x c n a)))))) s tt (λ _.
     local_then advance (λ _. new_name >>= λ x. advance >> (branch_number >> (any_number >>= λ c. any_number >>= λ n. sub_address_number >>= λ a. change (with_lam (made line x c n a))))) s (local_advance s) (λ _ u _.
     local_then new_name (λ x. advance >> (branch_number >> (any_number >>= λ c. any_number >>= λ n. sub_address_number >>= λ a. change (with_lam (made line x c n a))))) u (local_new_name u) (λ x u _.
@@ -228,7 +228,7 @@ local_lam line s =
     local_then branch_number (λ _. any_number >>= λ c. any_number >>= λ n. sub_address_number >>= λ a. change (with_lam (made line x c n a))) u (local_branch u) (λ _ u _.
     local_then any_number (λ c. any_number >>= λ n. sub_address_number >>= λ a. change (with_lam (made line x c n a))) u (local_any_number u) (λ c u _.
     local_then any_number (λ n. sub_address_number >>= λ a. change (with_lam (made line x c n a))) u (local_any_number u) (λ n u _.
-    local_then sub_address_number (λ a. change (with_lam (made line x c n a))) u (local_sub_address u) (λ a u _. local_change (with_lam (made line x c n a)) (λ w ts. refl) (λ w. refl) u)))))))))
+    local_then sub_address_number (λ a. change (with_lam (made line x c n a))) u (local_sub_address u) (λ a u _. local_change (with_lam (made line x c n a)) (λ w ts n. refl) (λ w. refl) u)))))))))
 
 local_variables : (line : ℕ) (s : State) → IsLocal (variable_declaration line) s
 unfolding variable_declaration
@@ -237,7 +237,7 @@ local_variables line s =
     local_then new_variable (λ _. while_next is_name one_more_variable 1 >>= λ count. change (with_variables_of line count)) u (local_new_variable u) (λ _ u _.
     local_then (while_next is_name one_more_variable 1) (λ count. change (with_variables_of line count)) u
     (local_while is_name one_more_variable variables_progress (λ n v _. local_then new_variable (λ _. give (n + 1)) v (local_new_variable v) (λ _ w _. local_give (n + 1) w)) 1 u)
-    (λ count v _. local_change (with_variables_of line count) (λ w ts. refl) (λ w. refl) v)))
+    (λ count v _. local_change (with_variables_of line count) (λ w ts n. refl) (λ w. refl) v)))
 
 -- a service from so many of its words on
 abbrev from_words : ℕ → ℕ → ℕ → ℕ → Reader (Unit {0})
@@ -252,7 +252,7 @@ from_within line l = expect word.Within >> (any_number >>= λ c. from_cycles lin
 local_service : (line : ℕ) (s : State) → IsLocal (service_declaration line) s
 unfolding service_declaration
 local_service line s =
-    local_ask (λ u. u.services) (λ w ts. refl) (λ known. check (nat_lt (length known) 24) LimitPassed >> (advance >> (used_lam >>= λ l. from_within line l))) s
+    local_ask (λ u. u.services) (λ w ts n. refl) (λ known. check (nat_lt (length known) 24) LimitPassed >> (advance >> (used_lam >>= λ l. from_within line l))) s
     (local_check (nat_lt (length s.services) 24) LimitPassed (advance >> (used_lam >>= λ l. from_within line l)) s tt (λ _.
     local_then advance (λ _. used_lam >>= λ l. from_within line l) s (local_advance s) (λ _ u _.
     local_then used_lam (λ l. from_within line l) u (local_used_lam u) (λ l u _.
@@ -262,7 +262,7 @@ local_service line s =
     local_then (expect word.Event) (λ _. any_number >>= λ w. from_words line l c w) u (local_expect word.Event u) (λ _ u _.
     local_then any_number (λ w. from_words line l c w) u (local_any_number u) (λ w u _.
     local_then (expect word.Words) (λ _. block_at >>= λ body. change (with_service line l c w body)) u (local_expect word.Words u) (λ _ u _.
-    local_then block_at (λ body. change (with_service line l c w body)) u (local_block u) (λ body u _. local_change (with_service line l c w body) (λ v ts. refl) (λ v. refl) u)))))))))))
+    local_then block_at (λ body. change (with_service line l c w body)) u (local_block u) (λ body u _. local_change (with_service line l c w body) (λ v ts n. refl) (λ v. refl) u)))))))))))
 
 local_declaration_by : (line : ℕ) (k : Option TokenKind) (s : State) → IsLocal (declaration_by line k) s
 local_declaration_by line (Some (kind.Keyword word.Cdlam)) s = local_lam line s

@@ -9,15 +9,15 @@ use Rattle.camac_text.specs.Places.{RuleFits}
 use Rattle.camac_text.proofs.Steps.{then_ok, ok_is, err_is, err_no_ok, Progresses, while_choice}
 
 -- this state with other tokens ahead
-abbrev pub with_rest : State → List Token → State
-with_rest s ts = record s { rest = ts }
+abbrev pub with_rest : ℕ → State → List Token → State
+with_rest n s ts = record s { rest = ts; end_line = n }
 
 -- Where a reader stopped with a value: with the same tokens up to the next one it does the same.
 pub record StopsAt {A : Type 0} (f : Reader A) (s : State) (x : A) (s' : State) : Type 0 where
   pub taken : List Token
   pub parts : s.rest ≡ taken ++ s'.rest
   pub same_end : s'.end_line ≡ s.end_line
-  pub again : (t : Token) (r r' : List Token) → s'.rest ≡ t ∷ r → f (with_rest s (taken ++ t ∷ r')) ≡ Ok (x, with_rest s' (t ∷ r'))
+  pub again : (t : Token) (r r' : List Token) (n : ℕ) → s'.rest ≡ t ∷ r → f (with_rest n s (taken ++ t ∷ r')) ≡ Ok (x, with_rest n s' (t ∷ r'))
 
 -- Where a reader failed: with the same tokens up to the one there it fails in the same way.
 pub record FailsAt {A : Type 0} (f : Reader A) (s : State) (e : Fault) : Type 0 where
@@ -26,7 +26,7 @@ pub record FailsAt {A : Type 0} (f : Reader A) (s : State) (e : Fault) : Type 0 
   pub parts : s.rest ≡ taken ++ left
   pub line : e.line ≡ line_of left s.end_line
   pub rule : RuleFits e.rule (kind_of left)
-  pub again : (t : Token) (r r' : List Token) → left ≡ t ∷ r → f (with_rest s (taken ++ t ∷ r')) ≡ Err e
+  pub again : (t : Token) (r r' : List Token) (n : ℕ) → left ≡ t ∷ r → f (with_rest n s (taken ++ t ∷ r')) ≡ Err e
 
 pub record IsLocal {A : Type 0} (f : Reader A) (s : State) : Type 0 where
   pub stops : (x : A) (s' : State) → f s ≡ Ok (x, s') → StopsAt f s x s'
@@ -53,14 +53,14 @@ kind_same : (ts taken left : List Token) (t : Token) (r r' : List Token) → ts 
 kind_same ts [] left t r r' parts h = rw (parts, h) refl
 kind_same ts (c ∷ cs) left t r r' parts h = rw parts refl
 
-line_same : (ts taken left : List Token) (end_line : ℕ) (t : Token) (r r' : List Token) → ts ≡ taken ++ left → left ≡ t ∷ r → line_of (taken ++ t ∷ r') end_line ≡ line_of ts end_line
-line_same ts [] left end_line t r r' parts h = rw (parts, h) refl
-line_same ts (c ∷ cs) left end_line t r r' parts h = rw parts refl
+line_same : (ts taken left : List Token) (end_line n : ℕ) (t : Token) (r r' : List Token) → ts ≡ taken ++ left → left ≡ t ∷ r → line_of (taken ++ t ∷ r') n ≡ line_of ts end_line
+line_same ts [] left end_line n t r r' parts h = rw (parts, h) refl
+line_same ts (c ∷ cs) left end_line n t r r' parts h = rw parts refl
 
 -- a stop lets what follows begin anew
-resumes : {A : Type 0} (f : Reader A) (s : State) (x : A) (s' : State) (at : StopsAt f s x s') (more : List Token) (t : Token) (r r' : List Token) → s'.rest ≡ more ++ t ∷ r → f (with_rest s (at.taken ++ (more ++ t ∷ r'))) ≡ Ok (x, with_rest s' (more ++ t ∷ r'))
-resumes f s x s' at [] t r r' h = at.again t r r' h
-resumes f s x s' at (c ∷ cs) t r r' h = at.again c (cs ++ t ∷ r) (cs ++ t ∷ r') h
+resumes : {A : Type 0} (f : Reader A) (s : State) (x : A) (s' : State) (at : StopsAt f s x s') (more : List Token) (t : Token) (r r' : List Token) (n : ℕ) → s'.rest ≡ more ++ t ∷ r → f (with_rest n s (at.taken ++ (more ++ t ∷ r'))) ≡ Ok (x, with_rest n s' (more ++ t ∷ r'))
+resumes f s x s' at [] t r r' n h = at.again t r r' n h
+resumes f s x s' at (c ∷ cs) t r r' n h = at.again c (cs ++ t ∷ r) (cs ++ t ∷ r') n h
 
 join_parts : (ts a us b vs : List Token) → ts ≡ a ++ us → us ≡ b ++ vs → ts ≡ (a ++ b) ++ vs
 join_parts ts a us b vs p q = p ∙ ap (λ (w : List Token). a ++ w) q ∙ sym (append_assoc a b vs)
@@ -70,10 +70,10 @@ stops_then f g s x s' y s'' a b = record {
   taken = a.taken ++ b.taken;
   parts = join_parts s.rest a.taken s'.rest b.taken s''.rest a.parts b.parts;
   same_end = b.same_end ∙ a.same_end;
-  again = λ t r r' h.
-      let first = resumes f s x s' a b.taken t r r' (b.parts ∙ ap (λ (w : List Token). b.taken ++ w) h) in
-      let second = b.again t r r' h in
-      ap (λ (w : List Token). then_read (f (with_rest s w)) g) (append_assoc a.taken b.taken (t ∷ r')) ∙ ap (λ (q : Result (_ × State) Fault). then_read q g) first ∙ second;
+  again = λ t r r' n h.
+      let first = resumes f s x s' a b.taken t r r' n (b.parts ∙ ap (λ (w : List Token). b.taken ++ w) h) in
+      let second = b.again t r r' n h in
+      ap (λ (w : List Token). then_read (f (with_rest n s w)) g) (append_assoc a.taken b.taken (t ∷ r')) ∙ ap (λ (q : Result (_ × State) Fault). then_read q g) first ∙ second;
 }
 
 fails_then : {A B : Type 0} (f : Reader A) (g : A → Reader B) (s : State) (x : A) (s' : State) (e : Fault) → StopsAt f s x s' → FailsAt (g x) s' e → FailsAt (f >>= g) s e
@@ -83,10 +83,10 @@ fails_then f g s x s' e a b = record {
   parts = join_parts s.rest a.taken s'.rest b.taken b.left a.parts b.parts;
   line = b.line ∙ ap (line_of b.left) a.same_end;
   rule = b.rule;
-  again = λ t r r' h.
-      let first = resumes f s x s' a b.taken t r r' (b.parts ∙ ap (λ (w : List Token). b.taken ++ w) h) in
-      let second = b.again t r r' h in
-      ap (λ (w : List Token). then_read (f (with_rest s w)) g) (append_assoc a.taken b.taken (t ∷ r')) ∙ ap (λ (q : Result (_ × State) Fault). then_read q g) first ∙ second;
+  again = λ t r r' n h.
+      let first = resumes f s x s' a b.taken t r r' n (b.parts ∙ ap (λ (w : List Token). b.taken ++ w) h) in
+      let second = b.again t r r' n h in
+      ap (λ (w : List Token). then_read (f (with_rest n s w)) g) (append_assoc a.taken b.taken (t ∷ r')) ∙ ap (λ (q : Result (_ × State) Fault). then_read q g) first ∙ second;
 }
 
 fails_first : {A B : Type 0} (f : Reader A) (g : A → Reader B) (s : State) (e : Fault) → FailsAt f s e → FailsAt (f >>= g) s e
@@ -96,7 +96,7 @@ fails_first f g s e a = record {
   parts = a.parts;
   line = a.line;
   rule = a.rule;
-  again = λ t r r' h. ap (λ (q : Result (_ × State) Fault). then_read q g) (a.again t r r' h);
+  again = λ t r r' n h. ap (λ (q : Result (_ × State) Fault). then_read q g) (a.again t r r' n h);
 }
 
 -- the failure of the first, or of what follows it
@@ -120,38 +120,38 @@ pub local_same : {A : Type 0} (f g : Reader A) (s : State) → ((u : State) → 
 local_same f g s same at = record {
   stops = λ x s' e.
       let a = at.stops x s' (same s ∙ e) in
-      record { taken = a.taken; parts = a.parts; same_end = a.same_end; again = λ t r r' h. sym (same (with_rest s (a.taken ++ t ∷ r'))) ∙ a.again t r r' h };
+      record { taken = a.taken; parts = a.parts; same_end = a.same_end; again = λ t r r' n h. sym (same (with_rest n s (a.taken ++ t ∷ r'))) ∙ a.again t r r' n h };
   fails = λ e h.
       let a = at.fails e (same s ∙ h) in
-      record { taken = a.taken; left = a.left; parts = a.parts; line = a.line; rule = a.rule; again = λ t r r' k. sym (same (with_rest s (a.taken ++ t ∷ r'))) ∙ a.again t r r' k };
+      record { taken = a.taken; left = a.left; parts = a.parts; line = a.line; rule = a.rule; again = λ t r r' n k. sym (same (with_rest n s (a.taken ++ t ∷ r'))) ∙ a.again t r r' n k };
 }
 
 -- a look at something that stays the same with the same token ahead
-pub local_look : {A B : Type 0} (look : State → A) → ((s : State) (taken left : List Token) (t : Token) (r r' : List Token) → s.rest ≡ taken ++ left → left ≡ t ∷ r → look (with_rest s (taken ++ t ∷ r')) ≡ look s) → (g : A → Reader B) (s : State) → IsLocal (g (look s)) s → IsLocal (λ u. g (look u) u) s
+pub local_look : {A B : Type 0} (look : State → A) → ((s : State) (taken left : List Token) (t : Token) (r r' : List Token) (n : ℕ) → s.rest ≡ taken ++ left → left ≡ t ∷ r → look (with_rest n s (taken ++ t ∷ r')) ≡ look s) → (g : A → Reader B) (s : State) → IsLocal (g (look s)) s → IsLocal (λ u. g (look u) u) s
 local_look look same g s at = record {
   stops = λ x s' e.
       let a = at.stops x s' e in
-      record { taken = a.taken; parts = a.parts; same_end = a.same_end; again = λ t r r' h. ap (λ (v : _). g v (with_rest s (a.taken ++ t ∷ r'))) (same s a.taken s'.rest t r r' a.parts h) ∙ a.again t r r' h };
+      record { taken = a.taken; parts = a.parts; same_end = a.same_end; again = λ t r r' n h. ap (λ (v : _). g v (with_rest n s (a.taken ++ t ∷ r'))) (same s a.taken s'.rest t r r' n a.parts h) ∙ a.again t r r' n h };
   fails = λ e k.
       let a = at.fails e k in
-      record { taken = a.taken; left = a.left; parts = a.parts; line = a.line; rule = a.rule; again = λ t r r' h. ap (λ (v : _). g v (with_rest s (a.taken ++ t ∷ r'))) (same s a.taken a.left t r r' a.parts h) ∙ a.again t r r' h };
+      record { taken = a.taken; left = a.left; parts = a.parts; line = a.line; rule = a.rule; again = λ t r r' n h. ap (λ (v : _). g v (with_rest n s (a.taken ++ t ∷ r'))) (same s a.taken a.left t r r' n a.parts h) ∙ a.again t r r' n h };
 }
 
 pub local_peek : {B : Type 0} (g : Option TokenKind → Reader B) (s : State) → IsLocal (g (kind_of s.rest)) s → IsLocal (peek >>= g) s
-local_peek g s at = local_look (λ (u : State). kind_of u.rest) (λ u taken left t r r' p h. kind_same u.rest taken left t r r' p h) g s at
+local_peek g s at = local_look (λ (u : State). kind_of u.rest) (λ u taken left t r r' n p h. kind_same u.rest taken left t r r' p h) g s at
 
 pub local_line : {B : Type 0} (g : ℕ → Reader B) (s : State) → IsLocal (g (line_of s.rest s.end_line)) s → IsLocal (line_here >>= g) s
-local_line g s at = local_look (λ (u : State). line_of u.rest u.end_line) (λ u taken left t r r' p h. line_same u.rest taken left u.end_line t r r' p h) g s at
+local_line g s at = local_look (λ (u : State). line_of u.rest u.end_line) (λ u taken left t r r' n p h. line_same u.rest taken left u.end_line n t r r' p h) g s at
 
 -- a look at what is declared
-pub local_ask : {A B : Type 0} (look : State → A) → ((s : State) (ts : List Token) → look (with_rest s ts) ≡ look s) → (g : A → Reader B) (s : State) → IsLocal (g (look s)) s → IsLocal (ask look >>= g) s
-local_ask look same g s at = local_look look (λ u taken left t r r' p h. same u (taken ++ t ∷ r')) g s at
+pub local_ask : {A B : Type 0} (look : State → A) → ((s : State) (ts : List Token) (n : ℕ) → look (with_rest n s ts) ≡ look s) → (g : A → Reader B) (s : State) → IsLocal (g (look s)) s → IsLocal (ask look >>= g) s
+local_ask look same g s at = local_look look (λ u taken left t r r' n p h. same u (taken ++ t ∷ r') n) g s at
 
 pub local_give : {A : Type 0} (x : A) (s : State) → IsLocal (give x) s
-local_give x s = local_ok (give x) s x s refl (record { taken = []; parts = refl; same_end = refl; again = λ t r r' h. refl })
+local_give x s = local_ok (give x) s x s refl (record { taken = []; parts = refl; same_end = refl; again = λ t r r' n h. refl })
 
 pub local_fail : {A : Type 0} (rule : TextRule) (s : State) → RuleFits rule (kind_of s.rest) → IsLocal (let f : Reader A = fail rule in f) s
-local_fail rule s fits = local_err (fail rule) s (record { rule = rule; line = line_of s.rest s.end_line }) refl (record { taken = []; left = s.rest; parts = refl; line = refl; rule = fits; again = λ t r r' h. rw h refl })
+local_fail rule s fits = local_err (fail rule) s (record { rule = rule; line = line_of s.rest s.end_line }) refl (record { taken = []; left = s.rest; parts = refl; line = refl; rule = fits; again = λ t r r' n h. rw h refl })
 
 -- the tokens that one step takes
 first_of_rest : List Token → List Token
@@ -173,18 +173,18 @@ local_advance s = local_ok advance s tt (record s { rest = behind s.rest }) refl
   taken = first_of_rest s.rest;
   parts = first_parts s.rest;
   same_end = refl;
-  again = λ t r r' h. ap (λ (ts : List Token). let q : Result (Unit {0} × State) Fault = Ok (tt, record s { rest = ts }) in q) (first_again s.rest t r r' h);
+  again = λ t r r' n h. ap (λ (ts : List Token). let q : Result (Unit {0} × State) Fault = Ok (tt, record s { rest = ts; end_line = n }) in q) (first_again s.rest t r r' h);
 })
 
 -- a change of what is declared
-pub local_change : (to : State → State) → ((s : State) (ts : List Token) → to (with_rest s ts) ≡ with_rest (to s) ts) → ((s : State) → (to s).end_line ≡ s.end_line) → (s : State) → IsLocal (change to) s
+pub local_change : (to : State → State) → ((s : State) (ts : List Token) (n : ℕ) → to (with_rest n s ts) ≡ with_rest n (to s) ts) → ((s : State) → (to s).end_line ≡ s.end_line) → (s : State) → IsLocal (change to) s
 local_change to same same_end s =
-    let rest : (to s).rest ≡ s.rest = ap (λ (u : State). u.rest) (same s s.rest) in
+    let rest : (to s).rest ≡ s.rest = ap (λ (u : State). u.rest) (same s s.rest s.end_line) in
     local_ok (change to) s tt (to s) refl (record {
       taken = [];
       parts = sym rest;
       same_end = same_end s;
-      again = λ t r r' h. ap (λ (u : State). let q : Result (Unit {0} × State) Fault = Ok (tt, u) in q) (same s (t ∷ r'));
+      again = λ t r r' n h. ap (λ (u : State). let q : Result (Unit {0} × State) Fault = Ok (tt, u) in q) (same s (t ∷ r') n);
     })
 
 pub local_if : {A : Type 0} (b : Bool) (f g : Reader A) (s : State) → (b ≡ true → IsLocal f s) → (b ≡ false → IsLocal g s) → IsLocal (cond b f g) s

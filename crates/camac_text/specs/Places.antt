@@ -23,14 +23,15 @@ RuleFits NotDeclared at = (x : Text) × (at ≡ Some (kind.Name x))
 RuleFits LimitPassed at = Unit {0}
 RuleFits BranchNotOne at = (n : ℕ) × (at ≡ Some (kind.Number n))
 
--- The fault is that of a token, or of the text's end, and whatever follows that token, it stays the same fault.
+-- The fault is that of a token, or of the text's end, and whatever follows that token, to whatever last line, it stays the
+-- same fault.
 pub record IsPlaced (tokens : List Token) (end_line : ℕ) (fault : Fault) : Type 0 where
   pub taken : List Token
   pub left : List Token
   pub parts : tokens ≡ taken ++ left
   pub line : fault.line ≡ line_of left end_line
   pub rule : RuleFits fault.rule (kind_of left)
-  pub settled : (t : Token) (behind others : List Token) → left ≡ t ∷ behind → tree_of_tokens (taken ++ t ∷ others) end_line ≡ Err fault
+  pub settled : (t : Token) (behind others : List Token) (last : ℕ) → left ≡ t ∷ behind → tree_of_tokens (taken ++ t ∷ others) last ≡ Err fault
 
 abbrev pub HasFaultBehind : Result (List Token) Fault → ℕ → Fault → Type 0
 HasFaultBehind (Ok tokens) end_line fault = IsPlaced tokens end_line fault

@@ -13,9 +13,12 @@ use crate::token::Token;
 use camac_lang::Script;
 use std::alloc::Global;
 
-/// The script that a text spells. A text is refused by its first token fault (S1, S3, S6), else at its first token from left
-/// to right that the grammar or a rule of names, numbers or limits does not allow there (S2 to S7), the text's end counted as
-/// a token. Memory may be refused (S8).
+/// The script that a text spells: `cdlam`, `var` and `service` with `cdreg` of numbers, `cfsa` and `put` of a number or a
+/// variable. Every other form is refused as an unexpected token (S2) so far.
+///
+/// A text is refused by its first token fault (S1, S3, S6), else at its first token from left to right that the grammar or a
+/// rule of names, numbers or limits does not allow there (S2 to S7); the text's end counts as a token. Memory may be refused
+/// (S8). The language is the project's own, with the ESONE names `cdlam`, `cdreg` and `cfsa`.
 pub fn parse(alloc: Global, text: &[u8]) -> Result<Script, TextFault>
     // The tree of the text, or its first fault.
     ensures exact { Answers result (script_of text.now) }

@@ -15,7 +15,8 @@ use crate::words::keyword;
 use camac_lang::Name;
 use std::alloc::Global;
 
-/// The tokens of a text, or its first token fault: S1, S3 or S6. Memory may be refused (S8).
+/// The tokens of a text (own), or its first token fault: S1, S3 or S6. Memory may be refused (S8).
+/// A token's line is 1 plus the line feeds before it, from 4294967295 on that number.
 pub fn tokens(alloc: Global, text: &[u8]) -> Result<Vec<Token>, TextFault>
     // The one list of tokens, or the first fault of one.
     ensures exact { AnswersList result (tokens_of text.now) }
