@@ -2,3 +2,4 @@ pub mod Transfers
 pub mod Lists
 pub mod Laws
 pub mod Bounds
+pub mod Calls

@@ -11,7 +11,8 @@ use Rattle.camac_model.specs.Run.{Chosen, event_of, service_meaning, the_run}
 use Rattle.camac_model.specs.Safe.{IsSafePiece}
 use Rattle.camac_model.specs.Laws.{NoneLocked}
 use Rattle.camac_model.specs.Fine.{most_turns, Bounds, IsWithin, IsOfAnswers, IsFine, IsFineService, AreFine, AreFineServices}
-use Rattle.camac_model.specs.Headline.{Moment, first_moment, moment_after, begun, InService, WordsFit, FewAnswers, EventCost, StepsFit, EventFits, CostStays, IsShortOfAnswers, Locked, locked_after, NoneHeld, AreSafe, Any, AnyStop, no_count, nothing, IsOver, FineServicesRun}
+use Rattle.camac_model.specs.Moments.{Any, AnyStop}
+use Rattle.camac_model.specs.Headline.{Moment, first_moment, moment_after, begun, InService, WordsFit, FewAnswers, EventCost, StepsFit, EventFits, CostStays, IsShortOfAnswers, Locked, locked_after, NoneHeld, AreSafe, no_count, nothing, IsOver, FineServicesRun}
 use Rattle.camac_model.proofs.Rules.{Meets}
 use Rattle.camac_model.proofs.Kept.{IsStepwise, Still, script_keeps}
 use Rattle.camac_model.proofs.Locks.{cycle_locks, services_unlock}

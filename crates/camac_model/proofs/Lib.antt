@@ -6,6 +6,7 @@ mod DemandRows
 mod LockRows
 mod ProcedureRows
 mod SafeRows
+mod SamplePlan
 pub mod Values
 pub mod Contexts
 pub mod Extends
@@ -24,3 +25,4 @@ pub mod Fine
 pub mod Rounds
 pub mod Services
 pub mod Headline
+pub mod Transferred

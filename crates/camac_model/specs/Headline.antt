@@ -8,7 +8,7 @@ use Rattle.camac_model.specs.Behaviour.{Event, Piece, demanded, cycled, lock_tak
 use Rattle.camac_model.specs.Value.{greatest}
 use Rattle.camac_model.specs.Run.{run, the_run}
 use Rattle.camac_model.specs.Safe.{IsSafePiece}
-use Rattle.camac_model.specs.Moments.{Meets}
+use Rattle.camac_model.specs.Moments.{Meets, Any, AnyStop}
 use Rattle.camac_model.specs.Fine.{most_turns, Bounds, AreWords, IsOfAnswers, AreFineServices}
 
 -- the service in progress: its number, what it has cost so far, and how many answers followed its demand
@@ -119,13 +119,6 @@ NoneHeld l (event_left e) = (c : ℕ) → l c ≡ false
 abbrev pub AreSafe : Layout → List Piece → Type 0
 AreSafe plan [] = Unit {0}
 AreSafe plan (p ∷ ps) = IsSafePiece plan p × AreSafe plan ps
-
--- nothing is said at this place
-abbrev pub Any : {X A : Type 0} → X → A → Type 0
-Any x a = Unit {0}
-
-abbrev pub AnyStop : {X : Type 0} → X → Stop → State → Type 0
-AnyStop x w s = Unit {0}
 
 -- nothing is counted
 abbrev pub no_count : Unit {0} → Piece → Unit {0}

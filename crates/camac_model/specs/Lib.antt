@@ -9,5 +9,6 @@ pub mod Safe
 pub mod Moments
 pub mod Fine
 pub mod Headline
+pub mod Transferred
 pub mod Sample
 pub mod Laws

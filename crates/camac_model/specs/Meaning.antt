@@ -5,14 +5,12 @@
 use Rattle.std.specs.Prelude.{ℕ, zero, suc, ◌+◌, ◌-◌, List, [], ◌∷◌, ◌++◌, Option, Some, None, Bool, true, option_map, nat_eq, nat_le, map, slice_get, unwrap_or}
 use Rattle.camac_lang.specs.declared.word.WordSize.{WordSize}
 use Rattle.camac_lang.specs.declared.word.WordSize.TheVariants.{Full, Short}
-use Rattle.camac_lang.specs.declared.word.CrateCall.{CrateCall}
-use Rattle.camac_lang.specs.declared.word.CrateCall.TheVariants.{Initialise, Clear, InhibitOn, InhibitOff, TestInhibit, DemandOn, DemandOff, TestDemandOutput, TestDemand}
-use Rattle.camac_lang.specs.declared.word.LamCall as lam_word
 use Rattle.camac_lang.specs.Tree.{Condition, Move, no_data, into, from, Statement, assign, set_register, single, address_scan, q_stop, q_repeat, put, crate_call, lam_call, choose, choose_else, count, repeat, locked, call, Block, done, next, Lam, Procedure, Script}
 use Rattle.camac_func.specs.declared.data.DataMove.TheVariants as moved
 use Rattle.camac_branch.specs.Address.{Address, address}
 use Rattle.camac_branch.specs.Allowed.{width}
 use Rattle.camac_branch.specs.Plan.{Layout, crate_waits}
+pub use Rattle.camac_esone.specs.Calls.{crate_address, crate_function, lam_function}
 use Rattle.camac_esone.specs.Transfers.{Wanted, stop_wanted, repeat_wanted, scan_wanted, tally}
 use Rattle.camac_model.specs.State.{State, Variables, stepped, with_variable, with_register, with_word}
 use Rattle.camac_model.specs.Behaviour.{ends, stops, more, Action, then_do, given, decide, unless_wrong}
@@ -26,35 +24,6 @@ pub record Context : Type 0 where
   pub tables : List (List ℕ)
   pub lams : List Address
   pub routines : List (ℕ → Action)
-
--- where a crate call goes, and its function (own)
-abbrev pub crate_address : CrateCall → ℕ → Address
-crate_address Initialise c = address c 28 8
-crate_address Clear c = address c 28 9
-crate_address InhibitOn c = address c 30 9
-crate_address InhibitOff c = address c 30 9
-crate_address TestInhibit c = address c 30 9
-crate_address DemandOn c = address c 30 10
-crate_address DemandOff c = address c 30 10
-crate_address TestDemandOutput c = address c 30 10
-crate_address TestDemand c = address c 30 11
-
-abbrev pub crate_function : CrateCall → ℕ
-crate_function Initialise = 26
-crate_function Clear = 26
-crate_function InhibitOn = 26
-crate_function InhibitOff = 24
-crate_function TestInhibit = 27
-crate_function DemandOn = 26
-crate_function DemandOff = 24
-crate_function TestDemandOutput = 27
-crate_function TestDemand = 27
-
-abbrev pub lam_function : lam_word.LamCall → ℕ
-lam_function lam_word.TheVariants.Enable = 26
-lam_function lam_word.TheVariants.Disable = 24
-lam_function lam_word.TheVariants.Clear = 10
-lam_function lam_word.TheVariants.Test = 8
 
 -- a short write is at most 65,535
 abbrev pub fits_size : WordSize → ℕ → Bool

@@ -8,3 +8,10 @@ module _ {X : Type 0} (step : X → Piece → X) (S : X → Piece → Type 0) (P
   Meets Q x (does p b) = S x p × Meets Q (step x p) b
   Meets Q x (ends a) = Q x a
   Meets Q x (stops w s) = P x w s
+
+-- nothing is said at this place
+abbrev pub Any : {X A : Type 0} → X → A → Type 0
+Any x a = Unit {0}
+
+abbrev pub AnyStop : {X : Type 0} → X → Stop → State → Type 0
+AnyStop x w s = Unit {0}

@@ -1,29 +1,11 @@
 -- The value of an expression and of a condition. An expression in which some number is outside 0 to M has no value, be it a sum, a
 -- product, a difference, a literal or what a variable holds (own). So where a run is never wrong, each of its numbers is from 0 to M.
-use Rattle.std.specs.Prelude.{ℕ, ◌+◌, ◌-◌, ◌*◌, ◌/◌, ◌%◌, List, [], ◌∷◌, Option, Some, None, Bool, true, false, not, option_map, option_and_then, nat_eq, nat_le, if◌then◌else◌}
+use Rattle.std.specs.Prelude.{ℕ, List, [], ◌∷◌, Option, Some, None, Bool, true, false, not, option_map, option_and_then}
 use Rattle.camac_range.specs.Compare.{compared}
+use Rattle.camac_range.specs.Number.{sum_of, difference_of, product_of, quotient_of}
+pub use Rattle.camac_range.specs.Number.{greatest, in_range, difference_of as difference, quotient_of as quotient, rest_of}
 use Rattle.camac_lang.specs.Tree.{Expression, number, variable, group, add, subtract, multiply, divide, remainder, Test, flag_q, flag_x, compare, Part, plain, negated, Condition}
 use Rattle.camac_model.specs.State.{Variables}
-
--- M
-abbrev pub greatest : ℕ
-greatest = 4294967295
-
--- a number, if it is at most M
-abbrev pub in_range : ℕ → Option ℕ
-in_range n = if nat_le n greatest then Some n else None
-
--- none below 0
-abbrev pub difference : ℕ → ℕ → Option ℕ
-difference v w = if nat_le w v then Some (v - w) else None
-
--- rounded down; none by 0
-abbrev pub quotient : ℕ → ℕ → Option ℕ
-quotient v d = if nat_eq d 0 then None else Some (v / d)
-
--- 0 up to below the divisor; none by 0
-abbrev pub rest_of : ℕ → ℕ → Option ℕ
-rest_of v d = if nat_eq d 0 then None else Some (v % d)
 
 -- what two values give, where both are there
 abbrev pub both : {A : Type 0} → (ℕ → ℕ → Option A) → Option ℕ → Option ℕ → Option A
@@ -35,10 +17,10 @@ abbrev pub value : Expression → Variables → Option ℕ
 value (number n) env = in_range n
 value (variable x) env = in_range (env x)
 value (group e) env = value e env
-value (add a b) env = both (λ v w. in_range (v + w)) (value a env) (value b env)
-value (subtract a b) env = both difference (value a env) (value b env)
-value (multiply a b) env = both (λ v w. in_range (v * w)) (value a env) (value b env)
-value (divide e d) env = option_and_then (λ v. quotient v d) (value e env)
+value (add a b) env = both sum_of (value a env) (value b env)
+value (subtract a b) env = both difference_of (value a env) (value b env)
+value (multiply a b) env = both product_of (value a env) (value b env)
+value (divide e d) env = option_and_then (λ v. quotient_of v d) (value e env)
 value (remainder e d) env = option_and_then (λ v. rest_of v d) (value e env)
 
 -- under the flags q and x

@@ -1,26 +1,25 @@
 -- What a statement that is read leaves, and which rules it keeps.
-use Rattle.std.proofs.Common.{◌≡◌, ℕ, zero, suc, ◌+◌, ◌≤◌, ◌<◌, Bool, true, false, not, ◌&&◌, cond, nat_lt, nat_le, ltb, eqb, max, List, [], ◌∷◌, ◌++◌, length, Option, Some, None, Result, Ok, Err, refl, sym, ap, subst, ◌∙◌, length-append, arith}
+use Rattle.std.proofs.Common.{◌≡◌, ℕ, suc, ◌+◌, ◌≤◌, ◌<◌, Bool, true, false, not, ◌&&◌, nat_lt, nat_le, max, List, [], ◌∷◌, ◌++◌, length, Option, Some, None, Ok, refl, sym, ap, subst, ◌∙◌, length-append, arith}
 use Rattle.std.specs.Prelude.{is_none}
 use Rattle.std.specs.Str.{bytes_eq}
 use Rattle.std.proofs.lemmas.Bool.{lt-ltb, ltb-true}
-use Rattle.camac_lang.specs.Depth.{expression_depth, move_depth, statement_depth}
+use Rattle.camac_lang.specs.Depth.{statement_depth}
 use Rattle.camac_lang.specs.Expressions.{Scope, expression_fits}
 use Rattle.camac_lang.specs.Scope.{are_declarable}
 use Rattle.camac_lang.specs.Statements.{move_fits, after, statements_in}
-use Rattle.camac_lang.specs.Tests.{each, is_name, is_new, are_new, is_function, is_number, unless_broken}
+use Rattle.camac_lang.specs.Tests.{each, is_name, is_new, are_new, is_function, unless_broken}
 use Rattle.camac_lang.specs.Tree.{Text, Expression, Statement, set_register, single, put}
 use Rattle.camac_lang.specs.declared.word.WordSize.TheVariants.{Full}
 use Rattle.camac_text.specs.declared.fault.TextRule.TheVariants.{LimitPassed}
 use Rattle.camac_text.specs.declared.token.Keyword.TheVariants as word
 use Rattle.camac_text.specs.declared.token.TokenKind.{TokenKind}
 use Rattle.camac_text.specs.declared.token.TokenKind.TheVariants as kind
-use Rattle.camac_text.specs.Fault.{Fault}
 use Rattle.camac_text.specs.Names.{place_of}
-use Rattle.camac_text.specs.Reading.{State, Reader, then_read, ◌>>=◌, ◌>>◌, give, change, advance, fail, check, kind_of, line_of, behind}
+use Rattle.camac_text.specs.Reading.{State, Reader, then_read, ◌>>=◌, ◌>>◌, give, change, advance, kind_of, line_of, behind}
 use Rattle.camac_text.specs.Readers.{new_name, branch_number, function_number, with_register, register_at, set_name, used_register, literal, operand, begin, register_setting, move_at, single_action, put_action, statement_by, statement_at}
 use Rattle.camac_text.proofs.Steps.{then_ok, ok_is, err_no_ok}
 use Rattle.camac_text.proofs.Searches.{is_new_none}
-use Rattle.camac_text.proofs.Moves.{AllFit, Moves, TakesOne, kind_fit, behind_less, moved, then_moves, one_moves, check_ok, branch_ok, function_ok, new_name_ok, NewName}
+use Rattle.camac_text.proofs.Moves.{AllFit, Moves, kind_fit, behind_less, moved, then_moves, one_moves, check_ok, branch_ok, function_ok, new_name_ok}
 use Rattle.camac_text.proofs.Uses.{inside, scope_of, same_scope, used_register_ok, literal_ok, operand_ok, move_ok}
 
 pub both : (a b : Bool) → a ≡ true → b ≡ true → (a && b) ≡ true

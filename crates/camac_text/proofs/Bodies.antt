@@ -1,14 +1,13 @@
 -- What a body that is read leaves.
-use Rattle.std.proofs.Common.{◌≡◌, ℕ, zero, suc, ◌+◌, ◌≤◌, ◌<◌, max, Bool, true, List, [], ◌∷◌, ◌++◌, length, Option, Some, None, Result, Ok, Err, refl, sym, ap, subst, ◌∙◌, arith}
+use Rattle.std.proofs.Common.{◌≡◌, ℕ, suc, ◌+◌, ◌≤◌, ◌<◌, List, [], ◌∷◌, ◌++◌, length, Option, Some, None, Ok, refl, sym, ap, subst, ◌∙◌, arith}
 use Rattle.std.specs.Prelude.{option_and_then}
 use Rattle.camac_lang.specs.Depth.{statement_depth, inner_depth}
 use Rattle.camac_lang.specs.Expressions.{Scope}
 use Rattle.camac_lang.specs.Statements.{after, after_block, statements_in, statements}
-use Rattle.camac_lang.specs.Tree.{Text, Statement, Block}
+use Rattle.camac_lang.specs.Tree.{Text, Statement}
 use Rattle.camac_lang.specs.View.{block_of}
 use Rattle.camac_text.specs.declared.token.Sign.TheVariants as sign
-use Rattle.camac_text.specs.Fault.{Fault}
-use Rattle.camac_text.specs.Reading.{State, Reader, then_read, ◌>>=◌, ◌>>◌, give, kind_of, one_more, many}
+use Rattle.camac_text.specs.Reading.{State, give, one_more, many}
 use Rattle.camac_text.specs.Readers.{expect_sign, is_no_end, statement_at, block_at}
 use Rattle.camac_text.proofs.Steps.{then_ok, ok_is, Progresses, while_keeps}
 use Rattle.camac_text.proofs.Moves.{AllFit, Moves, expect_sign_ok}

@@ -1,23 +1,20 @@
 -- What a declaration that is read leaves.
-use Rattle.std.proofs.Common.{◌≡◌, ℕ, zero, suc, ◌+◌, ◌≤◌, ◌<◌, Bool, true, false, not, ◌&&◌, nat_lt, eqb, List, [], ◌∷◌, ◌++◌, length, Option, Some, None, Result, Ok, Err, refl, sym, ap, subst, ◌∙◌, append_assoc, length-append, arith}
+use Rattle.std.proofs.Common.{◌≡◌, ℕ, ◌+◌, ◌≤◌, ◌<◌, Bool, true, false, ◌&&◌, nat_lt, List, [], ◌∷◌, ◌++◌, length, Option, Some, Ok, refl, sym, ap, subst, ◌∙◌, append_assoc, length-append, arith}
 use Rattle.std.proofs.lemmas.Bool.{ltb-true}
 use Rattle.std.proofs.lemmas.List.{append-nil}
 use Rattle.camac_lang.specs.Scope.{are_declarable}
-use Rattle.camac_lang.specs.Statements.{statements}
 use Rattle.camac_lang.specs.Tests.{each, is_name, is_new, is_number, is_sub_address}
 use Rattle.camac_lang.specs.Tree.{Text, Statement, Lam}
-use Rattle.camac_lang.specs.View.{block_of}
 use Rattle.camac_text.specs.declared.fault.TextRule.TheVariants.{LimitPassed}
 use Rattle.camac_text.specs.declared.token.Keyword.TheVariants as word
 use Rattle.camac_text.specs.declared.token.TokenKind.{TokenKind}
 use Rattle.camac_text.specs.declared.token.TokenKind.TheVariants as kind
-use Rattle.camac_text.specs.Fault.{Fault}
-use Rattle.camac_text.specs.Reading.{State, Reader, then_read, ◌>>=◌, ◌>>◌, give, change, advance, fail, check, kind_of, line_of, behind, while_next}
+use Rattle.camac_text.specs.Reading.{State, Reader, then_read, ◌>>◌, give, change, advance, check, kind_of, line_of, behind, while_next}
 use Rattle.camac_text.specs.Readers.{new_name, with_variable, new_variable, is_name as next_is_name, expect, any_number, branch_number, sub_address_number, used_lam, with_lam, lam_declaration, one_more_variable, with_variables_of, variable_declaration, block_at, with_service, service_declaration, declaration_by, declaration_at, is_token}
 use Rattle.camac_text.proofs.Steps.{then_ok, ok_is, err_no_ok, Progresses, while_keeps}
 use Rattle.camac_text.proofs.Moves.{AllFit, Moves, kind_fit, behind_less, stays, moved, then_moves, one_moves, check_ok, any_number_ok, branch_ok, sub_address_ok, expect_ok, new_name_ok}
 use Rattle.camac_text.proofs.Uses.{used_lam_ok}
-use Rattle.camac_text.proofs.Acts.{RegistersFit, below_le, declarable_push, first_of_both, second_of_both}
+use Rattle.camac_text.proofs.Acts.{below_le, declarable_push, first_of_both, second_of_both}
 use Rattle.camac_text.proofs.Bodies.{Body, behind_moves, block_ok}
 
 -- ---- variables

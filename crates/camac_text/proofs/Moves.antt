@@ -1,5 +1,5 @@
 -- What readers of single tokens leave.
-use Rattle.std.proofs.Common.{◌≡◌, ℕ, ◌≤◌, ◌<◌, Bool, true, false, cond, eqb, nat_lt, List, [], ◌∷◌, length, Option, Some, None, Result, Ok, Err, refl, sym, ap, subst, ◌∙◌, arith}
+use Rattle.std.proofs.Common.{◌≡◌, ℕ, ◌≤◌, ◌<◌, Bool, true, false, cond, eqb, nat_lt, List, [], ◌∷◌, length, Option, Some, Ok, refl, sym, ap, subst, ◌∙◌, arith}
 use Rattle.camac_lang.specs.Tests.{is_name, is_number, is_new}
 use Rattle.camac_lang.specs.Tree.{Text}
 use Rattle.camac_text.specs.declared.fault.TextRule.{TextRule}
@@ -9,8 +9,7 @@ use Rattle.camac_text.specs.declared.token.Sign.{Sign}
 use Rattle.camac_text.specs.declared.token.Token.{Token}
 use Rattle.camac_text.specs.declared.token.TokenKind.{TokenKind}
 use Rattle.camac_text.specs.declared.token.TokenKind.TheVariants as kind
-use Rattle.camac_text.specs.Fault.{Fault}
-use Rattle.camac_text.specs.Reading.{State, Reader, then_read, ◌>>=◌, ◌>>◌, give, advance, fail, check, kind_of, behind}
+use Rattle.camac_text.specs.Reading.{State, Reader, ◌>>◌, give, advance, fail, check, kind_of, behind}
 use Rattle.camac_text.specs.Readers.{is_keyword, is_sign, expect, expect_sign, name_of, name_here, number_of, number_here, any_number, branch_number, function_number, sub_address_number, new_name}
 use Rattle.camac_text.proofs.Steps.{then_ok, ok_is, err_no_ok}
 

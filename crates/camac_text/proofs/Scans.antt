@@ -128,7 +128,7 @@ none_all (Ok ts) = refl
 none_all (Err e) = refl
 
 -- one step over what stands at the front
-front_step : (f : Front) (b line : ℕ) (bs : List ℕ) → wrong f ≡ None → 0 < size f → tokens_by f line (λ n. tokens_from n (line_after line b) bs) ≡ with_all (added f (line_number line)) (tokens_from 0 (line + line_feeds (take (size f) (b ∷ bs))) (drop (size f) (b ∷ bs)))
+pub front_step : (f : Front) (b line : ℕ) (bs : List ℕ) → wrong f ≡ None → 0 < size f → tokens_by f line (λ n. tokens_from n (line_after line b) bs) ≡ with_all (added f (line_number line)) (tokens_from 0 (line + line_feeds (take (size f) (b ∷ bs))) (drop (size f) (b ∷ bs)))
 unfolding tokens_from
 front_step (front.Gap zero) b line bs good some = absurd (omega arith)
 front_step (front.Gap (suc n)) b line bs good some = ap (λ (k : ℕ). tokens_from k (line_after line b) bs) (omega arith) ∙ skip (suc n) line (b ∷ bs) ∙ none_all _

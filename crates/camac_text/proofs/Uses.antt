@@ -1,5 +1,5 @@
 -- What readers of names and of expressions leave.
-use Rattle.std.proofs.Common.{◌≡◌, ℕ, zero, suc, ◌+◌, ◌≤◌, ◌<◌, Bool, true, false, cond, nat_lt, ltb, List, [], ◌∷◌, ◌++◌, length, Option, Some, None, Result, Ok, Err, refl, sym, ap, subst, ◌∙◌, arith}
+use Rattle.std.proofs.Common.{◌≡◌, ℕ, suc, ◌+◌, ◌<◌, Bool, true, false, cond, nat_lt, List, [], ◌∷◌, length, Option, Some, None, Ok, refl, ap, subst, arith}
 use Rattle.std.specs.List.{position_from}
 use Rattle.std.specs.Str.{bytes_eq}
 use Rattle.std.proofs.lemmas.Bool.{lt-ltb}
@@ -7,16 +7,15 @@ use Rattle.camac_lang.specs.Depth.{expression_depth, move_depth}
 use Rattle.camac_lang.specs.Expressions.{Scope, expression_fits}
 use Rattle.camac_lang.specs.Statements.{move_fits}
 use Rattle.camac_lang.specs.Tests.{is_number}
-use Rattle.camac_lang.specs.Tree.{Text, Expression, number, variable, Move, no_data, into, from, Lam}
+use Rattle.camac_lang.specs.Tree.{Expression, number, variable, Move, no_data, into, from, Lam}
 use Rattle.camac_text.specs.declared.token.Sign.TheVariants as sign
 use Rattle.camac_text.specs.declared.token.TokenKind.{TokenKind}
 use Rattle.camac_text.specs.declared.token.TokenKind.TheVariants as kind
-use Rattle.camac_text.specs.Fault.{Fault}
 use Rattle.camac_text.specs.Names.{place_of, lam_place}
-use Rattle.camac_text.specs.Reading.{State, Reader, then_read, ◌>>=◌, ◌>>◌, give, advance, fail, check, kind_of, behind}
+use Rattle.camac_text.specs.Reading.{State, kind_of, behind}
 use Rattle.camac_text.specs.Readers.{name_here, used_at, used_register, used_variable, used_lam, any_number, literal, operand_by, operand, move_by, move_at}
 use Rattle.camac_text.proofs.Steps.{then_ok, ok_is, err_no_ok}
-use Rattle.camac_text.proofs.Moves.{AllFit, Moves, TakesOne, kind_fit, stays, moved, then_moves, one_moves, name_ok, any_number_ok}
+use Rattle.camac_text.proofs.Moves.{AllFit, Moves, kind_fit, stays, moved, then_moves, one_moves, name_ok, any_number_ok}
 
 -- a place that is found is inside the list
 some_is : (i j : ℕ) → Some i ≡ Some j → i ≡ j

@@ -1,5 +1,5 @@
 -- What is read is well formed.
-use Rattle.std.proofs.Common.{◌≡◌, ℕ, zero, suc, ◌+◌, ◌≤◌, ◌<◌, max, Bool, true, false, not, ◌&&◌, nat_eq, nat_lt, nat_le, List, [], ◌∷◌, ◌++◌, length, take, drop, Option, Some, None, Result, Ok, Err, refl, sym, ap, subst, ◌∙◌, append_assoc, length-append, arith}
+use Rattle.std.proofs.Common.{◌≡◌, ℕ, suc, ◌+◌, ◌≤◌, ◌<◌, Bool, true, not, ◌&&◌, nat_eq, nat_le, List, [], ◌∷◌, ◌++◌, length, take, drop, Option, Some, Ok, refl, sym, ap, subst, ◌∙◌, append_assoc, length-append, arith}
 use Rattle.std.specs.Prelude.{slice_get, option_and_then, IsTrue}
 use Rattle.std.specs.Str.{bytes_eq}
 use Rattle.std.proofs.Math.Bool.{and_comm}
@@ -7,15 +7,13 @@ use Rattle.std.proofs.Math.Seq.{take-append_seam, drop-append_seam}
 use Rattle.std.proofs.lemmas.Bool.{lt-ltb}
 use Rattle.std.proofs.lemmas.List.{append-nil}
 use Rattle.camac_lang.specs.Depth.{inner_depth}
-use Rattle.camac_lang.specs.Expressions.{Scope}
-use Rattle.camac_lang.specs.Scope.{body_fits, Before, are_declarable, lam_stands, service_scope, service_stands, with_lam, with_variables, with_service, declared, all_declared, is_all, nothing_before, within_limits, is_well_formed}
+use Rattle.camac_lang.specs.Scope.{body_fits, Before, are_declarable, lam_stands, service_stands, with_lam, with_variables, with_service, declared, all_declared, is_all, nothing_before, within_limits, is_well_formed}
 use Rattle.camac_lang.specs.Statements.{after_block, statements}
 use Rattle.camac_lang.specs.Tests.{each, has, unless_broken, total, most, is_name, is_new, are_new, is_number, is_sub_address}
 use Rattle.camac_lang.specs.Tree.{Text, Statement, Lam, Service, Item, next_lam, next_variables, next_service, Script}
 use Rattle.camac_lang.specs.View.{block_of}
 use Rattle.camac_text.specs.declared.token.Token.{Token}
-use Rattle.camac_text.specs.Fault.{Fault}
-use Rattle.camac_text.specs.Reading.{State, kind_of, while_next}
+use Rattle.camac_text.specs.Reading.{State}
 use Rattle.camac_text.specs.Readers.{with_lam as lam_added, with_variables_of, with_service as service_added, declaration_at, is_token, declarations_at}
 use Rattle.camac_text.specs.Scanning.{tokens_of}
 use Rattle.camac_text.specs.Parser.{start, tree_so_far}
@@ -23,9 +21,9 @@ use Rattle.camac_text.proofs.Steps.{while_keeps}
 use Rattle.camac_text.proofs.Fitting.{tokens_fit}
 use Rattle.camac_text.proofs.Moves.{AllFit}
 use Rattle.camac_text.proofs.Uses.{scope_of}
-use Rattle.camac_text.proofs.Acts.{both, first_of_both, second_of_both, below_le, RegistersFit}
-use Rattle.camac_text.proofs.Bodies.{and_then_some, Body}
-use Rattle.camac_text.proofs.Declares.{each_append, DeclaresVariables, VariableDeclaration, LamDeclaration, ServiceDeclaration, Declares, a_lam, some_variables, a_service, declaration_ok}
+use Rattle.camac_text.proofs.Acts.{both, below_le, RegistersFit}
+use Rattle.camac_text.proofs.Bodies.{and_then_some}
+use Rattle.camac_text.proofs.Declares.{each_append, VariableDeclaration, LamDeclaration, ServiceDeclaration, Declares, a_lam, some_variables, a_service, declaration_ok}
 
 -- ---- lists
 

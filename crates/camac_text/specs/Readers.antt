@@ -2,7 +2,7 @@
 use Rattle.std.specs.Prelude.{ℕ, suc, ◌+◌, Bool, true, false, List, [], ◌∷◌, ◌++◌, length, Option, Some, None, nat_lt, ◌==◌, not, if◌then◌else◌}
 use denote.Enum.Bare.{sameb}
 use Rattle.camac_lang.specs.Tests.{is_new}
-use Rattle.camac_lang.specs.Tree.{Text, Expression, number, variable, Move, no_data, into, from, Statement, set_register, single, put, Lam, Block, next_lam, next_variables, next_service}
+use Rattle.camac_lang.specs.Tree.{Text, Expression, number, variable, Move, no_data, into, from, Statement, set_register, single, put, Lam, next_lam, next_variables, next_service}
 use Rattle.camac_lang.specs.View.{block_of}
 use Rattle.camac_lang.specs.declared.word.WordSize.TheVariants.{Full}
 use Rattle.camac_text.specs.contracts.token.Keyword as keyword_type

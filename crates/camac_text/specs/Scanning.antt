@@ -4,7 +4,6 @@ use Rattle.std.specs.Char.{is_ascii_digit, is_ascii_alphabetic}
 use Rattle.camac_text.specs.declared.token.Keyword.{Keyword}
 use Rattle.camac_text.specs.declared.token.Sign.{Sign}
 use Rattle.camac_text.specs.declared.token.Token.{Token}
-use Rattle.camac_text.specs.declared.token.TokenKind.{TokenKind}
 use Rattle.camac_text.specs.declared.token.TokenKind.TheVariants as kind
 use Rattle.camac_text.specs.declared.scanner.Front.{Front}
 use Rattle.camac_text.specs.declared.scanner.Front.TheVariants as front

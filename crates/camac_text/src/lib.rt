@@ -13,10 +13,9 @@ mod statements;
 mod token;
 mod words;
 
-pub use cursor::Parser;
 pub use fault::{TextFault, TextRule};
 pub use reading::parse;
-pub use scanner::{Front, tokens};
+pub use scanner::tokens;
 pub use token::{Keyword, Sign, Token, TokenKind};
 
 #[cfg(test)]

@@ -3,6 +3,7 @@
 ghost use Rattle.std.specs.Prelude.{◌≡◌, IsTrue};
 ghost use Rattle.camac_lang.specs.Scope.{is_well_formed};
 ghost use Rattle.camac_text.specs.Fault.{Answers};
+ghost use Rattle.camac_text.specs.Places.{HasFault, FaultIs};
 ghost use Rattle.camac_text.specs.Parser.{state, start, tree_so_far, script_of};
 
 use crate::cursor::Parser;
@@ -15,9 +16,18 @@ use std::alloc::Global;
 /// The script that a text spells. A text is refused by its first token fault (S1, S3, S6), else at its first token from left
 /// to right that the grammar or a rule of names, numbers or limits does not allow there (S2 to S7), the text's end counted as
 /// a token. Memory may be refused (S8).
-#[tactic(auto, unfolding(crate::specs::Parser::script_of, crate::specs::Parser::tree_of_tokens))]
 pub fn parse(alloc: Global, text: &[u8]) -> Result<Script, TextFault>
+    // The tree of the text, or its first fault.
     ensures exact { Answers result (script_of text.now) }
+    // A fault of the tokens, or one at a token that no tokens behind it change.
+    ensures placed { FaultIs result (HasFault text.now) }
+{
+    read(alloc, text)
+}
+
+#[tactic(auto, unfolding(crate::specs::Parser::script_of, crate::specs::Parser::tree_of_tokens))]
+fn read(alloc: Global, text: &[u8]) -> Result<Script, TextFault>
+    ensures { Answers result (script_of text.now) }
 {
     let tokens = tokens(alloc, text)?;
     let mut parser = parser_of(alloc, &tokens, last_line(text));

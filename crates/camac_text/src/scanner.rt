@@ -1,9 +1,11 @@
 // Cuts a text into tokens.
 
-ghost use Rattle.std.specs.Prelude.{◌≡◌, ◌<◌, length, take_while, count_by, nat_lt, ◌==◌, Some, None, if◌then◌else◌, slice_index, ◌++◌, OnOk, IfErr};
+ghost use Rattle.std.specs.Prelude.{◌≡◌, ◌<◌, List, length, take_while, count_by, nat_lt, ◌==◌, Some, None, if◌then◌else◌, slice_index, ◌++◌, IfOk, OnOk, IfErr};
 ghost use Rattle.std.specs.Char.{is_ascii_digit};
+ghost use Rattle.camac_text.specs.declared.token.Token.{Token};
 ghost use Rattle.camac_text.specs.Words.{keyword};
 ghost use Rattle.camac_text.specs.Scanning.{is_name_byte, is_blank, is_no_line_feed, decimal_value, keyword_or, number_or_fault, pair_at, single_at, pair_or_single, front_of, size, added, wrong, line_number, last_line, tokens_of};
+ghost use Rattle.camac_text.specs.Cut.{IsCut, HasTokens};
 ghost use Rattle.camac_text.specs.Fault.{AnswersList};
 
 use crate::fault::{TextFault, TextRule};
@@ -13,8 +15,19 @@ use crate::words::keyword;
 use camac_lang::Name;
 use std::alloc::Global;
 
-/// The tokens of a text, or its first token fault: S1, S3 or S6. Memory may be refused.
+/// The tokens of a text, or its first token fault: S1, S3 or S6. Memory may be refused (S8).
 pub fn tokens(alloc: Global, text: &[u8]) -> Result<Vec<Token>, TextFault>
+    // The one list of tokens, or the first fault of one.
+    ensures exact { AnswersList result (tokens_of text.now) }
+    // The text is cut into gaps and tokens, each the longest, and these are its tokens.
+    ensures cut { IfOk result (λ v. IsCut text.now v.items) }
+    // A text that is cut so has no fault and no other tokens.
+    ensures only { (ts : List Token) → IsCut text.now ts → HasTokens result ts }
+{
+    scan(alloc, text)
+}
+
+fn scan(alloc: Global, text: &[u8]) -> Result<Vec<Token>, TextFault>
     ensures { AnswersList result (tokens_of text.now) }
 {
     let mut tokens = Vec::new(alloc);

@@ -1,4 +1,4 @@
-use Rattle.std.proofs.Common.{sym, ap, ◌∙◌}
+use Rattle.std.proofs.Common.{ap, ◌∙◌}
 use Rattle.std.specs.Prelude.{is_none}
 use Rattle.camac_text.proofs.Searches.{is_new_none}
 use Rattle.camac_text.proofs.names.is_new.Goals as goal
