@@ -36,12 +36,12 @@ pub fn single(
     size: WordSize,
     f: Function,
     register: usize,
-    data: &Move,
+    moved: &Move,
     known: &Facts,
 ) -> Result<Findings, CheckFault>
-    ensures { Gives verdict_of result (single_rule (by_code plan.now) around.now line size f register (move_of data.now) known.now) }
+    ensures { Gives verdict_of result (single_rule (by_code plan.now) around.now line size f register (move_of moved.now) known.now) }
 {
-    match data {
+    match moved {
         Move::NoData => control(alloc, plan, around, line, f, register, known),
         Move::Into(variable) => read(
             alloc, plan, around, line, size, f, register, *variable, known,

@@ -18,7 +18,7 @@ use Rattle.camac_rules.specs.Expressions.{range_of}
 use Rattle.camac_rules.specs.Costs.{costs, Verdict, verdict}
 use Rattle.camac_rules.specs.Addresses.{is_among, command_widths, cycle_cost}
 
--- What a statement may refer to, each by its number. `limit` is what becomes of each cost: nothing by the rules, a greatest number in code.
+-- The plan, and what becomes of each cost: by the rules it stays, in code it is cut at a greatest number.
 pub record Context : Type 0 where
   pub plan : Layout
   pub limit : Bounds → Bounds
