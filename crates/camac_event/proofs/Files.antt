@@ -57,7 +57,7 @@ records_take (suc most) version number total (b ∷ bytes) es fits e =
     let whole : b ∷ bytes ≡ records_from number (a.0.0 ∷ c.0) = first.0.parts ∙ ap (λ (t : List ℕ). record_of number a.0.0 ++ t) second.0 in
     let made : List Entry = a.0.0 ∷ c.0 in
     let few : number ≤ 2 ^ 32 → number + length made ≤ 2 ^ 32 = λ h. omega (arith, first.2, second.2 (omega (arith, first.2))) in
-    subst (λ (xs : List Entry). (b ∷ bytes ≡ records_from number xs) × AllByRecursion (IsEvent version) xs × (number ≤ 2 ^ 32 → number + length xs ≤ 2 ^ 32)) (ok_is made es c.2) (whole, (first.1, second.1), few)
+    subst (λ (xs : List Entry). (b ∷ bytes ≡ records_from number xs) × AllByRecursion (IsEvent version) xs × (number ≤ 2 ^ 32 → number + length xs ≤ 2 ^ 32)) {x = made} (ok_is made es c.2) (whole, (first.1, second.1), few)
 
 -- one more record
 next_again : (most : ℕ) (version : Version) (number total : ℕ) (e : Entry) (es : List Entry) (rest : List ℕ) → record_at version number total (record_of number e ++ rest) ≡ Ok (e, rest)
@@ -87,7 +87,7 @@ file_takes bytes x fits e =
     let second = records_take (length a.0.1) a.0.0 1 (length bytes) a.0.1 b.0 first.rest_fits b.1 in
     let few = second.2 (omega arith) in
     let made : Version × List Entry = (a.0.0, b.0) in
-    subst (λ (y : Version × List Entry). AreEvents y.0 y.1 × (bytes ≡ spelling y.0 y.1)) (ok_is made x b.2)
+    subst (λ (y : Version × List Entry). AreEvents y.0 y.1 × (bytes ≡ spelling y.0 y.1)) {x = made} (ok_is made x b.2)
     ((omega (arith, few), second.1), first.parts ∙ ap (λ (t : List ℕ). header a.0.0 ++ t) second.0)
 
 pub file_again : (version : Version) (es : List Entry) → AreEvents version es → file_at (spelling version es) ≡ Ok (version, es)

@@ -88,7 +88,7 @@ usage_takes Two total bytes x fits e =
     let t1 = missed_takes a.0.0 total a.0.1 b.0 t0.0.rest_fits b.1 in
     let both = Takes-then bytes (big_bytes 4 a.0.0) a.0.1 (big_bytes 2 b.0.0) b.0.1 t0.0 t1.0 in
     let made : Option Usage × List ℕ = (Some (record { cycles = a.0.0; missed = b.0.0 }), b.0.1) in
-    subst (λ (y : Option Usage × List ℕ). Takes bytes (usage_fields y.0) y.1 × HasUsage Two y.0 × UsageFits y.0) (ok_is made x b.2) (both, t1.1, (omega (arith, t0.1), t1.2))
+    subst (λ (y : Option Usage × List ℕ). Takes bytes (usage_fields y.0) y.1 × HasUsage Two y.0 × UsageFits y.0) {x = made} (ok_is made x b.2) (both, t1.1, (omega (arith, t0.1), t1.2))
 
 usage_again : (version : Version) (total : ℕ) (usage : Option Usage) (rest : List ℕ) → HasUsage version usage → UsageFits usage → usage_at version total (usage_fields usage ++ rest) ≡ Ok (usage, rest)
 unfolding usage_at
@@ -112,7 +112,7 @@ words_take (suc n) total bytes x fits e =
     let second = words_take n total a.0.1 b.0 first.0.rest_fits b.1 in
     let both = Takes-then bytes (big_bytes 4 a.0.0) a.0.1 (flat_map (big_bytes 4) b.0.0) b.0.1 first.0 second.0 in
     let made : List ℕ × List ℕ = (a.0.0 ∷ b.0.0, b.0.1) in
-    subst (λ (y : List ℕ × List ℕ). Takes bytes (flat_map (big_bytes 4) y.0) y.1 × (length y.0 ≡ suc n) × AllByRecursion (λ w. w < 2 ^ 24) y.0) (ok_is made x b.2) (rw flat_map-cons both, ap suc second.1, (first.1, second.2))
+    subst (λ (y : List ℕ × List ℕ). Takes bytes (flat_map (big_bytes 4) y.0) y.1 × (length y.0 ≡ suc n) × AllByRecursion (λ w. w < 2 ^ 24) y.0) {x = made} (ok_is made x b.2) (rw flat_map-cons both, ap suc second.1, (first.1, second.2))
 
 words_again : (total : ℕ) (ws : List ℕ) (rest : List ℕ) → AllByRecursion (λ w. w < 2 ^ 24) ws → words_at (length ws) total (flat_map (big_bytes 4) ws ++ rest) ≡ Ok (ws, rest)
 unfolding words_at
@@ -139,11 +139,15 @@ record_takes version number total bytes x fits e =
     let tf = count_takes total d.0.1 f.0 td.0.rest_fits f.1 in
     let tg = words_take f.0.0 total f.0.1 g.0 tf.0.rest_fits g.1 in
     let ab = Takes-then bytes (big_bytes 2 0xCA4D) a.0.1 (big_bytes 2 b.0.0) b.0.1 ta tb.0 in
-    let abc = Takes-then bytes _ b.0.1 (big_bytes 4 number) c.0.1 ab tc.0 in
-    let abcd = Takes-then bytes _ c.0.1 (usage_fields d.0.0) d.0.1 abc td.0 in
+    let two = big_bytes 2 0xCA4D ++ big_bytes 2 b.0.0 in
+    let three = two ++ big_bytes 4 number in
+    let four = three ++ usage_fields d.0.0 in
+    let abc = Takes-then bytes two b.0.1 (big_bytes 4 number) c.0.1 ab tc.0 in
+    let abcd = Takes-then bytes three c.0.1 (usage_fields d.0.0) d.0.1 abc td.0 in
     let count_is : Takes d.0.1 (big_bytes 2 (length g.0.0)) f.0.1 = subst (λ (n : ℕ). Takes d.0.1 (big_bytes 2 n) f.0.1) (sym tg.1) tf.0 in
-    let abcdf = Takes-then bytes _ d.0.1 (big_bytes 2 (length g.0.0)) f.0.1 abcd count_is in
-    let whole = Takes-then bytes _ f.0.1 (flat_map (big_bytes 4) g.0.0) g.0.1 abcdf tg.0 in
+    let abcdf = Takes-then bytes four d.0.1 (big_bytes 2 (length g.0.0)) f.0.1 abcd count_is in
+    let five = four ++ big_bytes 2 (length g.0.0) in
+    let whole = Takes-then bytes five f.0.1 (flat_map (big_bytes 4) g.0.0) g.0.1 abcdf tg.0 in
     let made : Entry × List ℕ = (record { gl = b.0.0; usage = d.0.0; words = g.0.0 }, g.0.1) in
     subst (λ (y : Entry × List ℕ). Takes bytes (record_of number y.0) y.1 × IsEvent version y.0 × (number < 2 ^ 32)) {x = made} (ok_is made x g.2)
     (whole, record { gl_low = tb.1; gl_high = tb.2; usage = td.1; usage_fits = td.2; count = omega (arith, tg.1, tf.1); words = tg.2 }, tc.1)

@@ -32,7 +32,7 @@ impl<const CAP: usize> EventBuffer<CAP> {
         }
     }
 
-    /// Puts a word at the end.
+    /// Puts a word at the end. There is room for it where there are fewer than `CAP`.
     pub fn push(&mut self, word: Word24)
         requires { length self.old < CAP }
         ensures { self.new ≡ self.old ++ word ∷ [] }

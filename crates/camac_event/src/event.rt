@@ -7,7 +7,7 @@ use camac_word::{GlBit, Word24};
 use std::alloc::{AllocError, Global};
 use std::marker::Model;
 
-/// How a file is written: version Two tells the usage of each event.
+/// How a file is written (own): version Two tells the usage of each event.
 #[derive(Clone, Copy, Debug, PartialEq, Eq)]
 pub enum Version {
     One,
@@ -83,7 +83,8 @@ impl Events {
         self.items.get(index)
     }
 
-    /// Adds an event at the end. An `Err` leaves the events as they were.
+    /// Adds an event of at most 4,096 words at the end, with a usage exactly in version Two. An `Err`, where memory ran out, leaves the
+    /// events as they were.
     pub fn append(
         &mut self,
         gl: GlBit,
@@ -93,11 +94,14 @@ impl Events {
         requires words { length words.now ≤ 4096 }
         requires room { length self.old.events < 2 ^ 32 - 1 }
         requires usage { HasUsage self.old.version usage }
-        ensures ok { OnOk result (self.new ≡ record { version = self.old.version;
-            events = self.old.events ++ record { gl = gl; usage = usage; words = words.now } ∷ [] }) }
+        ensures ok { OnOk result (self.new ≡ record {
+          version = self.old.version;
+          events = self.old.events ++ record { gl = gl; usage = usage; words = words.now } ∷ [];
+        }) }
         ensures err { OnErr result (self.new ≡ self.old) }
     {
         let words = copy_of(self.alloc, words)?;
+        // opens the bit's range for the invariant
         let _ = gl.get();
         self.items.push(Event { gl, usage, words })?;
         Ok(())

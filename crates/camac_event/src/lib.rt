@@ -6,10 +6,9 @@ mod event;
 mod fault;
 mod laws;
 mod reading;
-mod writing;
-
 #[cfg(test)]
 mod tests;
+mod writing;
 
 pub use buffer::EventBuffer;
 pub use event::{Event, Events, Usage, Version};

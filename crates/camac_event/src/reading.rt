@@ -118,11 +118,7 @@ fn word_of(total: usize, bytes: &mut &[u8]) -> Result<Word24, EventFault>
 }
 
 #[tactic(auto, unfolding(crate::specs::Reading::usage_at))]
-fn usage_of(
-    version: Version,
-    total: usize,
-    bytes: &mut &[u8],
-) -> Result<Option<Usage>, EventFault>
+fn usage_of(version: Version, total: usize, bytes: &mut &[u8]) -> Result<Option<Usage>, EventFault>
     ensures { Gives (λ u. u) result bytes.new.now (usage_at version total bytes.old.now) }
 {
     match version {
@@ -213,7 +209,9 @@ fn file_of(alloc: Global, bytes: &[u8]) -> Result<(Version, Vec<Event>), EventFa
     Ok((version, events))
 }
 
-/// The events that the bytes of a file spell.
+/// The events that the bytes of a file spell. The first field that is wrong is answered with the offset of its first byte: V1 of the
+/// header; of each record V2 marker, V3 GL number, V4 event number, V9 missed in version Two, V5 count, V6 of each word; V7 where the
+/// bytes end inside the field. V8 is want of memory.
 pub fn decode(alloc: Global, bytes: &[u8]) -> Result<Events, EventFault>
     // What is read is spelled so.
     ensures found { IfOk result (λ e. AreEvents e.version e.events × (bytes.now ≡ spelling e.version e.events)) }

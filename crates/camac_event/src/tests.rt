@@ -1,6 +1,9 @@
 //! The worked event files of both versions, and each call that takes memory.
 
-use crate::{EventBuffer, EventFault, EventRule, Events, Usage, Version, decode, encode, write_header, write_record};
+use crate::{
+    EventBuffer, EventFault, EventRule, Events, Usage, Version, decode, encode, write_header,
+    write_record,
+};
 use camac_word::{GlBit, Watched, Word24};
 use std::alloc::Global;
 use std::test::Fail;
@@ -9,7 +12,8 @@ use std::test::Fail;
 const ONE: [u8; 22] = *b"CAMACEV1\xca\x4d\x00\x03\x00\x00\x00\x01\x00\x01\x00\x00\x0f\xff";
 
 /// The same with 3 cycles, none of them missed.
-const TWO: [u8; 28] = *b"CAMACEV2\xca\x4d\x00\x03\x00\x00\x00\x01\x00\x00\x00\x03\x00\x00\x00\x01\x00\x00\x0f\xff";
+const TWO: [u8; 28] =
+    *b"CAMACEV2\xca\x4d\x00\x03\x00\x00\x00\x01\x00\x00\x00\x03\x00\x00\x00\x01\x00\x00\x0f\xff";
 
 fn broken(rule: EventRule, offset: usize) -> Option<EventFault> {
     Some(EventFault::Broken { rule, offset })
@@ -37,8 +41,21 @@ fn event_file_one(rt: HostRuntime) -> Result<(), Fail> {
 #[test]
 fn event_file_one_cut(rt: HostRuntime) -> Result<(), Fail> {
     let alloc = rt.alloc();
-    for (end, offset) in [(9, 8), (10, 10), (11, 10), (12, 12), (15, 12), (16, 16), (18, 18), (21, 18)] {
-        assert_eq!(rt; fault(alloc, &ONE[..end]), broken(EventRule::Truncated, offset), "cut to {end}");
+    for (end, offset) in [
+        (9, 8),
+        (10, 10),
+        (11, 10),
+        (12, 12),
+        (15, 12),
+        (16, 16),
+        (18, 18),
+        (21, 18),
+    ] {
+        assert_eq!(rt;
+            fault(alloc, &ONE[..end]),
+            broken(EventRule::Truncated, offset),
+            "cut to {end}"
+        );
     }
     assert_eq!(rt; decode(alloc, &ONE[..8])?.len(), 0);
     assert_eq!(rt; fault(alloc, &ONE[..7]), broken(EventRule::WrongHeader, 0));
@@ -51,7 +68,10 @@ fn event_file_two(rt: HostRuntime) -> Result<(), Fail> {
     assert_eq!(rt; events.version(), Version::Two);
     assert_eq!(rt; events.len(), 1);
     let event = events.get(0).ok_or("event 1")?;
-    let usage = Some(Usage { cycles: 3, missed: 0 });
+    let usage = Some(Usage {
+        cycles: 3,
+        missed: 0,
+    });
     assert_eq!(rt; (event.gl.get(), event.usage), (3, usage));
     assert_eq!(rt; event.words.as_slice(), [word(0xfff)?].as_slice());
     Ok(())
@@ -60,8 +80,21 @@ fn event_file_two(rt: HostRuntime) -> Result<(), Fail> {
 #[test]
 fn event_file_two_cut(rt: HostRuntime) -> Result<(), Fail> {
     let alloc = rt.alloc();
-    for (end, offset) in [(9, 8), (11, 10), (15, 12), (16, 16), (19, 16), (20, 20), (23, 22), (27, 24)] {
-        assert_eq!(rt; fault(alloc, &TWO[..end]), broken(EventRule::Truncated, offset), "cut to {end}");
+    for (end, offset) in [
+        (9, 8),
+        (11, 10),
+        (15, 12),
+        (16, 16),
+        (19, 16),
+        (20, 20),
+        (23, 22),
+        (27, 24),
+    ] {
+        assert_eq!(rt;
+            fault(alloc, &TWO[..end]),
+            broken(EventRule::Truncated, offset),
+            "cut to {end}"
+        );
     }
     assert_eq!(rt; decode(alloc, &TWO[..8])?.len(), 0);
     assert_eq!(rt; fault(alloc, &TWO[..7]), broken(EventRule::WrongHeader, 0));
@@ -80,21 +113,36 @@ fn with_byte<const N: usize>(file: [u8; N], index: usize, byte: u8) -> [u8; N]
 #[test]
 fn event_file_one_faults(rt: HostRuntime) -> Result<(), Fail> {
     let alloc = rt.alloc();
-    assert_eq!(rt; fault(alloc, &with_byte(ONE, 18, 1)), broken(EventRule::WordTooWide, 18));
+    assert_eq!(rt;
+        fault(alloc, &with_byte(ONE, 18, 1)),
+        broken(EventRule::WordTooWide, 18)
+    );
     let mut twice = ONE.to_vec(alloc)?;
     twice.extend_from_slice(&ONE[8..])?;
-    assert_eq!(rt; fault(alloc, &twice), broken(EventRule::NumberOutOfOrder, 26));
+    assert_eq!(rt;
+        fault(alloc, &twice),
+        broken(EventRule::NumberOutOfOrder, 26)
+    );
     Ok(())
 }
 
 #[test]
 fn event_file_two_faults(rt: HostRuntime) -> Result<(), Fail> {
     let alloc = rt.alloc();
-    assert_eq!(rt; fault(alloc, &with_byte(TWO, 21, 4)), broken(EventRule::MissedAboveCycles, 20));
-    assert_eq!(rt; fault(alloc, &with_byte(TWO, 24, 1)), broken(EventRule::WordTooWide, 24));
+    assert_eq!(rt;
+        fault(alloc, &with_byte(TWO, 21, 4)),
+        broken(EventRule::MissedAboveCycles, 20)
+    );
+    assert_eq!(rt;
+        fault(alloc, &with_byte(TWO, 24, 1)),
+        broken(EventRule::WordTooWide, 24)
+    );
     let mut twice = TWO.to_vec(alloc)?;
     twice.extend_from_slice(&TWO[8..])?;
-    assert_eq!(rt; fault(alloc, &twice), broken(EventRule::NumberOutOfOrder, 32));
+    assert_eq!(rt;
+        fault(alloc, &twice),
+        broken(EventRule::NumberOutOfOrder, 32)
+    );
     Ok(())
 }
 
@@ -121,8 +169,14 @@ fn event_field_faults(rt: HostRuntime) -> Result<(), Fail> {
 #[test]
 fn encode_event_files(rt: HostRuntime) -> Result<(), Fail> {
     let alloc = rt.alloc();
-    assert_eq!(rt; encode(alloc, &decode(alloc, &ONE)?)?.as_slice(), ONE.as_slice());
-    assert_eq!(rt; encode(alloc, &decode(alloc, &TWO)?)?.as_slice(), TWO.as_slice());
+    assert_eq!(rt;
+        encode(alloc, &decode(alloc, &ONE)?)?.as_slice(),
+        ONE.as_slice()
+    );
+    assert_eq!(rt;
+        encode(alloc, &decode(alloc, &TWO)?)?.as_slice(),
+        TWO.as_slice()
+    );
     Ok(())
 }
 
@@ -134,7 +188,10 @@ fn appended_events(rt: HostRuntime) -> Result<(), Fail> {
     buffer.clear();
     buffer.push(word(0xfff)?);
     let mut events = Events::new(alloc, Version::Two);
-    let usage = Some(Usage { cycles: 3, missed: 0 });
+    let usage = Some(Usage {
+        cycles: 3,
+        missed: 0,
+    });
     events.append(GlBit::new(3).ok_or("GL bit")?, usage, buffer.words())?;
     assert_eq!(rt; encode(alloc, &events)?.as_slice(), TWO.as_slice());
     Ok(())
@@ -144,7 +201,10 @@ fn appended_events(rt: HostRuntime) -> Result<(), Fail> {
 fn written_events(rt: HostRuntime) -> Result<(), Fail> {
     let mut out = Watched::new(Vec::new(rt.alloc()));
     let gl = GlBit::new(3).ok_or("GL bit")?;
-    let usage = Usage { cycles: 3, missed: 0 };
+    let usage = Usage {
+        cycles: 3,
+        missed: 0,
+    };
     write_header(&mut out).map_err(|_| "header")?;
     write_record(&mut out, 1, gl, usage, &[word(0xfff)?]).map_err(|_| "record")?;
     assert_eq!(rt; out.into_inner().as_slice(), TWO.as_slice());

@@ -87,7 +87,7 @@ fn header_text(version: Version) -> &'static [u8; 8]
     }
 }
 
-/// The one spelling of the events.
+/// The one spelling of the events, in their own version. An `Err` is want of memory.
 pub fn encode(alloc: Global, events: &Events) -> Result<Vec<u8>, AllocError>
     ensures { IfOk result (λ v. v.items ≡ spelling events.now.version events.now.events) }
 {
@@ -97,7 +97,7 @@ pub fn encode(alloc: Global, events: &Events) -> Result<Vec<u8>, AllocError>
     Ok(out)
 }
 
-/// The greatest length of a record of the second version.
+/// The greatest length of a record of version Two, in bytes.
 const RECORD: usize = 18 + 4 * 4096;
 
 /// A record while it is laid out.
@@ -132,7 +132,7 @@ fn lay_words(out: &mut Layout, words: &[Word24])
     }
 }
 
-/// Writes the header of a file of the second version.
+/// Writes the header of a file of version Two. After a fault a front of it was written.
 pub fn write_header<W: Write>(out: &mut Watched<W>) -> Result<(), WriteFault>
     ensures text { Writes (W.contents (inner_of out.old)) (W.contents (inner_of out.new)) result (header Two) }
     ensures failed { has_failed out.new ≡ (has_failed out.old || is_err result) }
@@ -140,7 +140,7 @@ pub fn write_header<W: Write>(out: &mut Watched<W>) -> Result<(), WriteFault>
     out.write_text(header_text(Version::Two))
 }
 
-/// Writes a record of the second version in one piece.
+/// Writes the record of an event of version Two, at most 4,096 words, under its number (1, 2, ..). After a fault a front of it was written.
 pub fn write_record<W: Write>(
     out: &mut Watched<W>,
     number: u32,
