@@ -101,22 +101,12 @@ fn event_file_two_cut(rt: HostRuntime) -> Result<(), Fail> {
     Ok(())
 }
 
-/// The file with one byte changed.
-fn with_byte<const N: usize>(file: [u8; N], index: usize, byte: u8) -> [u8; N]
-    requires { index < N }
-{
-    let mut file = file;
-    file[index] = byte;
-    file
-}
-
 #[test]
 fn event_file_one_faults(rt: HostRuntime) -> Result<(), Fail> {
     let alloc = rt.alloc();
-    assert_eq!(rt;
-        fault(alloc, &with_byte(ONE, 18, 1)),
-        broken(EventRule::WordTooWide, 18)
-    );
+    let mut wide = ONE;
+    wide[18] = 1;
+    assert_eq!(rt; fault(alloc, &wide), broken(EventRule::WordTooWide, 18));
     let mut twice = ONE.to_vec(alloc)?;
     twice.extend_from_slice(&ONE[8..])?;
     assert_eq!(rt;
@@ -129,14 +119,15 @@ fn event_file_one_faults(rt: HostRuntime) -> Result<(), Fail> {
 #[test]
 fn event_file_two_faults(rt: HostRuntime) -> Result<(), Fail> {
     let alloc = rt.alloc();
+    let mut missed = TWO;
+    missed[21] = 4;
     assert_eq!(rt;
-        fault(alloc, &with_byte(TWO, 21, 4)),
+        fault(alloc, &missed),
         broken(EventRule::MissedAboveCycles, 20)
     );
-    assert_eq!(rt;
-        fault(alloc, &with_byte(TWO, 24, 1)),
-        broken(EventRule::WordTooWide, 24)
-    );
+    let mut wide = TWO;
+    wide[24] = 1;
+    assert_eq!(rt; fault(alloc, &wide), broken(EventRule::WordTooWide, 24));
     let mut twice = TWO.to_vec(alloc)?;
     twice.extend_from_slice(&TWO[8..])?;
     assert_eq!(rt;
