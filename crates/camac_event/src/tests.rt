@@ -23,6 +23,10 @@ fn fault(alloc: Global, bytes: &[u8]) -> Option<EventFault> {
     decode(alloc, bytes).err()
 }
 
+fn cut(file: &[u8], len: usize) -> Result<&[u8], Fail> {
+    Ok(file.get(..len).ok_or("cut")?)
+}
+
 fn word(value: u32) -> Result<Word24, Fail> {
     Ok(Word24::new(value).ok_or("word")?)
 }
@@ -41,21 +45,20 @@ fn event_file_one(rt: HostRuntime) -> Result<(), Fail> {
 #[test]
 fn event_file_one_cut(rt: HostRuntime) -> Result<(), Fail> {
     let alloc = rt.alloc();
-    for (end, offset) in [
-        (9, 8),
-        (10, 10),
-        (11, 10),
-        (12, 12),
-        (15, 12),
-        (16, 16),
-        (18, 18),
-        (21, 18),
+    for (offset, first, end) in [
+        (8, 9, 10),
+        (10, 10, 12),
+        (12, 12, 16),
+        (16, 16, 18),
+        (18, 18, 22),
     ] {
-        assert_eq!(rt;
-            fault(alloc, &ONE[..end]),
-            broken(EventRule::Truncated, offset),
-            "cut to {end}"
-        );
+        for len in first..end {
+            assert_eq!(rt;
+                fault(alloc, cut(&ONE, len)?),
+                broken(EventRule::Truncated, offset),
+                "cut to {len}"
+            );
+        }
     }
     assert_eq!(rt; decode(alloc, &ONE[..8])?.len(), 0);
     assert_eq!(rt; fault(alloc, &ONE[..7]), broken(EventRule::WrongHeader, 0));
@@ -80,21 +83,22 @@ fn event_file_two(rt: HostRuntime) -> Result<(), Fail> {
 #[test]
 fn event_file_two_cut(rt: HostRuntime) -> Result<(), Fail> {
     let alloc = rt.alloc();
-    for (end, offset) in [
-        (9, 8),
-        (11, 10),
-        (15, 12),
-        (16, 16),
-        (19, 16),
-        (20, 20),
-        (23, 22),
-        (27, 24),
+    for (offset, first, end) in [
+        (8, 9, 10),
+        (10, 10, 12),
+        (12, 12, 16),
+        (16, 16, 20),
+        (20, 20, 22),
+        (22, 22, 24),
+        (24, 24, 28),
     ] {
-        assert_eq!(rt;
-            fault(alloc, &TWO[..end]),
-            broken(EventRule::Truncated, offset),
-            "cut to {end}"
-        );
+        for len in first..end {
+            assert_eq!(rt;
+                fault(alloc, cut(&TWO, len)?),
+                broken(EventRule::Truncated, offset),
+                "cut to {len}"
+            );
+        }
     }
     assert_eq!(rt; decode(alloc, &TWO[..8])?.len(), 0);
     assert_eq!(rt; fault(alloc, &TWO[..7]), broken(EventRule::WrongHeader, 0));
