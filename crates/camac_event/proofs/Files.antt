@@ -1,9 +1,9 @@
 -- The two laws of whole files: what is read is spelled so, and what is spelled so is read.
-use Rattle.std.proofs.Common.{◌≡◌, ℕ, zero, suc, ◌+◌, ◌^◌, ◌<◌, ◌≤◌, Bool, true, false, cond, eqb, List, [], ◌∷◌, ◌++◌, length, take, drop, Result, Ok, Err, refl, sym, ap, subst, ◌∙◌, append_assoc, append-nil, length-append, take-append-drop, arith, ◌⊎◌, inl, inr}
-use Rattle.std.specs.Prelude.{nat_eq, IfOk}
+use Rattle.std.proofs.Common.{◌≡◌, ℕ, zero, suc, ◌+◌, ◌^◌, ◌≤◌, Bool, true, false, cond, List, [], ◌∷◌, ◌++◌, length, take, drop, Result, Ok, Err, refl, sym, ap, subst, ◌∙◌, length-append, take-append-drop, arith, ◌⊎◌, inl, inr}
+use Rattle.std.specs.Prelude.{nat_eq}
 use Rattle.std.specs.List.{starts_with, AllByRecursion}
 use Rattle.std.proofs.lemmas.Bool.{eqb-true, eq-eqb}
-use lib.Pointwise.{pointwise, pointwise_decides}
+use lib.Pointwise.{pointwise_decides}
 use Rattle.camac_event.specs.declared.event.Version.{Version}
 use Rattle.camac_event.specs.declared.event.Version.TheVariants.{One, Two}
 use Rattle.camac_event.specs.declared.fault.EventRule.TheVariants.{WrongHeader}

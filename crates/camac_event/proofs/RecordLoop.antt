@@ -1,11 +1,11 @@
 -- Reading records one after the other, as a loop does.
-use Rattle.std.proofs.Common.{◌≡◌, ℕ, zero, suc, ◌-◌, ◌+◌, ◌≤◌, ◌<◌, List, [], ◌∷◌, ◌++◌, length, Result, Ok, Err, refl, sym, ap, subst, ◌∙◌, append_assoc, append-nil, length-append, arith}
+use Rattle.std.proofs.Common.{◌≡◌, ℕ, suc, ◌-◌, ◌+◌, ◌≤◌, ◌<◌, List, [], ◌∷◌, ◌++◌, length, Result, Ok, Err, refl, sym, ap, ◌∙◌, append_assoc, append-nil, length-append, arith}
 use Rattle.camac_event.specs.declared.event.Version.{Version}
 use Rattle.camac_event.specs.declared.fault.EventFault.{EventFault}
 use Rattle.camac_event.specs.declared.fault.EventFault.TheVariants as faults
 use Rattle.camac_event.specs.Spelling.{Entry, record_of}
 use Rattle.camac_event.specs.Reading.{Flaw, ◌>>=◌, Fails, record_at, records_at}
-use Rattle.camac_event.proofs.Fields.{IsBytes, Takes}
+use Rattle.camac_event.proofs.Fields.{IsBytes}
 use Rattle.camac_event.proofs.Records.{record_takes}
 
 -- what was read before, and what is still read

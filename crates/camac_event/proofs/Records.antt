@@ -1,5 +1,5 @@
 -- The laws of whole records: what is read is spelled so, and what is spelled so is read.
-use Rattle.std.proofs.Common.{◌≡◌, ℕ, zero, suc, ◌+◌, ◌-◌, ◌^◌, ◌<◌, ◌≤◌, Bool, true, false, ◌&&◌, List, [], ◌∷◌, ◌++◌, length, eqb, leb, ltb, Option, Some, None, Result, Ok, Err, refl, sym, ap, subst, ◌∙◌, append_assoc, arith}
+use Rattle.std.proofs.Common.{◌≡◌, ℕ, zero, suc, ◌^◌, ◌<◌, ◌≤◌, ◌&&◌, List, [], ◌∷◌, ◌++◌, length, eqb, leb, ltb, Option, Some, None, Ok, refl, sym, ap, subst, ◌∙◌, append_assoc, arith}
 use Rattle.std.specs.List.{flat_map, AllByRecursion}
 use Rattle.std.proofs.lemmas.Bool.{eqb-true, eq-eqb, leb-true, le-leb, ltb-true, lt-ltb, and_parts, and_from}
 use Rattle.std.proofs.lemmas.List.Concat.{flat_map-cons}
@@ -10,7 +10,7 @@ use Rattle.camac_event.specs.declared.event.Version.TheVariants.{One, Two}
 use Rattle.camac_event.specs.declared.fault.EventRule.TheVariants.{WrongMarker, GlOutOfRange, NumberOutOfOrder, MissedAboveCycles, CountAboveLimit, WordTooWide}
 use Rattle.camac_event.specs.Spelling.{Entry, usage_fields, record_of, HasUsage, UsageFits, IsEvent}
 use Rattle.camac_event.specs.Reading.{◌>>=◌, number_at, marker_at, gl_at, event_number_at, missed_at, usage_at, count_at, word_at, words_at, record_at}
-use Rattle.camac_event.proofs.Fields.{IsBytes, bind_ok, ok_is, Takes, Takes-then, two_wide, four_wide, number_takes, number_again, TestTakes, tested_takes, tested_again}
+use Rattle.camac_event.proofs.Fields.{IsBytes, bind_ok, ok_is, Takes, Takes-then, two_wide, four_wide, number_takes, number_again, tested_takes, tested_again}
 
 -- ---- single fields
 

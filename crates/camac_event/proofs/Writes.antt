@@ -1,5 +1,5 @@
 -- Writing records one after the other.
-use Rattle.std.proofs.Common.{◌≡◌, ℕ, zero, suc, ◌+◌, ◌<◌, ◌≤◌, ◌^◌, List, [], ◌∷◌, ◌++◌, length, get_or, slice_get, take, All, Bor, Option, None, Some, IfSome, refl, subst, sym, ap, ◌∙◌, append_assoc, append-nil, add-zero, length-take, arith}
+use Rattle.std.proofs.Common.{◌≡◌, ℕ, zero, suc, ◌+◌, ◌<◌, ◌≤◌, List, [], ◌∷◌, ◌++◌, length, get_or, slice_get, take, All, Bor, Option, None, Some, IfSome, refl, subst, sym, ap, ◌∙◌, append_assoc, append-nil, add-zero, length-take, arith}
 use Rattle.std.specs.List.{AllByRecursion}
 use Rattle.std.specs.Slice.{IsItemAt}
 use Rattle.std.proofs.lemmas.Option.{slice_get_read}

@@ -1,8 +1,7 @@
-use Rattle.std.proofs.Common.{◌≡◌, ◌<◌, ◌≤◌, ◌^◌, ◌-◌, ◌+◌, [], ◌∷◌, ◌++◌, List, length, ap, subst, sym, ◌∙◌, length-append, arith, rules}
+use Rattle.std.proofs.Common.{◌≡◌, ◌<◌, ◌≤◌, ◌^◌, ◌-◌, [], ◌∷◌, length, ap, length-append, arith, rules}
 use Rattle.std.proofs.lemmas.List.{map_push}
 use Rattle.std.specs.List.{AllByRecursion}
-use Rattle.camac_event.specs.declared.event.Version.{Version}
-use Rattle.camac_event.specs.Spelling.{Listing, Entry, entry_of, entries_of, HasUsage, UsageFits, IsEvent}
+use Rattle.camac_event.specs.Spelling.{Listing, Entry, entries_of, HasUsage, UsageFits, IsEvent}
 use Rattle.camac_event.proofs.Writes.{AllByRecursion-push}
 use Rattle.camac_event.proofs.event.Events.append.Goals as goal
 
