@@ -40,7 +40,7 @@ numbered_passes test (y ∷ ys) (suc zero) x is passes = rw (is, passes) refl
 numbered_passes test (y ∷ ys) (suc (suc i)) x is passes = rw (numbered_passes test ys (suc i) x is passes) (or-true (test y))
 
 -- inside a list the default of a read says nothing
-any_default : {A : Type 0} (xs : List A) (i : ℕ) (d e : A) → i < length xs → get_or xs i d ≡ get_or xs i e
+pub any_default : {A : Type 0} (xs : List A) (i : ℕ) (d e : A) → i < length xs → get_or xs i d ≡ get_or xs i e
 any_default [] i d e h = absurd (omega arith)
 any_default (x ∷ xs) zero d e h = refl
 any_default (x ∷ xs) (suc i) d e h = any_default xs i d e (omega arith)

@@ -3,3 +3,4 @@ pub mod Drives
 pub mod Stop
 pub mod Repeat
 pub mod Scan
+pub mod Bounds

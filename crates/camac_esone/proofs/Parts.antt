@@ -66,6 +66,12 @@ tally_more xs false = let e = tally-append xs (false ∷ []) in omega arith
 pub tally_none : (xs : List Bool) → tally (xs ++ false ∷ []) ≡ tally xs
 tally_none xs = let e = tally-append xs (false ∷ []) in omega arith
 
+-- as many replies at most
+pub tally_most : (xs : List Bool) → tally xs ≤ length xs
+tally_most [] = omega arith
+tally_most (true ∷ xs) = let e = tally_most xs in omega arith
+tally_most (false ∷ xs) = let e = tally_most xs in omega arith
+
 -- what is wanted, and when
 pub when_true : (b : Bool) (at : Address) → b ≡ true → when b at ≡ Some at
 when_true true at e = refl

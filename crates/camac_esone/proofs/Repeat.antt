@@ -7,20 +7,21 @@ use Rattle.camac_branch.specs.Address.{Address}
 use Rattle.camac_esone.specs.Transfers.{tally, repeat_wanted}
 use Rattle.camac_esone.specs.Lists.{Cycle, replies, EachCycle, IsRepeatList}
 use Rattle.camac_esone.specs.Laws.{IsDriven, IsDrivenToEnd, RepeatTestGivesQRepeat}
+use Rattle.camac_esone.specs.Bounds.{IsUpTo}
 use Rattle.camac_esone.proofs.Parts.{replies-append, length-replies, empty_or_ending, tally_more, when_true, was_true}
 use Rattle.camac_esone.proofs.Drives.{Falls, asks, gives}
 
 -- another cycle is wanted
-record GoesOn (max limit : ℕ) (qs : List Bool) : Type 0 where
-  fewer : tally qs < max
-  room : length qs < limit
+pub record GoesOn (max limit : ℕ) (qs : List Bool) : Type 0 where
+  pub fewer : tally qs < max
+  pub room : length qs < limit
 
 go_on_wanted : (at : Address) (max limit : ℕ) (qs : List Bool) → GoesOn max limit qs → repeat_wanted at max limit qs ≡ Some at
 go_on_wanted at max limit qs g =
     when_true (nat_lt (tally qs) max && nat_lt (length qs) limit) at
     (ap (λ b. b && nat_lt (length qs) limit) (lt-ltb (tally qs) max g.fewer) ∙ lt-ltb (length qs) limit g.room)
 
-wanted_goes_on : (at to : Address) (max limit : ℕ) (qs : List Bool) → repeat_wanted at max limit qs ≡ Some to → GoesOn max limit qs × (to ≡ at)
+pub wanted_goes_on : (at to : Address) (max limit : ℕ) (qs : List Bool) → repeat_wanted at max limit qs ≡ Some to → GoesOn max limit qs × (to ≡ at)
 wanted_goes_on at to max limit qs e =
     let was = was_true (nat_lt (tally qs) max && nat_lt (length qs) limit) at to e in
     let parts = and_parts (nat_lt (tally qs) max) (nat_lt (length qs) limit) was.0 in
@@ -62,15 +63,10 @@ to_end at max limit cycles h = record {
   ended = not_wanted at max limit (replies cycles) (stops at max limit cycles h);
 }
 
--- No more than asked for.
-record IsUpTo (max limit : ℕ) (cycles : List Cycle) : Type 0 where
-  words : tally (replies cycles) ≤ max
-  count : length cycles ≤ limit
-
-up_to : (at : Address) (max limit : ℕ) (cycles : List Cycle) → IsDriven (repeat_wanted at max limit) cycles → IsUpTo max limit cycles
+pub up_to : (at : Address) (max limit : ℕ) (cycles : List Cycle) → IsDriven (repeat_wanted at max limit) cycles → IsUpTo limit max cycles
 up_to at max limit cycles h =
     elim (empty_or_ending cycles) [
-      | inl e ↦ subst (IsUpTo max limit) (sym e) (record { words = omega arith; count = omega arith })
+      | inl e ↦ subst (IsUpTo limit max) (sym e) (record { count = omega arith; tally = omega arith })
       | inr end ↦ let g = (wanted_goes_on at end.last.at max limit (replies end.front) (h end.front [] end.last end.parts)).0 in
           let more = tally_more (replies end.front) end.last.q in
           let parts = replies-append end.front (end.last ∷ []) in
@@ -78,7 +74,7 @@ up_to at max limit cycles h =
           = subst (λ l. tally l ≤ max) (sym parts) (omega (arith, g.fewer)) in
           let count = length-append end.front (end.last ∷ []) in
           let same = length-replies end.front in
-          subst (IsUpTo max limit) end.parts (record { words = words; count = omega (arith, g.room) })
+          subst (IsUpTo limit max) end.parts (record { count = omega (arith, g.room); tally = words })
     ]
 
 from_end : (at : Address) (max limit : ℕ) (cycles : List Cycle) → IsDrivenToEnd (repeat_wanted at max limit) cycles → IsRepeatList at max limit cycles
@@ -94,7 +90,7 @@ from_end at max limit cycles h =
           | inl less ↦ absurd (stands_still at max limit (replies cycles) h.ended (record { fewer = lt; room = less }))
           | inr le ↦ inr (record { whole = lt; before = before }, omega (arith, most.count))
         ]
-        | inr le ↦ inl (record { reached = omega (arith, most.words); before = before }, most.count)
+        | inr le ↦ inl (record { reached = omega (arith, most.tally); before = before }, most.count)
       ];
     }
 

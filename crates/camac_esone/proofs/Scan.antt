@@ -10,16 +10,16 @@ use Rattle.camac_esone.proofs.Parts.{replies-append, ending_of, empty_or_ending,
 use Rattle.camac_esone.proofs.Drives.{Falls, asks, gives}
 
 -- another cycle is wanted
-record GoesOn (first last : Address) (max : ℕ) (qs : List Bool) : Type 0 where
-  fewer : tally qs < max
-  by : is_by last (address_after first qs) ≡ true
+pub record GoesOn (first last : Address) (max : ℕ) (qs : List Bool) : Type 0 where
+  pub fewer : tally qs < max
+  pub by : is_by last (address_after first qs) ≡ true
 
 go_on_wanted : (first last : Address) (max : ℕ) (qs : List Bool) → GoesOn first last max qs → scan_wanted first last max qs ≡ Some (address_after first qs)
 go_on_wanted first last max qs g =
     when_true (nat_lt (tally qs) max && is_by last (address_after first qs)) (address_after first qs)
     (ap (λ b. b && is_by last (address_after first qs)) (lt-ltb (tally qs) max g.fewer) ∙ g.by)
 
-wanted_goes_on : (first last to : Address) (max : ℕ) (qs : List Bool) → scan_wanted first last max qs ≡ Some to → GoesOn first last max qs × (to ≡ address_after first qs)
+pub wanted_goes_on : (first last to : Address) (max : ℕ) (qs : List Bool) → scan_wanted first last max qs ≡ Some to → GoesOn first last max qs × (to ≡ address_after first qs)
 wanted_goes_on first last to max qs e =
     let was = was_true (nat_lt (tally qs) max && is_by last (address_after first qs)) (address_after first qs) to e in
     let parts = and_parts (nat_lt (tally qs) max) (is_by last (address_after first qs)) was.0 in
@@ -109,12 +109,12 @@ same_crate : (first : Address) (qs : List Bool) → (address_after first qs).cra
 same_crate first [] = refl
 same_crate first (q ∷ qs) = same_crate (successor q first) qs ∙ successor_crate q first
 
-one_more : (first : Address) (qs : List Bool) (q : Bool) → address_after first (qs ++ q ∷ []) ≡ successor q (address_after first qs)
+pub one_more : (first : Address) (qs : List Bool) (q : Bool) → address_after first (qs ++ q ∷ []) ≡ successor q (address_after first qs)
 one_more first [] q = refl
 one_more first (p ∷ qs) q = one_more (successor p first) qs q
 
 -- no more words than asked for
-up_to : (first last : Address) (max : ℕ) (cycles : List Cycle) → IsDriven (scan_wanted first last max) cycles → tally (replies cycles) ≤ max
+pub up_to : (first last : Address) (max : ℕ) (cycles : List Cycle) → IsDriven (scan_wanted first last max) cycles → tally (replies cycles) ≤ max
 up_to first last max cycles h =
     elim (empty_or_ending cycles) [
       | inl e ↦ subst (λ l. tally (replies l) ≤ max) (sym e) (omega arith)
@@ -149,7 +149,7 @@ from_end first last max cycles h =
       ];
     }
 
-by_station : (last at : Address) → is_by last at ≡ true → at.station ≤ last.station
+pub by_station : (last at : Address) → is_by last at ≡ true → at.station ≤ last.station
 by_station last at e =
     elim (or_cases (nat_lt at.station last.station) (nat_eq at.station last.station && nat_le at.sub_address last.sub_address) e) [
       | inl t ↦ let lt = ltb-true at.station last.station t in omega arith

@@ -93,16 +93,16 @@ means_count max qs (inr z) =
     count ∙ sym (ap (λ o. unwrap_or o max) (ap first_zero all ∙ ap first_zero (sym z.parts) ∙ zero_after z.before [] z.ones))
 
 -- another cycle is wanted
-record GoesOn (max : ℕ) (qs : List Bool) : Type 0 where
-  ones : all_true qs ≡ true
-  less : length qs < max
+pub record GoesOn (max : ℕ) (qs : List Bool) : Type 0 where
+  pub ones : all_true qs ≡ true
+  pub less : length qs < max
 
 go_on_wanted : (at : Address) (max : ℕ) (qs : List Bool) → GoesOn max qs → stop_wanted at max qs ≡ Some at
 go_on_wanted at max qs g =
     when_true (all_true qs && nat_lt (length qs) max) at
     (ap (λ b. b && nat_lt (length qs) max) g.ones ∙ lt-ltb (length qs) max g.less)
 
-wanted_goes_on : (at to : Address) (max : ℕ) (qs : List Bool) → stop_wanted at max qs ≡ Some to → GoesOn max qs × (to ≡ at)
+pub wanted_goes_on : (at to : Address) (max : ℕ) (qs : List Bool) → stop_wanted at max qs ≡ Some to → GoesOn max qs × (to ≡ at)
 wanted_goes_on at to max qs e =
     let was = was_true (all_true qs && nat_lt (length qs) max) at to e in
     let parts = and_parts (all_true qs) (nat_lt (length qs) max) was.0 in

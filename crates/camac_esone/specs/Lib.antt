@@ -1,3 +1,5 @@
 pub mod Transfers
 pub mod Lists
 pub mod Laws
+pub mod Bounds
+pub mod Calls

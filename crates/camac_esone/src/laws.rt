@@ -1,6 +1,7 @@
 // Each law of the transfers as the contract of a function that does nothing.
 
 ghost use Rattle.camac_esone.specs.Laws.{StopTestGivesQStop, RepeatTestGivesQRepeat, ScanTestGivesScan, AnyRepliesDrive};
+ghost use Rattle.camac_esone.specs.Bounds.{StopIsBounded, RepeatIsBounded, ScanIsBounded, ScanIsWithinAddresses};
 
 /// The test of Q-stop for one more cycle gives exactly the lists of Q-stop, and cut short their fronts.
 pub fn stop_test_gives_q_stop()
@@ -20,4 +21,24 @@ pub fn scan_test_gives_scan()
 /// Whatever Q the replies have, a test for one more cycle drives cycles up to its end or as far as the replies go.
 pub fn any_replies_drive()
     ensures { AnyRepliesDrive }
+{}
+
+/// Q-stop makes at most `max` cycles.
+pub fn stop_is_bounded()
+    ensures { StopIsBounded }
+{}
+
+/// Q-repeat makes at most `limit` cycles, and at most `max` with Q=1.
+pub fn repeat_is_bounded()
+    ensures { RepeatIsBounded }
+{}
+
+/// A scan makes at most `max` cycles with Q=1, and at most one with Q=0 at each station.
+pub fn scan_is_bounded()
+    ensures { ScanIsBounded }
+{}
+
+/// A scan makes no more cycles than there are addresses from the first to the final one.
+pub fn scan_is_within_addresses()
+    ensures { ScanIsWithinAddresses }
 {}
