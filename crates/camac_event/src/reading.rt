@@ -11,6 +11,26 @@ use byteorder::{BigEndian, ByteOrder};
 use camac_word::{GlBit, Word24};
 use std::alloc::Global;
 
+/// The events that the bytes of a file spell. The first field that is wrong is answered with the offset of its first byte: V1 of the
+/// header; of each record V2 marker, V3 GL number, V4 event number, V9 missed in version Two, V5 count, V6 of each word; V7 where the
+/// bytes end inside the field. V8 is want of memory.
+pub fn decode(alloc: Global, bytes: &[u8]) -> Result<Events, EventFault>
+    // What is read is spelled so.
+    ensures found { IfOk result (λ e. AreEvents e.version e.events × (bytes.now ≡ spelling e.version e.events)) }
+    // What is spelled so is read, unless memory runs out.
+    ensures only { (version : Version) (events : List Entry) → AreEvents version events → bytes.now ≡ spelling version events
+        → GivesAll parts_of result (Ok (version, events)) }
+    // Which fault it is.
+    ensures exact { GivesAll parts_of result (file_at bytes.now) }
+{
+    let (version, items) = file_of(alloc, bytes)?;
+    Ok(Events {
+        alloc,
+        version,
+        items,
+    })
+}
+
 // Each reader takes its field from the front of `bytes`, what is left of a file of `total` bytes.
 
 /// A rule broken by the field before which `left` bytes of the file were left.
@@ -207,24 +227,4 @@ fn file_of(alloc: Global, bytes: &[u8]) -> Result<(Version, Vec<Event>), EventFa
     let version = header_of(bytes.len(), &mut rest)?;
     let events = records_of(alloc, version, bytes.len(), rest)?;
     Ok((version, events))
-}
-
-/// The events that the bytes of a file spell. The first field that is wrong is answered with the offset of its first byte: V1 of the
-/// header; of each record V2 marker, V3 GL number, V4 event number, V9 missed in version Two, V5 count, V6 of each word; V7 where the
-/// bytes end inside the field. V8 is want of memory.
-pub fn decode(alloc: Global, bytes: &[u8]) -> Result<Events, EventFault>
-    // What is read is spelled so.
-    ensures found { IfOk result (λ e. AreEvents e.version e.events × (bytes.now ≡ spelling e.version e.events)) }
-    // What is spelled so is read, unless memory runs out.
-    ensures only { (version : Version) (events : List Entry) → AreEvents version events → bytes.now ≡ spelling version events
-        → GivesAll parts_of result (Ok (version, events)) }
-    // Which fault it is.
-    ensures exact { GivesAll parts_of result (file_at bytes.now) }
-{
-    let (version, items) = file_of(alloc, bytes)?;
-    Ok(Events {
-        alloc,
-        version,
-        items,
-    })
 }

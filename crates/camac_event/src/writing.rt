@@ -4,7 +4,7 @@ ghost use Rattle.std.specs.Prelude.{◌≡◌, ◌≤◌, ◌<◌, ◌+◌, ◌*
 ghost use Rattle.std.specs.List.{flat_map};
 ghost use Rattle.arrayvec.specs.ArrayVec.{array_vec_len};
 ghost use Rattle.byteorder.specs.Endian.{big_bytes};
-ghost use Rattle.camac_event.specs.Spelling.{entry_of, entries_of, records_from, header, usage_fields, record_of, spelling, IsEvent};
+ghost use Rattle.camac_event.specs.Spelling.{entry_of, entries_of, records_from, header, usage_fields, record_of, spelling};
 ghost use Rattle.camac_event.specs.declared.event.Version.TheVariants.{Two};
 ghost use Rattle.camac_word.specs.Watched.{inner_of, has_failed};
 ghost use Rattle.camac_word.specs.Writing.{Writes};
@@ -15,6 +15,49 @@ use byteorder::{BigEndian, ByteOrder};
 use camac_word::{GlBit, Watched, Word24, WriteFault};
 use std::alloc::{AllocError, Global};
 use std::io::Write;
+
+/// The one spelling of the events, in their own version. An `Err` is want of memory.
+pub fn encode(alloc: Global, events: &Events) -> Result<Vec<u8>, AllocError>
+    ensures { IfOk result (λ v. v.items ≡ spelling events.now.version events.now.events) }
+{
+    let mut out = Vec::new(alloc);
+    out.extend_from_slice(header_text(events.version))?;
+    put_records(&mut out, &events.items)?;
+    Ok(out)
+}
+
+/// Writes the header of a file of version Two. After a fault a front of it was written.
+pub fn write_header<W: Write>(out: &mut Watched<W>) -> Result<(), WriteFault>
+    ensures text { Writes (W.contents (inner_of out.old)) (W.contents (inner_of out.new)) result (header Two) }
+    ensures failed { has_failed out.new ≡ (has_failed out.old || is_err result) }
+{
+    out.write_text(header_text(Version::Two))
+}
+
+/// Writes the record of an event of version Two, at most 4,096 words, under its number (1, 2, ..). After a fault a front of it was written.
+pub fn write_record<W: Write>(
+    out: &mut Watched<W>,
+    number: u32,
+    gl: GlBit,
+    usage: Usage,
+    words: &[Word24],
+) -> Result<(), WriteFault>
+    requires words { length words.now ≤ 4096 }
+    requires usage { usage.missed ≤ usage.cycles }
+    ensures text { Writes (W.contents (inner_of out.old)) (W.contents (inner_of out.new)) result
+        (record_of number (record { gl = gl; usage = Some usage; words = words.now })) }
+    ensures failed { has_failed out.new ≡ (has_failed out.old || is_err result) }
+{
+    let mut layout = RecordBytes::new();
+    lay_u16(&mut layout, 0xCA4D);
+    lay_u16(&mut layout, gl.get() as u16);
+    lay_u32(&mut layout, number);
+    lay_u32(&mut layout, usage.cycles);
+    lay_u16(&mut layout, usage.missed);
+    lay_u16(&mut layout, words.len() as u16);
+    lay_words(&mut layout, words);
+    out.write_text(&layout)
+}
 
 fn put_u16(out: &mut Vec<u8>, n: u16) -> Result<(), AllocError>
     ensures { OnOk result (out.new.items ≡ out.old.items ++ big_bytes 2 n) }
@@ -87,23 +130,13 @@ fn header_text(version: Version) -> &'static [u8; 8]
     }
 }
 
-/// The one spelling of the events, in their own version. An `Err` is want of memory.
-pub fn encode(alloc: Global, events: &Events) -> Result<Vec<u8>, AllocError>
-    ensures { IfOk result (λ v. v.items ≡ spelling events.now.version events.now.events) }
-{
-    let mut out = Vec::new(alloc);
-    out.extend_from_slice(header_text(events.version))?;
-    put_records(&mut out, &events.items)?;
-    Ok(out)
-}
-
 /// The greatest length of a record of version Two, in bytes.
 const RECORD: usize = 18 + 4 * 4096;
 
 /// A record while it is laid out.
-type Layout = ArrayVec<u8, RECORD>;
+type RecordBytes = ArrayVec<u8, RECORD>;
 
-fn lay_u16(out: &mut Layout, n: u16)
+fn lay_u16(out: &mut RecordBytes, n: u16)
     requires { array_vec_len out.old + 2 ≤ RECORD }
     ensures items { out.new.items ≡ out.old.items ++ big_bytes 2 n }
     ensures len { array_vec_len out.new ≡ array_vec_len out.old + 2 }
@@ -113,7 +146,7 @@ fn lay_u16(out: &mut Layout, n: u16)
     out.try_extend_from_slice(&field).unwrap();
 }
 
-fn lay_u32(out: &mut Layout, n: u32)
+fn lay_u32(out: &mut RecordBytes, n: u32)
     requires { array_vec_len out.old + 4 ≤ RECORD }
     ensures items { out.new.items ≡ out.old.items ++ big_bytes 4 n }
     ensures len { array_vec_len out.new ≡ array_vec_len out.old + 4 }
@@ -123,44 +156,11 @@ fn lay_u32(out: &mut Layout, n: u32)
     out.try_extend_from_slice(&field).unwrap();
 }
 
-fn lay_words(out: &mut Layout, words: &[Word24])
+fn lay_words(out: &mut RecordBytes, words: &[Word24])
     requires { array_vec_len out.old + 4 * length words.now ≤ RECORD }
     ensures { out.new.items ≡ out.old.items ++ flat_map (big_bytes 4) words.now }
 {
     for word in words {
         lay_u32(out, word.get());
     }
-}
-
-/// Writes the header of a file of version Two. After a fault a front of it was written.
-pub fn write_header<W: Write>(out: &mut Watched<W>) -> Result<(), WriteFault>
-    ensures text { Writes (W.contents (inner_of out.old)) (W.contents (inner_of out.new)) result (header Two) }
-    ensures failed { has_failed out.new ≡ (has_failed out.old || is_err result) }
-{
-    out.write_text(header_text(Version::Two))
-}
-
-/// Writes the record of an event of version Two, at most 4,096 words, under its number (1, 2, ..). After a fault a front of it was written.
-pub fn write_record<W: Write>(
-    out: &mut Watched<W>,
-    number: u32,
-    gl: GlBit,
-    usage: Usage,
-    words: &[Word24],
-) -> Result<(), WriteFault>
-    requires words { length words.now ≤ 4096 }
-    requires usage { usage.missed ≤ usage.cycles }
-    ensures text { Writes (W.contents (inner_of out.old)) (W.contents (inner_of out.new)) result
-        (record_of number (record { gl = gl; usage = Some usage; words = words.now })) }
-    ensures failed { has_failed out.new ≡ (has_failed out.old || is_err result) }
-{
-    let mut layout = Layout::new();
-    lay_u16(&mut layout, 0xCA4D);
-    lay_u16(&mut layout, gl.get() as u16);
-    lay_u32(&mut layout, number);
-    lay_u32(&mut layout, usage.cycles);
-    lay_u16(&mut layout, usage.missed);
-    lay_u16(&mut layout, words.len() as u16);
-    lay_words(&mut layout, words);
-    out.write_text(&layout)
 }
