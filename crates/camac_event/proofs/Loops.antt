@@ -1,0 +1,37 @@
+-- Reading words one after the other, as a loop does.
+use Rattle.std.proofs.Common.{◌≡◌, ℕ, suc, ◌-◌, ◌+◌, ◌≤◌, ◌<◌, List, [], ◌∷◌, ◌++◌, Result, Ok, Err, refl, sym, ap, ◌∙◌, append_assoc, append-nil, arith}
+use Rattle.camac_event.specs.declared.fault.EventFault.{EventFault}
+use Rattle.camac_event.specs.declared.fault.EventFault.TheVariants as faults
+use Rattle.camac_event.specs.Reading.{Flaw, ◌>>=◌, Fails, word_at, words_at}
+
+-- what was read before, and what is still read
+abbrev pub with_front : List ℕ → Result (List ℕ × List ℕ) Flaw → Result (List ℕ × List ℕ) Flaw
+with_front front read = read >>= λ x. Ok (front ++ x.0, x.1)
+
+regroup : (front : List ℕ) (n : ℕ) (read : Result (List ℕ × List ℕ) Flaw) → with_front front (read >>= λ x. Ok (n ∷ x.0, x.1)) ≡ with_front (front ++ n ∷ []) read
+regroup front n (Ok x) = ap (λ (ns : List ℕ). Ok (ns, x.1)) (simp append_assoc)
+regroup front n (Err f) = refl
+
+pub goes_on : (front : List ℕ) (count i file : ℕ) (bytes : List ℕ) (n : ℕ) (after : List ℕ) (total : Result (List ℕ × List ℕ) Flaw) → i < count → word_at file bytes ≡ Ok (n, after)
+    → with_front front (words_at (count - i) file bytes) ≡ total → with_front (front ++ n ∷ []) (words_at (count - (i + 1)) file after) ≡ total
+unfolding words_at
+goes_on front count i file bytes n after total lt h so_far =
+    let k : count - i ≡ suc (count - (i + 1)) = omega arith in
+    let one : with_front front (words_at (count - i) file bytes) ≡ with_front (front ++ n ∷ []) (words_at (count - (i + 1)) file after) = rw (k, h) (regroup front n (words_at (count - (i + 1)) file after)) in
+    sym one ∙ so_far
+
+pub ends : (e : EventFault) (front : List ℕ) (count i file : ℕ) (bytes : List ℕ) (total : Result (List ℕ × List ℕ) Flaw) → i < count → Fails e (word_at file bytes)
+    → with_front front (words_at (count - i) file bytes) ≡ total → Fails e total
+unfolding words_at
+ends faults.OutOfMemory front count i file bytes total lt h so_far = tt
+ends (faults.Broken rule offset) front count i file bytes total lt h so_far =
+    let k : count - i ≡ suc (count - (i + 1)) = omega arith in
+    let one : with_front front (words_at (count - i) file bytes) ≡ Err (record { rule = rule; offset = offset }) = rw (k, h) refl in
+    sym so_far ∙ one
+
+pub is_done : (front : List ℕ) (count i file : ℕ) (bytes : List ℕ) (total : Result (List ℕ × List ℕ) Flaw) → count ≤ i → with_front front (words_at (count - i) file bytes) ≡ total → total ≡ Ok (front, bytes)
+unfolding words_at
+is_done front count i file bytes total le so_far =
+    let k : count - i ≡ 0 = omega arith in
+    let one : with_front front (words_at (count - i) file bytes) ≡ Ok (front, bytes) = rw k (ap (λ (ns : List ℕ). Ok (ns, bytes)) (append-nil front)) in
+    sym so_far ∙ one

@@ -1,0 +1,17 @@
+// Laws of the spelling.
+
+ghost use Rattle.std.specs.Prelude.{◌≡◌, Ok, List};
+ghost use Rattle.camac_event.specs.Spelling.{Entry, spelling, AreEvents};
+ghost use Rattle.camac_event.specs.Reading.{file_at};
+ghost use Rattle.camac_event.specs.declared.event.Version.{Version};
+
+/// What a list of events is spelled as reads back as that list: decoding what was encoded gives what was encoded.
+pub fn spelling_reads_back()
+    ensures { (version : Version) (events : List Entry) → AreEvents version events → file_at (spelling version events) ≡ Ok (version, events) }
+{}
+
+/// No two lists of events have the same bytes, also where they differ in their version alone.
+pub fn spelling_is_one()
+    ensures { (version other : Version) (events others : List Entry) → AreEvents version events → AreEvents other others
+        → spelling version events ≡ spelling other others → (version ≡ other) × (events ≡ others) }
+{}

@@ -1,0 +1,166 @@
+// Writing events, into memory in either version, and to a writer in version Two.
+
+ghost use Rattle.std.specs.Prelude.{◌≡◌, ◌≤◌, ◌<◌, ◌+◌, ◌*◌, ◌^◌, ◌++◌, ◌||◌, length, OnOk, IfOk, Some, is_err, All};
+ghost use Rattle.std.specs.List.{flat_map};
+ghost use Rattle.arrayvec.specs.ArrayVec.{array_vec_len};
+ghost use Rattle.byteorder.specs.Endian.{big_bytes};
+ghost use Rattle.camac_event.specs.Spelling.{entry_of, entries_of, records_from, header, usage_fields, record_of, spelling};
+ghost use Rattle.camac_event.specs.declared.event.Version.TheVariants.{Two};
+ghost use Rattle.camac_word.specs.Watched.{inner_of, has_failed};
+ghost use Rattle.camac_word.specs.Writing.{Writes};
+
+use crate::event::{Event, Events, Usage, Version};
+use arrayvec::ArrayVec;
+use byteorder::{BigEndian, ByteOrder};
+use camac_word::{GlBit, Watched, Word24, WriteFault};
+use std::alloc::{AllocError, Global};
+use std::io::Write;
+
+/// The one spelling of the events, in their own version. An `Err` is want of memory.
+pub fn encode(alloc: Global, events: &Events) -> Result<Vec<u8>, AllocError>
+    ensures { IfOk result (λ v. v.items ≡ spelling events.now.version events.now.events) }
+{
+    let mut out = Vec::new(alloc);
+    out.extend_from_slice(header_text(events.version))?;
+    put_records(&mut out, &events.items)?;
+    Ok(out)
+}
+
+/// Writes the header of a file of version Two. After a fault a front of it was written.
+pub fn write_header<W: Write>(out: &mut Watched<W>) -> Result<(), WriteFault>
+    ensures text { Writes (W.contents (inner_of out.old)) (W.contents (inner_of out.new)) result (header Two) }
+    ensures failed { has_failed out.new ≡ (has_failed out.old || is_err result) }
+{
+    out.write_text(header_text(Version::Two))
+}
+
+/// Writes the record of an event of version Two, at most 4,096 words, under its number (1, 2, ..). After a fault a front of it was written.
+pub fn write_record<W: Write>(
+    out: &mut Watched<W>,
+    number: u32,
+    gl: GlBit,
+    usage: Usage,
+    words: &[Word24],
+) -> Result<(), WriteFault>
+    requires words { length words.now ≤ 4096 }
+    requires usage { usage.missed ≤ usage.cycles }
+    ensures text { Writes (W.contents (inner_of out.old)) (W.contents (inner_of out.new)) result
+        (record_of number (record { gl = gl; usage = Some usage; words = words.now })) }
+    ensures failed { has_failed out.new ≡ (has_failed out.old || is_err result) }
+{
+    let mut layout = RecordBytes::new();
+    lay_u16(&mut layout, 0xCA4D);
+    lay_u16(&mut layout, gl.get() as u16);
+    lay_u32(&mut layout, number);
+    lay_u32(&mut layout, usage.cycles);
+    lay_u16(&mut layout, usage.missed);
+    lay_u16(&mut layout, words.len() as u16);
+    lay_words(&mut layout, words);
+    out.write_text(&layout)
+}
+
+fn put_u16(out: &mut Vec<u8>, n: u16) -> Result<(), AllocError>
+    ensures { OnOk result (out.new.items ≡ out.old.items ++ big_bytes 2 n) }
+{
+    let mut field = [0; 2];
+    BigEndian::write_u16(&mut field, n);
+    out.extend_from_slice(&field)
+}
+
+fn put_u32(out: &mut Vec<u8>, n: u32) -> Result<(), AllocError>
+    ensures { OnOk result (out.new.items ≡ out.old.items ++ big_bytes 4 n) }
+{
+    let mut field = [0; 4];
+    BigEndian::write_u32(&mut field, n);
+    out.extend_from_slice(&field)
+}
+
+fn put_usage(out: &mut Vec<u8>, usage: Option<Usage>) -> Result<(), AllocError>
+    ensures { OnOk result (out.new.items ≡ out.old.items ++ usage_fields usage) }
+{
+    match usage {
+        None => Ok(()),
+        Some(usage) => {
+            put_u32(out, usage.cycles)?;
+            put_u16(out, usage.missed)
+        }
+    }
+}
+
+fn put_words(out: &mut Vec<u8>, words: &[Word24]) -> Result<(), AllocError>
+    ensures { OnOk result (out.new.items ≡ out.old.items ++ flat_map (big_bytes 4) words.now) }
+{
+    for word in words {
+        put_u32(out, word.get())?;
+    }
+    Ok(())
+}
+
+fn put_record(out: &mut Vec<u8>, number: u32, event: &Event) -> Result<(), AllocError>
+    requires { length event.now.words.items ≤ 4096 }
+    ensures { OnOk result (out.new.items ≡ out.old.items ++ record_of number (entry_of event.now)) }
+{
+    put_u16(out, 0xCA4D)?;
+    put_u16(out, event.gl.get() as u16)?;
+    put_u32(out, number)?;
+    put_usage(out, event.usage)?;
+    put_u16(out, event.words.len() as u16)?;
+    put_words(out, &event.words)
+}
+
+fn put_records(out: &mut Vec<u8>, events: &[Event]) -> Result<(), AllocError>
+    requires few { length events.now < 2 ^ 32 }
+    requires short { All (λ e. length e.words.items ≤ 4096) events.now }
+    ensures { OnOk result (out.new.items ≡ out.old.items ++ records_from 1 (entries_of events.now)) }
+{
+    let mut number = 0;
+    for event in events {
+        number += 1;
+        put_record(out, number, event)?;
+    }
+    Ok(())
+}
+
+fn header_text(version: Version) -> &'static [u8; 8]
+    ensures { result.now ≡ header version }
+{
+    match version {
+        Version::One => b"CAMACEV1",
+        Version::Two => b"CAMACEV2",
+    }
+}
+
+/// The greatest length of a record of version Two, in bytes.
+const RECORD: usize = 18 + 4 * 4096;
+
+/// A record while it is laid out.
+type RecordBytes = ArrayVec<u8, RECORD>;
+
+fn lay_u16(out: &mut RecordBytes, n: u16)
+    requires { array_vec_len out.old + 2 ≤ RECORD }
+    ensures items { out.new.items ≡ out.old.items ++ big_bytes 2 n }
+    ensures len { array_vec_len out.new ≡ array_vec_len out.old + 2 }
+{
+    let mut field = [0; 2];
+    BigEndian::write_u16(&mut field, n);
+    out.try_extend_from_slice(&field).unwrap();
+}
+
+fn lay_u32(out: &mut RecordBytes, n: u32)
+    requires { array_vec_len out.old + 4 ≤ RECORD }
+    ensures items { out.new.items ≡ out.old.items ++ big_bytes 4 n }
+    ensures len { array_vec_len out.new ≡ array_vec_len out.old + 4 }
+{
+    let mut field = [0; 4];
+    BigEndian::write_u32(&mut field, n);
+    out.try_extend_from_slice(&field).unwrap();
+}
+
+fn lay_words(out: &mut RecordBytes, words: &[Word24])
+    requires { array_vec_len out.old + 4 * length words.now ≤ RECORD }
+    ensures { out.new.items ≡ out.old.items ++ flat_map (big_bytes 4) words.now }
+{
+    for word in words {
+        lay_u32(out, word.get());
+    }
+}
