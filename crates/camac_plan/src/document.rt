@@ -1,0 +1,124 @@
+//! The text of a plan.
+
+ghost use Rattle.std.specs.Prelude.{◌≡◌, ◌≤◌, Ok, IfOk, IfErr, codes, unwrap_or};
+ghost use Rattle.toml.specs.View.{table_view};
+ghost use Rattle.camac_plan.specs.Field.{next, number_at, items_or_none};
+ghost use Rattle.camac_plan.specs.Types.{with_types};
+ghost use Rattle.camac_plan.specs.Crates.{with_crates};
+ghost use Rattle.camac_plan.specs.Reading.{AddsOrTells, GivesOrTells, Tells, plan_of, document_of, reading};
+
+use crate::crates::add_crates;
+use crate::fault::{PlanFault, PlanRule};
+use crate::field::{has_only, number_at, tables_at};
+use crate::module_type::add_types;
+use camac_branch::Plan;
+use std::alloc::Global;
+use toml::Table;
+use toml::value::Array;
+
+/// The plan that a text says, in TOML (own). Refused is the first rule that is broken as the top table, then each type in
+/// order, then each crate in order is read, in each table first its keys and then key by key; no TOML is refused before
+/// them. Want of memory is P10.
+pub fn read(alloc: Global, bytes: &[u8]) -> Result<Plan, PlanFault>
+    ensures { GivesOrTells result (reading bytes.now) }
+{
+    match read_document(alloc, bytes) {
+        Ok(table) => read_table(alloc, &table),
+        Err(fault) => Err(fault),
+    }
+}
+
+// The table that a text says as TOML. Bytes that are not UTF-8 are no TOML.
+fn read_document(alloc: Global, bytes: &[u8]) -> Result<Table, PlanFault>
+    ensures ok { IfOk result (λ t. document_of bytes.now ≡ Ok (table_view t)) }
+    ensures refused { IfErr result (λ e. Tells e (document_of bytes.now)) }
+{
+    match toml::table_from_slice(alloc, bytes) {
+        Ok(table) => Ok(table),
+        Err(e) => {
+            if e.is_memory() {
+                Err(PlanFault::OutOfMemory)
+            } else {
+                Err(PlanFault::Broken(PlanRule::NotToml))
+            }
+        }
+    }
+}
+
+// The plan that a table says.
+fn read_table(alloc: Global, table: &Table) -> Result<Plan, PlanFault>
+    ensures { GivesOrTells result (plan_of (table_view table.now)) }
+{
+    if !has_only(table, &["buffer", "type", "crate"]) {
+        return Err(PlanFault::Broken(PlanRule::UnknownKey));
+    }
+    let buffer = match buffer_at(table) {
+        Ok(buffer) => buffer,
+        Err(rule) => return Err(PlanFault::Broken(rule)),
+    };
+    let types = match tables_at(table, "type") {
+        Ok(types) => types,
+        Err(rule) => return Err(PlanFault::Broken(rule)),
+    };
+    let crates = match tables_at(table, "crate") {
+        Ok(crates) => crates,
+        Err(rule) => return Err(PlanFault::Broken(rule)),
+    };
+    match Plan::new(alloc, buffer.unwrap_or(4096)) {
+        Some(plan) => filled(alloc, plan, &types, &crates),
+        None => Err(PlanFault::Broken(PlanRule::OutOfRange)),
+    }
+}
+
+fn buffer_at(table: &Table) -> Result<Option<u16>, PlanRule>
+    ensures value { result ≡ number_at (codes "buffer") 1 4096 (table_view table.now) }
+    ensures in_range { IfOk result (λ b. (1 ≤ unwrap_or b 4096) × (unwrap_or b 4096 ≤ 4096)) }
+{
+    match number_at(table, "buffer", 1, 4096)? {
+        Some(buffer) => Ok(Some(buffer as u16)),
+        None => Ok(None),
+    }
+}
+
+fn filled(alloc: Global, plan: Plan, types: &Option<&Array>, crates: &Option<&Array>) -> Result<Plan, PlanFault>
+    ensures { GivesOrTells result (next (with_types plan (items_or_none types.now)) (λ p. with_crates p (items_or_none crates.now))) }
+{
+    let mut plan = plan;
+    match fill(alloc, &mut plan, types, crates) {
+        Ok(()) => Ok(plan),
+        Err(fault) => Err(fault),
+    }
+}
+
+// Puts the types and then the crates into the plan.
+fn fill(alloc: Global, plan: &mut Plan, types: &Option<&Array>, crates: &Option<&Array>) -> Result<(), PlanFault>
+    ensures { AddsOrTells result plan.new (next (with_types plan.old (items_or_none types.now)) (λ p. with_crates p (items_or_none crates.now))) }
+{
+    match add_any_types(alloc, plan, types) {
+        Ok(()) => add_any_crates(plan, crates),
+        Err(fault) => Err(fault),
+    }
+}
+
+// Puts the types into the plan, if there are any.
+fn add_any_types(alloc: Global, plan: &mut Plan, types: &Option<&Array>) -> Result<(), PlanFault>
+    ensures { AddsOrTells result plan.new (with_types plan.old (items_or_none types.now)) }
+{
+    match types {
+        Some(items) => add_types(alloc, plan, items),
+        None => Ok(()),
+    }
+}
+
+// Puts the crates into the plan, if there are any.
+fn add_any_crates(plan: &mut Plan, crates: &Option<&Array>) -> Result<(), PlanFault>
+    ensures { AddsOrTells result plan.new (with_crates plan.old (items_or_none crates.now)) }
+{
+    match crates {
+        Some(items) => match add_crates(plan, items) {
+            Ok(()) => Ok(()),
+            Err(rule) => Err(PlanFault::Broken(rule)),
+        },
+        None => Ok(()),
+    }
+}
