@@ -12,18 +12,18 @@ use Rattle.camac_plan.specs.Field.{next, has_only, number_at, flag_at, required}
 abbrev pub width_at : Bool → Members → Result ℕ PlanRule
 width_at probe ms =
     next (number_at (codes "width") 1 24 ms) (λ width.
-      if probe && not (nat_eq (unwrap_or width 24) 24) then Err OutOfRange else Ok (unwrap_or width 24))
+    if probe && not (nat_eq (unwrap_or width 24) 24) then Err OutOfRange else Ok (unwrap_or width 24))
 
 -- a command's table: its keys, and then one key after the other
 abbrev pub command_of : Members → Result CommandLine PlanRule
 command_of ms =
     if has_only (codes "f" ∷ codes "a" ∷ codes "to" ∷ codes "probe" ∷ codes "width" ∷ []) ms
     then next (next (number_at (codes "f") 0 31 ms) required) (λ f.
-      next (next (number_at (codes "a") 0 15 ms) required) (λ a.
-        next (number_at (codes "to") a 15 ms) (λ to.
-          next (flag_at (codes "probe") ms) (λ probe.
-            next (width_at (unwrap_or probe false) ms) (λ width.
-              Ok (record { f = f; first = a; last = unwrap_or to a; width = width; probe = unwrap_or probe false }))))))
+    next (next (number_at (codes "a") 0 15 ms) required) (λ a.
+    next (number_at (codes "to") a 15 ms) (λ to.
+    next (flag_at (codes "probe") ms) (λ probe.
+    next (width_at (unwrap_or probe false) ms) (λ width.
+    Ok (record { f = f; first = a; last = unwrap_or to a; width = width; probe = unwrap_or probe false }))))))
     else Err UnknownKey
 
 -- the command at one of its sub-addresses

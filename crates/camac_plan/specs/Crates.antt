@@ -18,9 +18,9 @@ abbrev pub station_of : Members → Result StationLine PlanRule
 station_of ms =
     if has_only (codes "n" ∷ codes "type" ∷ codes "gl" ∷ []) ms
     then next (next (number_at (codes "n") 1 23 ms) required) (λ n.
-      next (text_at (codes "type") ms) (λ type_name.
-        next (number_at (codes "gl") 1 24 ms) (λ gl.
-          Ok (record { n = n; type_name = type_name; gl = gl }))))
+    next (text_at (codes "type") ms) (λ type_name.
+    next (number_at (codes "gl") 1 24 ms) (λ gl.
+    Ok (record { n = n; type_name = type_name; gl = gl }))))
     else Err UnknownKey
 
 -- a station of a type of the plan, put into its crate
@@ -52,9 +52,9 @@ abbrev pub crate_of : Members → Result CrateLine PlanRule
 crate_of ms =
     if has_only (codes "number" ∷ codes "waits" ∷ codes "station" ∷ []) ms
     then next (next (number_at (codes "number") 1 7 ms) required) (λ number.
-      next (number_at (codes "waits") 0 15 ms) (λ waits.
-        next (tables_at (codes "station") ms) (λ stations.
-          Ok (record { number = number; waits = unwrap_or waits 0; stations = stations }))))
+    next (number_at (codes "waits") 0 15 ms) (λ waits.
+    next (tables_at (codes "station") ms) (λ stations.
+    Ok (record { number = number; waits = unwrap_or waits 0; stations = stations }))))
     else Err UnknownKey
 
 -- a crate that was read, put into the plan with its stations

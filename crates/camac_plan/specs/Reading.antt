@@ -21,9 +21,9 @@ abbrev pub plan_of : Members → Result Layout PlanRule
 plan_of ms =
     if has_only (codes "buffer" ∷ codes "type" ∷ codes "crate" ∷ []) ms
     then next (number_at (codes "buffer") 1 4096 ms) (λ buffer.
-      next (tables_at (codes "type") ms) (λ types.
-        next (tables_at (codes "crate") ms) (λ crates.
-          next (with_types (empty_plan (unwrap_or buffer 4096)) types) (λ plan. with_crates plan crates))))
+    next (tables_at (codes "type") ms) (λ types.
+    next (tables_at (codes "crate") ms) (λ crates.
+    next (with_types (empty_plan (unwrap_or buffer 4096)) types) (λ plan. with_crates plan crates))))
     else Err UnknownKey
 
 abbrev pub parsed : Option Members → Result Members PlanRule

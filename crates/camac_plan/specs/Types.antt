@@ -24,8 +24,8 @@ abbrev pub type_of : Members → Result TypeLine PlanRule
 type_of ms =
     if has_only (codes "name" ∷ codes "commands" ∷ []) ms
     then next (type_name_at (codes "name") ms) (λ name.
-      next (next (required (get_member (codes "commands") ms)) tables_in) (λ commands.
-        Ok (record { name = name; commands = commands })))
+    next (next (required (get_member (codes "commands") ms)) tables_in) (λ commands.
+    Ok (record { name = name; commands = commands })))
     else Err UnknownKey
 
 -- a type that was read, put into the plan with its commands
@@ -45,4 +45,4 @@ with_types plan (item (table t) rest) = next (with_type_table plan t) (λ p. wit
 with_types plan (item _ rest) = Err MissingOrWrongKind
 
 abbrev pub type_view : code.TypeLine → TypeLine
-type_view line = record { name = line.name.now; commands = array_view line.commands.now }
+type_view line = record { name = line.name; commands = array_view line.commands.now }

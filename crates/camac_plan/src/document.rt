@@ -52,18 +52,9 @@ fn read_table(alloc: Global, table: &Table) -> Result<Plan, PlanFault>
     if !has_only(table, &["buffer", "type", "crate"]) {
         return Err(PlanFault::Broken(PlanRule::UnknownKey));
     }
-    let buffer = match buffer_at(table) {
-        Ok(buffer) => buffer,
-        Err(rule) => return Err(PlanFault::Broken(rule)),
-    };
-    let types = match tables_at(table, "type") {
-        Ok(types) => types,
-        Err(rule) => return Err(PlanFault::Broken(rule)),
-    };
-    let crates = match tables_at(table, "crate") {
-        Ok(crates) => crates,
-        Err(rule) => return Err(PlanFault::Broken(rule)),
-    };
+    let buffer = buffer_at(table).map_err(PlanFault::Broken)?;
+    let types = tables_at(table, "type").map_err(PlanFault::Broken)?;
+    let crates = tables_at(table, "crate").map_err(PlanFault::Broken)?;
     match Plan::new(alloc, buffer.unwrap_or(4096)) {
         Some(plan) => filled(alloc, plan, &types, &crates),
         None => Err(PlanFault::Broken(PlanRule::OutOfRange)),
@@ -80,7 +71,12 @@ fn buffer_at(table: &Table) -> Result<Option<u16>, PlanRule>
     }
 }
 
-fn filled(alloc: Global, plan: Plan, types: &Option<&Array>, crates: &Option<&Array>) -> Result<Plan, PlanFault>
+fn filled(
+    alloc: Global,
+    plan: Plan,
+    types: &Option<&Array>,
+    crates: &Option<&Array>,
+) -> Result<Plan, PlanFault>
     ensures { GivesOrTells result (next (with_types plan (items_or_none types.now)) (λ p. with_crates p (items_or_none crates.now))) }
 {
     let mut plan = plan;
@@ -91,7 +87,12 @@ fn filled(alloc: Global, plan: Plan, types: &Option<&Array>, crates: &Option<&Ar
 }
 
 // Puts the types and then the crates into the plan.
-fn fill(alloc: Global, plan: &mut Plan, types: &Option<&Array>, crates: &Option<&Array>) -> Result<(), PlanFault>
+fn fill(
+    alloc: Global,
+    plan: &mut Plan,
+    types: &Option<&Array>,
+    crates: &Option<&Array>,
+) -> Result<(), PlanFault>
     ensures { AddsOrTells result plan.new (next (with_types plan.old (items_or_none types.now)) (λ p. with_crates p (items_or_none crates.now))) }
 {
     match add_any_types(alloc, plan, types) {

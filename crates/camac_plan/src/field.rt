@@ -62,7 +62,12 @@ fn number_in(value: &Value, low: u32, high: u32) -> Result<u32, PlanRule>
 }
 
 // The number at a key, if the key is there.
-pub(crate) fn number_at(table: &Table, key: &str, low: u32, high: u32) -> Result<Option<u32>, PlanRule>
+pub(crate) fn number_at(
+    table: &Table,
+    key: &str,
+    low: u32,
+    high: u32,
+) -> Result<Option<u32>, PlanRule>
     ensures value { result ≡ number_at key.now low high (table_view table.now) }
     ensures in_range { IfOk result (λ o. IfSome o (λ x. (low ≤ x) × (x ≤ high))) }
 {
@@ -73,7 +78,12 @@ pub(crate) fn number_at(table: &Table, key: &str, low: u32, high: u32) -> Result
 }
 
 // The number at a key that has to be there.
-pub(crate) fn required_number_at(table: &Table, key: &str, low: u32, high: u32) -> Result<u32, PlanRule>
+pub(crate) fn required_number_at(
+    table: &Table,
+    key: &str,
+    low: u32,
+    high: u32,
+) -> Result<u32, PlanRule>
     ensures value { result ≡ next (number_at key.now low high (table_view table.now)) required }
     ensures in_range { IfOk result (λ x. (low ≤ x) × (x ≤ high)) }
 {

@@ -1,9 +1,8 @@
 //! The types of a plan.
 
-ghost use Rattle.std.specs.Prelude.{◌≡◌, codes};
+ghost use Rattle.std.specs.Prelude.{◌≡◌, ◌<◌, length, codes, Err, IsOk};
 ghost use Rattle.toml.specs.View.{array_view, table_view};
-ghost use Rattle.camac_branch.specs.Name.{is_type_name};
-ghost use Rattle.camac_plan.specs.Field.{Reads, text_view};
+ghost use Rattle.camac_plan.specs.Field.{Reads};
 ghost use Rattle.camac_plan.specs.Types.{type_name_at, type_of, type_view, with_type_line, with_type_table, with_types};
 ghost use Rattle.camac_plan.specs.Reading.{AddsOrTells};
 
@@ -17,9 +16,9 @@ use toml::value::Array;
 use toml::{Table, Value};
 
 // A type as its table says.
-#[derive(Clone, Copy)]
+#[derive(Drop)]
 pub(crate) struct TypeLine<'a> {
-    name: &'a str,
+    name: TypeName,
     commands: &'a Array,
 }
 
@@ -41,20 +40,23 @@ pub(crate) fn add_types(alloc: Global, plan: &mut Plan, items: &Array) -> Result
 
 // Puts the type of a table into the plan.
 fn add_type_table(alloc: Global, plan: &mut Plan, table: &Table) -> Result<(), PlanFault>
-    ensures { AddsOrTells result plan.new (with_type_table plan.old (table_view table.now)) }
+    ensures reads { AddsOrTells result plan.new (with_type_table plan.old (table_view table.now)) }
+    ensures memory { result ≡ Err PlanFault.OutOfMemory → IsOk (with_type_table plan.old (table_view table.now)) }
 {
     if plan.types() >= 64 {
         return Err(PlanFault::Broken(PlanRule::OutOfRange));
     }
     match read_type(table) {
-        Ok(line) => add_type(alloc, plan, &line),
+        Ok(line) => add_type(alloc, plan, line),
         Err(rule) => Err(PlanFault::Broken(rule)),
     }
 }
 
 // Puts a type and its commands into the plan.
-fn add_type(alloc: Global, plan: &mut Plan, line: &TypeLine) -> Result<(), PlanFault>
-    ensures { AddsOrTells result plan.new (with_type_line plan.old (type_view line.now)) }
+fn add_type(alloc: Global, plan: &mut Plan, line: TypeLine) -> Result<(), PlanFault>
+    requires { length plan.old.types < 64 }
+    ensures reads { AddsOrTells result plan.new (with_type_line plan.old (type_view line.entry)) }
+    ensures memory { result ≡ Err PlanFault.OutOfMemory → IsOk (with_type_line plan.old (type_view line.entry)) }
 {
     if plan.type_named(line.name.as_bytes()).is_some() {
         return Err(PlanFault::Broken(PlanRule::DeclaredTwice));
@@ -64,12 +66,9 @@ fn add_type(alloc: Global, plan: &mut Plan, line: &TypeLine) -> Result<(), PlanF
         Ok(()) => {}
         Err(rule) => return Err(PlanFault::Broken(rule)),
     }
-    match TypeName::new(line.name.as_bytes()) {
-        Some(name) => match plan.add_type(name, commands) {
-            Ok(_) => Ok(()),
-            Err(_) => Err(PlanFault::OutOfMemory),
-        },
-        None => Err(PlanFault::OutOfMemory),
+    match plan.add_type(line.name, commands) {
+        Ok(_) => Ok(()),
+        Err(_) => Err(PlanFault::OutOfMemory),
     }
 }
 
@@ -85,19 +84,12 @@ fn read_type<'a>(table: &'a Table) -> Result<TypeLine<'a>, PlanRule>
     Ok(TypeLine { name, commands })
 }
 
-fn type_name<'a>(table: &'a Table) -> Result<&'a str, PlanRule>
-    ensures { Reads text_view result (type_name_at (codes "name") (table_view table.now)) }
+fn type_name(table: &Table) -> Result<TypeName, PlanRule>
+    ensures { result ≡ type_name_at (codes "name") (table_view table.now) }
 {
-    let name = text_at(table, "name")?;
-    if is_type_name(name.as_bytes()) {
-        Ok(name)
-    } else {
-        Err(PlanRule::OutOfRange)
+    let text = text_at(table, "name")?;
+    match TypeName::new(text.as_bytes()) {
+        Some(name) => Ok(name),
+        None => Err(PlanRule::OutOfRange),
     }
-}
-
-fn is_type_name(bytes: &[u8]) -> bool
-    ensures { result ≡ is_type_name bytes.now }
-{
-    TypeName::new(bytes).is_some()
 }

@@ -127,7 +127,11 @@ fn plan_faults_of_what_is_twice(rt: HostRuntime) -> Result<(), Fail> {
     assert_eq!(rt; crate_again, Some(PlanRule::CrateTwice));
     let station_again = rule_of(alloc, "n = 6", "n = 5")?;
     assert_eq!(rt; station_again, Some(PlanRule::StationTwice));
-    let command_again = rule_of(alloc, "{ f = 8, a = 12 }", "{ f = 8, a = 12 }, { f = 0, a = 11 }")?;
+    let command_again = rule_of(
+        alloc,
+        "{ f = 8, a = 12 }",
+        "{ f = 8, a = 12 }, { f = 0, a = 11 }",
+    )?;
     assert_eq!(rt; command_again, Some(PlanRule::DeclaredTwice));
     let bit_again = rule_of(alloc, "type = \"REG\"", "type = \"REG\"\ngl = 3")?;
     assert_eq!(rt; bit_again, Some(PlanRule::BitTwice));
@@ -152,10 +156,7 @@ fn plan_field_faults_of_numbers(rt: HostRuntime) -> Result<(), Fail> {
     let nothing = fault_of(alloc, b"buffer = 0");
     assert_eq!(rt; nothing, Some(PlanFault::Broken(PlanRule::OutOfRange)));
     let text = fault_of(alloc, b"buffer = \"4\"");
-    assert_eq!(rt;
-        text,
-        Some(PlanFault::Broken(PlanRule::MissingOrWrongKind))
-    );
+    assert_eq!(rt; text, Some(PlanFault::Broken(PlanRule::MissingOrWrongKind)));
     let code_32 = rule_of(alloc, "{ f = 8,", "{ f = 32,")?;
     assert_eq!(rt; code_32, Some(PlanRule::OutOfRange));
     Ok(())
