@@ -39,10 +39,7 @@ pub(crate) fn add_commands(commands: &mut ModuleType, items: &Array) -> Result<(
 fn add_command_table(commands: &mut ModuleType, table: &Table) -> Result<(), PlanRule>
     ensures { Declares result commands.new (next (command_of (table_view table.now)) (λ line. with_command line commands.old)) }
 {
-    match read_command(table) {
-        Ok(line) => declare_command(commands, &line),
-        Err(rule) => Err(rule),
-    }
+    declare_command(commands, &read_command(table)?)
 }
 
 // Declares a command at each of its sub-addresses.
@@ -75,10 +72,7 @@ fn declare_at(commands: &mut ModuleType, line: &CommandLine, a: SubAddress) -> R
         width: line.width,
         probe: line.probe,
     };
-    match commands.declare(d) {
-        Ok(()) => Ok(()),
-        Err(_) => Err(PlanRule::DeclaredTwice),
-    }
+    commands.declare(d).map_err(|_| PlanRule::DeclaredTwice)
 }
 
 // Reads the table of a command.
@@ -108,10 +102,7 @@ fn function_number(table: &Table) -> Result<Function, PlanRule>
     ensures { result ≡ next (number_at (codes "f") 0 31 (table_view table.now)) required }
 {
     let f = required_number_at(table, "f", 0, 31)?;
-    match Function::new(f) {
-        Some(f) => Ok(f),
-        None => Err(PlanRule::OutOfRange),
-    }
+    Function::new(f).ok_or(PlanRule::OutOfRange)
 }
 
 // The width of a command, which has to be 24 at a probe.

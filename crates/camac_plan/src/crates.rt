@@ -83,10 +83,7 @@ fn crate_number(table: &Table) -> Result<CrateNo, PlanRule>
     ensures { result ≡ next (number_at (codes "number") 1 7 (table_view table.now)) required }
 {
     let number = required_number_at(table, "number", 1, 7)?;
-    match CrateNo::new(number) {
-        Some(c) => Ok(c),
-        None => Err(PlanRule::OutOfRange),
-    }
+    CrateNo::new(number).ok_or(PlanRule::OutOfRange)
 }
 
 fn crate_waits(table: &Table) -> Result<Option<u8>, PlanRule>

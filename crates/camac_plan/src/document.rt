@@ -22,10 +22,8 @@ use toml::value::Array;
 pub fn read(alloc: Global, bytes: &[u8]) -> Result<Plan, PlanFault>
     ensures { GivesOrTells result (reading bytes.now) }
 {
-    match read_document(alloc, bytes) {
-        Ok(table) => read_table(alloc, &table),
-        Err(fault) => Err(fault),
-    }
+    let table = read_document(alloc, bytes)?;
+    read_table(alloc, &table)
 }
 
 // The table that a text says as TOML. Bytes that are not UTF-8 are no TOML.
@@ -80,10 +78,8 @@ fn filled(
     ensures { GivesOrTells result (next (with_types plan (items_or_none types.now)) (λ p. with_crates p (items_or_none crates.now))) }
 {
     let mut plan = plan;
-    match fill(alloc, &mut plan, types, crates) {
-        Ok(()) => Ok(plan),
-        Err(fault) => Err(fault),
-    }
+    fill(alloc, &mut plan, types, crates)?;
+    Ok(plan)
 }
 
 // Puts the types and then the crates into the plan.
@@ -95,10 +91,8 @@ fn fill(
 ) -> Result<(), PlanFault>
     ensures { AddsOrTells result plan.new (next (with_types plan.old (items_or_none types.now)) (λ p. with_crates p (items_or_none crates.now))) }
 {
-    match add_any_types(alloc, plan, types) {
-        Ok(()) => add_any_crates(plan, crates),
-        Err(fault) => Err(fault),
-    }
+    add_any_types(alloc, plan, types)?;
+    add_any_crates(plan, crates)
 }
 
 // Puts the types into the plan, if there are any.
@@ -116,10 +110,7 @@ fn add_any_crates(plan: &mut Plan, crates: &Option<&Array>) -> Result<(), PlanFa
     ensures { AddsOrTells result plan.new (with_crates plan.old (items_or_none crates.now)) }
 {
     match crates {
-        Some(items) => match add_crates(plan, items) {
-            Ok(()) => Ok(()),
-            Err(rule) => Err(PlanFault::Broken(rule)),
-        },
+        Some(items) => add_crates(plan, items).map_err(PlanFault::Broken),
         None => Ok(()),
     }
 }

@@ -28,10 +28,7 @@ pub(crate) fn add_types(alloc: Global, plan: &mut Plan, items: &Array) -> Result
 {
     'types: for item in items {
         match item {
-            Value::Table(table) => match add_type_table(alloc, plan, table) {
-                Ok(()) => {}
-                Err(fault) => return Err(fault),
-            },
+            Value::Table(table) => add_type_table(alloc, plan, table)?,
             _ => return Err(PlanFault::Broken(PlanRule::MissingOrWrongKind)),
         }
     }
@@ -62,10 +59,7 @@ fn add_type(alloc: Global, plan: &mut Plan, line: TypeLine) -> Result<(), PlanFa
         return Err(PlanFault::Broken(PlanRule::DeclaredTwice));
     }
     let mut commands = ModuleType::new(alloc);
-    match add_commands(&mut commands, line.commands) {
-        Ok(()) => {}
-        Err(rule) => return Err(PlanFault::Broken(rule)),
-    }
+    add_commands(&mut commands, line.commands).map_err(PlanFault::Broken)?;
     match plan.add_type(line.name, commands) {
         Ok(_) => Ok(()),
         Err(_) => Err(PlanFault::OutOfMemory),
@@ -88,8 +82,5 @@ fn type_name(table: &Table) -> Result<TypeName, PlanRule>
     ensures { result ≡ type_name_at (codes "name") (table_view table.now) }
 {
     let text = text_at(table, "name")?;
-    match TypeName::new(text.as_bytes()) {
-        Some(name) => Ok(name),
-        None => Err(PlanRule::OutOfRange),
-    }
+    TypeName::new(text.as_bytes()).ok_or(PlanRule::OutOfRange)
 }

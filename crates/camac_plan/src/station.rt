@@ -57,14 +57,11 @@ fn add_station(plan: &mut Plan, c: CrateNo, line: &StationLine) -> Result<(), Pl
     if plan.station(c, line.n).is_some() {
         return Err(PlanRule::StationTwice);
     }
-    let type_no = match plan.type_named(line.type_name.as_bytes()) {
-        Some(type_no) => type_no,
-        None => return Err(PlanRule::UnknownType),
-    };
-    match plan.add_station(c, line.n, type_no, line.gl) {
-        Ok(()) => Ok(()),
-        Err(_) => Err(PlanRule::BitTwice),
-    }
+    let type_no = plan
+        .type_named(line.type_name.as_bytes())
+        .ok_or(PlanRule::UnknownType)?;
+    plan.add_station(c, line.n, type_no, line.gl)
+        .map_err(|_| PlanRule::BitTwice)
 }
 
 // Reads the table of a station.
@@ -86,10 +83,7 @@ fn station_number(table: &Table) -> Result<Station, PlanRule>
     ensures in_range { IfOk result (λ n. (1 ≤ n) × (n ≤ 23)) }
 {
     let n = required_number_at(table, "n", 1, 23)?;
-    match Station::new(n) {
-        Some(n) => Ok(n),
-        None => Err(PlanRule::OutOfRange),
-    }
+    Station::new(n).ok_or(PlanRule::OutOfRange)
 }
 
 fn gl_bit(table: &Table) -> Result<Option<GlBit>, PlanRule>
