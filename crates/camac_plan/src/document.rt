@@ -53,10 +53,10 @@ fn read_table(alloc: Global, table: &Table) -> Result<Plan, PlanFault>
     let buffer = buffer_at(table).map_err(PlanFault::Broken)?;
     let types = tables_at(table, "type").map_err(PlanFault::Broken)?;
     let crates = tables_at(table, "crate").map_err(PlanFault::Broken)?;
-    match Plan::new(alloc, buffer.unwrap_or(4096)) {
-        Some(plan) => filled(alloc, plan, &types, &crates),
-        None => Err(PlanFault::Broken(PlanRule::OutOfRange)),
-    }
+    let mut plan = Plan::new(alloc, buffer.unwrap_or(4096)).ok_or(PlanFault::Broken(PlanRule::OutOfRange))?;
+    add_any_types(alloc, &mut plan, &types)?;
+    add_any_crates(&mut plan, &crates)?;
+    Ok(plan)
 }
 
 fn buffer_at(table: &Table) -> Result<Option<u16>, PlanRule>
@@ -67,32 +67,6 @@ fn buffer_at(table: &Table) -> Result<Option<u16>, PlanRule>
         Some(buffer) => Ok(Some(buffer as u16)),
         None => Ok(None),
     }
-}
-
-fn filled(
-    alloc: Global,
-    plan: Plan,
-    types: &Option<&Array>,
-    crates: &Option<&Array>,
-) -> Result<Plan, PlanFault>
-    ensures { GivesOrTells result (next (with_types plan (items_or_none types.now)) (λ p. with_crates p (items_or_none crates.now))) }
-{
-    let mut plan = plan;
-    fill(alloc, &mut plan, types, crates)?;
-    Ok(plan)
-}
-
-// Puts the types and then the crates into the plan.
-fn fill(
-    alloc: Global,
-    plan: &mut Plan,
-    types: &Option<&Array>,
-    crates: &Option<&Array>,
-) -> Result<(), PlanFault>
-    ensures { AddsOrTells result plan.new (next (with_types plan.old (items_or_none types.now)) (λ p. with_crates p (items_or_none crates.now))) }
-{
-    add_any_types(alloc, plan, types)?;
-    add_any_crates(plan, crates)
 }
 
 // Puts the types into the plan, if there are any.
