@@ -52,8 +52,3 @@ abbrev pub with_commands : Commands → Items → Result Commands PlanRule
 with_commands commands no_items = Ok commands
 with_commands commands (item (table t) rest) = next (next (command_of t) (λ line. with_command line commands)) (λ more. with_commands more rest)
 with_commands commands (item _ rest) = Err MissingOrWrongKind
-
--- the commands were changed to those of the reading, or the code has its broken rule
-abbrev pub Declares : {A : Type 0} → Result A PlanRule → Commands → Result Commands PlanRule → Type 0
-Declares (Ok _) new r = r ≡ Ok new
-Declares (Err e) new r = r ≡ Err e

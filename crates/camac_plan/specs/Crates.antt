@@ -69,11 +69,6 @@ with_crates plan no_items = Ok plan
 with_crates plan (item (table t) rest) = next (next (crate_of t) (with_crate_line plan)) (λ p. with_crates p rest)
 with_crates plan (item _ rest) = Err MissingOrWrongKind
 
--- the plan was changed to that of the reading, or the code has its broken rule
-abbrev pub Adds : {A : Type 0} → Result A PlanRule → Layout → Result Layout PlanRule → Type 0
-Adds (Ok _) new r = r ≡ Ok new
-Adds (Err e) new r = r ≡ Err e
-
 abbrev pub station_view : code_station.StationLine → StationLine
 station_view line = record { n = line.n; type_name = line.type_name.now; gl = line.gl }
 

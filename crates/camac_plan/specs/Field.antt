@@ -20,6 +20,11 @@ abbrev pub Reads : {A B : Type 0} → (A → B) → Result A PlanRule → Result
 Reads view (Ok x) r = r ≡ Ok (view x)
 Reads view (Err e) r = r ≡ Err e
 
+-- the code's value was changed to that of the reading, or the code has its broken rule
+abbrev pub Changes : {A B : Type 0} → Result A PlanRule → B → Result B PlanRule → Type 0
+Changes (Ok _) new r = r ≡ Ok new
+Changes (Err e) new r = r ≡ Err e
+
 -- each key is one of these
 abbrev pub has_only : List (List ℕ) → Members → Bool
 has_only keys no_members = true

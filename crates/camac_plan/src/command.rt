@@ -2,8 +2,8 @@
 
 ghost use Rattle.std.specs.Prelude.{◌≡◌, ◌≤◌, ◌<◌, true, codes, unwrap_or, IfOk};
 ghost use Rattle.toml.specs.View.{array_view, table_view};
-ghost use Rattle.camac_plan.specs.Field.{next, number_at, required};
-ghost use Rattle.camac_plan.specs.Commands.{Declares, command_of, width_at, with_commands, with_command, with_new, command_at, fits};
+ghost use Rattle.camac_plan.specs.Field.{Changes, next, number_at, required};
+ghost use Rattle.camac_plan.specs.Commands.{command_of, width_at, with_commands, with_command, with_new, command_at, fits};
 
 use crate::fault::PlanRule;
 use crate::field::{flag_at, has_only, number_at, required_number_at};
@@ -24,7 +24,7 @@ pub(crate) struct CommandLine {
 
 // Declares the commands of a type, one after the other.
 pub(crate) fn add_commands(commands: &mut ModuleType, items: &Array) -> Result<(), PlanRule>
-    ensures { Declares result commands.new (with_commands commands.old (array_view items.now)) }
+    ensures { Changes result commands.new (with_commands commands.old (array_view items.now)) }
 {
     'commands: for item in items {
         match item {
@@ -37,7 +37,7 @@ pub(crate) fn add_commands(commands: &mut ModuleType, items: &Array) -> Result<(
 
 // Declares the command of a table.
 fn add_command_table(commands: &mut ModuleType, table: &Table) -> Result<(), PlanRule>
-    ensures { Declares result commands.new (next (command_of (table_view table.now)) (λ line. with_command line commands.old)) }
+    ensures { Changes result commands.new (next (command_of (table_view table.now)) (λ line. with_command line commands.old)) }
 {
     declare_command(commands, &read_command(table)?)
 }
@@ -47,7 +47,7 @@ fn declare_command(commands: &mut ModuleType, line: &CommandLine) -> Result<(), 
     requires order { line.now.first ≤ line.now.last }
     requires in_range { line.now.last < 16 }
     requires width { fits line.now ≡ true }
-    ensures { Declares result commands.new (with_command line.now commands.old) }
+    ensures { Changes result commands.new (with_command line.now commands.old) }
 {
     'places: for place in line.first..line.last + 1 {
         match SubAddress::new(place) {
@@ -64,7 +64,7 @@ fn declare_command(commands: &mut ModuleType, line: &CommandLine) -> Result<(), 
 // Declares a command at one of its sub-addresses.
 fn declare_at(commands: &mut ModuleType, line: &CommandLine, a: SubAddress) -> Result<(), PlanRule>
     requires { fits line.now ≡ true }
-    ensures { Declares result commands.new (with_new commands.old (command_at line.now a)) }
+    ensures { Changes result commands.new (with_new commands.old (command_at line.now a)) }
 {
     let d = Decl {
         f: line.f,

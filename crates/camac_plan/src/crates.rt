@@ -2,8 +2,8 @@
 
 ghost use Rattle.std.specs.Prelude.{◌≡◌, ◌≤◌, codes, unwrap_or, IfOk};
 ghost use Rattle.toml.specs.View.{array_view, table_view};
-ghost use Rattle.camac_plan.specs.Field.{Reads, next, required, number_at};
-ghost use Rattle.camac_plan.specs.Crates.{Adds, crate_of, crate_view, with_crate_line, with_crates};
+ghost use Rattle.camac_plan.specs.Field.{Changes, Reads, next, required, number_at};
+ghost use Rattle.camac_plan.specs.Crates.{crate_of, crate_view, with_crate_line, with_crates};
 
 use crate::fault::PlanRule;
 use crate::field::{has_only, number_at, required_number_at, tables_at};
@@ -23,7 +23,7 @@ pub(crate) struct CrateLine<'a> {
 
 // Puts the crates into the plan, one after the other.
 pub(crate) fn add_crates(plan: &mut Plan, items: &Array) -> Result<(), PlanRule>
-    ensures { Adds result plan.new (with_crates plan.old (array_view items.now)) }
+    ensures { Changes result plan.new (with_crates plan.old (array_view items.now)) }
 {
     'crates: for item in items {
         match item {
@@ -36,7 +36,7 @@ pub(crate) fn add_crates(plan: &mut Plan, items: &Array) -> Result<(), PlanRule>
 
 // Puts the crate of a table into the plan.
 fn add_crate_table(plan: &mut Plan, table: &Table) -> Result<(), PlanRule>
-    ensures { Adds result plan.new (next (crate_of (table_view table.now)) (with_crate_line plan.old)) }
+    ensures { Changes result plan.new (next (crate_of (table_view table.now)) (with_crate_line plan.old)) }
 {
     match read_crate(table) {
         Ok(line) => add_crate(plan, &line),
@@ -47,7 +47,7 @@ fn add_crate_table(plan: &mut Plan, table: &Table) -> Result<(), PlanRule>
 // Puts a crate and its stations into the plan.
 fn add_crate(plan: &mut Plan, line: &CrateLine) -> Result<(), PlanRule>
     requires { line.now.waits ≤ 15 }
-    ensures { Adds result plan.new (with_crate_line plan.old (crate_view line.now)) }
+    ensures { Changes result plan.new (with_crate_line plan.old (crate_view line.now)) }
 {
     if plan.waits(line.number).is_some() {
         return Err(PlanRule::CrateTwice);

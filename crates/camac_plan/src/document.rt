@@ -16,9 +16,9 @@ use std::alloc::Global;
 use toml::Table;
 use toml::value::Array;
 
-/// The plan that a text says, in TOML (own). Refused is the first rule that is broken as the top table, then each type in
-/// order, then each crate in order is read, in each table first its keys and then key by key; no TOML is refused before
-/// them. Want of memory is P10.
+/// Reads a plan from TOML (own). The first rule that is broken is answered: that the bytes are TOML (P1), then the rules of
+/// the top table, then those of each type and its commands in order, then those of each crate and its stations in order. A
+/// table is judged by its keys first, then by what each key holds, then by what stands above it. P10: memory ran out.
 pub fn read(alloc: Global, bytes: &[u8]) -> Result<Plan, PlanFault>
     ensures { GivesOrTells result (reading bytes.now) }
 {
@@ -53,9 +53,11 @@ fn read_table(alloc: Global, table: &Table) -> Result<Plan, PlanFault>
     let buffer = buffer_at(table).map_err(PlanFault::Broken)?;
     let types = tables_at(table, "type").map_err(PlanFault::Broken)?;
     let crates = tables_at(table, "crate").map_err(PlanFault::Broken)?;
-    let mut plan = Plan::new(alloc, buffer.unwrap_or(4096)).ok_or(PlanFault::Broken(PlanRule::OutOfRange))?;
-    add_any_types(alloc, &mut plan, &types)?;
-    add_any_crates(&mut plan, &crates)?;
+    let mut plan = Plan::new(alloc, buffer.unwrap_or(4096)).ok_or(PlanFault::Broken(
+        PlanRule::OutOfRange,
+    ))?;
+    add_any_types(alloc, &mut plan, types)?;
+    add_any_crates(&mut plan, crates)?;
     Ok(plan)
 }
 
@@ -70,8 +72,8 @@ fn buffer_at(table: &Table) -> Result<Option<u16>, PlanRule>
 }
 
 // Puts the types into the plan, if there are any.
-fn add_any_types(alloc: Global, plan: &mut Plan, types: &Option<&Array>) -> Result<(), PlanFault>
-    ensures { AddsOrTells result plan.new (with_types plan.old (items_or_none types.now)) }
+fn add_any_types(alloc: Global, plan: &mut Plan, types: Option<&Array>) -> Result<(), PlanFault>
+    ensures { AddsOrTells result plan.new (with_types plan.old (items_or_none types.entry)) }
 {
     match types {
         Some(items) => add_types(alloc, plan, items),
@@ -80,8 +82,8 @@ fn add_any_types(alloc: Global, plan: &mut Plan, types: &Option<&Array>) -> Resu
 }
 
 // Puts the crates into the plan, if there are any.
-fn add_any_crates(plan: &mut Plan, crates: &Option<&Array>) -> Result<(), PlanFault>
-    ensures { AddsOrTells result plan.new (with_crates plan.old (items_or_none crates.now)) }
+fn add_any_crates(plan: &mut Plan, crates: Option<&Array>) -> Result<(), PlanFault>
+    ensures { AddsOrTells result plan.new (with_crates plan.old (items_or_none crates.entry)) }
 {
     match crates {
         Some(items) => add_crates(plan, items).map_err(PlanFault::Broken),

@@ -3,8 +3,8 @@
 ghost use Rattle.std.specs.Prelude.{◌≡◌, ◌≤◌, codes, IfOk, IsSome, OnOk};
 ghost use Rattle.toml.specs.View.{array_view, table_view};
 ghost use Rattle.camac_branch.specs.Plan.{crate_at};
-ghost use Rattle.camac_plan.specs.Field.{Reads, next, required, number_at};
-ghost use Rattle.camac_plan.specs.Crates.{Adds, station_of, station_view, with_station, with_stations};
+ghost use Rattle.camac_plan.specs.Field.{Changes, Reads, next, required, number_at};
+ghost use Rattle.camac_plan.specs.Crates.{station_of, station_view, with_station, with_stations};
 
 use crate::fault::PlanRule;
 use crate::field::{has_only, number_at, required_number_at, text_at};
@@ -24,7 +24,7 @@ pub(crate) struct StationLine<'a> {
 // Puts the stations of a crate into the plan, one after the other.
 pub(crate) fn add_stations(plan: &mut Plan, c: CrateNo, items: &Array) -> Result<(), PlanRule>
     requires { IsSome (crate_at plan.old c) }
-    ensures { Adds result plan.new (with_stations c plan.old (array_view items.now)) }
+    ensures { Changes result plan.new (with_stations c plan.old (array_view items.now)) }
 {
     'stations: for item in items {
         match item {
@@ -38,7 +38,7 @@ pub(crate) fn add_stations(plan: &mut Plan, c: CrateNo, items: &Array) -> Result
 // Puts the station of a table into its crate.
 fn add_station_table(plan: &mut Plan, c: CrateNo, table: &Table) -> Result<(), PlanRule>
     requires { IsSome (crate_at plan.old c) }
-    ensures reads { Adds result plan.new (next (station_of (table_view table.now)) (with_station c plan.old)) }
+    ensures reads { Changes result plan.new (next (station_of (table_view table.now)) (with_station c plan.old)) }
     ensures still_there { OnOk result (IsSome (crate_at plan.new c)) }
 {
     match read_station(table) {
@@ -51,7 +51,7 @@ fn add_station_table(plan: &mut Plan, c: CrateNo, table: &Table) -> Result<(), P
 fn add_station(plan: &mut Plan, c: CrateNo, line: &StationLine) -> Result<(), PlanRule>
     requires in_plan { IsSome (crate_at plan.old c) }
     requires in_range { (1 ≤ line.now.n) × (line.now.n ≤ 23) }
-    ensures reads { Adds result plan.new (with_station c plan.old (station_view line.now)) }
+    ensures reads { Changes result plan.new (with_station c plan.old (station_view line.now)) }
     ensures still_there { OnOk result (IsSome (crate_at plan.new c)) }
 {
     if plan.station(c, line.n).is_some() {
