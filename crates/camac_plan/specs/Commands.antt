@@ -1,5 +1,5 @@
 -- What the commands of a type say: those declared, or the first rule that is broken.
-use Rattle.std.specs.Prelude.{◌≡◌, ℕ, ◌+◌, ◌-◌, zero, suc, Bool, false, ◌&&◌, not, nat_eq, is_some, Option, Some, None, Result, Ok, Err, List, [], ◌∷◌, codes, unwrap_or, if◌then◌else◌}
+use Rattle.std.specs.Prelude.{ℕ, ◌+◌, ◌-◌, zero, suc, Bool, false, ◌&&◌, not, nat_eq, is_some, Result, Ok, Err, [], ◌∷◌, codes, unwrap_or, if◌then◌else◌}
 use Rattle.toml.specs.Data.{table, Items, no_items, item, Members}
 use Rattle.camac_module.specs.Commands.{Commands, entry, with_declared, fits_width}
 use Rattle.camac_module.specs.declared.map.Decl.{Decl}

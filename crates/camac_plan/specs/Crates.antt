@@ -1,5 +1,5 @@
 -- What the crates of a plan say, put one after the other into the plan so far, or the first rule that is broken.
-use Rattle.std.specs.Prelude.{◌≡◌, ℕ, codes, List, [], ◌∷◌, Option, Some, None, Result, Ok, Err, if◌then◌else◌, is_some, unwrap_or}
+use Rattle.std.specs.Prelude.{ℕ, codes, List, [], ◌∷◌, Option, Some, None, Result, Ok, Err, if◌then◌else◌, is_some, unwrap_or}
 use Rattle.toml.specs.Data.{table, Items, no_items, item, Members}
 use Rattle.camac_branch.specs.Plan.{Layout, crate_at, type_named, installed, is_some_and, uses_bit, with_crate, with_installed}
 use Rattle.camac_plan.specs.declared.crates.CrateLine as code

@@ -1,5 +1,5 @@
 -- The plan reading: what a plan's text says, which is a plan or the first rule that is broken.
-use Rattle.std.specs.Prelude.{◌≡◌, ⊤, ℕ, codes, List, [], ◌∷◌, Option, Some, None, Result, Ok, Err, if◌then◌else◌, unwrap_or}
+use Rattle.std.specs.Prelude.{◌≡◌, ◌↔◌, ⊤, IsUtf8, ℕ, codes, List, [], ◌∷◌, Option, Some, None, Result, Ok, Err, if◌then◌else◌, unwrap_or}
 use Rattle.std.specs.Str.{is_utf8}
 use Rattle.toml.specs.Parse.{parse_document}
 use Rattle.toml.specs.Data.{Members}
@@ -36,6 +36,10 @@ document_of bytes = if is_utf8 bytes then parsed (parse_document bytes) else Err
 
 abbrev pub reading : List ℕ → Result Layout PlanRule
 reading bytes = next (document_of bytes) plan_of
+
+-- P1 is the answer to no TOML, and to nothing else
+abbrev pub TellsNoToml : List ℕ → Type 0
+TellsNoToml bytes = (reading bytes ≡ Err NotToml) ↔ (IsUtf8 bytes → parse_document bytes ≡ None)
 
 -- a fault tells the broken rule, unless memory ran out
 abbrev pub Tells : {A : Type 0} → PlanFault → Result A PlanRule → Type 0

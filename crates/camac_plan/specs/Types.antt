@@ -1,5 +1,5 @@
 -- What the types of a plan say, put one after the other into the plan so far, or the first rule that is broken.
-use Rattle.std.specs.Prelude.{◌≡◌, ℕ, codes, List, [], ◌∷◌, Option, Some, None, Result, Ok, Err, if◌then◌else◌, is_some, nat_lt, length}
+use Rattle.std.specs.Prelude.{ℕ, codes, List, [], ◌∷◌, Result, Ok, Err, if◌then◌else◌, is_some, nat_lt, length}
 use Rattle.toml.specs.Data.{table, Items, no_items, item, Members, get_member}
 use Rattle.toml.specs.View.{array_view}
 use Rattle.camac_module.specs.Commands.{none_declared}

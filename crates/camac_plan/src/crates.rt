@@ -49,15 +49,11 @@ fn add_crate(plan: &mut Plan, line: &CrateLine) -> Result<(), PlanRule>
     requires { line.now.waits ≤ 15 }
     ensures { Changes result plan.new (with_crate_line plan.old (crate_view line.now)) }
 {
-    if plan.waits(line.number).is_some() {
-        return Err(PlanRule::CrateTwice);
-    }
-    match plan.add_crate(line.number, line.waits) {
-        Ok(()) => match line.stations {
-            Some(items) => add_stations(plan, line.number, items),
-            None => Ok(()),
-        },
-        Err(_) => Err(PlanRule::CrateTwice),
+    plan.add_crate(line.number, line.waits)
+        .map_err(|_| PlanRule::CrateTwice)?;
+    match line.stations {
+        Some(items) => add_stations(plan, line.number, items),
+        None => Ok(()),
     }
 }
 

@@ -5,7 +5,7 @@ ghost use Rattle.toml.specs.View.{table_view};
 ghost use Rattle.camac_plan.specs.Field.{next, number_at, items_or_none};
 ghost use Rattle.camac_plan.specs.Types.{with_types};
 ghost use Rattle.camac_plan.specs.Crates.{with_crates};
-ghost use Rattle.camac_plan.specs.Reading.{AddsOrTells, GivesOrTells, Tells, plan_of, document_of, reading};
+ghost use Rattle.camac_plan.specs.Reading.{AddsOrTells, GivesOrTells, Tells, plan_of, document_of, reading, TellsNoToml};
 
 use crate::crates::add_crates;
 use crate::fault::{PlanFault, PlanRule};
@@ -20,7 +20,8 @@ use toml::value::Array;
 /// the top table, then those of each type and its commands in order, then those of each crate and its stations in order. A
 /// table is judged by its keys first, then by what each key holds, then by what stands above it. P10: memory ran out.
 pub fn read(alloc: Global, bytes: &[u8]) -> Result<Plan, PlanFault>
-    ensures { GivesOrTells result (reading bytes.now) }
+    ensures reads { GivesOrTells result (reading bytes.now) }
+    ensures no_toml { TellsNoToml bytes.now }
 {
     let table = read_document(alloc, bytes)?;
     read_table(alloc, &table)
