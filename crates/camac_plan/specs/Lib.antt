@@ -1,0 +1,5 @@
+pub mod Field
+pub mod Commands
+pub mod Types
+pub mod Crates
+pub mod Reading

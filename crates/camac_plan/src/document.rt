@@ -1,0 +1,93 @@
+//! The text of a plan.
+
+ghost use Rattle.std.specs.Prelude.{◌≡◌, ◌≤◌, Ok, IfOk, IfErr, codes, unwrap_or};
+ghost use Rattle.toml.specs.View.{table_view};
+ghost use Rattle.camac_plan.specs.Field.{next, number_at, items_or_none};
+ghost use Rattle.camac_plan.specs.Types.{with_types};
+ghost use Rattle.camac_plan.specs.Crates.{with_crates};
+ghost use Rattle.camac_plan.specs.Reading.{AddsOrTells, GivesOrTells, Tells, plan_of, document_of, reading, TellsNoToml};
+
+use crate::crates::add_crates;
+use crate::fault::{PlanFault, PlanRule};
+use crate::field::{has_only, number_at, tables_at};
+use crate::module_type::add_types;
+use camac_branch::Plan;
+use std::alloc::Global;
+use toml::Table;
+use toml::value::Array;
+
+/// Reads a plan from TOML (own). The first rule that is broken is answered: that the bytes are TOML (P1), then the rules of
+/// the top table, then those of each type and its commands in order, then those of each crate and its stations in order. A
+/// table is judged by its keys first, then by what each key holds, then by what stands above it. P10: memory ran out.
+pub fn read(alloc: Global, bytes: &[u8]) -> Result<Plan, PlanFault>
+    ensures reads { GivesOrTells result (reading bytes.now) }
+    ensures no_toml { TellsNoToml bytes.now }
+{
+    let table = read_document(alloc, bytes)?;
+    read_table(alloc, &table)
+}
+
+// The table that a text says as TOML. Bytes that are not UTF-8 are no TOML.
+fn read_document(alloc: Global, bytes: &[u8]) -> Result<Table, PlanFault>
+    ensures ok { IfOk result (λ t. document_of bytes.now ≡ Ok (table_view t)) }
+    ensures refused { IfErr result (λ e. Tells e (document_of bytes.now)) }
+{
+    match toml::table_from_slice(alloc, bytes) {
+        Ok(table) => Ok(table),
+        Err(e) => {
+            if e.is_memory() {
+                Err(PlanFault::OutOfMemory)
+            } else {
+                Err(PlanFault::Broken(PlanRule::NotToml))
+            }
+        }
+    }
+}
+
+// The plan that a table says.
+fn read_table(alloc: Global, table: &Table) -> Result<Plan, PlanFault>
+    ensures { GivesOrTells result (plan_of (table_view table.now)) }
+{
+    if !has_only(table, &["buffer", "type", "crate"]) {
+        return Err(PlanFault::Broken(PlanRule::UnknownKey));
+    }
+    let buffer = buffer_at(table).map_err(PlanFault::Broken)?;
+    let types = tables_at(table, "type").map_err(PlanFault::Broken)?;
+    let crates = tables_at(table, "crate").map_err(PlanFault::Broken)?;
+    let mut plan = Plan::new(alloc, buffer.unwrap_or(4096)).ok_or(PlanFault::Broken(
+        PlanRule::OutOfRange,
+    ))?;
+    add_any_types(alloc, &mut plan, types)?;
+    add_any_crates(&mut plan, crates)?;
+    Ok(plan)
+}
+
+fn buffer_at(table: &Table) -> Result<Option<u16>, PlanRule>
+    ensures value { result ≡ number_at (codes "buffer") 1 4096 (table_view table.now) }
+    ensures in_range { IfOk result (λ b. (1 ≤ unwrap_or b 4096) × (unwrap_or b 4096 ≤ 4096)) }
+{
+    match number_at(table, "buffer", 1, 4096)? {
+        Some(buffer) => Ok(Some(buffer as u16)),
+        None => Ok(None),
+    }
+}
+
+// Puts the types into the plan, if there are any.
+fn add_any_types(alloc: Global, plan: &mut Plan, types: Option<&Array>) -> Result<(), PlanFault>
+    ensures { AddsOrTells result plan.new (with_types plan.old (items_or_none types.entry)) }
+{
+    match types {
+        Some(items) => add_types(alloc, plan, items),
+        None => Ok(()),
+    }
+}
+
+// Puts the crates into the plan, if there are any.
+fn add_any_crates(plan: &mut Plan, crates: Option<&Array>) -> Result<(), PlanFault>
+    ensures { AddsOrTells result plan.new (with_crates plan.old (items_or_none crates.entry)) }
+{
+    match crates {
+        Some(items) => add_crates(plan, items).map_err(PlanFault::Broken),
+        None => Ok(()),
+    }
+}

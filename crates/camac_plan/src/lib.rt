@@ -1,0 +1,15 @@
+//! Reads a crate plan from TOML.
+#![tactic(auto)]
+
+mod command;
+mod crates;
+mod document;
+mod fault;
+mod field;
+mod module_type;
+mod station;
+#[cfg(test)]
+mod tests;
+
+pub use document::read;
+pub use fault::{PlanFault, PlanRule};
