@@ -1,17 +1,16 @@
 -- What one call reads of a text.
-use Rattle.std.proofs.Common.{◌≡◌, ℕ, zero, suc, ◌+◌, ◌≤◌, ◌<◌, Bool, true, false, ◌==◌, cond, nat_le, nat_lt, List, [], ◌∷◌, ◌++◌, length, drop, Option, Some, None, Result, Ok, Err, refl, sym, ap, ◌∙◌, append-nil, length-append, drop_of_length-le, arith, inl, inr}
+use Rattle.std.proofs.Common.{◌≡◌, ℕ, ◌+◌, ◌≤◌, ◌<◌, Bool, true, false, ◌==◌, cond, nat_le, nat_lt, List, [], ◌∷◌, ◌++◌, length, drop, Option, Some, None, Result, Ok, Err, refl, sym, ap, ◌∙◌, append-nil, length-append, drop_of_length-le, arith, inl, inr}
 use Rattle.std.proofs.lemmas.Bool.{cases_lt, ne_eqb, eqb-true, and_parts, le-leb, lt-ltb}
 use Rattle.std.proofs.lemmas.List.{drop_at}
 use Rattle.std.specs.Io.KnownBytes.{Consumes, IsAtEnd}
 use Rattle.camac_branch.specs.Branch.{Answer}
-use Rattle.camac_answer.specs.declared.answers.Stage.{Stage}
-use Rattle.camac_answer.specs.declared.answers.Stage.TheVariants.{Running, Ended, Faulted}
+use Rattle.camac_answer.specs.declared.answers.Stage.TheVariants.{Running, Faulted}
 use Rattle.camac_answer.specs.declared.fault.AnswerRule.{AnswerRule}
 use Rattle.camac_answer.specs.declared.fault.AnswerRule.TheVariants.{LineShape, TooMany}
 use Rattle.camac_answer.specs.declared.fault.AnswerFault.{AnswerFault}
 use Rattle.camac_answer.specs.declared.fault.AnswerFault.TheVariants as fault
 use Rattle.camac_answer.specs.Lines.{lines, first_line, has_shape, fields_answer, line_answer}
-use Rattle.camac_answer.specs.Reading.{Reading, no_more, with_line, reading_from, result_at, after, Answered}
+use Rattle.camac_answer.specs.Reading.{Reading, no_more, with_line, reading_from, result_at, after}
 use Rattle.camac_answer.specs.Answers.{left_in, Steps, judged, next_answer, window}
 use Rattle.camac_answer.proofs.Texts.{after_line, line_ends, line_goes_on, whole_line, lines_first}
 

@@ -1,5 +1,5 @@
 -- The results of the calls so far, and one more.
-use Rattle.std.proofs.Common.{◌≡◌, ℕ, zero, suc, ◌+◌, ◌≤◌, ◌<◌, Bool, true, false, ◌||◌, ◌&&◌, nat_lt, nat_le, cond, List, [], ◌∷◌, ◌++◌, map, length, drop, Option, Some, None, Result, Ok, Err, refl, sym, ap, ◌∙◌, append-nil, append_assoc, arith, ◌⊎◌, inl, inr}
+use Rattle.std.proofs.Common.{◌≡◌, ℕ, zero, suc, ◌+◌, ◌≤◌, Bool, true, false, ◌||◌, ◌&&◌, nat_lt, List, [], ◌∷◌, ◌++◌, map, length, drop, Option, Some, Result, Ok, Err, refl, sym, ap, ◌∙◌, append-nil, append_assoc, arith, ◌⊎◌, inl, inr}
 use Rattle.std.proofs.lemmas.Bool.{cases_lt, lt-ltb, lt-leb, le-leb}
 use Rattle.std.proofs.Math.Bool.{and-false, or-false, or-true, and_comm}
 use Rattle.std.proofs.lemmas.List.FromFn.{map-range_with_len_more}
@@ -76,9 +76,8 @@ pub few : AnswersAreFew
 few text = let h = few_from 0 (lines text) (omega arith) in omega (arith, h)
 
 module _ {R : Type 0} (remaining : R → Option (List ℕ)) (old new : Answers R) (r : Answered) (again : Repeats (stage_of old) r) (stage : stage_of new ≡ stage_after r)
-  (left : Steps (left_of remaining old) r (left_of remaining new)) (flag : reader_failed new ≡ (reader_failed old || (is_running (stage_of old) && is_read_failure r)))
-  (flagged : Bool) (whole : List ℕ) (results : List Answered) where
-
+    (left : Steps (left_of remaining old) r (left_of remaining new)) (flag : reader_failed new ≡ (reader_failed old || (is_running (stage_of old) && is_read_failure r)))
+    (flagged : Bool) (whole : List ℕ) (results : List Answered) where
   -- a call that gave what was left to give
   went : (good : ℕ) → results ≡ map (result_at (reading whole)) (range_with_len 0 good) ++ [] → reader_failed old ≡ (flagged || false)
       → left_of remaining old ≡ Some (after good (reading whole)) → is_read_failure r ≡ false → StandsAt remaining new flagged whole (results ++ r ∷ [])

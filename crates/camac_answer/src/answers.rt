@@ -1,8 +1,8 @@
 // The answers of a reader's text.
 
-ghost use Rattle.std.specs.Prelude.{◌≡◌, ◌<◌, ◌≤◌, ◌+◌, false, IsSome, IsOk, MatchOption, ◌||◌, ◌&&◌, IfOk};
+ghost use Rattle.std.specs.Prelude.{◌≡◌, ◌<◌, ◌≤◌, ◌+◌, false, ℕ, List, [], Some, IsSome, IsOk, MatchOption, ◌||◌, ◌&&◌, IfOk};
 ghost use Rattle.camac_word.specs.Watched.{inner_of, has_failed};
-ghost use Rattle.camac_answer.specs.Answers.{stage_of, given_by, text_of, left_of, reader_failed, is_running, is_read_failure, Repeats, stage_after, Steps, StandsNext, AnswersAreFew, next_answer, window};
+ghost use Rattle.camac_answer.specs.Answers.{stage_of, given_by, text_of, left_of, reader_failed, is_running, is_read_failure, Repeats, stage_after, Steps, StandsAt, StandsNext, AnswersAreFew, next_answer, window};
 
 use crate::fault::{AnswerFault, AnswerRule};
 use crate::filling::{LINE, fill};
@@ -25,6 +25,7 @@ enum Stage {
 
 /// The answers of a text, read line by line and no further than each line: `x q word wait gl`, 19 bytes and an LF, which the last line
 /// may lack (own).
+#[derive(Drop)]
 pub struct Answers<'a, R> {
     reader: &'a mut Watched<R>,
     stage: Stage,
@@ -70,6 +71,7 @@ impl<'a, R: Read> Answers<'a, R> {
         ensures given { IfOk result (λ a. given_by a ≡ 0) }
         ensures text { IfOk result (λ a. text_of R.remaining a ≡ R.remaining (inner_of reader.entry.now)) }
         ensures failed { IfOk result (λ a. reader_failed a ≡ has_failed reader.entry.now) }
+        ensures stands { IfOk result (λ a. (whole : List ℕ) → R.remaining (inner_of reader.entry.now) ≡ Some whole → StandsAt R.remaining a (has_failed reader.entry.now) whole []) }
     {
         Ok(Answers {
             reader,

@@ -18,7 +18,10 @@ pub(crate) struct ReadFailed;
 pub(crate) const LINE: usize = 20;
 
 // So many bytes, or those up to the piece that has an LF, or all that are left.
-pub(crate) fn fill<R: Read>(reader: &mut Watched<R>, most: usize) -> Result<ArrayVec<u8, LINE>, ReadFailed>
+pub(crate) fn fill<R: Read>(
+    reader: &mut Watched<R>,
+    most: usize,
+) -> Result<ArrayVec<u8, LINE>, ReadFailed>
     requires { most ≤ LINE }
     ensures within { IfOk result (λ line. length line.items ≤ most) }
     ensures bytes { IfOk result (λ line. Consumes (R.remaining (inner_of reader.old)) (R.remaining (inner_of reader.new)) line.items) }

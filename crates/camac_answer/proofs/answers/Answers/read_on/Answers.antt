@@ -1,4 +1,4 @@
-use Rattle.std.proofs.Common.{sym, ap, ◌∙◌, Ok, Err, Some, is_some}
+use Rattle.std.proofs.Common.{sym, ap, ◌∙◌, is_some}
 use Rattle.camac_word.specs.Watched.{inner_of}
 use Rattle.camac_answer.specs.Answers.{next_answer}
 use Rattle.camac_answer.proofs.Readings.{steps-answer, steps-fault}
