@@ -1,5 +1,5 @@
 -- What a clause reads of the answers of a reader's text.
-use Rattle.std.specs.Prelude.{◌≡◌, ◌≤◌, ℕ, zero, suc, ◌+◌, Bool, true, false, ◌||◌, nat_le, nat_lt, List, [], ◌∷◌, ◌++◌, map, length, Option, Some, None, Result, Ok, Err, if◌then◌else◌}
+use Rattle.std.specs.Prelude.{◌≡◌, ◌<◌, ◌≤◌, ℕ, zero, suc, ◌+◌, Bool, true, false, ◌||◌, nat_le, nat_lt, List, [], ◌∷◌, ◌++◌, map, length, Option, Some, None, Result, Ok, Err, if◌then◌else◌}
 use Rattle.std.specs.List.{range_with_len}
 use Rattle.camac_word.specs.Watched.{inner_of, has_failed}
 use Rattle.camac_branch.specs.Branch.{Answer}
@@ -41,6 +41,12 @@ abbrev pub stage_after : Answered → Stage
 stage_after (Ok (Some a)) = Running
 stage_after (Ok None) = Ended
 stage_after (Err f) = Faulted f
+
+-- each answer is counted, and before it there were less than 1,000,000
+abbrev pub Counts : ℕ → Answered → ℕ → Type 0
+Counts old (Ok (Some a)) new = (new ≡ old + 1) × (old < 1000000)
+Counts old (Ok None) new = new ≡ old
+Counts old (Err f) new = new ≡ old
 
 abbrev pub is_running : Stage → Bool
 is_running Running = true

@@ -1,8 +1,8 @@
 // The answers of a reader's text.
 
-ghost use Rattle.std.specs.Prelude.{◌≡◌, ◌<◌, ◌≤◌, ◌+◌, false, ℕ, List, [], Some, IsSome, IsOk, MatchOption, ◌||◌, ◌&&◌, IfOk};
+ghost use Rattle.std.specs.Prelude.{◌≡◌, ◌<◌, ◌≤◌, false, ℕ, List, [], Some, IsSome, IsOk, ◌||◌, ◌&&◌, IfOk};
 ghost use Rattle.camac_word.specs.Watched.{inner_of, has_failed};
-ghost use Rattle.camac_answer.specs.Answers.{stage_of, given_by, text_of, left_of, reader_failed, is_running, is_read_failure, Repeats, stage_after, Steps, StandsAt, StandsNext, AnswersAreFew, next_answer, window};
+ghost use Rattle.camac_answer.specs.Answers.{stage_of, given_by, text_of, left_of, reader_failed, is_running, is_read_failure, Repeats, stage_after, Counts, Steps, StandsAt, StandsNext, AnswersAreFew, next_answer, window};
 
 use crate::fault::{AnswerFault, AnswerRule};
 use crate::filling::{LINE, fill};
@@ -71,6 +71,7 @@ impl<'a, R: Read> Answers<'a, R> {
         ensures given { IfOk result (λ a. given_by a ≡ 0) }
         ensures text { IfOk result (λ a. text_of R.remaining a ≡ R.remaining (inner_of reader.entry.now)) }
         ensures failed { IfOk result (λ a. reader_failed a ≡ has_failed reader.entry.now) }
+        ensures same_reader { IfOk result (λ a. a.reader.ghost_name ≡ reader.entry.ghost_name) }
         ensures stands { IfOk result (λ a. (whole : List ℕ) → R.remaining (inner_of reader.entry.now) ≡ Some whole → StandsAt R.remaining a (has_failed reader.entry.now) whole []) }
     {
         Ok(Answers {
@@ -85,8 +86,9 @@ impl<'a, R: Read> Answers<'a, R> {
     pub fn next(&mut self) -> Result<Option<Answer>, AnswerFault>
         ensures again { Repeats (stage_of self.old) result }
         ensures stage { stage_of self.new ≡ stage_after result }
+        ensures same_reader { self.new.reader.ghost_name ≡ self.old.reader.ghost_name }
         ensures left { Steps (left_of R.remaining self.old) result (left_of R.remaining self.new) }
-        ensures given { IfOk result (λ a. MatchOption a (given_by self.new ≡ given_by self.old) (λ _. (given_by self.new ≡ given_by self.old + 1) × (given_by self.old < 1000000))) }
+        ensures given { Counts (given_by self.old) result (given_by self.new) }
         ensures failed { reader_failed self.new ≡ (reader_failed self.old || (is_running (stage_of self.old) && is_read_failure result)) }
         ensures stands { StandsNext R.remaining self.old result self.new }
     {
@@ -97,8 +99,9 @@ impl<'a, R: Read> Answers<'a, R> {
     fn advance(&mut self) -> Result<Option<Answer>, AnswerFault>
         ensures again { Repeats (stage_of self.old) result }
         ensures stage { stage_of self.new ≡ stage_after result }
+        ensures same_reader { self.new.reader.ghost_name ≡ self.old.reader.ghost_name }
         ensures left { Steps (left_of R.remaining self.old) result (left_of R.remaining self.new) }
-        ensures given { IfOk result (λ a. MatchOption a (given_by self.new ≡ given_by self.old) (λ _. (given_by self.new ≡ given_by self.old + 1) × (given_by self.old < 1000000))) }
+        ensures given { Counts (given_by self.old) result (given_by self.new) }
         ensures failed { reader_failed self.new ≡ (reader_failed self.old || (is_running (stage_of self.old) && is_read_failure result)) }
     {
         match self.stage {
@@ -112,8 +115,9 @@ impl<'a, R: Read> Answers<'a, R> {
     fn read_on(&mut self) -> Result<Option<Answer>, AnswerFault>
         requires { stage_of self.old ≡ Stage.Running }
         ensures stage { stage_of self.new ≡ stage_after result }
+        ensures same_reader { self.new.reader.ghost_name ≡ self.old.reader.ghost_name }
         ensures left { Steps (left_of R.remaining self.old) result (left_of R.remaining self.new) }
-        ensures given { IfOk result (λ a. MatchOption a (given_by self.new ≡ given_by self.old) (λ _. (given_by self.new ≡ given_by self.old + 1) × (given_by self.old < 1000000))) }
+        ensures given { Counts (given_by self.old) result (given_by self.new) }
         ensures failed { reader_failed self.new ≡ (reader_failed self.old || is_read_failure result) }
     {
         let Ok(line) = fill(self.reader, judged_by(self.given)) else {
