@@ -1,5 +1,5 @@
 -- Values that are there unless a rule is broken, and tests that are joined.
-use Rattle.std.proofs.Common.{◌≡◌, Option, Some, None, Bool, true, false, refl}
+use Rattle.std.proofs.Common.{◌≡◌, Option, Some, None, Bool, true, false, refl, ap, ◌∙◌}
 use Rattle.std.specs.Prelude.{◌&&◌, option_and_then}
 use Rattle.std.proofs.lemmas.Bool.{and_parts, and_from}
 use Rattle.camac_lang.specs.Tests.{unless_broken}
@@ -31,3 +31,9 @@ and_implies a b c d f g e = and_from c d (f (and_parts a b e).0) (g (and_parts a
 
 pub and_keeps : (a b d : Bool) → (b ≡ true → d ≡ true) → (a && b) ≡ true → (a && d) ≡ true
 and_keeps a b d g e = and_from a d (and_parts a b e).0 (g (and_parts a b e).1)
+
+pub then_is : {A B : Type 0} (f : A → Option B) (o : Option A) (a : A) (k : B) → o ≡ Some a → f a ≡ Some k → option_and_then f o ≡ Some k
+then_is f o a k e h = ap (option_and_then f) e ∙ h
+
+pub unless_is : {A : Type 0} (t : Bool) (a : A) → t ≡ true → unless_broken t a ≡ Some a
+unless_is t a e = rw e refl

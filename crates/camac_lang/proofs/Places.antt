@@ -3,8 +3,8 @@ use Rattle.std.proofs.Common.{◌≡◌, ℕ, ◌+◌, ◌<◌, ◌≤◌, zero,
 use Rattle.std.specs.Prelude.{◌&&◌, ◌⊎◌, take, drop, slice_get, nat_eq, nat_le}
 use Rattle.std.proofs.lemmas.Bool.{cases_eq}
 use Rattle.camac_lang.specs.Expressions.{Callable}
-use Rattle.camac_lang.specs.Laws.{callables_after}
-use Rattle.camac_lang.specs.Scope.{Before, are_declarable, table_stands, lam_stands, procedure_stands, service_stands, callable, with_table, with_lam, with_variables, with_procedure, with_service, declared, all_declared}
+use Rattle.camac_lang.specs.Depth.{callable, callables_after}
+use Rattle.camac_lang.specs.Scope.{Before, are_declarable, table_stands, lam_stands, procedure_stands, service_stands, with_table, with_lam, with_variables, with_procedure, with_service, declared, all_declared}
 use Rattle.camac_lang.specs.Tests.{has, unless_broken, total, most}
 use Rattle.camac_lang.specs.Tree.{Text, Table, Lam, Procedure, Service, Item, next_table, next_lam, next_variables, next_procedure, next_service, Script}
 use Rattle.camac_lang.proofs.Options.{unless_parts, then_parts}

@@ -1,6 +1,7 @@
 -- Scripts that are well formed, and scripts that break one rule, by computation.
 use Rattle.std.proofs.Common.{◌≡◌, ℕ, zero, suc, List, [], ◌∷◌, Some, refl, Bool, true, false}
 use Rattle.std.specs.Prelude.{codes, replicate, IsTrue}
+use Rattle.camac_lang.specs.Depth.{script_depth}
 use Rattle.camac_lang.specs.Example.{adc, adc_service, straight_line}
 use Rattle.camac_lang.specs.declared.word.WordSize.TheVariants.{Full}
 use Rattle.camac_lang.specs.declared.word.LamCall.TheVariants.{Clear}
@@ -304,3 +305,10 @@ other_lam = refl
 heading_too_large : declares (table (1 ∷ []) ∷ []) adc two (record (served [] []) { cycles = 4294967296 }) ≡ false
 unfolding is_well_formed
 heading_too_large = refl
+
+-- the braces of the example; two pairs of brackets in them
+depth_1 : script_depth straight_line ≡ 1
+depth_1 = refl
+
+depth_3 : script_depth (script [] [] (next_service ∷ []) (assign 4 0 (brackets 2) ∷ [])) ≡ 3
+depth_3 = refl

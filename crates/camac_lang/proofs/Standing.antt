@@ -2,9 +2,9 @@
 use Rattle.std.proofs.Common.{◌≡◌, ℕ, ◌+◌, ◌<◌, ◌≤◌, suc, List, [], ◌∷◌, ◌++◌, Some, Bool, true, refl, ap, ◌∙◌, subst, arith, length}
 use Rattle.std.specs.Prelude.{◌&&◌, take, slice_get, nat_eq, nat_le, nat_lt}
 use Rattle.std.proofs.lemmas.Bool.{and_parts, eqb-true, leb-true, ltb-true}
-use Rattle.camac_lang.specs.Depth.{inner_depth}
+use Rattle.camac_lang.specs.Depth.{inner_depth, callables_after}
 use Rattle.camac_lang.specs.Expressions.{Callable, Scope}
-use Rattle.camac_lang.specs.Laws.{callables_after, whole, inside, ServicesStand, ProceduresStand, Limits, LimitsHold}
+use Rattle.camac_lang.specs.Laws.{whole, inside, ServicesStand, ProceduresStand, Limits, LimitsHold}
 use Rattle.camac_lang.specs.Scope.{Before, body_fits, are_declarable, parameter_names, procedure_scope, service_scope, procedure_stands, service_stands, all_declared, is_all, nothing_before, within_limits, is_well_formed}
 use Rattle.camac_lang.specs.Statements.{after_block, statements}
 use Rattle.camac_lang.specs.Tests.{each, has, total, most, is_number}

@@ -1,8 +1,8 @@
--- How many brackets and braces are open at once.
-use Rattle.std.specs.Prelude.{ℕ, suc, max, List, Option, Some, None, slice_get}
+-- How many brackets and braces are open at once: the depth.
+use Rattle.std.specs.Prelude.{ℕ, suc, max, List, [], ◌∷◌, ◌++◌, Option, Some, None, length, slice_get}
 use Rattle.camac_lang.specs.Expressions.{Callable}
 use Rattle.camac_lang.specs.Tests.{most}
-use Rattle.camac_lang.specs.Tree.{Expression, number, variable, group, add, subtract, multiply, divide, remainder, Test, flag_q, flag_x, compare, Part, plain, negated, Move, no_data, into, from, Statement, assign, set_register, single, address_scan, q_stop, q_repeat, put, crate_call, lam_call, choose, choose_else, count, repeat, locked, call, Block, done, next}
+use Rattle.camac_lang.specs.Tree.{Expression, number, variable, group, add, subtract, multiply, divide, remainder, Test, flag_q, flag_x, compare, Part, plain, negated, Move, no_data, into, from, Statement, assign, set_register, single, address_scan, q_stop, q_repeat, put, crate_call, lam_call, choose, choose_else, count, repeat, locked, call, Block, done, next, Procedure, Script}
 
 -- the most open brackets and braces at once
 abbrev pub expression_depth : Expression → ℕ
@@ -56,3 +56,18 @@ abbrev mutual
   pub inner_depth : List Callable → Block → ℕ
   inner_depth qs done = 0
   inner_depth qs (next s rest) = max (statement_depth qs s) (inner_depth qs rest)
+
+-- a procedure that can be called, where these can be called before it
+abbrev pub callable : List Callable → Procedure → Callable
+callable qs p = record { parameters = length p.parameters; depth = suc (inner_depth qs p.body) }
+
+-- what can be called after these procedures
+abbrev pub callables_after : List Callable → List Procedure → List Callable
+callables_after qs [] = qs
+callables_after qs (p ∷ ps) = callables_after (qs ++ callable qs p ∷ []) ps
+
+-- of a script: the most anywhere in it, procedures that nothing calls counted too
+abbrev pub script_depth : Script → ℕ
+script_depth s =
+    let qs : List Callable = callables_after [] s.procedures in
+    max (most (λ q. q.depth) qs) (most (λ v. suc (inner_depth qs v.body)) s.services)

@@ -1,16 +1,11 @@
 -- What holds in every well-formed script.
-use Rattle.std.specs.Prelude.{◌≡◌, ℕ, ◌+◌, ◌<◌, ◌≤◌, suc, List, [], ◌∷◌, ◌++◌, Some, true, false, IsTrue, length, take, slice_get}
-use Rattle.camac_lang.specs.Depth.{inner_depth}
-use Rattle.camac_lang.specs.Expressions.{Callable, Scope}
-use Rattle.camac_lang.specs.Scope.{callable, is_well_formed}
+use Rattle.std.specs.Prelude.{◌≡◌, ℕ, ◌+◌, ◌<◌, ◌≤◌, suc, [], Some, true, false, IsTrue, length, take, slice_get}
+use Rattle.camac_lang.specs.Depth.{inner_depth, callables_after}
+use Rattle.camac_lang.specs.Expressions.{Scope}
+use Rattle.camac_lang.specs.Scope.{is_well_formed}
 use Rattle.camac_lang.specs.Statements.{after_block, statements}
 use Rattle.camac_lang.specs.Tests.{total, most}
 use Rattle.camac_lang.specs.Tree.{Block, Procedure, Service, Script}
-
--- what can be called after these procedures
-abbrev pub callables_after : List Callable → List Procedure → List Callable
-callables_after qs [] = qs
-callables_after qs (p ∷ ps) = callables_after (qs ++ callable qs p ∷ []) ps
 
 -- all that a script declares, as a service may refer to it
 abbrev pub whole : Script → Scope

@@ -1,4 +1,4 @@
-// A readout script's tree. Each use of a variable, register, table, LAM or procedure is its number; names stand where they are declared.
+//! A readout script's tree. Each use of a variable, register, table, LAM or procedure is its number; names stand where they are declared.
 #![tactic(auto)]
 
 mod copy;

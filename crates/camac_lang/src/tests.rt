@@ -103,6 +103,20 @@ fn tree_copy(rt: HostRuntime) -> Result<(), Fail> {
     assert_eq!(rt; copy.lams().len(), 1);
     assert_eq!(rt; copy.services().len(), 1);
     assert_eq!(rt; copy.lams()[0].name.as_bytes(), b"adc".as_slice());
-    assert_eq!(rt; copy.services()[0].body.len(), 3);
+    let [
+        Stmt::SetRegister { line: 4, .. },
+        Stmt::Single {
+            line: 5,
+            data: Move::Into(0),
+            ..
+        },
+        Stmt::Put {
+            line: 6,
+            value: Expr::Var(0),
+        },
+    ] = copy.services()[0].body.as_slice()
+    else {
+        panic!(rt; "other statements");
+    };
     Ok(())
 }

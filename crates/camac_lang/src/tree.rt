@@ -8,7 +8,7 @@ use camac_range::Cmp;
 use camac_word::Function;
 use std::marker::Model;
 
-/// A literal divisor, from 1.
+/// A literal divisor: 1 to 4,294,967,295 (own).
 #[derive(Clone, Copy, Debug, PartialEq, Eq)]
 pub struct Divisor {
     value: u32,
@@ -27,7 +27,7 @@ impl Model for Divisor {
 }
 
 impl Divisor {
-    /// The divisor, unless it is 0.
+    /// The divisor, None exactly where it is 0.
     pub fn new(value: u32) -> Option<Self>
         ensures kept { IfSome result (λ r. r ≡ value) }
         ensures in_range { IsSome result ↔ (1 ≤ value) }
@@ -48,35 +48,48 @@ impl Divisor {
     }
 }
 
-/// An expression. Operators group to the left, and brackets are kept.
+/// An expression over numbers from 0 to 4,294,967,295 (own). Operators group to the left, products before sums, and brackets are kept.
 #[derive(Drop)]
 pub enum Expr {
+    /// A literal.
     Num(u32),
+    /// A variable or parameter.
     Var(usize),
+    /// In brackets.
     Group(Box<Expr>),
+    /// `+`
     Add(Box<Expr>, Box<Expr>),
+    /// `-`
     Sub(Box<Expr>, Box<Expr>),
+    /// `*`
     Mul(Box<Expr>, Box<Expr>),
+    /// `/` by a literal, rounded down.
     Div(Box<Expr>, Divisor),
+    /// `%` by a literal.
     Rem(Box<Expr>, Divisor),
 }
 
 /// What one part of a condition tests.
 #[derive(Drop)]
 pub enum Test {
+    /// `q`: the reply's Q of the last cycle.
     Q,
+    /// `x`: the reply's X of the last cycle.
     X,
+    /// Two numbers compared.
     Compare(Expr, Cmp, Expr),
 }
 
 /// One part of a condition.
 #[derive(Drop)]
 pub enum Part {
+    /// True where the test holds.
     Plain(Test),
+    /// `not`: true where it does not hold.
     Not(Test),
 }
 
-/// A condition: its parts, joined by `and`.
+/// A condition: its 1 to 16 parts, joined by `and`.
 #[derive(Drop)]
 pub struct Cond {
     pub parts: Vec<Part>,
@@ -85,12 +98,15 @@ pub struct Cond {
 /// What a single action moves.
 #[derive(Drop)]
 pub enum Move {
+    /// No data.
     NoData,
+    /// `->`: a read into a variable.
     Into(usize),
+    /// `<-`: a write of a value.
     From(Expr),
 }
 
-/// A variable that a loop keeps in a range.
+/// A variable that a loop keeps in a range (own).
 #[derive(Drop)]
 pub struct Keep {
     pub variable: usize,
@@ -98,14 +114,16 @@ pub struct Keep {
     pub high: u32,
 }
 
-/// A statement.
+/// A statement, with the line of its first token. What each does is the language's meaning (camac_model).
 #[derive(Drop)]
 pub enum Stmt {
+    /// `v = e`
     Assign {
         line: u32,
         variable: usize,
         value: Expr,
     },
+    /// `cdreg`: a register's address (ESONE CDREG); branch 1 is left out.
     SetRegister {
         line: u32,
         register: usize,
@@ -113,6 +131,7 @@ pub enum Stmt {
         station: Expr,
         sub_address: Expr,
     },
+    /// `cfsa`, `cssa`: one cycle with 24 or 16 bits (ESONE CFSA, CSSA).
     Single {
         line: u32,
         size: WordSize,
@@ -120,6 +139,7 @@ pub enum Stmt {
         register: usize,
         data: Move,
     },
+    /// `cfmad`: the address scan (ESONE CFMAD), of at most `max` words.
     Scan {
         line: u32,
         function: Function,
@@ -128,6 +148,7 @@ pub enum Stmt {
         max: Expr,
         tally: usize,
     },
+    /// `cfubc`: cycles up to the first Q=0, at most `max` (ESONE CFUBC).
     QStop {
         line: u32,
         function: Function,
@@ -136,6 +157,7 @@ pub enum Stmt {
         max: Expr,
         tally: usize,
     },
+    /// `cfubr`: cycles up to `max` words, at most `limit` (ESONE CFUBR).
     QRepeat {
         line: u32,
         function: Function,
@@ -145,31 +167,37 @@ pub enum Stmt {
         limit: Expr,
         tally: usize,
     },
+    /// `put`: a word of the event (own).
     Put {
         line: u32,
         value: Expr,
     },
+    /// A call of a crate's controller (ESONE CCCZ and others).
     CrateCall {
         line: u32,
         call: CrateCall,
         crate_no: Expr,
     },
+    /// A call at a LAM's address (ESONE CCLM and others).
     LamCall {
         line: u32,
         call: LamCall,
         lam: usize,
     },
+    /// `if` without `else`
     If {
         line: u32,
         test: Cond,
         then: Vec<Stmt>,
     },
+    /// `if` with `else`
     IfElse {
         line: u32,
         test: Cond,
         then: Vec<Stmt>,
         otherwise: Vec<Stmt>,
     },
+    /// `for` from a number up to another
     For {
         line: u32,
         variable: usize,
@@ -178,6 +206,7 @@ pub enum Stmt {
         keeps: Vec<Keep>,
         body: Vec<Stmt>,
     },
+    /// `while`, annotated with its most turns and a variable that measures them
     While {
         line: u32,
         test: Cond,
@@ -186,11 +215,13 @@ pub enum Stmt {
         keeps: Vec<Keep>,
         body: Vec<Stmt>,
     },
+    /// `lock`: a block with a crate to itself (own)
     Lock {
         line: u32,
         crate_no: Expr,
         body: Vec<Stmt>,
     },
+    /// `call` of a procedure (own)
     Call {
         line: u32,
         procedure: usize,

@@ -1,4 +1,4 @@
-// The commands that a type of module declares.
+//! The commands that a type of module declares.
 
 ghost use Rattle.std.specs.Prelude.{◌≡◌, ◌≤◌, IfSome, OnOk, OnErr};
 ghost use Rattle.std.specs.Result.{result_err};

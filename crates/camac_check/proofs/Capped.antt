@@ -1,0 +1,132 @@
+-- Costs that are cut at 64 bits are judged as the costs themselves.
+use Rattle.std.proofs.Common.{◌≡◌, ℕ, ◌-◌, ◌^◌, ◌<◌, ◌≤◌, Bool, true, false, Option, Some, None, Result, Ok, Err, refl, sym, ap, ◌∙◌, ⊎_elim, lit<, arith}
+use Rattle.std.specs.Prelude.{◌&&◌, min, nat_lt, nat_le}
+use Rattle.std.proofs.lemmas.Bool.{leb-true, lt-leb, le-leb, cases_lt}
+use Rattle.camac_func.specs.Class.{class_of}
+use Rattle.camac_func.specs.declared.code.FunctionClass.TheVariants.{Read, Write, Control}
+use Rattle.camac_lang.specs.declared.word.WordSize.{WordSize}
+use Rattle.camac_lang.specs.Tree.{Move, no_data, into, from, Statement, assign, set_register, single, address_scan, q_stop, q_repeat, put, crate_call, lam_call, choose, choose_else, count, repeat, locked, call, Block, done, next, Service}
+use Rattle.camac_branch.specs.Plan.{Layout}
+use Rattle.camac_model.specs.Fine.{Bounds}
+use Rattle.camac_model.specs.Meaning.{fits_size}
+use Rattle.camac_range.specs.Number.{greatest}
+use Rattle.camac_rules.specs.declared.rule.CheckRule.{CheckRule}
+use Rattle.camac_rules.specs.declared.rule.CheckRule.TheVariants.{WrongDirection, ValueTooWide, RegisterUnset, LoopVariableAssigned, WordTooWide, TooManyWords, TooManyCycles, TooManySteps}
+use Rattle.camac_rules.specs.Fault.{Fault}
+use Rattle.camac_rules.specs.Refusal.{go_on, required, given, if_reached}
+use Rattle.camac_rules.specs.Known.{region_at, Facts}
+use Rattle.camac_rules.specs.Expressions.{range_of}
+use Rattle.camac_rules.specs.Costs.{costs, plus, Verdict, verdict, unreached}
+use Rattle.camac_rules.specs.Capped.{capped}
+use Rattle.camac_rules.specs.Addresses.{command_widths}
+use Rattle.camac_rules.specs.Cycles.{Around, nothing_around, may_write, same_class, single_rule}
+use Rattle.camac_rules.specs.Statements.{greatest_word, accept_statement, accept_block}
+use Rattle.camac_rules.specs.Accept.{at_start, within, accept_service}
+use Rattle.camac_check.specs.Gives.{by_code, by_rules}
+
+-- a verdict with its costs cut
+abbrev cut : Verdict → Verdict
+cut v = verdict v.after (capped v.costs)
+
+abbrev cut_all : Result Verdict Fault → Result Verdict Fault
+cut_all (Ok v) = Ok (cut v)
+cut_all (Err f) = Err f
+
+-- a step that has no costs, and one that has
+go_same : {A : Type 0} (r : Result A Fault) (k l : A → Result Verdict Fault) → ((x : A) → k x ≡ cut_all (l x)) → go_on r k ≡ cut_all (go_on r l)
+unfolding go_on
+go_same (Ok x) k l h = h x
+go_same (Err e) k l h = refl
+
+go_cut : (q r : Result Verdict Fault) (k l : Verdict → Result Verdict Fault) → q ≡ cut_all r → ((v : Verdict) → k (cut v) ≡ cut_all (l v)) → go_on q k ≡ cut_all (go_on r l)
+unfolding go_on
+go_cut q (Ok v) k l e h = ap (λ x. go_on x k) e ∙ h v
+go_cut q (Err f) k l e h = ap (λ x. go_on x k) e
+
+if_reached_cut : (known : Option Facts) (k l : Facts → Result Verdict Fault) → ((q : Facts) → k q ≡ cut_all (l q)) → if_reached unreached known k ≡ cut_all (if_reached unreached known l)
+unfolding if_reached
+if_reached_cut None k l h = refl
+if_reached_cut (Some q) k l h = h q
+
+same_costs : (a b c d e f : ℕ) → a ≡ d → b ≡ e → c ≡ f → costs a b c ≡ costs d e f
+same_costs a b c d e f p q r = cc
+
+plus_cut : (a b : Bounds) → capped (plus (capped a) (capped b)) ≡ capped (plus a b)
+plus_cut a b = same_costs _ _ _ _ _ _ (omega arith) (omega arith) (omega arith)
+
+single_cut : (plan : Layout) (around : Around) (line : ℕ) (size : WordSize) (f r : ℕ) (m : Move) (k : Facts) → single_rule (by_code plan) around line size f r m k ≡ cut_all (single_rule (by_rules plan) around line size f r m k)
+single_cut plan around line size f r no_data k =
+    go_same (given (region_at k.registers r) RegisterUnset line) _ _ (λ g.
+    go_same (command_widths plan line f g) _ _ (λ w.
+    go_same (required (same_class Control (class_of f)) WrongDirection line) _ _ (λ _. refl)))
+single_cut plan around line size f r (into x) k =
+    go_same (required (may_write around x) LoopVariableAssigned line) _ _ (λ _.
+    go_same (given (region_at k.registers r) RegisterUnset line) _ _ (λ g.
+    go_same (command_widths plan line f g) _ _ (λ w.
+    go_same (required (same_class Read (class_of f)) WrongDirection line) _ _ (λ _. refl))))
+single_cut plan around line size f r (from e) k =
+    go_same (range_of line e k.ranges) _ _ (λ v.
+    go_same (given (region_at k.registers r) RegisterUnset line) _ _ (λ g.
+    go_same (command_widths plan line f g) _ _ (λ w.
+    go_same (required (same_class Write (class_of f)) WrongDirection line) _ _ (λ _.
+    go_same (required (nat_lt v.hi (2 ^ w.lo) && fits_size size v.hi) ValueTooWide line) _ _ (λ _. refl)))))
+
+statement_cut : (plan : Layout) (around : Around) (s : Statement) (k : Facts) → accept_statement (by_code plan) around s k ≡ cut_all (accept_statement (by_rules plan) around s k)
+statement_cut plan around (set_register line r e1 e2 e3) k =
+    go_same (range_of line e1 k.ranges) _ _ (λ c. go_same (range_of line e2 k.ranges) _ _ (λ n. go_same (range_of line e3 k.ranges) _ _ (λ a. refl)))
+statement_cut plan around (single line size f r m) k = single_cut plan around line size f r m k
+statement_cut plan around (put line e) k =
+    go_same (range_of line e k.ranges) _ _ (λ r. go_same (required (nat_le r.hi greatest_word) WordTooWide line) _ _ (λ _. refl))
+statement_cut plan around (assign line x e) k = refl
+statement_cut plan around (address_scan line f r1 r2 max x) k = refl
+statement_cut plan around (q_stop line f r t max x) k = refl
+statement_cut plan around (q_repeat line f r t max limit x) k = refl
+statement_cut plan around (crate_call line which e) k = refl
+statement_cut plan around (lam_call line which l) k = refl
+statement_cut plan around (choose line test a) k = refl
+statement_cut plan around (choose_else line test a b) k = refl
+statement_cut plan around (count line x e1 e2 keeps body) k = refl
+statement_cut plan around (repeat line test most m keeps body) k = refl
+statement_cut plan around (locked line e body) k = refl
+statement_cut plan around (call line p es) k = refl
+
+block_cut : (plan : Layout) (around : Around) (b : Block) (k : Facts) → accept_block (by_code plan) around b k ≡ cut_all (accept_block (by_rules plan) around b k)
+block_cut plan around done k = refl
+block_cut plan around (next s rest) k =
+    go_cut (accept_statement (by_code plan) around s k) (accept_statement (by_rules plan) around s k) _ _ (statement_cut plan around s k) (λ first.
+    go_cut (if_reached unreached first.after (accept_block (by_code plan) around rest)) (if_reached unreached first.after (accept_block (by_rules plan) around rest)) _ _
+    (if_reached_cut first.after (accept_block (by_code plan) around rest) (accept_block (by_rules plan) around rest) (λ q. block_cut plan around rest q))
+    (λ second. ap (λ c. Ok (verdict second.after c)) (plus_cut first.costs second.costs)))
+
+leb_cut : (n w k : ℕ) → w < k → nat_le (min n k) w ≡ nat_le n w
+leb_cut n w k h =
+    ⊎_elim
+    (λ more. lt-leb (min n k) w (omega arith) ∙ sym (lt-leb n w more))
+    (λ le. le-leb (min n k) w (omega arith) ∙ sym (le-leb n w le))
+    (cases_lt w n)
+
+guard_same : {B : Type 0} (b c : Bool) (rule : CheckRule) (line : ℕ) (r q : Result B Fault) → b ≡ c → (c ≡ true → r ≡ q) → go_on (required b rule line) (λ _. r) ≡ go_on (required c rule line) (λ _. q)
+unfolding go_on required
+guard_same b true rule line r q e h = ap (λ x. go_on (required x rule line) (λ _. r)) e ∙ h refl
+guard_same b false rule line r q e h = ap (λ x. go_on (required x rule line) (λ _. r)) e
+
+uncut : (n w k : ℕ) → w < k → nat_le n w ≡ true → min n k ≡ n
+uncut n w k h e = let le : n ≤ w = leb-true n w e in omega arith
+
+within_cut : (most found : Bounds) (line : ℕ) → most.cycles < 2 ^ 64 - 1 → most.words < 2 ^ 64 - 1 → most.steps < 2 ^ 64 - 1 → within most (capped found) line ≡ within most found line
+within_cut most found line hc hw hs =
+    let k = 2 ^ 64 - 1 in
+    guard_same (nat_le (min found.words k) most.words) (nat_le found.words most.words) TooManyWords line _ _ (leb_cut found.words most.words k hw) (λ w.
+    guard_same (nat_le (min found.cycles k) most.cycles) (nat_le found.cycles most.cycles) TooManyCycles line _ _ (leb_cut found.cycles most.cycles k hc) (λ c.
+    guard_same (nat_le (min found.steps k) most.steps) (nat_le found.steps most.steps) TooManySteps line _ _ (leb_cut found.steps most.steps k hs) (λ s.
+    ap (λ x. Ok x) (same_costs _ _ _ _ _ _ (uncut found.cycles most.cycles k hc c) (uncut found.words most.words k hw w) (uncut found.steps most.steps k hs s)))))
+
+finish_all : (most : Bounds) (line : ℕ) → most.cycles < 2 ^ 64 - 1 → most.words < 2 ^ 64 - 1 → most.steps < 2 ^ 64 - 1 → (q r : Result Verdict Fault) → q ≡ cut_all r → go_on q (λ v. within most v.costs line) ≡ go_on r (λ v. within most v.costs line)
+unfolding go_on
+finish_all most line hc hw hs q (Ok v) e = ap (λ x. go_on x (λ v. within most v.costs line)) e ∙ within_cut most v.costs line hc hw hs
+finish_all most line hc hw hs q (Err f) e = ap (λ x. go_on x (λ v. within most v.costs line)) e
+
+pub service_cut : (plan : Layout) (v : Service) → v.cycles < 2 ^ 64 - 1 → v.words < 2 ^ 64 - 1 → accept_service (by_code plan) v ≡ accept_service (by_rules plan) v
+service_cut plan v hc hw =
+    finish_all (costs v.cycles v.words greatest) v.line hc hw (lit< tt) (accept_block (by_code plan) nothing_around v.body at_start) (accept_block (by_rules plan) nothing_around v.body at_start)
+    (block_cut plan nothing_around v.body at_start)

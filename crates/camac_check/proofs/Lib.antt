@@ -1,0 +1,6 @@
+pub mod Steps
+pub mod Walks
+pub mod Lists
+pub mod Capped
+pub mod Judged
+pub mod Blocks

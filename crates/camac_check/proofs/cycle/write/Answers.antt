@@ -1,0 +1,19 @@
+use Rattle.std.proofs.Common.{ap, sym, ◌∙◌}
+use Rattle.camac_lang.specs.View.{expression_of}
+use Rattle.camac_rules.specs.declared.rule.CheckRule.TheVariants.{WrongDirection, ValueTooWide}
+use Rattle.camac_rules.specs.Expressions.{range_of}
+use Rattle.camac_rules.specs.Refusal.{required}
+use Rattle.camac_rules.specs.Cycles.{one_cycle}
+use Rattle.camac_check.specs.Gives.{by_code}
+use Rattle.camac_check.proofs.Steps.{step, same_findings}
+use Rattle.camac_check.proofs.cycle.write.Goals as goal
+
+pub returns : goal.returns
+returns c =
+    step _ c.in_ok-v.v _ _ (ap (λ rs. range_of c.args.line (expression_of c.args.value.now) rs) (sym c.ranges-2.ensures) ∙ c.in_ok-v.ensures)
+    (step _ c.in_ok-g.g _ _ c.in_ok-g.ensures
+    (step _ c.in_ok-widths.widths _ _ c.in_ok-widths.ensures.rule
+    (step _ tt _ _ (ap (λ b. required b WrongDirection c.args.line) (sym c.is_write.ensures) ∙ c.in_ok-required.ensures)
+    (step _ tt _ _ (ap (λ b. required b ValueTooWide c.args.line) (sym c.fits.ensures) ∙ c.in_ok-required-2.ensures)
+    (same_findings c.in_ok-try_clone.field-0 c.args.known.now c.one_cycle.result (one_cycle (by_code c.args.plan.now) c.args.around.now c.in_ok-g.g.crates)
+    c.in_ok-try_clone.ensures (c.one_cycle.ensures ∙ ap (λ r. one_cycle (by_code c.args.plan.now) c.args.around.now r) c.crates.ensures))))))

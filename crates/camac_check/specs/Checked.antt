@@ -1,0 +1,50 @@
+-- A checked script, and how `check` judges a linked one.
+use Rattle.std.specs.Prelude.{◌≡◌, ℕ, List, Result, Ok, Err, refl}
+use Rattle.std.specs.Coded.{Coded, code_by, coded_list, coded×, coded_ℕ}
+use Rattle.camac_lang.specs.Tree.{Script}
+use Rattle.camac_lang.specs.Code.{script_coded}
+use Rattle.camac_branch.specs.Plan.{Layout}
+use Rattle.camac_names.specs.Linked.{LinkedScript, layout_coded}
+use Rattle.camac_model.specs.Fine.{Bounds, AreFineServices}
+use Rattle.camac_model.specs.Headline.{RunsSafely, WithinHeadings}
+use Rattle.camac_rules.specs.Accept.{accept}
+use Rattle.camac_rules.specs.Fault.{broken, not_served}
+use Rattle.camac_check.specs.declared.fault.CheckFault.{CheckFault}
+use Rattle.camac_check.specs.declared.fault.CheckFault.TheVariants.{OutOfMemory, Broken, NotServed}
+
+-- with the bounds of each service, in text order
+pub record CheckedScript : Type 0 where
+  pub plan : Layout
+  pub script : Script
+  pub bounds : List Bounds
+
+-- a script and the plan that it is linked to, without bounds
+abbrev pub linked_of : CheckedScript → LinkedScript
+linked_of c = record { plan = c.plan; script = c.script }
+
+-- what is true of each checked script, whatever the branch answers
+pub record IsChecked (c : CheckedScript) : Type 0 where
+  -- each service by itself keeps to its bounds, and all its cycles are safe
+  pub services : AreFineServices c.plan c.script c.bounds
+  -- so does every run
+  pub runs : RunsSafely c.plan c.script c.bounds
+  -- bounds are within headings, and events within the plan's buffer
+  pub headings : WithinHeadings c.plan c.script c.bounds
+
+-- Accepted exactly where no rule is broken, with the costs as bounds; else the first broken rule; or memory ran out.
+abbrev pub Judges : LinkedScript → Result CheckedScript CheckFault → Type 0
+Judges l (Ok c) = (c.plan ≡ l.plan) × (c.script ≡ l.script) × (accept l.plan l.script ≡ Ok c.bounds)
+Judges l (Err OutOfMemory) = Unit {0}
+Judges l (Err (Broken rule line)) = accept l.plan l.script ≡ Err (broken rule line)
+Judges l (Err (NotServed line)) = accept l.plan l.script ≡ Err (not_served line)
+
+-- Distinct values have distinct codes, by which a proof tells them apart.
+abbrev pub bounds_coded : Coded Bounds
+bounds_coded =
+    code_by (ℕ × (ℕ × ℕ)) (coded× coded_ℕ (coded× coded_ℕ coded_ℕ))
+    (λ k. (k.cycles, (k.words, k.steps))) (λ p. record { cycles = p.0; words = p.1.0; steps = p.1.1 }) (λ _. refl)
+
+abbrev pub checked_coded : Coded CheckedScript
+checked_coded =
+    code_by (Layout × (Script × List Bounds)) (coded× layout_coded (coded× script_coded (coded_list bounds_coded)))
+    (λ c. (c.plan, (c.script, c.bounds))) (λ p. record { plan = p.0; script = p.1.0; bounds = p.1.1 }) (λ _. refl)

@@ -1,0 +1,223 @@
+// The rules of single actions.
+
+ghost use Rattle.std.specs.Prelude.{◌≡◌, ◌≤◌, ◌^◌, ◌-◌, ◌&&◌, nat_lt};
+ghost use Rattle.camac_func.specs.Class.{class_of};
+ghost use Rattle.camac_func.specs.declared.code.FunctionClass.TheVariants as class;
+ghost use Rattle.camac_lang.specs.View.{expression_of, move_of};
+ghost use Rattle.camac_model.specs.Cycle.{sized};
+ghost use Rattle.camac_model.specs.Meaning.{fits_size};
+ghost use Rattle.camac_range.specs.Interval.{interval};
+ghost use Rattle.camac_rules.specs.Cycles.{same_class, one_cycle, control_rule, read_rule, write_rule, single_rule};
+ghost use Rattle.camac_rules.specs.Known.{region_at};
+ghost use Rattle.camac_rules.specs.Refusal.{given};
+ghost use Rattle.camac_check.specs.Gives.{Gives, by_code, verdict_of};
+
+use crate::address::{command_widths, cycle_cost};
+use crate::around::Around;
+use crate::cost::Costs;
+use crate::expression::range_of;
+use crate::fault::{CheckFault, required};
+use crate::known::{Facts, Region};
+use crate::statement::Findings;
+use camac_branch::Plan;
+use camac_func::{FunctionClass, class};
+use camac_lang::{Expr, Move, WordSize};
+use camac_range::Range;
+use camac_rules::CheckRule;
+use camac_word::Function;
+use std::alloc::Global;
+
+/// Checks a single action.
+pub fn single(
+    alloc: Global,
+    plan: &Plan,
+    around: &Around,
+    line: u32,
+    size: WordSize,
+    f: Function,
+    register: usize,
+    data: &Move,
+    known: &Facts,
+) -> Result<Findings, CheckFault>
+    ensures { Gives verdict_of result (single_rule (by_code plan.now) around.now line size f register (move_of data.now) known.now) }
+{
+    match data {
+        Move::NoData => control(alloc, plan, around, line, f, register, known),
+        Move::Into(variable) => read(
+            alloc, plan, around, line, size, f, register, *variable, known,
+        ),
+        Move::From(value) => write(alloc, plan, around, line, size, f, register, value, known),
+    }
+}
+
+// A cycle without data.
+#[tactic(auto, unfolding(camac_rules::specs::Refusal::go_on))]
+fn control(
+    alloc: Global,
+    plan: &Plan,
+    around: &Around,
+    line: u32,
+    f: Function,
+    register: usize,
+    known: &Facts,
+) -> Result<Findings, CheckFault>
+    ensures { Gives verdict_of result (control_rule (by_code plan.now) around.now line f register known.now) }
+{
+    let g = addresses_of(known, register, line)?;
+    let _widths = command_widths(plan, line, f, g)?;
+    required(is_control(f), CheckRule::WrongDirection, line)?;
+    Ok(Findings {
+        known: Some(known.try_clone(alloc)?),
+        costs: one_cycle(plan, around, g.crates()),
+    })
+}
+
+// A read.
+#[tactic(auto, unfolding(camac_rules::specs::Refusal::go_on))]
+fn read(
+    alloc: Global,
+    plan: &Plan,
+    around: &Around,
+    line: u32,
+    size: WordSize,
+    f: Function,
+    register: usize,
+    variable: usize,
+    known: &Facts,
+) -> Result<Findings, CheckFault>
+    ensures { Gives verdict_of result (read_rule (by_code plan.now) around.now line size f register variable known.now) }
+{
+    required(
+        around.may_write(variable),
+        CheckRule::LoopVariableAssigned,
+        line,
+    )?;
+    let g = addresses_of(known, register, line)?;
+    let widths = command_widths(plan, line, f, g)?;
+    required(is_read(f), CheckRule::WrongDirection, line)?;
+    let word = words_of(size, widths.hi());
+    Ok(Findings {
+        known: Some(known.with_range(alloc, variable, word)?),
+        costs: one_cycle(plan, around, g.crates()),
+    })
+}
+
+// A write.
+#[tactic(auto, unfolding(camac_rules::specs::Refusal::go_on))]
+fn write(
+    alloc: Global,
+    plan: &Plan,
+    around: &Around,
+    line: u32,
+    size: WordSize,
+    f: Function,
+    register: usize,
+    value: &Expr,
+    known: &Facts,
+) -> Result<Findings, CheckFault>
+    ensures { Gives verdict_of result (write_rule (by_code plan.now) around.now line size f register (expression_of value.now) known.now) }
+{
+    let v = range_of(line, value, known.ranges())?;
+    let g = addresses_of(known, register, line)?;
+    let widths = command_widths(plan, line, f, g)?;
+    required(is_write(f), CheckRule::WrongDirection, line)?;
+    required(fits(size, v, widths), CheckRule::ValueTooWide, line)?;
+    Ok(Findings {
+        known: Some(known.try_clone(alloc)?),
+        costs: one_cycle(plan, around, g.crates()),
+    })
+}
+
+// The addresses of a register. E6 where it may be unset.
+#[tactic(auto, unfolding(camac_rules::specs::Refusal::given))]
+fn addresses_of(known: &Facts, register: usize, line: u32) -> Result<Region, CheckFault>
+    ensures { Gives (λ g. g) result (given (region_at known.now.registers register) CheckRule.RegisterUnset line) }
+{
+    match known.register(register) {
+        Some(region) => Ok(region),
+        None => Err(CheckFault::Broken {
+            rule: CheckRule::RegisterUnset,
+            line,
+        }),
+    }
+}
+
+// The costs of one cycle.
+fn one_cycle(plan: &Plan, around: &Around, crates: Range) -> Costs
+    ensures { result ≡ one_cycle (by_code plan.now) around.now crates }
+{
+    Costs::new(cycle_cost(plan, around, crates), 0, 1)
+}
+
+fn is_read(f: Function) -> bool
+    ensures { result ≡ same_class class.Read (class_of f) }
+{
+    match class(f) {
+        FunctionClass::Read => true,
+        FunctionClass::Write => false,
+        FunctionClass::Control => false,
+    }
+}
+
+fn is_write(f: Function) -> bool
+    ensures { result ≡ same_class class.Write (class_of f) }
+{
+    match class(f) {
+        FunctionClass::Read => false,
+        FunctionClass::Write => true,
+        FunctionClass::Control => false,
+    }
+}
+
+fn is_control(f: Function) -> bool
+    ensures { result ≡ same_class class.Control (class_of f) }
+{
+    match class(f) {
+        FunctionClass::Read => false,
+        FunctionClass::Write => false,
+        FunctionClass::Control => true,
+    }
+}
+
+// The words that a read of this size keeps at this width.
+#[tactic(auto, using(crate::proofs::Steps::power_below))]
+fn words_of(size: WordSize, width: u32) -> Range
+    requires { width ≤ 24 }
+    ensures { result ≡ interval 0 (2 ^ sized size width - 1) }
+{
+    let bits = match size {
+        WordSize::Full => width,
+        WordSize::Short => width.min(16),
+    };
+    match Range::new(0, 2u32.pow(bits) - 1) {
+        Some(words) => words,
+        None => Range::only(0),
+    }
+}
+
+// Whether a write of this size can send each number of a range at these widths.
+fn fits(size: WordSize, values: Range, widths: Range) -> bool
+    requires { widths.hi ≤ 24 }
+    ensures { result ≡ (nat_lt values.hi (2 ^ widths.lo) && fits_size size values.hi) }
+{
+    let greatest = values.hi();
+    let least = widths.lo();
+    fits_width(greatest, least) && fits_size(size, greatest)
+}
+
+#[tactic(auto, using(crate::proofs::Steps::power_below))]
+fn fits_width(value: u32, width: u32) -> bool
+    requires { width ≤ 24 }
+    ensures { result ≡ nat_lt value (2 ^ width) }
+{
+    value < 2u32.pow(width)
+}
+
+fn fits_size(size: WordSize, value: u32) -> bool
+    ensures { result ≡ fits_size size value }
+{
+    match size {
+        WordSize::Full => true,
+        WordSize::Short => value <= 65535,
+    }
+}

@@ -1,0 +1,21 @@
+// The check of a linked script.
+
+ghost use Rattle.camac_check.specs.Checked.{Judges};
+
+use crate::accept::accept_script;
+use crate::checked::Checked;
+use crate::fault::CheckFault;
+use camac_names::Linked;
+use std::alloc::Global;
+
+/// Checks a linked script. It is accepted exactly where no rule is broken, with the costs of each service as its bounds; else the first
+/// broken rule is answered, in text order, with its line: E1 to E18 and E21, or E19, want of memory. A statement or a procedure of a kind that
+/// is not accepted yet is refused as such.
+pub fn check(alloc: Global, linked: Linked) -> Result<Checked, CheckFault>
+    ensures exact { Judges linked result }
+{
+    linked.plan().is_plan();
+    let _order = linked.script().order();
+    let bounds = accept_script(alloc, linked.plan(), linked.script())?;
+    Ok(Checked { linked, bounds })
+}

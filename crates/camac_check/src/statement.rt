@@ -1,0 +1,159 @@
+// The rules of all statements, and of blocks of them.
+
+ghost use Rattle.std.specs.Prelude.{◌≡◌};
+ghost use Rattle.camac_lang.specs.View.{expression_of, statement_of, statements_of};
+ghost use Rattle.camac_rules.specs.Costs.{unreached};
+ghost use Rattle.camac_rules.specs.Refusal.{if_reached};
+ghost use Rattle.camac_rules.specs.Statements.{register_rule, put_rule, accept_statement, accept_block};
+ghost use Rattle.camac_check.specs.Gives.{Gives, by_code, verdict_of};
+
+use crate::around::Around;
+use crate::cost::Costs;
+use crate::cycle::single;
+use crate::expression::range_of;
+use crate::fault::{CheckFault, required};
+use crate::known::{Facts, Region};
+use camac_branch::Plan;
+use camac_lang::{Expr, Stmt};
+use camac_rules::CheckRule;
+use std::alloc::Global;
+
+/// What is known after a statement, none where it can't be reached, and what it can cost.
+#[derive(Drop)]
+pub struct Findings {
+    pub known: Option<Facts>,
+    pub costs: Costs,
+}
+
+/// Checks a block from what is known at its begin.
+pub fn accept_block(
+    alloc: Global,
+    plan: &Plan,
+    around: &Around,
+    block: &[Stmt],
+    known: &Facts,
+) -> Result<Findings, CheckFault>
+    ensures { Gives verdict_of result (accept_block (by_code plan.now) around.now (statements_of block.now) known.now) }
+{
+    let mut found = Findings {
+        known: Some(known.try_clone(alloc)?),
+        costs: Costs::new(0, 0, 0),
+    };
+    'statements: for statement in block {
+        let next = match accept_next(alloc, plan, around, statement, &found.known) {
+            Ok(next) => next,
+            Err(fault) => return Err(fault),
+        };
+        found = Findings {
+            known: next.known,
+            costs: found.costs.then(next.costs),
+        };
+    }
+    Ok(found)
+}
+
+// Checks a statement, if it can be reached.
+#[tactic(auto, unfolding(camac_rules::specs::Refusal::if_reached))]
+fn accept_next(
+    alloc: Global,
+    plan: &Plan,
+    around: &Around,
+    statement: &Stmt,
+    known: &Option<Facts>,
+) -> Result<Findings, CheckFault>
+    ensures { Gives verdict_of result (if_reached unreached known.now (accept_statement (by_code plan.now) around.now (statement_of statement.now))) }
+{
+    match known {
+        None => Ok(Findings {
+            known: None,
+            costs: Costs::new(0, 0, 0),
+        }),
+        Some(known) => accept_statement(alloc, plan, around, statement, known),
+    }
+}
+
+// Checks a statement.
+fn accept_statement(
+    alloc: Global,
+    plan: &Plan,
+    around: &Around,
+    statement: &Stmt,
+    known: &Facts,
+) -> Result<Findings, CheckFault>
+    ensures { Gives verdict_of result (accept_statement (by_code plan.now) around.now (statement_of statement.now) known.now) }
+{
+    match statement {
+        Stmt::SetRegister {
+            line,
+            register,
+            crate_no,
+            station,
+            sub_address,
+        } => set_register(
+            alloc,
+            *line,
+            *register,
+            crate_no,
+            station,
+            sub_address,
+            known,
+        ),
+        Stmt::Single {
+            line,
+            size,
+            function,
+            register,
+            data,
+        } => single(
+            alloc, plan, around, *line, *size, *function, *register, data, known,
+        ),
+        Stmt::Put { line, value } => put(alloc, *line, value, known),
+        Stmt::Assign { line, .. } | Stmt::Scan { line, .. } => not_served(*line),
+        Stmt::QStop { line, .. } | Stmt::QRepeat { line, .. } => not_served(*line),
+        Stmt::CrateCall { line, .. } | Stmt::LamCall { line, .. } => not_served(*line),
+        Stmt::If { line, .. } | Stmt::IfElse { line, .. } => not_served(*line),
+        Stmt::For { line, .. } | Stmt::While { line, .. } => not_served(*line),
+        Stmt::Lock { line, .. } | Stmt::Call { line, .. } => not_served(*line),
+    }
+}
+
+fn not_served(line: u32) -> Result<Findings, CheckFault>
+    ensures { result ≡ Err (CheckFault.NotServed line) }
+{
+    Err(CheckFault::NotServed { line })
+}
+
+// `cdreg`.
+#[tactic(auto, unfolding(camac_rules::specs::Refusal::go_on))]
+fn set_register(
+    alloc: Global,
+    line: u32,
+    register: usize,
+    crate_no: &Expr,
+    station: &Expr,
+    sub_address: &Expr,
+    known: &Facts,
+) -> Result<Findings, CheckFault>
+    ensures { Gives verdict_of result (register_rule line register (expression_of crate_no.now) (expression_of station.now) (expression_of sub_address.now) known.now) }
+{
+    let c = range_of(line, crate_no, known.ranges())?;
+    let n = range_of(line, station, known.ranges())?;
+    let a = range_of(line, sub_address, known.ranges())?;
+    Ok(Findings {
+        known: Some(known.with_register(alloc, register, Region::new(c, n, a))?),
+        costs: Costs::new(0, 0, 1),
+    })
+}
+
+// `put`.
+#[tactic(auto, unfolding(camac_rules::specs::Refusal::go_on))]
+fn put(alloc: Global, line: u32, value: &Expr, known: &Facts) -> Result<Findings, CheckFault>
+    ensures { Gives verdict_of result (put_rule line (expression_of value.now) known.now) }
+{
+    let r = range_of(line, value, known.ranges())?;
+    required(r.hi() <= 16_777_215, CheckRule::WordTooWide, line)?;
+    Ok(Findings {
+        known: Some(known.try_clone(alloc)?),
+        costs: Costs::new(0, 1, 1),
+    })
+}

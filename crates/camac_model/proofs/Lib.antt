@@ -1,0 +1,28 @@
+mod StraightRows
+mod TransferRows
+mod ControlRows
+mod ControllerRows
+mod DemandRows
+mod LockRows
+mod ProcedureRows
+mod SafeRows
+mod SamplePlan
+pub mod Values
+pub mod Contexts
+pub mod Extends
+pub mod Longer
+pub mod Rules
+pub mod Kept
+pub mod Counts
+pub mod Usage
+pub mod Runs
+pub mod Grown
+pub mod AnswersUsed
+pub mod KeptWords
+pub mod Locks
+pub mod Short
+pub mod Fine
+pub mod Rounds
+pub mod Services
+pub mod Headline
+pub mod Transferred

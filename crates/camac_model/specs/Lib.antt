@@ -1,0 +1,14 @@
+pub mod State
+pub mod Behaviour
+pub mod Value
+pub mod Cycle
+pub mod Transfer
+pub mod Meaning
+pub mod Run
+pub mod Safe
+pub mod Moments
+pub mod Fine
+pub mod Headline
+pub mod Transferred
+pub mod Sample
+pub mod Laws

@@ -1,0 +1,155 @@
+-- The sample plan, and the standard opening of the worked rows.
+use Rattle.std.specs.Prelude.{ℕ, zero, suc, List, [], ◌∷◌, Option, Some, None, codes, Bool, true, false, length, option_map, slice_get}
+use Rattle.camac_module.specs.Entry.{Entry, Entries}
+use Rattle.camac_lang.specs.View.{block_of}
+use Rattle.camac_lang.specs.Tree.{Text, number, Statement, set_register, Table, Lam, next_table, next_lam, next_variables, next_procedure, next_service, Procedure, Script}
+use Rattle.camac_func.specs.declared.data.DataMove.{DataMove}
+use Rattle.camac_branch.specs.declared.plan.Kind.{Kind}
+use Rattle.camac_branch.specs.declared.plan.Crate.{Crate}
+use Rattle.camac_branch.specs.Address.{address}
+use Rattle.camac_branch.specs.Branch.{Answer, Reply, start}
+use Rattle.camac_branch.specs.Plan.{Layout}
+use Rattle.camac_model.specs.State.{State}
+use Rattle.camac_model.specs.Behaviour.{Piece, demanded, cycled, Event, Behaviour, does, ends, reached}
+use Rattle.camac_model.specs.Meaning.{context}
+use Rattle.camac_model.specs.Run.{service_meaning, the_run}
+
+-- the same so many times, and then the rest
+abbrev pub times : {A : Type 0} → ℕ → A → List A → List A
+times zero a rest = rest
+times (suc n) a rest = a ∷ times n a rest
+
+-- nothing at so many places
+abbrev pub gap : {A : Type 0} → ℕ → List (Option A) → List (Option A)
+gap n rest = times n None rest
+
+-- a command of so many bits, and a probe
+abbrev pub bits : ℕ → Option Entry
+bits w = Some (record { width = w; is_probe = false })
+
+abbrev pub probe : Option Entry
+probe = Some (record { width = 24; is_probe = true })
+
+-- a converter: F0 at A0 to A11, probes up to A15, and F8, F10, F24 and F26 at A12
+abbrev pub adc_lam_row : Entries
+adc_lam_row = probe ∷ gap 7 (bits 24 ∷ gap 1 (bits 24 ∷ gap 13 (bits 24 ∷ gap 1 (bits 24 ∷ gap 5 []))))
+
+abbrev pub adc : Kind
+adc = record {
+  name = codes "ADC";
+  commands = times 12 (bits 12 ∷ gap 31 []) (adc_lam_row ∷ times 3 (probe ∷ gap 31 []) []);
+}
+
+-- an output register: F0, F5, F16 and F27 at A0
+abbrev pub reg : Kind
+reg = record {
+  name = codes "REG";
+  commands = (bits 24 ∷ gap 4 (bits 24 ∷ gap 10 (bits 8 ∷ gap 10 (bits 24 ∷ gap 4 [])))) ∷ times 15 (gap 32 []) [];
+}
+
+abbrev pub crate_one : Crate
+crate_one = record {
+  waits = 2;
+  stations = gap 4 (Some (record { type_no = 0; gl = Some 3 }) ∷ Some (record { type_no = 1; gl = None }) ∷ gap 17 []);
+}
+
+abbrev pub sample_plan : Layout
+sample_plan = record { buffer = 4096; types = adc ∷ reg ∷ []; crates = Some crate_one ∷ gap 6 [] }
+
+-- `cdlam adc 1 1 5 12`
+abbrev pub adc_lam : Lam
+adc_lam = record { line = 1; name = codes "adc"; crate_no = 1; station = 5; sub_address = 12 }
+
+-- a script of one service for that LAM: these variables on line 2, tables and procedures, the service's heading and registers
+abbrev pub script_of : List Text → List Table → List Procedure → ℕ → ℕ → List Text → List Statement → Script
+script_of variables tables procedures cycles words registers ss = record {
+  order = next_lam ∷ next_variables 2 (length variables) ∷ times (length tables) next_table (times (length procedures) next_procedure (next_service ∷ []));
+  tables = tables;
+  lams = adc_lam ∷ [];
+  variables = variables;
+  procedures = procedures;
+  services = record { line = 3; lam = 0; cycles = cycles; words = words; registers = registers; body = block_of ss } ∷ [];
+}
+
+-- the variables of the standard opening, and their numbers
+abbrev pub opening : List Text
+opening = codes "v" ∷ codes "k" ∷ codes "i" ∷ codes "t" ∷ []
+
+abbrev pub v : ℕ
+v = 0
+
+abbrev pub k : ℕ
+k = 1
+
+abbrev pub i : ℕ
+i = 2
+
+abbrev pub t : ℕ
+t = 3
+
+-- the registers of a service that has one or two, and their numbers
+abbrev pub with_r : List Text
+with_r = codes "r" ∷ []
+
+abbrev pub with_r_s : List Text
+with_r_s = codes "r" ∷ codes "s" ∷ []
+
+abbrev pub r : ℕ
+r = 0
+
+abbrev pub s : ℕ
+s = 1
+
+-- `cdreg` of a register, on line 4, in crate 1
+abbrev pub register : ℕ → ℕ → ℕ → Statement
+register g n a = set_register 4 g (number 1) (number n) (number a)
+
+-- the standard opening with this heading and these registers
+abbrev pub script : ℕ → ℕ → List Text → List Statement → Script
+script cycles words registers ss = script_of opening [] [] cycles words registers ss
+
+-- x, q, word, wait and graded-L pattern
+abbrev pub answer : Bool → Bool → ℕ → ℕ → ℕ → Answer
+answer x q word wait gl = record { x = x; q = q; word = word; wait = wait; gl = gl }
+
+-- an answer of a graded-L operation
+abbrev pub demand : ℕ → Answer
+demand gl = answer false false 0 0 gl
+
+-- answers with X=1 and Q=1, no wait, and the words n down to 1
+abbrev pub good : ℕ → List Answer
+good zero = []
+good (suc n) = answer true true (suc n) 0 0 ∷ good n
+
+-- answers with X=1 and Q=0, and a wait of 2
+abbrev pub busy : ℕ → List Answer
+busy zero = []
+busy (suc n) = answer true false 0 2 0 ∷ busy n
+
+abbrev pub reply : Bool → Bool → ℕ → Reply
+reply x q word = record { x = x; q = q; word = word }
+
+-- a cycle in crate 1
+abbrev pub cycle_at : ℕ → ℕ → ℕ → DataMove → Reply → ℕ → Piece
+cycle_at n a f d r wait = cycled (address 1 n a) f d r wait
+
+abbrev pub event : ℕ → ℕ → ℕ → List ℕ → Event
+event bit cycles missed words = record { bit = bit; cycles = cycles; missed = missed; words = words }
+
+-- a demand of the LAM's service
+abbrev pub called : Piece
+called = demanded 4 (Some 0)
+
+-- what a run does, piece by piece, until it ends
+abbrev pub doing : List Piece → Behaviour (Unit {0})
+doing [] = ends tt
+doing (p ∷ ps) = does p (doing ps)
+
+-- the run of a script under the sample plan, where a demand of its service comes first
+abbrev pub served : Script → List Answer → Behaviour (Unit {0})
+served script' answers = the_run sample_plan script' (demand 4 ∷ answers)
+
+-- where the service of a script comes out, by itself from the branch's start
+abbrev pub left_by : Script → List Answer → Option State
+left_by script' answers =
+    option_map (λ service. reached (service_meaning (context sample_plan script') 65535 service start answers)) (slice_get script'.services 0)

@@ -1,0 +1,11 @@
+//! The lines that the program prints: verdicts and refusals.
+#![tactic(auto)]
+
+mod code;
+mod line;
+mod refusal;
+mod verdict;
+
+pub use code::{AnswerCode, CheckCode, CodeText, EventCode, LinkCode, PlanCode, TextCode};
+pub use refusal::{Refusal, write_refusal};
+pub use verdict::write_verdict;

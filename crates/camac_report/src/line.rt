@@ -1,0 +1,70 @@
+// An output line while it is laid out.
+
+ghost use Rattle.std.specs.Prelude.{◌≡◌, ◌≤◌, ◌+◌, ◌++◌, [], length};
+
+use arrayvec::ArrayVec;
+use itoa::{Buffer, Integer};
+use std::marker::Model;
+
+/// The greatest length of a line, in bytes.
+pub const LONGEST: usize = 192;
+
+/// A line of at most `LONGEST` bytes.
+#[derive(Drop)]
+pub struct Line {
+    bytes: ArrayVec<u8, LONGEST>,
+}
+
+impl Model for Line {
+    ghost use Rattle.std.specs.Prelude.{List, ℕ};
+
+    ghost Value = { List ℕ };
+
+    ghost view = { λ l. l.bytes.items };
+}
+
+impl Line {
+    /// A line with nothing in it.
+    pub fn new() -> Line
+        ensures { result ≡ [] }
+    {
+        Line {
+            bytes: ArrayVec::new(),
+        }
+    }
+
+    /// The line with the text at its end.
+    pub fn with(self, text: &str) -> Line
+        requires { length self + length text.now ≤ LONGEST }
+        ensures bytes { result ≡ self ++ text.now }
+        ensures len { length result ≡ length self + length text.now }
+    {
+        self.with_bytes(text.as_bytes())
+    }
+
+    /// The line with the bytes at its end.
+    pub fn with_bytes(mut self, bytes: &[u8]) -> Line
+        requires { length self + length bytes.now ≤ LONGEST }
+        ensures bytes { result ≡ self ++ bytes.now }
+        ensures len { length result ≡ length self + length bytes.now }
+    {
+        self.bytes.try_extend_from_slice(bytes).unwrap();
+        self
+    }
+
+    /// The line with the number at its end, in decimal.
+    pub fn with_number<N: Integer>(self, number: N) -> Line
+        requires room { length self + N.MAX_STR_LEN ≤ LONGEST }
+        ensures bytes { result ≡ self ++ N.text number }
+        ensures len { length result ≤ length self + N.MAX_STR_LEN }
+    {
+        let mut buffer = Buffer::new();
+        self.with(buffer.format(number))
+    }
+
+    pub fn as_bytes(&self) -> &[u8]
+        ensures { result.now ≡ self.now }
+    {
+        &self.bytes
+    }
+}

@@ -1,0 +1,75 @@
+// The lines of a verdict.
+
+ghost use Rattle.std.specs.Prelude.{◌≡◌, ◌<◌, ◌≤◌, ◌||◌, ◌++◌, length, is_err, slice_get, Some, map};
+ghost use Rattle.camac_branch.specs.Plan.{Layout};
+ghost use Rattle.camac_model.specs.Fine.{Bounds as BoundsFound};
+ghost use Rattle.camac_lang.specs.Tree.{Service as ServiceTree};
+ghost use Rattle.camac_lang.specs.View.{lam_of, service_of};
+ghost use Rattle.camac_names.specs.Link.{service_bit};
+ghost use Rattle.camac_report.specs.Verdict.{lam_name, service_line, service_text, verdict_text};
+ghost use Rattle.camac_word.specs.Watched.{inner_of, has_failed};
+ghost use Rattle.camac_word.specs.Writing.{Writes};
+
+use crate::line::Line;
+use camac_check::{Bounds, Checked};
+use camac_lang::{Lam, Service};
+use camac_word::{GlBit, Watched, WriteFault};
+use std::io::Write;
+
+/// Writes the verdict on a script that was accepted: a line `accepted`, and of each service in text order a line of its name, its GL
+/// bit, and its bounds beside the numbers of its heading. After a write fault a front of this was written.
+pub fn write_verdict<W: Write>(out: &mut Watched<W>, checked: &Checked) -> Result<(), WriteFault>
+    ensures text { Writes (W.contents (inner_of out.old)) (W.contents (inner_of out.new)) result
+        (verdict_text checked.now.plan checked.now.script checked.now.bounds) }
+    ensures failed { has_failed out.new ≡ (has_failed out.old || is_err result) }
+{
+    out.write_text(b"accepted\n")?;
+    'services: for i in 0..checked.services() {
+        out.write_text(line_of_service(checked, i).as_bytes())?;
+    }
+    Ok(())
+}
+
+fn line_of_service(checked: &Checked, i: usize) -> Line
+    requires { i < length checked.now.script.services }
+    ensures { (v : ServiceTree) (k : BoundsFound) → slice_get checked.now.script.services i ≡ Some v → slice_get checked.now.bounds i ≡ Some k
+        → result ≡ service_text checked.now.plan checked.now.script.lams v k }
+{
+    let script = checked.script();
+    let service = &script.services()[i];
+    let name = name_of(script.lams(), service.lam);
+    laid_out(name, checked.gl(i), service, checked.bounds(i))
+}
+
+// The name of a LAM.
+fn name_of(lams: &[Lam], lam: usize) -> &[u8]
+    ensures name { result.now ≡ lam_name (map lam_of lams.now) lam }
+    ensures short { length result.now ≤ 32 }
+{
+    match lams.get(lam) {
+        Some(lam) => lam.name.as_bytes(),
+        None => &[],
+    }
+}
+
+fn laid_out(name: &[u8], bit: GlBit, service: &Service, bounds: Bounds) -> Line
+    requires { length name.now ≤ 32 }
+    ensures { result ≡ service_line name.now bit (service_of service.now) bounds }
+{
+    Line::new()
+        .with("service ")
+        .with_bytes(name)
+        .with(" gl ")
+        .with_number(bit.get())
+        .with(" cycles ")
+        .with_number(bounds.cycles)
+        .with(" of ")
+        .with_number(service.cycles)
+        .with(" words ")
+        .with_number(bounds.words)
+        .with(" of ")
+        .with_number(service.words)
+        .with(" steps ")
+        .with_number(bounds.steps)
+        .with("\n")
+}

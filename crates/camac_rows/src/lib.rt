@@ -1,0 +1,13 @@
+//! Worked rows that cross crates, as tests over readers and writers in memory.
+#![tactic(auto)]
+
+#[cfg(test)]
+mod check;
+#[cfg(test)]
+mod fakes;
+#[cfg(test)]
+mod faults;
+#[cfg(test)]
+mod scripts;
+#[cfg(test)]
+mod tree;

@@ -1,0 +1,98 @@
+-- What the rules accept of statements runs safely: one induction over statements.
+use Rattle.std.proofs.Common.{◌≡◌, ℕ, ◌+◌, ◌^◌, ◌<◌, ◌≤◌, List, [], ◌∷◌, ◌++◌, length, length-append, Some, refl, arith}
+use Rattle.std.proofs.lemmas.Bool.{leb-true}
+use Rattle.camac_lang.specs.Tree.{Expression, Statement, assign, set_register, single, address_scan, q_stop, q_repeat, put, crate_call, lam_call, choose, choose_else, count, repeat, locked, call, Block, done, next}
+use Rattle.camac_branch.specs.Address.{address}
+use Rattle.camac_model.specs.State.{stepped, with_register, with_word}
+use Rattle.camac_model.specs.Behaviour.{ends, Action, given}
+use Rattle.camac_model.specs.Value.{value}
+use Rattle.camac_model.specs.Meaning.{Context, effect, block_meaning}
+use Rattle.camac_model.specs.Fine.{AreWords}
+use Rattle.camac_rules.specs.Known.{region, Facts, Known, with_region}
+use Rattle.camac_rules.specs.Costs.{costs, unreached}
+use Rattle.camac_rules.specs.Cycles.{Around}
+use Rattle.camac_rules.specs.Statements.{greatest_word, register_rule, put_rule, accept_statement, accept_block}
+use Rattle.camac_rules.proofs.Allows.{Allows, allowed as allows, refused, then_allowed, required_allowed, if_reached_allowed}
+use Rattle.camac_rules.proofs.Stores.{InRegion, registers_write}
+use Rattle.camac_rules.proofs.Values.{range_each}
+use Rattle.camac_rules.proofs.Sound.{SoundFor, paid_nothing, sound_then}
+use Rattle.camac_rules.proofs.Actions.{HasWidths, seen, with_given, value_of, single_sound}
+
+words_push : (ws : List ℕ) (v : ℕ) → v < 2 ^ 24 → AreWords ws → AreWords (ws ++ v ∷ [])
+words_push [] v h a = (h, tt)
+words_push (w ∷ ws) v h a = (a.0, words_push ws v h a.1)
+
+put_sound : (c : Context) (around : Around) (line : ℕ) (e : Expression) (k : Facts) → Allows (put_rule line e k) (SoundFor c.plan around (Some k) (λ n s. effect c n (put line e) (stepped s)))
+put_sound c around line e k =
+    then_allowed (range_each line e k.ranges) (λ r gives.
+    required_allowed _ line (λ small. allows (record {
+      each = λ n le s i.
+          let v = value_of (value e s.variables) r (gives s.variables i.variables) in
+          let most : r.hi ≤ greatest_word = leb-true r.hi greatest_word small in
+          let high : v.number ≤ r.hi = v.fits.within.high in
+          let long : length (s.words ++ v.number ∷ []) ≡ length s.words + 1 = length-append s.words (v.number ∷ []) in
+          with_given c.plan around (Some k) (costs 0 1 1) s (stepped s) (value e s.variables) (λ w t. ends (with_word w t)) v.number v.is
+          (record {
+            reaches = record { variables = i.variables; registers = i.registers; locks = i.locks };
+            paid = record { cycles = omega arith; words = omega arith; steps = omega arith; are_words = words_push s.words v.number (omega arith) };
+            untouched = λ y among. refl;
+          });
+    })))
+
+register_set_sound : (c : Context) (around : Around) (line r : ℕ) (e1 e2 e3 : Expression) (k : Facts) → Allows (register_rule line r e1 e2 e3 k) (SoundFor c.plan around (Some k) (λ n s. effect c n (set_register line r e1 e2 e3) (stepped s)))
+register_set_sound c around line r e1 e2 e3 k =
+    then_allowed (range_each line e1 k.ranges) (λ cs gives_c.
+    then_allowed (range_each line e2 k.ranges) (λ ns gives_n.
+    then_allowed (range_each line e3 k.ranges) (λ subs gives_a. allows (record {
+      each = λ n le s i.
+          let after : Known = Some (with_region r (region cs ns subs) k) in
+          let x = value_of (value e1 s.variables) cs (gives_c s.variables i.variables) in
+          let y = value_of (value e2 s.variables) ns (gives_n s.variables i.variables) in
+          let z = value_of (value e3 s.variables) subs (gives_a s.variables i.variables) in
+          let third : ℕ → ℕ → ℕ → Action = λ p q m t. ends (with_register r (address p q m) t) in
+          let second : ℕ → ℕ → Action = λ p q. given (value e3 s.variables) (third p q) in
+          let inside : InRegion (region cs ns subs) (address x.number y.number z.number) = record { crate_no = x.fits.within; station = y.fits.within; sub_address = z.fits.within } in
+          with_given c.plan around after (costs 0 0 1) s (stepped s) (value e1 s.variables) (λ p. given (value e2 s.variables) (second p)) x.number x.is
+          (with_given c.plan around after (costs 0 0 1) s (stepped s) (value e2 s.variables) (second x.number) y.number y.is
+          (with_given c.plan around after (costs 0 0 1) s (stepped s) (value e3 s.variables) (third x.number y.number) z.number z.is
+          (record {
+            reaches = record {
+              variables = i.variables;
+              registers = registers_write k.registers s.registers r (region cs ns subs) (address x.number y.number z.number) i.registers inside;
+              locks = i.locks;
+            };
+            paid = record { cycles = omega arith; words = omega arith; steps = omega arith; are_words = λ w. w };
+            untouched = λ q among. refl;
+          })));
+    }))))
+
+pub statement_sound : (c : Context) → HasWidths c.plan → (around : Around) (st : Statement) (k : Facts) → Allows (accept_statement (seen c) around st k) (SoundFor c.plan around (Some k) (λ n s. effect c n st (stepped s)))
+statement_sound c narrow around (set_register line r e1 e2 e3) k = register_set_sound c around line r e1 e2 e3 k
+statement_sound c narrow around (single line size f r m) k = single_sound c narrow around line size f r m k
+statement_sound c narrow around (put line e) k = put_sound c around line e k
+statement_sound c narrow around (assign line x e) k = refused
+statement_sound c narrow around (address_scan line f r1 r2 max x) k = refused
+statement_sound c narrow around (q_stop line f r t max x) k = refused
+statement_sound c narrow around (q_repeat line f r t max limit x) k = refused
+statement_sound c narrow around (crate_call line which e) k = refused
+statement_sound c narrow around (lam_call line which l) k = refused
+statement_sound c narrow around (choose line test a) k = refused
+statement_sound c narrow around (choose_else line test a b) k = refused
+statement_sound c narrow around (count line x e1 e2 keeps body) k = refused
+statement_sound c narrow around (repeat line test most m keeps body) k = refused
+statement_sound c narrow around (locked line e body) k = refused
+statement_sound c narrow around (call line p es) k = refused
+
+-- a block, from what is known at its begin, if that can be reached
+pub block_sound : (c : Context) → HasWidths c.plan → (around : Around) (b : Block) (k : Facts) → Allows (accept_block (seen c) around b k) (SoundFor c.plan around (Some k) (λ n. block_meaning c n b))
+block_sound c narrow around done k =
+    allows (record { each = λ n le s i. record { reaches = i; paid = paid_nothing s; untouched = λ y among. refl } })
+block_sound c narrow around (next st rest) k =
+    then_allowed (statement_sound c narrow around st k) (λ first h.
+    then_allowed
+    (if_reached_allowed unreached first.after (accept_block (seen c) around rest) (λ known. SoundFor c.plan around known (λ n. block_meaning c n rest))
+    (record { each = λ n le s i. absurd i }) (λ q. block_sound c narrow around rest q)) (λ second g.
+    allows (record {
+      each = λ n le s i.
+          sound_then c.plan around first.after second.after first.costs second.costs s (effect c n st (stepped s)) (block_meaning c n rest) (h.each n le s i) (λ t j. g.each n le t j);
+    })))

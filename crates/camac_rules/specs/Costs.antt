@@ -1,0 +1,26 @@
+-- What statements can cost, in numbers of any size, and what a statement is found to leave and cost.
+use Rattle.std.specs.Prelude.{ℕ, ◌+◌, None}
+use Rattle.camac_model.specs.Fine.{Bounds}
+use Rattle.camac_rules.specs.Known.{Known}
+
+abbrev pub costs : ℕ → ℕ → ℕ → Bounds
+costs cycles words steps = record { cycles = cycles; words = words; steps = steps }
+
+abbrev pub no_costs : Bounds
+no_costs = costs 0 0 0
+
+-- one after the other
+abbrev pub plus : Bounds → Bounds → Bounds
+plus a b = costs (a.cycles + b.cycles) (a.words + b.words) (a.steps + b.steps)
+
+-- what is known after a statement, and what it can cost
+pub record Verdict : Type 0 where
+  pub after : Known
+  pub costs : Bounds
+
+abbrev pub verdict : Known → Bounds → Verdict
+verdict after costs = record { after = after; costs = costs }
+
+-- of what can't be reached
+abbrev pub unreached : Verdict
+unreached = verdict None no_costs

@@ -1,0 +1,8 @@
+-- Why a script is refused: the first rule that it breaks, and the line.
+use Rattle.std.specs.Prelude.{ℕ}
+use Rattle.camac_rules.specs.declared.rule.CheckRule.{CheckRule}
+
+pub data Fault : Type 0 where
+  broken : (rule : CheckRule) → (line : ℕ) → Fault
+  -- a statement or a procedure of a kind that is not accepted yet
+  not_served : (line : ℕ) → Fault

@@ -1,0 +1,12 @@
+pub mod Fault
+pub mod Refusal
+pub mod Known
+pub mod Expressions
+pub mod Costs
+pub mod Walks
+pub mod Addresses
+pub mod Cycles
+pub mod Statements
+pub mod Accept
+pub mod Capped
+pub mod Laws

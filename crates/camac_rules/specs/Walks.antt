@@ -1,0 +1,28 @@
+-- Walks over the numbers of a range.
+use Rattle.std.specs.Prelude.{ℕ, zero, suc, ◌+◌, ◌-◌, Bool, true, ◌&&◌, Option, Some, None, min, max}
+use Rattle.camac_range.specs.Interval.{Interval, hull}
+
+-- how many numbers of a range are below an end
+abbrev pub count_below : ℕ → Interval → ℕ
+count_below end r = min (r.hi + 1) end - r.lo
+
+-- the test holds of n numbers from k on
+abbrev pub all_from : (ℕ → Bool) → ℕ → ℕ → Bool
+all_from test k zero = true
+all_from test k (suc n) = test k && all_from test (k + 1) n
+
+-- the greatest of n values from that of k on, 0 of none
+abbrev pub greatest_from : (ℕ → ℕ) → ℕ → ℕ → ℕ
+greatest_from value k zero = 0
+greatest_from value k (suc n) = max (value k) (greatest_from value (k + 1) n)
+
+abbrev pub hull_with : Option Interval → Option Interval → Option Interval
+hull_with None o = None
+hull_with (Some r) None = None
+hull_with (Some r) (Some s) = Some (hull r s)
+
+-- the smallest range around n ranges from that of k on, where each of them is there; none of none
+abbrev pub hull_from : (ℕ → Option Interval) → ℕ → ℕ → Option Interval
+hull_from range k zero = None
+hull_from range k (suc zero) = range k
+hull_from range k (suc (suc n)) = hull_with (range k) (hull_from range (k + 1) (suc n))

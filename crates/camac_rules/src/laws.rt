@@ -1,0 +1,14 @@
+// What acceptance promises, each law as the contract of a function that does nothing.
+
+ghost use Rattle.camac_rules.specs.Laws.{AcceptedAreFine, AcceptedAreWithin};
+
+/// Each service of an accepted script is fine by its costs, whatever the branch is like and answers: each cycle is safe, each number that
+/// an expression takes is from 0 to `u32::MAX`, loops end, and at each moment it has cost no more cycles, words and steps.
+pub fn accepted_are_fine()
+    ensures { AcceptedAreFine }
+{}
+
+/// The costs of each service of an accepted script are within its heading, and its event fits the plan's buffer.
+pub fn accepted_are_within()
+    ensures { AcceptedAreWithin }
+{}

@@ -1,0 +1,7 @@
+//! When a readout script is accepted for a plan and within which bounds, and why what is accepted runs safely. All rules are own.
+#![tactic(auto)]
+
+pub mod laws;
+mod rule;
+
+pub use rule::CheckRule;

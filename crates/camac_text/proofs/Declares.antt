@@ -1,0 +1,302 @@
+-- What a declaration that is read leaves.
+use Rattle.std.proofs.Common.{◌≡◌, ℕ, ◌+◌, ◌≤◌, ◌<◌, Bool, true, false, ◌&&◌, nat_lt, List, [], ◌∷◌, ◌++◌, length, Option, Some, Ok, refl, sym, ap, subst, ◌∙◌, append_assoc, length-append, arith}
+use Rattle.std.proofs.lemmas.Bool.{ltb-true}
+use Rattle.std.proofs.lemmas.List.{append-nil}
+use Rattle.camac_lang.specs.Scope.{are_declarable}
+use Rattle.camac_lang.specs.Tests.{each, is_name, is_new, is_number, is_sub_address}
+use Rattle.camac_lang.specs.Tree.{Text, Statement, Lam}
+use Rattle.camac_text.specs.declared.fault.TextRule.TheVariants.{LimitPassed}
+use Rattle.camac_text.specs.declared.token.Keyword.TheVariants as word
+use Rattle.camac_text.specs.declared.token.TokenKind.{TokenKind}
+use Rattle.camac_text.specs.declared.token.TokenKind.TheVariants as kind
+use Rattle.camac_text.specs.Reading.{State, Reader, then_read, ◌>>◌, give, change, advance, check, kind_of, line_of, behind, while_next}
+use Rattle.camac_text.specs.Readers.{new_name, with_variable, new_variable, is_name as next_is_name, expect, any_number, branch_number, sub_address_number, used_lam, with_lam, lam_declaration, one_more_variable, with_variables_of, variable_declaration, block_at, with_service, service_declaration, declaration_by, declaration_at, is_token}
+use Rattle.camac_text.proofs.Steps.{then_ok, ok_is, err_no_ok, Progresses, while_keeps}
+use Rattle.camac_text.proofs.Moves.{AllFit, Moves, kind_fit, behind_less, stays, moved, then_moves, one_moves, check_ok, any_number_ok, branch_ok, sub_address_ok, expect_ok, new_name_ok}
+use Rattle.camac_text.proofs.Uses.{used_lam_ok}
+use Rattle.camac_text.proofs.Acts.{below_le, declarable_push, first_of_both, second_of_both}
+use Rattle.camac_text.proofs.Bodies.{Body, behind_moves, block_ok}
+
+-- ---- variables
+
+-- one variable is declared
+pub record DeclaresOne (s : State) (x : Text) (s' : State) : Type 0 where
+  pub next : kind_of s.rest ≡ Some (kind.Name x)
+  pub free : is_new x s.declared ≡ true
+  pub room : length s.variables < 64
+  pub left : s' ≡ with_variable x (record s { rest = behind s.rest })
+
+pub new_variable_ok : (s : State) (y : Unit {0} × State) → new_variable s ≡ Ok y → (x : Text) × DeclaresOne s x y.1
+unfolding new_variable
+new_variable_ok s y e =
+    let m = then_ok (new_name s) _ y e in
+    let h = new_name_ok s m.0 m.1 in
+    let rest : Reader (Unit {0}) = λ u. then_read (check (nat_lt (length u.variables) 64) LimitPassed u) (λ _. advance >> change (with_variable m.0.0)) in
+    let at : rest s ≡ Ok y = subst (λ (u : State). rest u ≡ Ok y) h.left m.2 in
+    let c = check_ok (nat_lt (length s.variables) 64) LimitPassed (advance >> change (with_variable m.0.0)) s y at in (
+      m.0.0,
+      record {
+        next = h.next;
+        free = h.free;
+        room = ltb-true (length s.variables) 64 c.0;
+        left = sym (ap (λ (p : Unit {0} × State). p.1) (ok_is (tt, with_variable m.0.0 (record s { rest = behind s.rest })) y c.1));
+      },
+    )
+
+pub one_variable_less : (s : State) (x : Text) (s' : State) → DeclaresOne s x s' → length s'.rest < length s.rest
+one_variable_less s x s' d = subst (λ (u : State). length u.rest < length s.rest) (sym d.left) (behind_less s.rest (kind.Name x) d.next)
+
+pub variables_progress : Progresses next_is_name one_more_variable
+variables_progress count s y s' on took =
+    let m = then_ok (new_variable s) (λ _. give (count + 1)) (y, s') took in
+    let d = new_variable_ok s m.0 m.1 in
+    subst (λ (p : ℕ × State). length p.1.rest < length s.rest) (ok_is (count + 1, m.0.1) (y, s') m.2) (one_variable_less s d.0 m.0.1 d.1)
+
+pub each_append : {A : Type 0} (test : A → Bool) (xs ys : List A) → each test (xs ++ ys) ≡ (each test xs && each test ys)
+each_append test [] ys = refl
+each_append test (x ∷ xs) ys = ap (λ (b : Bool). test x && b) (each_append test xs ys) ∙ sym (and_assoc (test x) (each test xs) (each test ys)) where
+  and_assoc : (a b c : Bool) → ((a && b) && c) ≡ (a && (b && c))
+  and_assoc true b c = refl
+  and_assoc false b c = refl
+
+-- so many variables are declared
+pub record DeclaresVariables (s : State) (count : ℕ) (s' : State) : Type 0 where
+  pub names : List Text
+  pub counted : length names ≡ count
+  pub same : s' ≡ record s { rest = s'.rest; variables = s.variables ++ names; declared = s.declared ++ names }
+  pub fit : AllFit s.rest → AllFit s'.rest
+  pub shorter : length s'.rest ≤ length s.rest
+  pub few : length s.variables ≤ 64 → length s'.variables ≤ 64
+  pub new : AllFit s.rest → are_declarable names s.declared ≡ true
+
+no_variables : (s : State) → DeclaresVariables s 0 s
+no_variables s = record {
+  names = [];
+  counted = refl;
+  same = ap (λ (xs : List Text). record s { variables = xs }) (sym (append-nil s.variables)) ∙ ap (λ (xs : List Text). record s { variables = s.variables ++ []; declared = xs }) (sym (append-nil s.declared));
+  fit = λ h. h;
+  shorter = omega arith;
+  few = λ h. h;
+  new = λ h. refl;
+}
+
+one_variable_more : (s : State) (n : ℕ) (u : State) (x : Text) (t : State) → DeclaresVariables s n u → DeclaresOne u x t → DeclaresVariables s (n + 1) t
+one_variable_more s n u x t d one =
+    let declared : u.declared ≡ s.declared ++ d.names = ap (λ (w : State). w.declared) d.same in
+    let free : is_new x (s.declared ++ d.names) ≡ true = subst (λ (known : List Text). is_new x known ≡ true) declared one.free in
+    let parts : (is_new x s.declared && is_new x d.names) ≡ true = sym (each_append _ s.declared d.names) ∙ free in
+    let next_state : State = with_variable x (record u { rest = behind u.rest }) in
+    let longer : length (d.names ++ x ∷ []) ≡ length d.names + 1 = length-append d.names (x ∷ []) in
+    let counted : length d.names ≡ n = d.counted in
+    let t_rest : t.rest ≡ behind u.rest = ap (λ (w : State). w.rest) one.left in
+    let less : length t.rest < length u.rest = one_variable_less u x t one in
+    let shorter : length u.rest ≤ length s.rest = d.shorter in
+    let room : length u.variables < 64 = one.room in
+    let t_variables : t.variables ≡ u.variables ++ x ∷ [] = ap (λ (w : State). w.variables) one.left in
+    let t_length : length t.variables ≡ length u.variables + 1 = ap (λ (xs : List Text). length xs) t_variables ∙ length-append u.variables (x ∷ []) in
+    record {
+      names = d.names ++ x ∷ [];
+      counted = omega arith;
+      same = one.left
+          ∙ ap (λ (w : State). with_variable x (record w { rest = behind u.rest })) d.same
+          ∙ ap (λ (ts : _). record s { rest = ts; variables = (s.variables ++ d.names) ++ x ∷ []; declared = (s.declared ++ d.names) ++ x ∷ [] }) (sym t_rest)
+          ∙ ap (λ (xs : List Text). record s { rest = t.rest; variables = xs; declared = (s.declared ++ d.names) ++ x ∷ [] }) (append_assoc s.variables d.names (x ∷ []))
+          ∙ ap (λ (xs : List Text). record s { rest = t.rest; variables = s.variables ++ (d.names ++ x ∷ []); declared = xs }) (append_assoc s.declared d.names (x ∷ []));
+      fit = λ h. subst (λ (w : State). AllFit w.rest) (sym one.left) ((moved u).fit (d.fit h));
+      shorter = omega arith;
+      few = λ h. omega arith;
+      new = λ h. declarable_push d.names x s.declared (d.new h) (kind_fit u.rest (kind.Name x) one.next (d.fit h)) (first_of_both _ _ parts) (second_of_both _ _ parts);
+    }
+
+variables_turn : (s : State) (n : ℕ) (u : State) (m : ℕ) (t : State) → DeclaresVariables s n u → one_more_variable n u ≡ Ok (m, t) → DeclaresVariables s m t
+variables_turn s n u m t d e =
+    let a = then_ok (new_variable u) (λ _. give (n + 1)) (m, t) e in
+    let one = new_variable_ok u a.0 a.1 in
+    subst (λ (p : ℕ × State). DeclaresVariables s p.0 p.1) (ok_is (n + 1, a.0.1) (m, t) a.2) (one_variable_more s n u one.0 a.0.1 d one.1)
+
+-- ---- declarations
+
+-- variables are declared, of which there is one at least
+pub record VariableDeclaration (s s' : State) : Type 0 where
+  pub line : ℕ
+  pub count : ℕ
+  pub between : State
+  pub variables : DeclaresVariables s count between
+  pub some : 1 ≤ count
+  pub left : s' ≡ with_variables_of line count between
+  pub less : length s'.rest < length s.rest
+
+at_least : (s : State) (n : ℕ) (u : State) → 1 ≤ n → (y : ℕ × State) → DeclaresVariables s n u → while_next next_is_name one_more_variable n u ≡ Ok y → DeclaresVariables s y.0 y.1 × (1 ≤ y.0)
+at_least s n u some y d e =
+    while_keeps (λ (m : ℕ) (t : State). DeclaresVariables s m t × (1 ≤ m)) next_is_name one_more_variable (λ m t k v both on took.
+    let a = then_ok (new_variable t) (λ _. give (m + 1)) (k, v) took in
+    (variables_turn s m t k v both.0 took, subst (λ (p : ℕ × State). 1 ≤ p.0) (ok_is (m + 1, a.0.1) (k, v) a.2) (let h : 1 ≤ m + 1 = omega arith in h))) n u y (d, some) e
+
+variables_is : (s : State) (k : TokenKind) (line : ℕ) (y : Unit {0} × State) → kind_of s.rest ≡ Some k → variable_declaration line s ≡ Ok y → VariableDeclaration s y.1
+unfolding variable_declaration
+variables_is s k line y next e =
+    let t : State = record s { rest = behind s.rest } in
+    let a = then_ok (new_variable t) _ y e in
+    let first = new_variable_ok t a.0 a.1 in
+    let one : DeclaresVariables t 1 a.0.1 = one_variable_more t 0 t first.0 a.0.1 (no_variables t) first.1 in
+    let b = then_ok (while_next next_is_name one_more_variable 1 a.0.1) (λ count. change (with_variables_of line count)) y a.2 in
+    let all = at_least t 1 a.0.1 (omega arith) b.0 one b.1 in
+    let d = all.0 in
+    let left : y.1 ≡ with_variables_of line b.0.0 b.0.1 = sym (ap (λ (p : Unit {0} × State). p.1) (ok_is (tt, with_variables_of line b.0.0 b.0.1) y b.2)) in
+    let less : length (behind s.rest) < length s.rest = behind_less s.rest k next in
+    let shorter : length b.0.1.rest ≤ length (behind s.rest) = d.shorter in
+    record {
+      line = line;
+      count = b.0.0;
+      between = b.0.1;
+      variables = record {
+        names = d.names;
+        counted = d.counted;
+        same = d.same;
+        fit = λ h. d.fit ((moved s).fit h);
+        shorter = omega arith;
+        few = d.few;
+        new = λ h. d.new ((moved s).fit h);
+      };
+      some = all.1;
+      left = left;
+      less = subst (λ (u : State). length u.rest < length s.rest) (sym left) (let h : length b.0.1.rest < length s.rest = omega arith in h);
+    }
+
+-- a LAM is declared
+pub record LamDeclaration (s s' : State) : Type 0 where
+  pub lam : Lam
+  pub between : State
+  pub moves : Moves s between
+  pub room : length s.lams < 64
+  pub free : is_new lam.name s.declared ≡ true
+  pub named : AllFit s.rest → is_name lam.name ≡ true
+  pub crate_fits : AllFit s.rest → is_number lam.crate_no ≡ true
+  pub station_fits : AllFit s.rest → is_number lam.station ≡ true
+  pub sub_address_fits : is_sub_address lam.sub_address ≡ true
+  pub left : s' ≡ with_lam lam between
+  pub less : length s'.rest < length s.rest
+
+lam_is : (s : State) (k : TokenKind) (line : ℕ) (y : Unit {0} × State) → kind_of s.rest ≡ Some k → lam_declaration line s ≡ Ok y → LamDeclaration s y.1
+unfolding lam_declaration
+lam_is s k line y next e =
+    let t : State = record s { rest = behind s.rest } in
+    let c0 = check_ok (nat_lt (length s.lams) 64) LimitPassed _ s y e in
+    let a = then_ok (new_name t) _ y c0.1 in
+    let h = new_name_ok t a.0 a.1 in
+    let u : State = record a.0.1 { rest = behind a.0.1.rest } in
+    let b = then_ok (branch_number u) _ y a.2 in
+    let branch = branch_ok u b.0 b.1 in
+    let c = then_ok (any_number b.0.1) _ y b.2 in
+    let crate_no = any_number_ok b.0.1 c.0 c.1 in
+    let d = then_ok (any_number c.0.1) _ y c.2 in
+    let station = any_number_ok c.0.1 d.0 d.1 in
+    let f = then_ok (sub_address_number d.0.1) _ y d.2 in
+    let sub_address = sub_address_ok d.0.1 f.0 f.1 in
+    let l : Lam = record { line = line; name = a.0.0; crate_no = c.0.0; station = d.0.0; sub_address = f.0.0 } in
+    let to_a : Moves s a.0.1 = subst (λ (w : State). Moves s w) (sym h.left) (moved s) in
+    let to_b : Moves s b.0.1 = then_moves s u b.0.1 (then_moves s a.0.1 u to_a (moved a.0.1)) (one_moves u (kind.Number branch.0) b.0.1 branch.1) in
+    let to_c : Moves s c.0.1 = then_moves s b.0.1 c.0.1 to_b (one_moves b.0.1 (kind.Number c.0.0) c.0.1 crate_no) in
+    let to_d : Moves s d.0.1 = then_moves s c.0.1 d.0.1 to_c (one_moves c.0.1 (kind.Number d.0.0) d.0.1 station) in
+    let from_t : Moves t f.0.1 = then_moves t a.0.1 f.0.1 (subst (λ (w : State). Moves t w) (sym h.left) (stays t)) (then_moves a.0.1 u f.0.1 (moved a.0.1) (then_moves u b.0.1 f.0.1 (one_moves u (kind.Number branch.0) b.0.1 branch.1) (then_moves b.0.1 c.0.1 f.0.1 (one_moves b.0.1 (kind.Number c.0.0) c.0.1 crate_no) (then_moves c.0.1 d.0.1 f.0.1 (one_moves c.0.1 (kind.Number d.0.0) d.0.1 station) (one_moves d.0.1 (kind.Number f.0.0) f.0.1 sub_address.one))))) in
+    let left : y.1 ≡ with_lam l f.0.1 = sym (ap (λ (p : Unit {0} × State). p.1) (ok_is (tt, with_lam l f.0.1) y f.2)) in
+    let less : length (behind s.rest) < length s.rest = behind_less s.rest k next in
+    let shorter : length f.0.1.rest ≤ length (behind s.rest) = from_t.shorter in
+    record {
+      lam = l;
+      between = f.0.1;
+      moves = then_moves s t f.0.1 (moved s) from_t;
+      room = ltb-true (length s.lams) 64 c0.0;
+      free = h.free;
+      named = λ fits. kind_fit t.rest (kind.Name a.0.0) h.next ((moved s).fit fits);
+      crate_fits = λ fits. kind_fit b.0.1.rest (kind.Number c.0.0) crate_no.next (to_b.fit fits);
+      station_fits = λ fits. kind_fit c.0.1.rest (kind.Number d.0.0) station.next (to_c.fit fits);
+      sub_address_fits = below_le f.0.0 15 (let below : f.0.0 < 16 = ltb-true f.0.0 16 sub_address.below in omega arith);
+      left = left;
+      less = subst (λ (w : State). length w.rest < length s.rest) (sym left) (let h : length f.0.1.rest < length s.rest = omega arith in h);
+    }
+
+-- a service is declared
+pub record ServiceDeclaration (s s' : State) : Type 0 where
+  pub line : ℕ
+  pub lam : ℕ
+  pub cycles : ℕ
+  pub words : ℕ
+  pub statements : List Statement
+  pub between : State
+  pub body : Body s statements between
+  pub room : length s.services < 24
+  pub lam_fits : lam < length s.lams
+  pub cycles_fit : AllFit s.rest → is_number cycles ≡ true
+  pub words_fit : AllFit s.rest → is_number words ≡ true
+  pub left : s' ≡ with_service line lam cycles words statements between
+  pub less : length s'.rest < length s.rest
+
+service_is : (s : State) (k : TokenKind) (line : ℕ) (y : Unit {0} × State) → kind_of s.rest ≡ Some k → service_declaration line s ≡ Ok y → ServiceDeclaration s y.1
+unfolding service_declaration
+service_is s k line y next e =
+    let t : State = record s { rest = behind s.rest } in
+    let c0 = check_ok (nat_lt (length s.services) 24) LimitPassed _ s y e in
+    let a = then_ok (used_lam t) _ y c0.1 in
+    let lam = used_lam_ok t a.0 a.1 in
+    let b = then_ok (expect word.Within a.0.1) _ y a.2 in
+    let c = then_ok (any_number b.0.1) _ y b.2 in
+    let cycles = any_number_ok b.0.1 c.0 c.1 in
+    let d = then_ok (expect word.Cycles c.0.1) _ y c.2 in
+    let f = then_ok (expect word.Event d.0.1) _ y d.2 in
+    let g = then_ok (any_number f.0.1) _ y f.2 in
+    let words = any_number_ok f.0.1 g.0 g.1 in
+    let h = then_ok (expect word.Words g.0.1) _ y g.2 in
+    let i = then_ok (block_at h.0.1) _ y h.2 in
+    let body = block_ok h.0.1 i.0 i.1 in
+    let to_b : Moves t b.0.1 = then_moves t a.0.1 b.0.1 lam.1 (expect_ok word.Within a.0.1 b.0 b.1) in
+    let to_c : Moves t c.0.1 = then_moves t b.0.1 c.0.1 to_b (one_moves b.0.1 (kind.Number c.0.0) c.0.1 cycles) in
+    let to_d : Moves t d.0.1 = then_moves t c.0.1 d.0.1 to_c (expect_ok word.Cycles c.0.1 d.0 d.1) in
+    let to_f : Moves t f.0.1 = then_moves t d.0.1 f.0.1 to_d (expect_ok word.Event d.0.1 f.0 f.1) in
+    let to_g : Moves t g.0.1 = then_moves t f.0.1 g.0.1 to_f (one_moves f.0.1 (kind.Number g.0.0) g.0.1 words) in
+    let to_h : Moves t h.0.1 = then_moves t g.0.1 h.0.1 to_g (expect_ok word.Words g.0.1 h.0 h.1) in
+    let inner : Body t i.0.0 i.0.1 = behind_moves t h.0.1 i.0.0 i.0.1 to_h body in
+    let left : y.1 ≡ with_service line a.0.0 c.0.0 g.0.0 i.0.0 i.0.1 = sym (ap (λ (p : Unit {0} × State). p.1) (ok_is (tt, with_service line a.0.0 c.0.0 g.0.0 i.0.0 i.0.1) y i.2)) in
+    let less : length (behind s.rest) < length s.rest = behind_less s.rest k next in
+    let shorter : length i.0.1.rest ≤ length (behind s.rest) = inner.shorter in
+    record {
+      line = line;
+      lam = a.0.0;
+      cycles = c.0.0;
+      words = g.0.0;
+      statements = i.0.0;
+      between = i.0.1;
+      body = behind_moves s t i.0.0 i.0.1 (moved s) inner;
+      room = ltb-true (length s.services) 24 c0.0;
+      lam_fits = lam.0;
+      cycles_fit = λ fits. kind_fit b.0.1.rest (kind.Number c.0.0) cycles.next (to_b.fit ((moved s).fit fits));
+      words_fit = λ fits. kind_fit f.0.1.rest (kind.Number g.0.0) words.next (to_f.fit ((moved s).fit fits));
+      left = left;
+      less = subst (λ (w : State). length w.rest < length s.rest) (sym left) (let h : length i.0.1.rest < length s.rest = omega arith in h);
+    }
+
+pub data Declares (s s' : State) : Type 0 where
+  a_lam : LamDeclaration s s' → Declares s s'
+  some_variables : VariableDeclaration s s' → Declares s s'
+  a_service : ServiceDeclaration s s' → Declares s s'
+
+declaration_is : (s : State) (line : ℕ) (k : Option TokenKind) (y : Unit {0} × State) → kind_of s.rest ≡ k → declaration_by line k s ≡ Ok y → Declares s y.1
+declaration_is s line (Some (kind.Keyword word.Cdlam)) y next e = a_lam (lam_is s (kind.Keyword word.Cdlam) line y next e)
+declaration_is s line (Some (kind.Keyword word.Var)) y next e = some_variables (variables_is s (kind.Keyword word.Var) line y next e)
+declaration_is s line (Some (kind.Keyword word.Service)) y next e = a_service (service_is s (kind.Keyword word.Service) line y next e)
+declaration_is s line _ y next e = absurd (err_no_ok _ _ e)
+
+pub declaration_ok : (s : State) (y : Unit {0} × State) → declaration_at s ≡ Ok y → Declares s y.1
+unfolding declaration_at
+declaration_ok s y e = declaration_is s (line_of s.rest s.end_line) (kind_of s.rest) y refl e
+
+declares_less : (s s' : State) → Declares s s' → length s'.rest < length s.rest
+declares_less s s' (a_lam d) = d.less
+declares_less s s' (some_variables d) = d.less
+declares_less s s' (a_service d) = d.less
+
+pub declaration_less : (s : State) (y : Unit {0} × State) → declaration_at s ≡ Ok y → length y.1.rest < length s.rest
+declaration_less s y e = declares_less s y.1 (declaration_ok s y e)
+
+pub declarations_progress : Progresses is_token (λ _. declaration_at)
+declarations_progress x s y s' on took = declaration_less s (y, s') took

@@ -1,0 +1,44 @@
+-- A fault is at a token, and no token behind it matters.
+use Rattle.std.proofs.Common.{◌≡◌, ℕ, List, Result, Ok, Err, sym, ap}
+use Rattle.camac_lang.specs.Tree.{Script}
+use Rattle.camac_text.specs.declared.token.Token.{Token}
+use Rattle.camac_text.specs.declared.fault.TextFault.{TextFault}
+use Rattle.camac_text.specs.declared.fault.TextFault.TheVariants as text_fault
+use Rattle.camac_text.specs.Fault.{Fault, Answers}
+use Rattle.camac_text.specs.Scanning.{tokens_of, last_line}
+use Rattle.camac_text.specs.Reading.{State}
+use Rattle.camac_text.specs.Readers.{declarations_at}
+use Rattle.camac_text.specs.Parser.{start, tree_in, tree_of_tokens, tree_behind, script_of}
+use Rattle.camac_text.specs.Places.{IsPlaced, HasFaultBehind, HasFault, FaultIs}
+use Rattle.camac_text.proofs.Local.{local_declarations}
+
+no_tree : (r : Result (Unit {0} × State) Fault) (f : Fault) → tree_in r ≡ Err f → r ≡ Err f
+no_tree (Ok read) f e = absurd cc
+no_tree (Err d) f e = let same : d ≡ f = fault_is d f e in ap (λ (c : Fault). let r : Result (Unit {0} × State) Fault = Err c in r) same where
+  fault_is : (d f : Fault) → (let r : Result Script Fault = Err d in r) ≡ Err f → d ≡ f
+  fault_is d f e = cc
+
+placed : (tokens : List Token) (end_line : ℕ) (f : Fault) → tree_of_tokens tokens end_line ≡ Err f → IsPlaced tokens end_line f
+unfolding tree_of_tokens
+placed tokens end_line f e =
+    let a = (local_declarations (start tokens end_line)).fails f (no_tree (declarations_at (start tokens end_line)) f e) in
+    record {
+      taken = a.taken;
+      left = a.left;
+      parts = a.parts;
+      line = a.line;
+      rule = a.rule;
+      settled = λ t behind others here. ap tree_in (a.again t behind others here);
+    }
+
+fault_behind : (made : Result (List Token) Fault) (end_line : ℕ) (f : Fault) → tree_behind made end_line ≡ Err f → HasFaultBehind made end_line f
+fault_behind (Ok tokens) end_line f e = placed tokens end_line f e
+fault_behind (Err first) end_line f e = sym (first_is first f e) where
+  first_is : (d f : Fault) → (let r : Result Script Fault = Err d in r) ≡ Err f → d ≡ f
+  first_is d f e = cc
+
+pub fault_placed : (text : List ℕ) (r : Result Script TextFault) → Answers r (script_of text) → FaultIs r (HasFault text)
+unfolding script_of
+fault_placed text (Ok x) e = tt
+fault_placed text (Err text_fault.OutOfMemory) e = tt
+fault_placed text (Err (text_fault.Broken rule line)) e = fault_behind (tokens_of text) (last_line text) (record { rule = rule; line = line }) e

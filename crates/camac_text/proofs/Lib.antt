@@ -1,0 +1,16 @@
+pub mod Scans
+pub mod Searches
+pub mod Steps
+pub mod Loops
+pub mod Places
+pub mod Moves
+pub mod Uses
+pub mod Acts
+pub mod Bodies
+pub mod Declares
+pub mod Fitting
+pub mod WellFormed
+pub mod Cuts
+pub mod Uncut
+pub mod Local
+pub mod Faults

@@ -1,0 +1,27 @@
+use Rattle.std.proofs.Common.{◌≡◌, map, ◌++◌, ◌∷◌, [], sym, ◌∙◌}
+use Rattle.std.proofs.lemmas.Result.{err_from_is_err_and}
+use Rattle.std.proofs.lemmas.List.{map_push}
+use Rattle.camac_lang.specs.View.{statement_of}
+use Rattle.camac_text.specs.Reading.{one_more, many}
+use Rattle.camac_text.specs.Readers.{is_no_end, statement_at}
+use Rattle.camac_text.specs.Parser.{state}
+use Rattle.camac_text.proofs.Acts.{statement_ok}
+use Rattle.camac_text.proofs.Bodies.{statements_progress}
+use Rattle.camac_text.proofs.Loops.{more, more_fails, ends}
+use Rattle.camac_text.proofs.cursor.Parser.statements.Goals as goal
+
+pub returns-in_err-statement : goal.returns-in_err-statement
+returns-in_err-statement c =
+    let p = err_from_is_err_and c.from_residual.result c.from_residual.ensures.1 in
+    rw (p.1, p.2) (more_fails is_no_end statement_at statements_progress (map statement_of c.loop-self.body.items) (state c.loop-self.self) (many is_no_end statement_at (state c.args.self.now)) c.in_err-statement.field-0.0 (sym c.is_in_block.ensures ∙ c.loop-self-test.true) c.in_err-statement.ensures c.loop-self.invariant)
+
+pub loop-self-smaller : goal.loop-self-smaller
+loop-self-smaller c = (statement_ok (state c.loop-self.self) (statement_of c.in_ok-statement.statement, state c.statement.new.self) c.in_ok-statement.ensures).less
+
+pub loop-self-preserved : goal.loop-self-preserved
+loop-self-preserved c =
+    let e : (map statement_of c.push.new.self.items) ≡ (map statement_of c.loop-self.body.items) ++ (statement_of c.in_ok-statement.statement) ∷ [] = rw c.in_ok-push.ensures.items (map_push statement_of c.loop-self.body.items c.in_ok-statement.statement) in
+    rw e (more is_no_end statement_at statements_progress (map statement_of c.loop-self.body.items) (state c.loop-self.self) (many is_no_end statement_at (state c.args.self.now)) (statement_of c.in_ok-statement.statement) (state c.statement.new.self) (sym c.is_in_block.ensures ∙ c.loop-self-test.true) c.in_ok-statement.ensures c.loop-self.invariant)
+
+pub returns : goal.returns
+returns c = ends is_no_end (one_more statement_at) statements_progress (map statement_of c.loop-self.body.items) (state c.loop-self.self) (many is_no_end statement_at (state c.args.self.now)) (sym c.is_in_block.ensures ∙ c.loop-self-test.false) c.loop-self.invariant

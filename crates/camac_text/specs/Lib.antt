@@ -1,0 +1,9 @@
+pub mod Words
+pub mod Fault
+pub mod Scanning
+pub mod Cut
+pub mod Names
+pub mod Reading
+pub mod Readers
+pub mod Parser
+pub mod Places

@@ -1,0 +1,13 @@
+-- Names among those that were declared.
+use Rattle.std.specs.Prelude.{ℕ, List, Option}
+use Rattle.std.specs.List.{position_from}
+use Rattle.std.specs.Str.{bytes_eq}
+use Rattle.camac_lang.specs.Tree.{Text, Lam}
+
+-- the first place of a name
+abbrev pub place_of : Text → List Text → Option ℕ
+place_of x names = position_from (bytes_eq x) 0 names
+
+-- the first place of a LAM with this name
+abbrev pub lam_place : Text → List Lam → Option ℕ
+lam_place x lams = position_from (λ (l : Lam). bytes_eq x l.name) 0 lams

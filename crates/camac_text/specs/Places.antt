@@ -1,0 +1,46 @@
+-- Where a fault of the parser is.
+use Rattle.std.specs.Prelude.{◌≡◌, ℕ, List, ◌∷◌, ◌++◌, Option, Some, Result, Ok, Err}
+use Rattle.camac_lang.specs.Tree.{Text}
+use Rattle.camac_text.specs.declared.token.Token.{Token}
+use Rattle.camac_text.specs.declared.token.TokenKind.{TokenKind}
+use Rattle.camac_text.specs.declared.token.TokenKind.TheVariants as kind
+use Rattle.camac_text.specs.declared.fault.TextRule.{TextRule}
+use Rattle.camac_text.specs.declared.fault.TextRule.TheVariants.{BadByte, UnexpectedToken, NumberTooLarge, DeclaredTwice, NotDeclared, LimitPassed, BranchNotOne}
+use Rattle.camac_text.specs.declared.fault.TextFault.{TextFault}
+use Rattle.camac_text.specs.declared.fault.TextFault.TheVariants as text_fault
+use Rattle.camac_text.specs.Fault.{Fault}
+use Rattle.camac_text.specs.Scanning.{tokens_of, last_line}
+use Rattle.camac_text.specs.Reading.{kind_of, line_of}
+use Rattle.camac_text.specs.Parser.{tree_of_tokens}
+
+-- at which token a rule can be broken: S3 and S7 at a NUM, S4 and S5 at a NAME
+abbrev pub RuleFits : TextRule → Option TokenKind → Type 0
+RuleFits BadByte at = ⊥
+RuleFits UnexpectedToken at = Unit {0}
+RuleFits NumberTooLarge at = (n : ℕ) × (at ≡ Some (kind.Number n))
+RuleFits DeclaredTwice at = (x : Text) × (at ≡ Some (kind.Name x))
+RuleFits NotDeclared at = (x : Text) × (at ≡ Some (kind.Name x))
+RuleFits LimitPassed at = Unit {0}
+RuleFits BranchNotOne at = (n : ℕ) × (at ≡ Some (kind.Number n))
+
+-- The fault is that of a token, or of the text's end, and whatever follows that token, it stays the same fault.
+pub record IsPlaced (tokens : List Token) (end_line : ℕ) (fault : Fault) : Type 0 where
+  pub taken : List Token
+  pub left : List Token
+  pub parts : tokens ≡ taken ++ left
+  pub line : fault.line ≡ line_of left end_line
+  pub rule : RuleFits fault.rule (kind_of left)
+  pub settled : (t : Token) (behind others : List Token) → left ≡ t ∷ behind → tree_of_tokens (taken ++ t ∷ others) end_line ≡ Err fault
+
+abbrev pub HasFaultBehind : Result (List Token) Fault → ℕ → Fault → Type 0
+HasFaultBehind (Ok tokens) end_line fault = IsPlaced tokens end_line fault
+HasFaultBehind (Err first) end_line fault = fault ≡ first
+
+-- the first token fault where there is one, else a fault at a token
+abbrev pub HasFault : List ℕ → Fault → Type 0
+HasFault text fault = HasFaultBehind (tokens_of text) (last_line text) fault
+
+abbrev pub FaultIs : {A : Type 0} → Result A TextFault → (Fault → Type 0) → Type 0
+FaultIs (Ok x) P = Unit {0}
+FaultIs (Err text_fault.OutOfMemory) P = Unit {0}
+FaultIs (Err (text_fault.Broken rule line)) P = P (record { rule = rule; line = line })

@@ -1,0 +1,69 @@
+// From the text of a script to its tree.
+
+ghost use Rattle.std.specs.Prelude.{◌≡◌, IsTrue};
+ghost use Rattle.camac_lang.specs.Scope.{is_well_formed};
+ghost use Rattle.camac_text.specs.Fault.{Answers};
+ghost use Rattle.camac_text.specs.Places.{HasFault, FaultIs};
+ghost use Rattle.camac_text.specs.Parser.{state, start, tree_so_far, script_of};
+
+use crate::cursor::Parser;
+use crate::fault::TextFault;
+use crate::scanner::{last_line, tokens};
+use crate::token::Token;
+use camac_lang::Script;
+use std::alloc::Global;
+
+/// The script that a text spells. A text is refused by its first token fault (S1, S3, S6), else at its first token from left
+/// to right that the grammar or a rule of names, numbers or limits does not allow there (S2 to S7), the text's end counted as
+/// a token. Memory may be refused (S8).
+pub fn parse(alloc: Global, text: &[u8]) -> Result<Script, TextFault>
+    // The tree of the text, or its first fault.
+    ensures exact { Answers result (script_of text.now) }
+    // A fault of the tokens, or one at a token that no tokens behind it change.
+    ensures placed { FaultIs result (HasFault text.now) }
+{
+    read(alloc, text)
+}
+
+#[tactic(auto, unfolding(crate::specs::Parser::script_of, crate::specs::Parser::tree_of_tokens))]
+fn read(alloc: Global, text: &[u8]) -> Result<Script, TextFault>
+    ensures { Answers result (script_of text.now) }
+{
+    let tokens = tokens(alloc, text)?;
+    let mut parser = parser_of(alloc, &tokens, last_line(text));
+    parser.declarations()?;
+    Ok(script_in(parser))
+}
+
+fn parser_of(alloc: Global, tokens: &[Token], end_line: u32) -> Parser<'_>
+    ensures { state result ≡ start tokens.now end_line }
+{
+    Parser {
+        alloc,
+        rest: tokens,
+        end_line,
+        order: Vec::new(alloc),
+        tables: Vec::new(alloc),
+        lams: Vec::new(alloc),
+        variables: Vec::new(alloc),
+        procedures: Vec::new(alloc),
+        services: Vec::new(alloc),
+        declared: Vec::new(alloc),
+        registers: Vec::new(alloc),
+        statements: 0,
+    }
+}
+
+fn script_in(parser: Parser<'_>) -> Script
+    requires { IsTrue (is_well_formed (tree_so_far (state parser))) }
+    ensures { result ≡ tree_so_far (state parser.entry) }
+{
+    Script::new(
+        parser.order,
+        parser.tables,
+        parser.lams,
+        parser.variables,
+        parser.procedures,
+        parser.services,
+    )
+}

@@ -1,0 +1,132 @@
+// The tokens of a script's text.
+
+ghost use Rattle.std.specs.Prelude.{◌≡◌};
+
+use camac_lang::Name;
+
+/// A word that the language keeps for itself.
+#[derive(Clone, Copy, Debug, PartialEq, Eq)]
+pub enum Keyword {
+    Table,
+    Cdlam,
+    Var,
+    Proc,
+    Service,
+    Within,
+    Cycles,
+    Event,
+    Words,
+    Steps,
+    Cdreg,
+    Cfsa,
+    Cssa,
+    Cfmad,
+    Cfubc,
+    Cfubr,
+    Max,
+    Limit,
+    Tally,
+    Put,
+    Cccz,
+    Cccc,
+    Ctci,
+    Ctcd,
+    Ctgl,
+    Ccci,
+    Cccd,
+    On,
+    Off,
+    Cclm,
+    Cclc,
+    Ctlm,
+    If,
+    Else,
+    For,
+    To,
+    While,
+    Turns,
+    By,
+    Keep,
+    In,
+    Lock,
+    Call,
+    And,
+    Not,
+    Q,
+    X,
+}
+
+/// A sign of one or two bytes.
+#[derive(Clone, Copy, Debug, PartialEq, Eq)]
+pub enum Sign {
+    /// `{`
+    LeftBrace,
+    /// `}`
+    RightBrace,
+    /// `(`
+    LeftBracket,
+    /// `)`
+    RightBracket,
+    /// `+`
+    Plus,
+    /// `-`
+    Minus,
+    /// `*`
+    Times,
+    /// `/`
+    Over,
+    /// `%`
+    Modulo,
+    /// `=`
+    Equals,
+    /// `,`
+    Comma,
+    /// `<`
+    Less,
+    /// `<=`
+    AtMost,
+    /// `>`
+    More,
+    /// `>=`
+    AtLeast,
+    /// `==`
+    Same,
+    /// `!=`
+    Differs,
+    /// `->`
+    Into,
+    /// `<-`
+    From,
+    /// `..`
+    UpTo,
+}
+
+/// What a token is.
+#[derive(Drop)]
+pub enum TokenKind {
+    Name(Name),
+    Number(u32),
+    Keyword(Keyword),
+    Sign(Sign),
+}
+
+impl TokenKind {
+    /// The same kind once more.
+    pub fn duplicate(&self) -> TokenKind
+        ensures { result ≡ self.now }
+    {
+        match self {
+            TokenKind::Name(name) => TokenKind::Name(name.duplicate()),
+            TokenKind::Number(number) => TokenKind::Number(*number),
+            TokenKind::Keyword(keyword) => TokenKind::Keyword(*keyword),
+            TokenKind::Sign(sign) => TokenKind::Sign(*sign),
+        }
+    }
+}
+
+/// A token and its line, from 1. A line past 4294967295 has that number.
+#[derive(Drop)]
+pub struct Token {
+    pub kind: TokenKind,
+    pub line: u32,
+}

@@ -1,0 +1,49 @@
+-- Refusal codes of the rules of the lower crates.
+use Rattle.camac_text.specs.declared.fault.TextRule.{TextRule}
+use Rattle.camac_text.specs.declared.fault.TextRule.TheVariants as text_rule
+use Rattle.camac_names.specs.declared.fault.LinkRule.{LinkRule}
+use Rattle.camac_names.specs.declared.fault.LinkRule.TheVariants as link_rule
+use Rattle.camac_rules.specs.declared.rule.CheckRule.{CheckRule}
+use Rattle.camac_rules.specs.declared.rule.CheckRule.TheVariants as check_rule
+use Rattle.camac_report.specs.declared.code.TextCode.{TextCode}
+use Rattle.camac_report.specs.declared.code.TextCode.TheVariants as text
+use Rattle.camac_report.specs.declared.code.LinkCode.{LinkCode}
+use Rattle.camac_report.specs.declared.code.LinkCode.TheVariants as link
+use Rattle.camac_report.specs.declared.code.CheckCode.{CheckCode}
+use Rattle.camac_report.specs.declared.code.CheckCode.TheVariants as check
+
+abbrev pub text_code : TextRule → TextCode
+text_code text_rule.BadByte = text.BadByte
+text_code text_rule.UnexpectedToken = text.UnexpectedToken
+text_code text_rule.NumberTooLarge = text.NumberTooLarge
+text_code text_rule.DeclaredTwice = text.DeclaredTwice
+text_code text_rule.NotDeclared = text.NotDeclared
+text_code text_rule.LimitPassed = text.LimitPassed
+text_code text_rule.BranchNotOne = text.BranchNotOne
+
+abbrev pub link_code : LinkRule → LinkCode
+link_code link_rule.LamNotInstalled = link.LamNotInstalled
+link_code link_rule.StationWithoutBit = link.StationWithoutBit
+link_code link_rule.StationServedTwice = link.StationServedTwice
+link_code link_rule.EventAboveBuffer = link.EventAboveBuffer
+
+abbrev pub check_code : CheckRule → CheckCode
+check_code check_rule.StationNotInstalled = check.StationNotInstalled
+check_code check_rule.CommandNotDeclared = check.CommandNotDeclared
+check_code check_rule.WrongDirection = check.WrongDirection
+check_code check_rule.ValueOutOfRange = check.ValueOutOfRange
+check_code check_rule.ValueTooWide = check.ValueTooWide
+check_code check_rule.RegisterUnset = check.RegisterUnset
+check_code check_rule.MeasureBroken = check.MeasureBroken
+check_code check_rule.KeepFailsAtEntry = check.KeepFailsAtEntry
+check_code check_rule.KeepFailsAfterTurn = check.KeepFailsAfterTurn
+check_code check_rule.TooManyTurns = check.TooManyTurns
+check_code check_rule.TooManyWords = check.TooManyWords
+check_code check_rule.TooManyCycles = check.TooManyCycles
+check_code check_rule.ScanCratesDiffer = check.ScanCratesDiffer
+check_code check_rule.CountAboveTable = check.CountAboveTable
+check_code check_rule.CrateUnfit = check.CrateUnfit
+check_code check_rule.WordTooWide = check.WordTooWide
+check_code check_rule.LoopVariableAssigned = check.LoopVariableAssigned
+check_code check_rule.TooManySteps = check.TooManySteps
+check_code check_rule.ArgumentOutOfRange = check.ArgumentOutOfRange

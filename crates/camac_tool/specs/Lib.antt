@@ -1,0 +1,6 @@
+pub mod Codes
+pub mod Sample
+pub mod Report
+pub mod Reading
+pub mod Engine
+pub mod Words

@@ -1,0 +1,53 @@
+-- What `camac check` tells of a script.
+use Rattle.std.specs.Prelude.{ℕ, List, Option, Some, None, Result, Ok, Err}
+use Rattle.camac_lang.specs.Tree.{Script}
+use Rattle.camac_branch.specs.Plan.{Layout}
+use Rattle.camac_text.specs.Fault.{Fault as TextFault}
+use Rattle.camac_text.specs.Parser.{script_of}
+use Rattle.camac_names.specs.Link.{link_fault}
+use Rattle.camac_names.specs.declared.fault.LinkFault.{LinkFault}
+use Rattle.camac_names.specs.declared.fault.LinkFault.TheVariants as link_fault_of
+use Rattle.camac_rules.specs.Fault.{Fault as CheckFault, broken, not_served}
+use Rattle.camac_rules.specs.Accept.{accept}
+use Rattle.camac_model.specs.Fine.{Bounds}
+use Rattle.camac_report.specs.Refusal.{refusal_text}
+use Rattle.camac_report.specs.Verdict.{verdict_text}
+use Rattle.camac_report.specs.declared.refusal.Refusal.{Refusal}
+use Rattle.camac_report.specs.declared.refusal.Refusal.TheVariants as refusal
+use Rattle.camac_tool.specs.Codes.{text_code, link_code, check_code}
+use Rattle.camac_tool.specs.declared.judging.Judged.{Judged}
+use Rattle.camac_tool.specs.declared.judging.Judged.TheVariants as judged
+use Rattle.camac_tool.specs.declared.outcome.Outcome.{Outcome}
+use Rattle.camac_tool.specs.declared.outcome.Outcome.TheVariants.{Good, Refused}
+
+-- the outcome and the text; none where the script has a statement that is not served yet
+abbrev pub Report : Type 0
+Report = Option (Outcome × List ℕ)
+
+abbrev pub refused : Refusal → Report
+refused r = Some (Refused, refusal_text r)
+
+-- of what acceptance says of the script
+abbrev pub report_accepted : Layout → Script → Result (List Bounds) CheckFault → Report
+report_accepted plan script (Ok bounds) = Some (Good, verdict_text plan script bounds)
+report_accepted plan script (Err (broken rule line)) = refused (refusal.Check (check_code rule) line)
+report_accepted plan script (Err (not_served line)) = None
+
+-- of what linking says of the script
+abbrev pub report_linked : Layout → Script → Option LinkFault → Report
+report_linked plan script None = report_accepted plan script (accept plan script)
+report_linked plan script (Some (link_fault_of.Broken rule line)) = refused (refusal.Link (link_code rule) line)
+report_linked plan script (Some link_fault_of.OutOfMemory) = None
+
+-- of what reading the text gives
+abbrev pub report_read : Layout → Result Script TextFault → Report
+report_read plan (Ok script) = report_linked plan script (link_fault plan script)
+report_read plan (Err fault) = refused (refusal.Text (text_code fault.rule) fault.line)
+
+-- of a script's text
+abbrev pub report : Layout → List ℕ → Report
+report plan text = report_read plan (script_of text)
+
+abbrev pub report_of : Judged → Report
+report_of (judged.Accepted c) = Some (Good, verdict_text c.plan c.script c.bounds)
+report_of (judged.Refused r) = refused r

@@ -1,0 +1,36 @@
+// What the program reads: a file, or standard input.
+
+use crate::fault::ToolFault;
+use std::fs::Files;
+use std::io::{Input as StandardInput, Read};
+use std::{fs, io};
+
+/// An input of the program.
+#[derive(Drop)]
+pub enum Input<S: Drop, F: Drop> {
+    Standard(S),
+    File(F),
+}
+
+/// The input that a word names: `@in` is standard input, and any other word a file.
+pub fn open<R: Files + StandardInput>(
+    rt: &R,
+    word: &str,
+) -> Result<Input<R::Reader, R::File>, ToolFault> {
+    if word == "@in" {
+        return Ok(Input::Standard(rt.reader()));
+    }
+    match fs::open(rt, word) {
+        Ok(file) => Ok(Input::File(file)),
+        Err(_) => Err(ToolFault::Read),
+    }
+}
+
+impl<S: Read + Drop, F: Read + Drop> Read for Input<S, F> {
+    fn read(&mut self, buf: &mut [u8]) -> io::Result<usize> {
+        match self {
+            Input::Standard(reader) => reader.read(buf),
+            Input::File(reader) => reader.read(buf),
+        }
+    }
+}

@@ -1,0 +1,65 @@
+// The judgement on a script: its text, then its links to the plan, then the checker's rules.
+
+ghost use Rattle.std.specs.Prelude.{◌≡◌, IfOk, IfErr};
+ghost use Rattle.camac_names.specs.Link.{link_fault};
+ghost use Rattle.camac_rules.specs.Accept.{accept};
+ghost use Rattle.camac_tool.specs.Engine.{Judges};
+ghost use Rattle.camac_tool.specs.Report.{report, report_linked, report_accepted};
+
+use crate::codes::{check_code, link_code, text_code};
+use crate::fault::ToolFault;
+use camac_branch::Plan;
+use camac_check::{CheckFault, Checked, check};
+use camac_lang::Script;
+use camac_names::{LinkFault, Linked, resolve};
+use camac_report::Refusal;
+use camac_text::{TextFault, parse};
+use std::alloc::Global;
+
+/// What is found of a script.
+#[derive(Drop)]
+pub enum Judged {
+    Accepted(Checked),
+    Refused(Refusal),
+}
+
+/// Judges the text of a script for a plan.
+pub fn judge(alloc: Global, plan: &Plan, text: &[u8]) -> Result<Judged, ToolFault>
+    ensures { Judges result (report plan.now text.now) }
+{
+    match parse(alloc, text) {
+        Ok(script) => judge_script(alloc, plan, script),
+        Err(TextFault::OutOfMemory) => Err(ToolFault::Memory),
+        Err(TextFault::Broken { rule, line }) => Ok(Judged::Refused(Refusal::Text {
+            code: text_code(rule),
+            line,
+        })),
+    }
+}
+
+fn judge_script(alloc: Global, plan: &Plan, script: Script) -> Result<Judged, ToolFault>
+    ensures { Judges result (report_linked plan.now script (link_fault plan.now script)) }
+{
+    match resolve(alloc, script, plan) {
+        Ok(linked) => judge_linked(alloc, linked),
+        Err(LinkFault::OutOfMemory) => Err(ToolFault::Memory),
+        Err(LinkFault::Broken { rule, line }) => Ok(Judged::Refused(Refusal::Link {
+            code: link_code(rule),
+            line,
+        })),
+    }
+}
+
+fn judge_linked(alloc: Global, linked: Linked) -> Result<Judged, ToolFault>
+    ensures { Judges result (report_accepted linked.plan linked.script (accept linked.plan linked.script)) }
+{
+    match check(alloc, linked) {
+        Ok(checked) => Ok(Judged::Accepted(checked)),
+        Err(CheckFault::OutOfMemory) => Err(ToolFault::Memory),
+        Err(CheckFault::NotServed { .. }) => Err(ToolFault::NotServed),
+        Err(CheckFault::Broken { rule, line }) => Ok(Judged::Refused(Refusal::Check {
+            code: check_code(rule),
+            line,
+        })),
+    }
+}
