@@ -1,6 +1,7 @@
 -- What a clause reads of the answers of a reader's text.
 use Rattle.std.specs.Prelude.{◌≡◌, ◌<◌, ◌≤◌, ℕ, zero, suc, ◌+◌, Bool, true, false, ◌||◌, nat_le, nat_lt, List, [], ◌∷◌, ◌++◌, map, length, Option, Some, None, Result, Ok, Err, if◌then◌else◌}
 use Rattle.std.specs.List.{range_with_len}
+use Rattle.std.specs.Io.KnownBytes.{Consumes}
 use Rattle.camac_word.specs.Watched.{inner_of, has_failed}
 use Rattle.camac_branch.specs.Branch.{Answer}
 use Rattle.camac_answer.specs.declared.answers.Answers.{Answers}
@@ -73,6 +74,22 @@ Steps (Some old) (Err OutOfMemory) new = (Err OutOfMemory ≡ result_at old 0) �
 Steps (Some old) (Err (Broken rule line)) new = (Err (Broken rule line) ≡ result_at old 0) × (new ≡ Some (after 1 old))
 Steps (Some old) (Ok a) new = (Ok a ≡ result_at old 0) × (new ≡ Some (after 1 old))
 
+-- how many bytes judge a line after n others: of one that is too many the first
+abbrev pub window : ℕ → ℕ
+window n = if nat_lt n 1000000 then 20 else 1
+
+-- the reader gave bytes that do not judge a line yet: fewer than so many, and no LF
+pub record IsOpen (most : ℕ) (old new : Option (List ℕ)) : Type 0 where
+  pub bytes : List ℕ
+  pub taken : Consumes old new bytes
+  pub few : length bytes < most
+  pub no_end : length bytes ≤ length (first_line bytes)
+
+-- no more is read than judges a line: a read fails only in one that the bytes so far do not judge
+abbrev pub FailsInOpenLine : Stage → Answered → ℕ → Option (List ℕ) → Option (List ℕ) → Type 0
+FailsInOpenLine Running (Err Read) n old new = IsOpen (window n) old new
+FailsInOpenLine stage r n old new = Unit {0}
+
 -- what is left after the calls so far, of which the last ones failed
 abbrev pub StandsNow : ℕ → Stage → Option Reading → Reading → Type 0
 StandsNow zero stage left r = left ≡ Some r
@@ -106,7 +123,3 @@ abbrev pub next_answer : ℕ → List ℕ → Answered
 next_answer n [] = Ok None
 next_answer n (b ∷ text) =
     if nat_le 1000000 n then Err (Broken TooMany 1000001) else judged n (line_answer (first_line (b ∷ text)))
-
--- how many bytes judge a line after n others: of one that is too many the first
-abbrev pub window : ℕ → ℕ
-window n = if nat_lt n 1000000 then 20 else 1

@@ -2,7 +2,7 @@
 
 ghost use Rattle.std.specs.Prelude.{◌≡◌, ◌<◌, ◌≤◌, false, ℕ, List, [], Some, IsSome, IsOk, ◌||◌, ◌&&◌, IfOk};
 ghost use Rattle.camac_word.specs.Watched.{inner_of, has_failed};
-ghost use Rattle.camac_answer.specs.Answers.{stage_of, given_by, text_of, left_of, reader_failed, is_running, is_read_failure, Repeats, stage_after, Counts, Steps, StandsAt, StandsNext, AnswersAreFew, next_answer, window};
+ghost use Rattle.camac_answer.specs.Answers.{stage_of, given_by, text_of, left_of, reader_failed, is_running, is_read_failure, Repeats, stage_after, Counts, FailsInOpenLine, Steps, StandsAt, StandsNext, AnswersAreFew, next_answer, window};
 
 use crate::fault::{AnswerFault, AnswerRule};
 use crate::filling::{LINE, fill};
@@ -89,6 +89,7 @@ impl<'a, R: Read> Answers<'a, R> {
         ensures same_reader { self.new.reader.ghost_name ≡ self.old.reader.ghost_name }
         ensures left { Steps (left_of R.remaining self.old) result (left_of R.remaining self.new) }
         ensures given { Counts (given_by self.old) result (given_by self.new) }
+        ensures unread { FailsInOpenLine (stage_of self.old) result (given_by self.old) (text_of R.remaining self.old) (text_of R.remaining self.new) }
         ensures failed { reader_failed self.new ≡ (reader_failed self.old || (is_running (stage_of self.old) && is_read_failure result)) }
         ensures stands { StandsNext R.remaining self.old result self.new }
     {
@@ -102,6 +103,7 @@ impl<'a, R: Read> Answers<'a, R> {
         ensures same_reader { self.new.reader.ghost_name ≡ self.old.reader.ghost_name }
         ensures left { Steps (left_of R.remaining self.old) result (left_of R.remaining self.new) }
         ensures given { Counts (given_by self.old) result (given_by self.new) }
+        ensures unread { FailsInOpenLine (stage_of self.old) result (given_by self.old) (text_of R.remaining self.old) (text_of R.remaining self.new) }
         ensures failed { reader_failed self.new ≡ (reader_failed self.old || (is_running (stage_of self.old) && is_read_failure result)) }
     {
         match self.stage {
@@ -118,6 +120,7 @@ impl<'a, R: Read> Answers<'a, R> {
         ensures same_reader { self.new.reader.ghost_name ≡ self.old.reader.ghost_name }
         ensures left { Steps (left_of R.remaining self.old) result (left_of R.remaining self.new) }
         ensures given { Counts (given_by self.old) result (given_by self.new) }
+        ensures unread { FailsInOpenLine (stage_of self.old) result (given_by self.old) (text_of R.remaining self.old) (text_of R.remaining self.new) }
         ensures failed { reader_failed self.new ≡ (reader_failed self.old || is_read_failure result) }
     {
         let Ok(line) = fill(self.reader, judged_by(self.given)) else {

@@ -1,8 +1,9 @@
 // Reading no further than a line.
 
-ghost use Rattle.std.specs.Prelude.{◌≡◌, ◌≤◌, ◌<◌, ◌||◌, length, is_err, IfOk};
+ghost use Rattle.std.specs.Prelude.{◌≡◌, ◌≤◌, ◌<◌, ◌||◌, length, is_err, IfOk, OnErr};
 ghost use Rattle.std.specs.Io.KnownBytes.{Consumes, IsAtEnd};
 ghost use Rattle.camac_word.specs.Watched.{inner_of, has_failed};
+ghost use Rattle.camac_answer.specs.Answers.{IsOpen};
 ghost use Rattle.camac_answer.specs.Lines.{first_line};
 
 use crate::line::line_length;
@@ -26,6 +27,7 @@ pub(crate) fn fill<R: Read>(
     ensures within { IfOk result (λ line. length line.items ≤ most) }
     ensures bytes { IfOk result (λ line. Consumes (R.remaining (inner_of reader.old)) (R.remaining (inner_of reader.new)) line.items) }
     ensures short { IfOk result (λ line. length line.items < most → length line.items ≤ length (first_line line.items) → IsAtEnd (R.remaining (inner_of reader.new))) }
+    ensures open { OnErr result (IsOpen most (R.remaining (inner_of reader.old)) (R.remaining (inner_of reader.new))) }
     ensures failed { has_failed reader.new ≡ (has_failed reader.old || is_err result) }
 {
     let mut line = ArrayVec::new();
