@@ -1,0 +1,154 @@
+-- What one call reads of a text.
+use Rattle.std.proofs.Common.{◌≡◌, ℕ, ◌+◌, ◌≤◌, ◌<◌, Bool, true, false, ◌==◌, cond, nat_le, nat_lt, List, [], ◌∷◌, ◌++◌, length, drop, Option, Some, None, Result, Ok, Err, refl, sym, ap, ◌∙◌, append-nil, length-append, drop_of_length-le, arith, inl, inr}
+use Rattle.std.proofs.lemmas.Bool.{cases_lt, ne_eqb, eqb-true, and_parts, le-leb, lt-ltb}
+use Rattle.std.proofs.lemmas.List.{drop_at}
+use Rattle.std.specs.Io.KnownBytes.{Consumes, IsAtEnd}
+use Rattle.camac_branch.specs.Branch.{Answer}
+use Rattle.camac_answer.specs.declared.answers.Stage.TheVariants.{Running, Faulted}
+use Rattle.camac_answer.specs.declared.fault.AnswerRule.{AnswerRule}
+use Rattle.camac_answer.specs.declared.fault.AnswerRule.TheVariants.{LineShape, TooMany}
+use Rattle.camac_answer.specs.declared.fault.AnswerFault.{AnswerFault}
+use Rattle.camac_answer.specs.declared.fault.AnswerFault.TheVariants as fault
+use Rattle.camac_answer.specs.Lines.{lines, first_line, has_shape, fields_answer, line_answer}
+use Rattle.camac_answer.specs.Reading.{Reading, no_more, with_line, reading_from, result_at, after}
+use Rattle.camac_answer.specs.Answers.{left_in, Steps, judged, next_answer, window}
+use Rattle.camac_answer.proofs.Texts.{after_line, line_ends, line_goes_on, whole_line, lines_first}
+
+shapeless : (line : List ℕ) → (length line ≡ 19 → ⊥) → line_answer line ≡ Err LineShape
+shapeless line h = rw (ne_eqb (length line) 19 h) refl
+
+shaped : (b : Bool) (r : Result Answer AnswerRule) (a : Answer) → cond b r (Err LineShape) ≡ Ok a → b ≡ true
+shaped true r a e = refl
+shaped false r a e = absurd cc
+
+-- an answer has nineteen bytes before the LF
+answer_long : (line : List ℕ) (a : Answer) → line_answer line ≡ Ok a → length line ≡ 19
+answer_long line a e = eqb-true _ _ (and_parts (length line == 19) _ (shaped (has_shape line) (fields_answer line) a e)).0
+
+-- the bytes that were read decide what the first line spells
+line_decides : (w rest : List ℕ) → length w ≤ 20 → (length w < 20 → length w ≤ length (first_line w) → rest ≡ []) → line_answer (first_line (w ++ rest)) ≡ line_answer (first_line w)
+line_decides w rest most short =
+    elim (cases_lt (length (first_line w)) (length w)) [
+      | inl ended ↦ ap line_answer (line_ends w rest ended)
+      | inr on ↦
+          elim (cases_lt (length w) 20) [
+            | inl less ↦ ap (λ (r : List ℕ). line_answer (first_line (w ++ r))) (short less on) ∙ ap (λ (t : List ℕ). line_answer (first_line t)) (append-nil w)
+            | inr full ↦
+                let goes : length (first_line (w ++ rest)) ≡ length w + length (first_line rest) = ap length (line_goes_on w rest on) ∙ length-append w (first_line rest) in
+                let whole : length (first_line w) ≡ length w = ap length (whole_line w on) in
+                shapeless (first_line (w ++ rest)) (λ e. omega (arith, e, goes, full)) ∙ sym (shapeless (first_line w) (λ e. omega (arith, e, whole, full)))
+          ]
+    ]
+
+window_is : (n : ℕ) → n < 1000000 → window n ≡ 20
+window_is n h = rw (lt-ltb n 1000000 h) refl
+
+window_from : (c : Bool) → 0 < cond c 20 1
+window_from true = omega arith
+window_from false = omega arith
+
+window_to : (c : Bool) → cond c 20 1 ≤ 20
+window_to true = omega arith
+window_to false = omega arith
+
+too_many : (n b : ℕ) (text : List ℕ) → 1000000 ≤ n → next_answer n (b ∷ text) ≡ Err (fault.Broken TooMany 1000001)
+too_many n b text h = rw (le-leb 1000000 n h) refl
+
+-- they decide the result
+pub bytes_decide : (n : ℕ) (w rest : List ℕ) → length w ≤ window n → (length w < window n → length w ≤ length (first_line w) → rest ≡ []) → next_answer n (w ++ rest) ≡ next_answer n w
+bytes_decide n [] rest most short = ap (next_answer n) (short (window_from (nat_lt n 1000000)) (omega arith))
+bytes_decide n (b ∷ w) rest most short =
+    elim (cases_lt n 1000000) [
+      | inl less ↦
+          let size = window_is n less in
+          ap (λ (r : Result Answer AnswerRule). cond (nat_le 1000000 n) (Err (fault.Broken TooMany 1000001)) (judged n r))
+          (line_decides (b ∷ w) rest (rw size at most) (rw size at short))
+      | inr more ↦ too_many n b (w ++ rest) more ∙ sym (too_many n b w more)
+    ]
+
+chosen : (c : Bool) (n : ℕ) (r : Result Answer AnswerRule) (a : Answer) → cond c (Err (fault.Broken TooMany 1000001)) (judged n r) ≡ Ok (Some a) → r ≡ Ok a
+chosen true n r a e = absurd cc
+chosen false n (Ok x) a e = cc
+chosen false n (Err f) a e = absurd cc
+
+-- and where they are an answer, what they leave is what follows the first line
+pub answer_leaves : (n : ℕ) (w rest : List ℕ) (a : Answer) → n < 1000000 → length w ≤ window n → (length w < window n → length w ≤ length (first_line w) → rest ≡ [])
+    → next_answer n w ≡ Ok (Some a) → rest ≡ after_line (w ++ rest)
+answer_leaves n [] rest a few most short e = absurd cc
+answer_leaves n (b ∷ w) rest a few most short e =
+    let size = window_is n few in
+    let long : length (first_line (b ∷ w)) ≡ 19 = answer_long (first_line (b ∷ w)) a (chosen (nat_le 1000000 n) n (line_answer (first_line (b ∷ w))) a e) in
+    elim (cases_lt (length (first_line (b ∷ w))) (length (b ∷ w))) [
+      | inl ended ↦
+          let full : length (b ∷ w) ≡ 20 = omega (arith, long, ended, rw size at most) in
+          let twenty : length (first_line ((b ∷ w) ++ rest)) + 1 ≡ 20 = ap (λ (l : List ℕ). length l + 1) (line_ends (b ∷ w) rest ended) ∙ omega (arith, long) in
+          sym (ap (λ (k : ℕ). drop k ((b ∷ w) ++ rest)) twenty ∙ drop_at (b ∷ w) rest 20 full)
+      | inr on ↦
+          let none : rest ≡ [] = (rw size at short) (omega (arith, on, long)) on in
+          let whole : (b ∷ w) ++ rest ≡ b ∷ w = ap (λ (r : List ℕ). (b ∷ w) ++ r) none ∙ append-nil (b ∷ w) in
+          none ∙ sym (ap after_line whole ∙ drop_of_length-le (b ∷ w) {i = length (first_line (b ∷ w)) + 1} (omega (arith, on)))
+    ]
+
+shown : (c : Bool) (n : ℕ) (r : Result Answer AnswerRule) (rest : Reading)
+    → result_at (cond c (no_more (Some (fault.Broken TooMany 1000001))) (with_line n r rest)) 0 ≡ cond c (Err (fault.Broken TooMany 1000001)) (judged n r)
+shown true n r rest = refl
+shown false n (Ok a) rest = refl
+shown false n (Err rule) rest = refl
+
+-- the first result of a reading is that of the first line
+pub first_result : (n : ℕ) (text : List ℕ) → result_at (reading_from n (lines text)) 0 ≡ next_answer n text
+first_result n [] = refl
+first_result n (b ∷ text) =
+    ap (λ (ls : List (List ℕ)). result_at (reading_from n ls) 0) (lines_first b text)
+    ∙ shown (nat_le 1000000 n) n (line_answer (first_line (b ∷ text))) (reading_from (n + 1) (lines (after_line (b ∷ text))))
+
+left_after : (c : Bool) (n : ℕ) (r : Result Answer AnswerRule) (rest : Reading) (a : Answer) → cond c (Err (fault.Broken TooMany 1000001)) (judged n r) ≡ Ok (Some a)
+    → after 1 (cond c (no_more (Some (fault.Broken TooMany 1000001))) (with_line n r rest)) ≡ rest
+left_after true n r rest a e = absurd cc
+left_after false n (Ok x) rest a e = refl
+left_after false n (Err rule) rest a e = absurd cc
+
+-- after an answer the reading of what follows is left
+pub answer_left : (n : ℕ) (text : List ℕ) (a : Answer) → next_answer n text ≡ Ok (Some a) → after 1 (reading_from n (lines text)) ≡ reading_from (n + 1) (lines (after_line text))
+answer_left n [] a e = absurd cc
+answer_left n (b ∷ text) a e =
+    ap (λ (ls : List (List ℕ)). after 1 (reading_from n ls)) (lines_first b text)
+    ∙ left_after (nat_le 1000000 n) n (line_answer (first_line (b ∷ text))) (reading_from (n + 1) (lines (after_line (b ∷ text)))) a e
+
+fault_after : (c : Bool) (n : ℕ) (r : Result Answer AnswerRule) (rest : Reading) (f : AnswerFault) → cond c (Err (fault.Broken TooMany 1000001)) (judged n r) ≡ Err f
+    → cond c (no_more (Some (fault.Broken TooMany 1000001))) (with_line n r rest) ≡ no_more (Some f)
+fault_after true n r rest f e = cc
+fault_after false n (Ok x) rest f e = absurd cc
+fault_after false n (Err rule) rest f e = cc
+
+-- a fault ends the reading
+pub fault_left : (n : ℕ) (text : List ℕ) (f : AnswerFault) → next_answer n text ≡ Err f → reading_from n (lines text) ≡ no_more (Some f)
+fault_left n [] f e = absurd cc
+fault_left n (b ∷ text) f e =
+    ap (reading_from n) (lines_first b text)
+    ∙ fault_after (nat_le 1000000 n) n (line_answer (first_line (b ∷ text))) (reading_from (n + 1) (lines (after_line (b ∷ text)))) f e
+
+-- one call that gave an answer
+pub steps-answer : (n : ℕ) (old new : Option (List ℕ)) (w : List ℕ) (a : Answer) → n < 1000000 → Consumes old new w → length w ≤ window n
+    → (length w < window n → length w ≤ length (first_line w) → IsAtEnd new) → Ok (Some a) ≡ next_answer n w → Steps (left_in Running n old) (Ok (Some a)) (left_in Running (n + 1) new)
+steps-answer n None new w a few given most short e = tt
+steps-answer n (Some text) None w a few given most short e = absurd given
+steps-answer n (Some text) (Some rest) w a few given most short e =
+    let same : Ok (Some a) ≡ next_answer n text = e ∙ sym (bytes_decide n w rest most short) ∙ ap (next_answer n) (sym given) in
+    let follows : rest ≡ after_line text = answer_leaves n w rest a few most short (sym e) ∙ ap after_line (sym given) in (
+      same ∙ sym (first_result n text),
+      ap (λ (t : List ℕ). Some (reading_from (n + 1) (lines t))) follows ∙ ap Some (sym (answer_left n text a (sym same))),
+    )
+
+-- one call that gave a fault
+pub steps-fault : (n : ℕ) (old new : Option (List ℕ)) (w : List ℕ) (f : AnswerFault) → Consumes old new w → length w ≤ window n
+    → (length w < window n → length w ≤ length (first_line w) → IsAtEnd new) → Err f ≡ next_answer n w → Steps (left_in Running n old) (Err f) (left_in (Faulted f) n new)
+steps-fault n None new w f given most short e = tt
+steps-fault n (Some text) None w f given most short e = absurd given
+steps-fault n (Some text) (Some rest) w fault.Read given most short e = tt
+steps-fault n (Some text) (Some rest) w fault.OutOfMemory given most short e =
+    let same : Err fault.OutOfMemory ≡ next_answer n text = e ∙ sym (bytes_decide n w rest most short) ∙ ap (next_answer n) (sym given) in
+    (same ∙ sym (first_result n text), ap (λ (r : Reading). Some (after 1 r)) (sym (fault_left n text fault.OutOfMemory (sym same))))
+steps-fault n (Some text) (Some rest) w (fault.Broken rule line) given most short e =
+    let same : Err (fault.Broken rule line) ≡ next_answer n text = e ∙ sym (bytes_decide n w rest most short) ∙ ap (next_answer n) (sym given) in
+    (same ∙ sym (first_result n text), ap (λ (r : Reading). Some (after 1 r)) (sym (fault_left n text (fault.Broken rule line) (sym same))))

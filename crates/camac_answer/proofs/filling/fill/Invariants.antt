@@ -1,0 +1,16 @@
+use Rattle.std.proofs.Common.{◌≡◌, ◌≤◌, ◌-◌, length}
+use Rattle.std.specs.Io.KnownBytes.{Consumes}
+use Rattle.camac_word.specs.Watched.{inner_of, has_failed}
+use Rattle.camac_answer.proofs.filling.fill.Given as goal
+
+abbrev pub invariant-pieces : goal.invariant-pieces
+invariant-pieces g l =
+    record {
+      within : length l.line.items ≤ l.most;
+      room : length l.piece ≡ 20;
+      bytes : Consumes (g.R.Read.remaining (inner_of l.initial.reader)) (g.R.Read.remaining (inner_of l.reader)) l.line.items;
+      flag : has_failed l.reader ≡ has_failed l.initial.reader;
+    }
+
+abbrev pub decreases-pieces : goal.decreases-pieces
+decreases-pieces g l = l.most - length l.line.items

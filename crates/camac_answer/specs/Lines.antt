@@ -1,0 +1,69 @@
+-- The lines of an answer text, and the answer that a line spells.
+use Rattle.std.specs.Prelude.{ℕ, Bool, true, false, ◌==◌, ◌&&◌, not, List, [], ◌∷◌, length, take_while, slice_index, slice_range, Option, Some, None, Result, Ok, Err, if◌then◌else◌}
+use Rattle.byteorder.specs.Endian.{big_number}
+use Rattle.hex.specs.Hex.{decode_sized, hex_digit_value}
+use Rattle.hex.specs.declared.error.FromHexError.{FromHexError}
+use Rattle.camac_branch.specs.Branch.{Answer}
+use Rattle.camac_answer.specs.declared.fault.AnswerRule.{AnswerRule}
+use Rattle.camac_answer.specs.declared.fault.AnswerRule.TheVariants.{LineShape, BadDigit}
+
+-- a byte at the front of the first line
+abbrev pub with_first : ℕ → List (List ℕ) → List (List ℕ)
+with_first b [] = (b ∷ []) ∷ []
+with_first b (line ∷ rest) = (b ∷ line) ∷ rest
+
+-- what stands before each LF (10), and after the last one where that is not nothing
+abbrev pub lines : List ℕ → List (List ℕ)
+lines [] = []
+lines (b ∷ text) = if b == 10 then [] ∷ lines text else with_first b (lines text)
+
+abbrev pub is_inside : ℕ → Bool
+is_inside b = not (b == 10)
+
+-- the bytes before the first LF
+abbrev pub first_line : List ℕ → List ℕ
+first_line text = take_while is_inside text
+
+infixl 10 ◌>>=◌
+abbrev pub ◌>>=◌ : {A B : Type 0} → Result A AnswerRule → (A → Result B AnswerRule) → Result B AnswerRule
+(Ok x) >>= f = f x
+(Err e) >>= f = Err e
+
+-- `0` (48) or `1` (49)
+abbrev pub bit_at : ℕ → Result Bool AnswerRule
+bit_at b = if b == 48 then Ok false else (if b == 49 then Ok true else Err BadDigit)
+
+abbrev pub number_in : Result (List ℕ) FromHexError → Result ℕ AnswerRule
+number_in (Ok bytes) = Ok (big_number 3 bytes)
+number_in (Err e) = Err BadDigit
+
+-- six hexadecimal digits, which are three bytes
+abbrev pub word_at : List ℕ → Result ℕ AnswerRule
+word_at digits = number_in (decode_sized digits 3)
+
+abbrev pub digit_in : Option ℕ → Result ℕ AnswerRule
+digit_in (Some v) = Ok v
+digit_in None = Err BadDigit
+
+-- one hexadecimal digit
+abbrev pub wait_at : ℕ → Result ℕ AnswerRule
+wait_at b = digit_in (hex_digit_value b)
+
+-- nineteen bytes, with a space (32) between the fields
+abbrev pub has_shape : List ℕ → Bool
+has_shape line =
+    length line == 19 && (slice_index line 1 == 32 && (slice_index line 3 == 32 && (slice_index line 10 == 32 && slice_index line 12 == 32)))
+
+-- the fields of a line, from left to right
+unfoldable pub fields_answer : List ℕ → Result Answer AnswerRule
+fields_answer line = do
+  x ← bit_at (slice_index line 0)
+  q ← bit_at (slice_index line 2)
+  word ← word_at (slice_range line 4 10)
+  wait ← wait_at (slice_index line 11)
+  gl ← word_at (slice_range line 13 19)
+  Ok (record { x = x; q = q; word = word; wait = wait; gl = gl })
+
+-- what a line without its LF spells
+abbrev pub line_answer : List ℕ → Result Answer AnswerRule
+line_answer line = if has_shape line then fields_answer line else Err LineShape

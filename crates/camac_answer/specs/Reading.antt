@@ -1,0 +1,50 @@
+-- What an answer text gives: the answers of its lines up to the first fault, and that fault or none.
+use Rattle.std.specs.Prelude.{ℕ, ◌+◌, nat_le, List, [], ◌∷◌, drop, Option, Some, None, Result, Ok, Err, slice_get, if◌then◌else◌}
+use Rattle.camac_branch.specs.Branch.{Answer}
+use Rattle.camac_answer.specs.declared.fault.AnswerRule.{AnswerRule}
+use Rattle.camac_answer.specs.declared.fault.AnswerRule.TheVariants.{TooMany}
+use Rattle.camac_answer.specs.declared.fault.AnswerFault.{AnswerFault}
+use Rattle.camac_answer.specs.declared.fault.AnswerFault.TheVariants.{Broken}
+use Rattle.camac_answer.specs.Lines.{lines, line_answer}
+
+pub record Reading : Type 0 where
+  pub answers : List Answer
+  pub fault : Option AnswerFault
+
+-- nothing but a fault, or nothing at all
+abbrev pub no_more : Option AnswerFault → Reading
+no_more f = record { answers = []; fault = f }
+
+-- a line after n others, and what the lines after it give
+abbrev pub with_line : ℕ → Result Answer AnswerRule → Reading → Reading
+with_line n (Ok a) rest = record rest { answers = a ∷ rest.answers }
+with_line n (Err rule) rest = no_more (Some (Broken rule (n + 1)))
+
+-- lines after n others; a line that would be the 1,000,001st is one too many, whatever it holds
+abbrev pub reading_from : ℕ → List (List ℕ) → Reading
+reading_from n [] = no_more None
+reading_from n (line ∷ rest) =
+    if nat_le 1000000 n then no_more (Some (Broken TooMany 1000001)) else with_line n (line_answer line) (reading_from (n + 1) rest)
+
+abbrev pub reading : List ℕ → Reading
+reading text = reading_from 0 (lines text)
+
+-- the results of a call
+abbrev pub Answered : Type 0
+Answered = Result (Option Answer) AnswerFault
+
+abbrev pub ended : Option AnswerFault → Answered
+ended None = Ok None
+ended (Some f) = Err f
+
+abbrev pub given_or : Option Answer → Option AnswerFault → Answered
+given_or (Some a) f = Ok (Some a)
+given_or None f = ended f
+
+-- the result of call number i, from 0: the answers in turn, and then the fault or the end again and again
+abbrev pub result_at : Reading → ℕ → Answered
+result_at r i = given_or (slice_get r.answers i) r.fault
+
+-- what is left after so many calls
+abbrev pub after : ℕ → Reading → Reading
+after k r = record r { answers = drop k r.answers }

@@ -1,0 +1,150 @@
+// The answers of a reader's text.
+
+ghost use Rattle.std.specs.Prelude.{◌≡◌, ◌<◌, ◌≤◌, false, ℕ, List, [], Some, IsSome, IsOk, ◌||◌, ◌&&◌, IfOk};
+ghost use Rattle.camac_word.specs.Watched.{inner_of, has_failed};
+ghost use Rattle.camac_answer.specs.Answers.{stage_of, given_by, text_of, left_of, reader_failed, is_running, is_read_failure, Repeats, stage_after, Counts, FailsInOpenLine, Steps, StandsAt, StandsNext, AnswersAreFew, next_answer, window};
+
+use crate::fault::{AnswerFault, AnswerRule};
+use crate::filling::{LINE, fill};
+use crate::line::{answer_of, line_length};
+use camac_branch::Answer;
+use camac_word::Watched;
+use std::alloc::Global;
+use std::io::Read;
+
+// How many answers a run may have (own).
+const LINES: u32 = 1_000_000;
+
+// How far a text was read.
+#[derive(Clone, Copy, Debug, PartialEq, Eq)]
+enum Stage {
+    Running,
+    Ended,
+    Faulted(AnswerFault),
+}
+
+/// The answers of a text, read line by line and no further than each line: `x q word wait gl`, 19 bytes and an LF, which the last line
+/// may lack (own).
+#[derive(Drop)]
+pub struct Answers<'a, R> {
+    reader: &'a mut Watched<R>,
+    stage: Stage,
+    given: u32,
+}
+
+// The result of the first line of these bytes, after so many answers.
+fn judge(given: u32, bytes: &[u8]) -> Result<Option<Answer>, AnswerFault>
+    ensures value { result ≡ next_answer given bytes.now }
+    ensures no_read { is_read_failure result ≡ false }
+    ensures few { IfOk result (λ a. IsSome a → given < 1000000) }
+{
+    if bytes.is_empty() {
+        return Ok(None);
+    }
+    if given >= LINES {
+        return Err(AnswerFault::Broken {
+            rule: AnswerRule::TooMany,
+            line: LINES + 1,
+        });
+    }
+    match answer_of(&bytes[..line_length(bytes)]) {
+        Ok(answer) => Ok(Some(answer)),
+        Err(rule) => Err(AnswerFault::Broken {
+            rule,
+            line: given + 1,
+        }),
+    }
+}
+
+// How many bytes judge a line after so many answers: the first byte of one that is too many.
+fn judged_by(given: u32) -> usize
+    ensures { result ≡ window given }
+{
+    if given < LINES { LINE } else { 1 }
+}
+
+impl<'a, R: Read> Answers<'a, R> {
+    /// The answers of what the reader has left. It is always Ok: the room for a line is in the type.
+    pub fn new(_alloc: Global, reader: &'a mut Watched<R>) -> Result<Self, AnswerFault>
+        ensures ok { IsOk result }
+        ensures running { IfOk result (λ a. stage_of a ≡ Stage.Running) }
+        ensures given { IfOk result (λ a. given_by a ≡ 0) }
+        ensures text { IfOk result (λ a. text_of R.remaining a ≡ R.remaining (inner_of reader.entry.now)) }
+        ensures failed { IfOk result (λ a. reader_failed a ≡ has_failed reader.entry.now) }
+        ensures same_reader { IfOk result (λ a. a.reader.ghost_name ≡ reader.entry.ghost_name) }
+        ensures stands { IfOk result (λ a. (whole : List ℕ) → R.remaining (inner_of reader.entry.now) ≡ Some whole → StandsAt R.remaining a (has_failed reader.entry.now) whole []) }
+    {
+        Ok(Answers {
+            reader,
+            stage: Stage::Running,
+            given: 0,
+        })
+    }
+
+    /// The next answer, or none at the end. The end comes again at each later call, and so does a fault: A1, A2, A4 of a line, or A3,
+    /// a read that failed.
+    pub fn next(&mut self) -> Result<Option<Answer>, AnswerFault>
+        ensures again { Repeats (stage_of self.old) result }
+        ensures stage { stage_of self.new ≡ stage_after result }
+        ensures same_reader { self.new.reader.ghost_name ≡ self.old.reader.ghost_name }
+        ensures left { Steps (left_of R.remaining self.old) result (left_of R.remaining self.new) }
+        ensures given { Counts (given_by self.old) result (given_by self.new) }
+        ensures unread { FailsInOpenLine (stage_of self.old) result (given_by self.old) (text_of R.remaining self.old) (text_of R.remaining self.new) }
+        ensures failed { reader_failed self.new ≡ (reader_failed self.old || (is_running (stage_of self.old) && is_read_failure result)) }
+        ensures stands { StandsNext R.remaining self.old result self.new }
+    {
+        self.advance()
+    }
+
+    // One call.
+    fn advance(&mut self) -> Result<Option<Answer>, AnswerFault>
+        ensures again { Repeats (stage_of self.old) result }
+        ensures stage { stage_of self.new ≡ stage_after result }
+        ensures same_reader { self.new.reader.ghost_name ≡ self.old.reader.ghost_name }
+        ensures left { Steps (left_of R.remaining self.old) result (left_of R.remaining self.new) }
+        ensures given { Counts (given_by self.old) result (given_by self.new) }
+        ensures unread { FailsInOpenLine (stage_of self.old) result (given_by self.old) (text_of R.remaining self.old) (text_of R.remaining self.new) }
+        ensures failed { reader_failed self.new ≡ (reader_failed self.old || (is_running (stage_of self.old) && is_read_failure result)) }
+    {
+        match self.stage {
+            Stage::Running => self.read_on(),
+            Stage::Ended => Ok(None),
+            Stage::Faulted(fault) => Err(fault),
+        }
+    }
+
+    // One call while neither the end nor a fault came.
+    fn read_on(&mut self) -> Result<Option<Answer>, AnswerFault>
+        requires { stage_of self.old ≡ Stage.Running }
+        ensures stage { stage_of self.new ≡ stage_after result }
+        ensures same_reader { self.new.reader.ghost_name ≡ self.old.reader.ghost_name }
+        ensures left { Steps (left_of R.remaining self.old) result (left_of R.remaining self.new) }
+        ensures given { Counts (given_by self.old) result (given_by self.new) }
+        ensures unread { FailsInOpenLine (stage_of self.old) result (given_by self.old) (text_of R.remaining self.old) (text_of R.remaining self.new) }
+        ensures failed { reader_failed self.new ≡ (reader_failed self.old || is_read_failure result) }
+    {
+        let Ok(line) = fill(self.reader, judged_by(self.given)) else {
+            self.stage = Stage::Faulted(AnswerFault::Read);
+            return Err(AnswerFault::Read);
+        };
+        match judge(self.given, &line) {
+            Ok(None) => {
+                self.stage = Stage::Ended;
+                Ok(None)
+            }
+            Ok(Some(answer)) => {
+                self.given += 1;
+                Ok(Some(answer))
+            }
+            Err(fault) => {
+                self.stage = Stage::Faulted(fault);
+                Err(fault)
+            }
+        }
+    }
+}
+
+/// The law that a text gives at most 1,000,000 answers.
+pub fn answers_are_few()
+    ensures { AnswersAreFew }
+{}

@@ -1,0 +1,12 @@
+//! Answers of a simulated branch, read from a text line by line.
+#![tactic(auto)]
+
+mod answers;
+mod fault;
+mod filling;
+mod line;
+#[cfg(test)]
+mod tests;
+
+pub use answers::{Answers, answers_are_few};
+pub use fault::{AnswerFault, AnswerRule};
