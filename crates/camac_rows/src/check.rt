@@ -218,3 +218,20 @@ fn script_fault_of_a_limit(rt: HostRuntime) -> Result<(), Fail> {
     let text = many_variables(rt.alloc())?;
     expect_refused(&rt, &text, b"refused S6 line 65: limit passed\n")
 }
+
+#[test]
+fn line_ends(rt: HostRuntime) -> Result<(), Fail> {
+    expect_accepted(
+        &rt,
+        b"cdlam adc 1 1 5 12\r\nvar v\r\nservice adc within 3 cycles event 1 words {\r\n  cdreg r 1 1 5 0\r\n  cfsa 0 r -> v\r\n  put v\r\n}\r\n",
+        VERDICT,
+    )?;
+    expect_accepted(&rt, &STRAIGHT_LINE[..STRAIGHT_LINE.len() - 1], VERDICT)
+}
+
+#[test]
+fn bytes_of_all_kinds(rt: HostRuntime) -> Result<(), Fail> {
+    expect_refused(&rt, b"\x00\xff", b"refused S1 line 1: bad byte\n")?;
+    expect_refused(&rt, b"var v\n\x80", b"refused S1 line 2: bad byte\n")?;
+    expect_accepted(&rt, b"# \xff\x00\n", b"accepted\n")
+}
