@@ -12,6 +12,7 @@ import tempfile
 import time
 
 TOP = os.path.dirname(os.path.dirname(os.path.abspath(__file__)))
+GNU_TIME = "/usr/bin/time"
 OPENING = "cdlam adc 1 1 5 12\nvar v\n"
 
 
@@ -48,6 +49,12 @@ def registers(count):
     return f"{OPENING}service adc within 4294967295 cycles event 0 words {{\n{declared}\n{cycles}\n}}\n"
 
 
+def lams(count):
+    """So many LAMs of one station, and a service on the last of them."""
+    declared = "".join(f"cdlam lam{i} 1 1 5 {i % 16}\n" for i in range(count))
+    return f"{declared}var v\nservice lam{count - 1} within 3 cycles event 1 words {{\ncdreg r 1 1 5 0\ncfsa 0 r -> v\nput v\n}}\n"
+
+
 CASES = [
     ("comments, half a megabyte", comments(524_288)),
     ("comments, one megabyte", comments(1_048_576)),
@@ -59,28 +66,38 @@ CASES = [
     ("64 variables, 4,000 puts", names(64)),
     ("32 registers, 4,000 cycles", registers(32)),
     ("64 registers, 4,000 cycles", registers(64)),
+    ("32 LAMs", lams(32)),
+    ("64 LAMs", lams(64)),
     ("one byte too long", blanks(1_048_577)),
 ]
+
+
+def measured(program, script):
+    """Seconds, peak memory in MiB (by GNU time, which keeps this program's own memory out of it), status and output."""
+    report = script + ".time"
+    watch = [GNU_TIME, "-q", "-f", "%M", "-o", report] if os.access(GNU_TIME, os.X_OK) else []
+    started = time.perf_counter()
+    run = subprocess.run(watch + [program, "check", "@sample", script], stdout=subprocess.PIPE, stderr=subprocess.STDOUT)
+    seconds = time.perf_counter() - started
+    if not watch:
+        return seconds, "-", run.returncode, run.stdout.decode()
+    with open(report) as lines:
+        peak = f"{int(lines.read()) / 1024:.1f}"
+    os.remove(report)
+    return seconds, peak, run.returncode, run.stdout.decode()
 
 
 def main():
     program = sys.argv[1] if len(sys.argv) > 1 else os.path.join(TOP, "crates/camac/out/camac")
     if not os.access(program, os.X_OK):
         sys.exit(f"{program} is not there: build it by 'cd crates/camac && rt run'")
-    print(f"{'input':32} {'bytes':>9} {'seconds':>8} {'MiB':>6}  answer")
+    print(f"{'input':32} {'bytes':>9} {'seconds':>8} {'MiB':>6}  status and first line")
     for name, text in CASES:
         with tempfile.NamedTemporaryFile("w") as script:
             script.write(text)
             script.flush()
-            started = time.perf_counter()
-            child = subprocess.Popen(
-                [program, "check", "@sample", script.name], stdout=subprocess.PIPE, stderr=subprocess.STDOUT
-            )
-            out = child.stdout.read().decode()
-            _, status, usage = os.wait4(child.pid, 0)
-            seconds = time.perf_counter() - started
-        first = out.splitlines()[0] if out else ""
-        print(f"{name:32} {len(text):9} {seconds:8.3f} {usage.ru_maxrss / 1024:6.1f}  {os.waitstatus_to_exitcode(status)} {first}")
+            seconds, peak, status, out = measured(program, script.name)
+        print(f"{name:32} {len(text):9} {seconds:8.3f} {peak:>6}  {status} {out.splitlines()[0] if out else ''}")
 
 
 if __name__ == "__main__":
