@@ -1,6 +1,7 @@
 // The check of a linked script.
 
-ghost use Rattle.camac_check.specs.Checked.{Judges};
+ghost use Rattle.std.specs.Prelude.{IfOk};
+ghost use Rattle.camac_check.specs.Checked.{IsChecked, Judges};
 
 use crate::accept::accept_script;
 use crate::checked::Checked;
@@ -13,6 +14,8 @@ use std::alloc::Global;
 /// is not accepted yet is refused as such.
 pub fn check(alloc: Global, linked: Linked) -> Result<Checked, CheckFault>
     ensures exact { Judges linked result }
+    // The headline: whatever the branch answers.
+    ensures safe { IfOk result IsChecked }
 {
     linked.plan().is_plan();
     let _order = linked.script().order();

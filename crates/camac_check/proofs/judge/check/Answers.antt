@@ -18,3 +18,6 @@ invariant_of-result c =
     (subst F c.script.ensures.value c.order-order.ensures.well_formed)
     c.script.ensures.linked
     (ap (λ p. accept p script) (sym c.plan-2.ensures) ∙ ap (λ s. accept c.plan-2.result.now s) (sym c.script-2.ensures.value) ∙ c.in_ok-bounds.ensures)
+
+pub returns-clause-safe : goal.returns-clause-safe
+returns-clause-safe c = invariant_of-result c
