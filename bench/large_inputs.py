@@ -55,7 +55,37 @@ def lams(count):
     return f"{declared}var v\nservice lam{count - 1} within 3 cycles event 1 words {{\ncdreg r 1 1 5 0\ncfsa 0 r -> v\nput v\n}}\n"
 
 
-CASES = [
+def greatest_plan():
+    """64 types, each of all 512 commands one by one; 7 crates of 23 stations; 24 graded-L bits."""
+    commands = ",".join(f"{{f={f},a={a}}}" for f in range(32) for a in range(16))
+    types = "".join(f'[[type]]\nname="T{i}"\ncommands=[{commands}]\n' for i in range(64))
+    crates, bit = "", 0
+    for number in range(1, 8):
+        crates += f"[[crate]]\nnumber={number}\nwaits=15\n"
+        for n in range(1, 24):
+            bit += 1
+            gl = f"gl={bit}\n" if bit <= 24 else ""
+            crates += f'[[crate.station]]\nn={n}\ntype="T{(number * 23 + n) % 64}"\n{gl}'
+    return types + crates
+
+
+def nested_tables(size):
+    """Inline tables in one another, never closed."""
+    return "a={" * (size // 3)
+
+
+def dotted_key(parts):
+    return ".".join("a" * parts) + "=1"
+
+
+def nested_dotted(size):
+    """Inline tables of dotted keys in one another: what takes the TOML library most memory."""
+    depth = 60
+    inner = ".".join("a" * ((size // 2 - 4 * depth) // depth))
+    return "a=" + f"{{{inner}=" * depth + "1" + "}" * depth
+
+
+SCRIPTS = [
     ("comments, half a megabyte", comments(524_288)),
     ("comments, one megabyte", comments(1_048_576)),
     ("blanks, half a megabyte", blanks(524_288)),
@@ -71,13 +101,30 @@ CASES = [
     ("one byte too long", blanks(1_048_577)),
 ]
 
+PLANS = [
+    ("the greatest plan", greatest_plan()),
+    ("half a megabyte of [", "[" * 524_288),
+    ("one megabyte of [", "[" * 1_048_576),
+    ("half a megabyte of a={", nested_tables(524_288)),
+    ("one megabyte of a={", nested_tables(1_048_576)),
+    ("a key of 250,000 parts", dotted_key(250_000)),
+    ("a key of 500,000 parts", dotted_key(500_000)),
+    ("50,000 times [a]", "[a]\n" * 50_000),
+    ("100,000 times [[crate]]", "[[crate]]\n" * 104_857),
+    ("50,000 keys", "".join(f"a{i}=1\n" for i in range(50_000))),
+    ("100,000 keys", "".join(f"a{i}=1\n" for i in range(100_000))),
+    ("nested dotted keys, half a megabyte", nested_dotted(524_288)),
+    ("nested dotted keys, one megabyte", nested_dotted(1_048_576)),
+    ("one byte too long", blanks(1_048_577)),
+]
 
-def measured(program, script):
+
+def measured(program, words):
     """Seconds, peak memory in MiB (by GNU time, which keeps this program's own memory out of it), status and output."""
-    report = script + ".time"
+    report = words[-1] + ".time"
     watch = [GNU_TIME, "-q", "-f", "%M", "-o", report] if os.access(GNU_TIME, os.X_OK) else []
     started = time.perf_counter()
-    run = subprocess.run(watch + [program, "check", "@sample", script], stdout=subprocess.PIPE, stderr=subprocess.STDOUT)
+    run = subprocess.run(watch + [program] + words, stdout=subprocess.PIPE, stderr=subprocess.STDOUT)
     seconds = time.perf_counter() - started
     if not watch:
         return seconds, "-", run.returncode, run.stdout.decode()
@@ -91,13 +138,14 @@ def main():
     program = sys.argv[1] if len(sys.argv) > 1 else os.path.join(TOP, "crates/camac/out/camac")
     if not os.access(program, os.X_OK):
         sys.exit(f"{program} is not there: build it by 'cd crates/camac && rt run'")
-    print(f"{'input':32} {'bytes':>9} {'seconds':>8} {'MiB':>6}  status and first line")
-    for name, text in CASES:
-        with tempfile.NamedTemporaryFile("w") as script:
-            script.write(text)
-            script.flush()
-            seconds, peak, status, out = measured(program, script.name)
-        print(f"{name:32} {len(text):9} {seconds:8.3f} {peak:>6}  {status} {out.splitlines()[0] if out else ''}")
+    for words, cases in [(["check", "@sample"], SCRIPTS), (["plan"], PLANS)]:
+        print(f"{'camac ' + ' '.join(words):36} {'bytes':>9} {'seconds':>8} {'MiB':>6}  status and first line")
+        for name, text in cases:
+            with tempfile.NamedTemporaryFile("w") as file:
+                file.write(text)
+                file.flush()
+                seconds, peak, status, out = measured(program, words + [file.name])
+            print(f"{name:36} {len(text):9} {seconds:8.3f} {peak:>6}  {status} {out.splitlines()[0] if out else ''}")
 
 
 if __name__ == "__main__":

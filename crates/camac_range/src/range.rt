@@ -63,7 +63,8 @@ impl Range {
         ensures value { result ≡ self.lo }
         ensures ordered { self.lo ≤ self.hi }
     {
-        self.lo
+        let Range { lo, .. } = self;
+        lo
     }
 
     /// The highest number.
@@ -71,7 +72,8 @@ impl Range {
         ensures value { result ≡ self.hi }
         ensures ordered { self.lo ≤ self.hi }
     {
-        self.hi
+        let Range { hi, .. } = self;
+        hi
     }
 
     /// Whether each number of this range is in the other.
