@@ -16,14 +16,18 @@ fn checked(alloc: Global, script: &[u8]) -> Result<(Outcome, Vec<u8>), ToolFault
     Ok((outcome, out.into_inner()))
 }
 
-fn expect_refused(rt: &(impl Abort + AllocGlobal), script: &[u8], want: &[u8]) -> Result<(), Fail> {
+pub fn expect_refused(
+    rt: &(impl Abort + AllocGlobal),
+    script: &[u8],
+    want: &[u8],
+) -> Result<(), Fail> {
     let (outcome, written) = checked(rt.alloc(), script)?;
     assert_eq!(rt; outcome, Outcome::Refused);
     assert_eq!(rt; written.as_slice(), want);
     Ok(())
 }
 
-fn expect_accepted(
+pub fn expect_accepted(
     rt: &(impl Abort + AllocGlobal),
     script: &[u8],
     want: &[u8],
