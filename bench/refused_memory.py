@@ -1,5 +1,6 @@
 #!/usr/bin/env python3
-"""Refuses each allocation of the built program in turn, and looks that it ends as 'fault memory', status 3, with nothing written.
+"""Refuses each allocation of the built program in turn, and looks that it ends as 'fault memory', status 3, with nothing written; or, where
+the program does without that allocation (a list that is made in smaller steps), as it does with ample memory.
 
 usage: bench/refused_memory.py [PROGRAM]     PROGRAM is crates/camac/out/camac unless given (built by: cd crates/camac && rt run)
 
@@ -31,8 +32,9 @@ static int refuse(void) {
 
 __attribute__((destructor)) static void tell(void) {
     const char *name = getenv("TELL_CALLS");
+    long calls = seen;
     FILE *file = name ? fopen(name, "w") : 0;
-    if (file) { fprintf(file, "%ld", seen); fclose(file); }
+    if (file) { fprintf(file, "%ld", calls); fclose(file); }
 }
 
 static void *next(const char *name) { return dlsym(RTLD_NEXT, name); }
@@ -82,16 +84,18 @@ def ended(program, words, given, environment):
 def refuse_each(program, line, given, library, folder):
     """Counts the calls of a run with ample memory, and then refuses each of them in a run of its own."""
     words, told = line.split(), os.path.join(folder, "calls")
-    ended(program, words, given, {"LD_PRELOAD": library, "TELL_CALLS": told})
+    ample = ended(program, words, given, {"LD_PRELOAD": library, "TELL_CALLS": told})
     with open(told) as file:
         calls = int(file.read())
-    wrong = 0
+    without, wrong = 0, 0
     for number in range(1, calls + 1):
         answer = ended(program, words, given, {"LD_PRELOAD": library, "REFUSED_CALL": str(number)})
-        if answer != (3, b"", b"fault memory\n"):
+        if answer == ample:
+            without += 1
+        elif answer != (3, b"", b"fault memory\n"):
             wrong += 1
             print(f"camac {line}: allocation {number}: {answer}")
-    print(f"camac {line}: {calls} allocations refused in turn, {wrong} wrong answers")
+    print(f"camac {line}: {calls} allocations refused in turn, {without} done without, {wrong} wrong answers")
     return wrong
 
 
