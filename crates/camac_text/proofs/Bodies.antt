@@ -6,13 +6,15 @@ use Rattle.camac_lang.specs.Expressions.{Scope}
 use Rattle.camac_lang.specs.Statements.{after, after_block, statements_in, statements}
 use Rattle.camac_lang.specs.Tree.{Text, Statement}
 use Rattle.camac_lang.specs.View.{block_of}
-use Rattle.camac_text.specs.declared.token.Sign.TheVariants as sign
+use Rattle.camac_tokens.specs.declared.token.Sign.TheVariants as sign
 use Rattle.camac_text.specs.Reading.{State, give, one_more, many}
-use Rattle.camac_text.specs.Readers.{expect_sign, is_no_end, statement_at, block_at}
+use Rattle.camac_text.specs.Readers.{expect_sign}
+use Rattle.camac_text.specs.Statements.{is_no_end, statement_at, block_at}
 use Rattle.camac_text.proofs.Steps.{then_ok, ok_is, Progresses, while_keeps}
 use Rattle.camac_text.proofs.Moves.{AllFit, Moves, expect_sign_ok}
 use Rattle.camac_text.proofs.Uses.{scope_of}
-use Rattle.camac_text.proofs.Acts.{RegistersFit, Acts, statement_ok}
+use Rattle.camac_text.proofs.Acts.{RegistersFit, Acts}
+use Rattle.camac_text.proofs.StatementsRead.{statement_ok}
 
 pub statements_progress : Progresses is_no_end (one_more statement_at)
 statements_progress xs s y s' on took =

@@ -5,12 +5,14 @@ use Rattle.std.proofs.lemmas.List.{append-nil}
 use Rattle.camac_lang.specs.Scope.{are_declarable}
 use Rattle.camac_lang.specs.Tests.{each, is_name, is_new, is_number, is_sub_address}
 use Rattle.camac_lang.specs.Tree.{Text, Statement, Lam}
-use Rattle.camac_text.specs.declared.fault.TextRule.TheVariants.{LimitPassed}
-use Rattle.camac_text.specs.declared.token.Keyword.TheVariants as word
-use Rattle.camac_text.specs.declared.token.TokenKind.{TokenKind}
-use Rattle.camac_text.specs.declared.token.TokenKind.TheVariants as kind
+use Rattle.camac_tokens.specs.declared.fault.TextRule.TheVariants.{LimitPassed}
+use Rattle.camac_tokens.specs.declared.token.Keyword.TheVariants as word
+use Rattle.camac_tokens.specs.declared.token.TokenKind.{TokenKind}
+use Rattle.camac_tokens.specs.declared.token.TokenKind.TheVariants as kind
 use Rattle.camac_text.specs.Reading.{State, Reader, then_read, ◌>>◌, give, change, advance, check, kind_of, line_of, behind, while_next}
-use Rattle.camac_text.specs.Readers.{new_name, with_variable, new_variable, is_name as next_is_name, expect, any_number, branch_number, sub_address_number, used_lam, with_lam, lam_declaration, one_more_variable, with_variables_of, variable_declaration, block_at, with_service, service_declaration, declaration_by, declaration_at, is_token}
+use Rattle.camac_text.specs.Readers.{new_name, with_variable, new_variable, is_name as next_is_name, expect, any_number, branch_number, sub_address_number, used_lam}
+use Rattle.camac_text.specs.Statements.{block_at}
+use Rattle.camac_text.specs.Declarations.{with_lam, lam_declaration, one_more_variable, with_variables_of, variable_declaration, with_service, service_declaration, declaration_by, declaration_at, is_token}
 use Rattle.camac_text.proofs.Steps.{then_ok, ok_is, err_no_ok, Progresses, while_keeps}
 use Rattle.camac_text.proofs.Moves.{AllFit, Moves, kind_fit, behind_less, stays, moved, then_moves, one_moves, check_ok, any_number_ok, branch_ok, sub_address_ok, expect_ok, new_name_ok}
 use Rattle.camac_text.proofs.Uses.{used_lam_ok}

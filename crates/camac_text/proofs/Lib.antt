@@ -1,4 +1,3 @@
-pub mod Scans
 pub mod Searches
 pub mod Steps
 pub mod Loops
@@ -6,11 +5,14 @@ pub mod Places
 pub mod Moves
 pub mod Uses
 pub mod Acts
+pub mod ActionsRead
+pub mod CallsRead
+pub mod StatementsRead
 pub mod Bodies
 pub mod Declares
 pub mod Fitting
 pub mod WellFormed
-pub mod Cuts
-pub mod Uncut
 pub mod Local
+pub mod LocalStatements
+pub mod LocalDeclarations
 pub mod Faults

@@ -8,12 +8,14 @@ use Rattle.camac_lang.specs.Expressions.{Scope, expression_fits}
 use Rattle.camac_lang.specs.Statements.{move_fits}
 use Rattle.camac_lang.specs.Tests.{is_number}
 use Rattle.camac_lang.specs.Tree.{Expression, number, variable, Move, no_data, into, from, Lam}
-use Rattle.camac_text.specs.declared.token.Sign.TheVariants as sign
-use Rattle.camac_text.specs.declared.token.TokenKind.{TokenKind}
-use Rattle.camac_text.specs.declared.token.TokenKind.TheVariants as kind
+use Rattle.camac_tokens.specs.declared.token.Sign.TheVariants as sign
+use Rattle.camac_tokens.specs.declared.token.TokenKind.{TokenKind}
+use Rattle.camac_tokens.specs.declared.token.TokenKind.TheVariants as kind
 use Rattle.camac_text.specs.Names.{place_of, lam_place}
 use Rattle.camac_text.specs.Reading.{State, kind_of, behind}
-use Rattle.camac_text.specs.Readers.{name_here, used_at, used_register, used_variable, used_lam, any_number, literal, operand_by, operand, move_by, move_at}
+use Rattle.camac_text.specs.Readers.{name_here, used_at, used_register, used_variable, used_lam, any_number}
+use Rattle.camac_text.specs.Expressions.{literal, operand_by, operand}
+use Rattle.camac_text.specs.Statements.{move_by, move_at}
 use Rattle.camac_text.proofs.Steps.{then_ok, ok_is, err_no_ok}
 use Rattle.camac_text.proofs.Moves.{AllFit, Moves, kind_fit, stays, moved, then_moves, one_moves, name_ok, any_number_ok}
 

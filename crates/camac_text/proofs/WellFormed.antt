@@ -12,10 +12,10 @@ use Rattle.camac_lang.specs.Statements.{after_block, statements}
 use Rattle.camac_lang.specs.Tests.{each, has, unless_broken, total, most, is_name, is_new, are_new, is_number, is_sub_address}
 use Rattle.camac_lang.specs.Tree.{Text, Statement, Lam, Service, Item, next_lam, next_variables, next_service, Script}
 use Rattle.camac_lang.specs.View.{block_of}
-use Rattle.camac_text.specs.declared.token.Token.{Token}
+use Rattle.camac_tokens.specs.declared.token.Token.{Token}
 use Rattle.camac_text.specs.Reading.{State}
-use Rattle.camac_text.specs.Readers.{with_lam as lam_added, with_variables_of, with_service as service_added, declaration_at, is_token, declarations_at}
-use Rattle.camac_text.specs.Scanning.{tokens_of}
+use Rattle.camac_text.specs.Declarations.{with_lam as lam_added, with_variables_of, with_service as service_added, declaration_at, is_token, declarations_at}
+use Rattle.camac_tokens.specs.Scanning.{tokens_of}
 use Rattle.camac_text.specs.Parser.{start, tree_so_far}
 use Rattle.camac_text.proofs.Steps.{while_keeps}
 use Rattle.camac_text.proofs.Fitting.{tokens_fit}

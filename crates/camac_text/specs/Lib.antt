@@ -1,9 +1,8 @@
-pub mod Words
-pub mod Fault
-pub mod Scanning
-pub mod Cut
 pub mod Names
 pub mod Reading
 pub mod Readers
+pub mod Expressions
+pub mod Statements
+pub mod Declarations
 pub mod Parser
 pub mod Places

@@ -2,13 +2,13 @@
 use Rattle.std.specs.Prelude.{◌≡◌, ℕ, List, [], map, Result, Ok, Err}
 use Rattle.camac_lang.specs.Tree.{Script}
 use Rattle.camac_lang.specs.View.{item_of, table_of, lam_of, procedure_of, service_of}
-use Rattle.camac_text.specs.declared.token.Token.{Token}
-use Rattle.camac_text.specs.declared.fault.TextFault.{TextFault}
+use Rattle.camac_tokens.specs.declared.token.Token.{Token}
+use Rattle.camac_tokens.specs.declared.fault.TextFault.{TextFault}
 use Rattle.camac_text.specs.declared.cursor.Parser.{Parser}
-use Rattle.camac_text.specs.Fault.{Fault, Fails}
-use Rattle.camac_text.specs.Scanning.{tokens_of, last_line}
+use Rattle.camac_tokens.specs.Fault.{Fault, Fails}
+use Rattle.camac_tokens.specs.Scanning.{tokens_of, last_line}
 use Rattle.camac_text.specs.Reading.{State}
-use Rattle.camac_text.specs.Readers.{declarations_at}
+use Rattle.camac_text.specs.Declarations.{declarations_at}
 
 abbrev pub state : Parser → State
 state p = record {

@@ -1,15 +1,15 @@
 -- Where a fault of the parser is.
 use Rattle.std.specs.Prelude.{◌≡◌, ℕ, List, ◌∷◌, ◌++◌, Option, Some, Result, Ok, Err}
 use Rattle.camac_lang.specs.Tree.{Text}
-use Rattle.camac_text.specs.declared.token.Token.{Token}
-use Rattle.camac_text.specs.declared.token.TokenKind.{TokenKind}
-use Rattle.camac_text.specs.declared.token.TokenKind.TheVariants as kind
-use Rattle.camac_text.specs.declared.fault.TextRule.{TextRule}
-use Rattle.camac_text.specs.declared.fault.TextRule.TheVariants.{BadByte, UnexpectedToken, NumberTooLarge, DeclaredTwice, NotDeclared, LimitPassed, BranchNotOne}
-use Rattle.camac_text.specs.declared.fault.TextFault.{TextFault}
-use Rattle.camac_text.specs.declared.fault.TextFault.TheVariants as text_fault
-use Rattle.camac_text.specs.Fault.{Fault}
-use Rattle.camac_text.specs.Scanning.{tokens_of, last_line}
+use Rattle.camac_tokens.specs.declared.token.Token.{Token}
+use Rattle.camac_tokens.specs.declared.token.TokenKind.{TokenKind}
+use Rattle.camac_tokens.specs.declared.token.TokenKind.TheVariants as kind
+use Rattle.camac_tokens.specs.declared.fault.TextRule.{TextRule}
+use Rattle.camac_tokens.specs.declared.fault.TextRule.TheVariants.{BadByte, UnexpectedToken, NumberTooLarge, DeclaredTwice, NotDeclared, LimitPassed, BranchNotOne}
+use Rattle.camac_tokens.specs.declared.fault.TextFault.{TextFault}
+use Rattle.camac_tokens.specs.declared.fault.TextFault.TheVariants as text_fault
+use Rattle.camac_tokens.specs.Fault.{Fault}
+use Rattle.camac_tokens.specs.Scanning.{tokens_of, last_line}
 use Rattle.camac_text.specs.Reading.{kind_of, line_of}
 use Rattle.camac_text.specs.Parser.{tree_of_tokens}
 

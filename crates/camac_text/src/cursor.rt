@@ -1,14 +1,13 @@
 // The parser's state, and its steps over single tokens.
 
 ghost use Rattle.std.specs.Prelude.{◌≡◌};
-ghost use Rattle.camac_text.specs.Fault.{Fails};
+ghost use Rattle.camac_tokens.specs.Fault.{Fails};
 ghost use Rattle.camac_text.specs.Reading.{line_of, kind_of, behind};
 ghost use Rattle.camac_text.specs.Readers.{is_keyword, is_sign, is_name, expect, expect_sign, name_here, number_here, any_number, branch_number, function_number, sub_address_number};
 ghost use Rattle.camac_text.specs.Parser.{state, Gives};
 
-use crate::fault::{TextFault, TextRule};
-use crate::token::{Keyword, Sign, Token, TokenKind};
 use camac_lang::{Item, Lam, Name, Procedure, Service, Table};
+use camac_tokens::{Keyword, Sign, TextFault, TextRule, Token, TokenKind};
 use camac_word::{Function, SubAddress};
 use std::alloc::Global;
 

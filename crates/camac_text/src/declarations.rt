@@ -2,18 +2,18 @@
 
 ghost use Rattle.std.specs.Prelude.{◌≡◌, suc};
 ghost use Rattle.camac_text.specs.Reading.{kind_of, while_next};
-ghost use Rattle.camac_text.specs.Readers.{is_name, lam_declaration, one_more_variable, variable_declaration, service_declaration, declaration_at, is_token, declarations_at};
+ghost use Rattle.camac_text.specs.Readers.{is_name};
+ghost use Rattle.camac_text.specs.Declarations.{lam_declaration, one_more_variable, variable_declaration, service_declaration, declaration_at, is_token, declarations_at};
 ghost use Rattle.camac_text.specs.Parser.{state, Gives};
 
 use crate::cursor::Parser;
-use crate::fault::{TextFault, TextRule};
-use crate::token::{Keyword, TokenKind};
 use camac_lang::{Item, Lam, Service};
+use camac_tokens::{Keyword, TextFault, TextRule, TokenKind};
 use std::mem;
 
 impl Parser<'_> {
     /// All declarations to the text's end.
-    #[tactic(auto, unfolding(crate::specs::Readers::declarations_at))]
+    #[tactic(auto, unfolding(crate::specs::Declarations::declarations_at))]
     pub fn declarations(&mut self) -> Result<(), TextFault>
         ensures { Gives (λ _. tt) result self.new (declarations_at (state self.old)) }
     {
@@ -29,7 +29,7 @@ impl Parser<'_> {
         self.peek().is_some()
     }
 
-    #[tactic(auto, unfolding(crate::specs::Readers::declaration_at))]
+    #[tactic(auto, unfolding(crate::specs::Declarations::declaration_at))]
     fn declaration(&mut self) -> Result<(), TextFault>
         ensures { Gives (λ _. tt) result self.new (declaration_at (state self.old)) }
     {
@@ -42,7 +42,7 @@ impl Parser<'_> {
         }
     }
 
-    #[tactic(auto, unfolding(crate::specs::Readers::lam_declaration))]
+    #[tactic(auto, unfolding(crate::specs::Declarations::lam_declaration))]
     fn lam_declaration(&mut self, line: u32) -> Result<(), TextFault>
         ensures { Gives (λ _. tt) result self.new (lam_declaration line (state self.old)) }
     {
@@ -68,7 +68,7 @@ impl Parser<'_> {
         Ok(())
     }
 
-    #[tactic(auto, unfolding(crate::specs::Readers::variable_declaration))]
+    #[tactic(auto, unfolding(crate::specs::Declarations::variable_declaration))]
     fn variable_declaration(&mut self, line: u32) -> Result<(), TextFault>
         ensures { Gives (λ _. tt) result self.new (variable_declaration line (state self.old)) }
     {
@@ -91,7 +91,7 @@ impl Parser<'_> {
         Ok(count)
     }
 
-    #[tactic(auto, unfolding(crate::specs::Readers::service_declaration))]
+    #[tactic(auto, unfolding(crate::specs::Declarations::service_declaration))]
     fn service_declaration(&mut self, line: u32) -> Result<(), TextFault>
         ensures { Gives (λ _. tt) result self.new (service_declaration line (state self.old)) }
     {

@@ -5,9 +5,9 @@ ghost use Rattle.camac_text.specs.Readers.{new_name, new_variable, register_at, 
 ghost use Rattle.camac_text.specs.Parser.{state, Gives};
 
 use crate::cursor::Parser;
-use crate::fault::{TextFault, TextRule};
 use crate::names::{is_new, lam_place, place_of};
 use camac_lang::Name;
+use camac_tokens::{TextFault, TextRule};
 
 impl Parser<'_> {
     /// A name that no table, LAM, variable or procedure before it has. It stays where it is.

@@ -2,23 +2,21 @@
 
 ghost use Rattle.std.specs.Prelude.{◌≡◌, IsTrue};
 ghost use Rattle.camac_lang.specs.Scope.{is_well_formed};
-ghost use Rattle.camac_text.specs.Fault.{Answers};
+ghost use Rattle.camac_tokens.specs.Fault.{Answers};
 ghost use Rattle.camac_text.specs.Places.{HasFault, FaultIs};
 ghost use Rattle.camac_text.specs.Parser.{state, start, tree_so_far, script_of};
 
 use crate::cursor::Parser;
-use crate::fault::TextFault;
-use crate::scanner::{last_line, tokens};
-use crate::token::Token;
 use camac_lang::Script;
+use camac_tokens::{TextFault, Token, last_line, tokens};
 use std::alloc::Global;
 
-/// The script that a text spells: `cdlam`, `var` and `service` with `cdreg` of numbers, `cfsa` and `put` of a number or a
-/// variable. Every other form is refused as an unexpected token (S2) so far.
+/// The script that a text spells: `cdlam`, `var` and `service` with `cdreg` of numbers, `cfsa`, `cssa`, `put`, and the crate calls
+/// and LAM calls, where each expression is a number or a variable. Every other form is refused as an unexpected token (S2) so far.
 ///
 /// A text is refused by its first token fault (S1, S3, S6), else at its first token from left to right that the grammar or a
 /// rule of names, numbers or limits does not allow there (S2 to S7); the text's end counts as a token. Memory may be refused
-/// (S8). The language is the project's own, with the ESONE names `cdlam`, `cdreg` and `cfsa`.
+/// (S8). The language is the project's own, with the ESONE names `cdlam`, `cdreg`, `cfsa`, `cssa`, `cccz` and the like.
 pub fn parse(alloc: Global, text: &[u8]) -> Result<Script, TextFault>
     // The tree of the text, or its first fault.
     ensures exact { Answers result (script_of text.now) }

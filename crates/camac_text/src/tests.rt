@@ -40,15 +40,6 @@ fn straight_line(rt: HostRuntime) -> Result<(), Fail> {
 }
 
 #[test]
-fn tokens_of_a_text(rt: HostRuntime) -> Result<(), Fail> {
-    let made = tokens(rt.alloc(), b"v<=1# a\n..x")
-        .ok()
-        .ok_or("the text has tokens")?;
-    assert_eq!(rt; made.len(), 5);
-    Ok(())
-}
-
-#[test]
 fn script_faults(rt: HostRuntime) {
     assert!(rt; parse(rt.alloc(), b"").is_ok());
     assert_eq!(rt; fault(&rt, b"!\n"), Some((TextRule::BadByte, 1)));
@@ -181,4 +172,22 @@ fn parse_faults_of_limits(rt: HostRuntime) -> Result<(), Fail> {
     )?;
     assert_eq!(rt; statements, Some((TextRule::LimitPassed, 4099)));
     Ok(())
+}
+
+#[test]
+fn calls(rt: HostRuntime) {
+    assert!(rt;
+        parse(
+            rt.alloc(),
+            b"cdlam adc 1 1 5 12\nvar v\nservice adc within 100 cycles event 100 words {\n  cccz 1 cccc 1 ctci 1 ctcd 1 ctgl 1 ccci 1 on ccci 1 off cccd v on cccd v off\n  cclm adc on cclm adc off cclc adc ctlm adc\n}\n"
+        )
+        .is_ok()
+    );
+    assert_eq!(rt;
+        fault(
+            &rt,
+            b"cdlam adc 1 1 5 12\nvar v\nservice adc within 100 cycles event 100 words {\n  ccci 1 put 1\n}\n"
+        ),
+        Some((TextRule::UnexpectedToken, 4))
+    );
 }

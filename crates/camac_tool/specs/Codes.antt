@@ -1,6 +1,6 @@
 -- Refusal codes of the rules of the lower crates.
-use Rattle.camac_text.specs.declared.fault.TextRule.{TextRule}
-use Rattle.camac_text.specs.declared.fault.TextRule.TheVariants as text_rule
+use Rattle.camac_tokens.specs.declared.fault.TextRule.{TextRule}
+use Rattle.camac_tokens.specs.declared.fault.TextRule.TheVariants as text_rule
 use Rattle.camac_names.specs.declared.fault.LinkRule.{LinkRule}
 use Rattle.camac_names.specs.declared.fault.LinkRule.TheVariants as link_rule
 use Rattle.camac_rules.specs.declared.rule.CheckRule.{CheckRule}

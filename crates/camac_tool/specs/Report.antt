@@ -2,7 +2,7 @@
 use Rattle.std.specs.Prelude.{ℕ, List, Option, Some, None, Result, Ok, Err}
 use Rattle.camac_lang.specs.Tree.{Script}
 use Rattle.camac_branch.specs.Plan.{Layout}
-use Rattle.camac_text.specs.Fault.{Fault as TextFault}
+use Rattle.camac_tokens.specs.Fault.{Fault as TextFault}
 use Rattle.camac_text.specs.Parser.{script_of}
 use Rattle.camac_names.specs.Link.{link_fault}
 use Rattle.camac_names.specs.declared.fault.LinkFault.{LinkFault}

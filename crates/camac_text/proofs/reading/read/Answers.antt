@@ -1,6 +1,6 @@
 use Rattle.std.proofs.Common.{◌≡◌, List, sym, ap, ◌∙◌}
-use Rattle.camac_text.specs.declared.token.Token.{Token}
-use Rattle.camac_text.specs.Readers.{declarations_at}
+use Rattle.camac_tokens.specs.declared.token.Token.{Token}
+use Rattle.camac_text.specs.Declarations.{declarations_at}
 use Rattle.camac_text.specs.Parser.{state, start}
 use Rattle.camac_text.proofs.WellFormed.{read_well_formed}
 use Rattle.camac_text.proofs.reading.read.Goals as goal

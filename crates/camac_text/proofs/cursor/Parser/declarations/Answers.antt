@@ -1,6 +1,6 @@
 use Rattle.std.proofs.Common.{sym, ◌∙◌}
 use Rattle.std.proofs.lemmas.Result.{err_from_is_err_and}
-use Rattle.camac_text.specs.Readers.{is_token, declaration_at, declarations_at}
+use Rattle.camac_text.specs.Declarations.{is_token, declaration_at, declarations_at}
 use Rattle.camac_text.specs.Parser.{state}
 use Rattle.camac_text.proofs.Declares.{declaration_less, declarations_progress}
 use Rattle.camac_text.proofs.Loops.{goes, fails, ends}

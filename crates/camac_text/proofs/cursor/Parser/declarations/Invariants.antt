@@ -1,6 +1,6 @@
 use Rattle.std.proofs.Common.{◌≡◌, length}
 use Rattle.camac_text.specs.Reading.{while_next}
-use Rattle.camac_text.specs.Readers.{is_token, declaration_at, declarations_at}
+use Rattle.camac_text.specs.Declarations.{is_token, declaration_at, declarations_at}
 use Rattle.camac_text.specs.Parser.{state}
 use Rattle.camac_text.proofs.cursor.Parser.declarations.Given as goal
 

@@ -1,8 +1,9 @@
 use Rattle.std.proofs.Common.{◌+◌, ◌<◌, length, Result, sym, ap, ◌∙◌, arith}
 use Rattle.std.proofs.lemmas.Result.{err_from_is_err_and}
-use Rattle.camac_text.specs.Fault.{Fault}
+use Rattle.camac_tokens.specs.Fault.{Fault}
 use Rattle.camac_text.specs.Reading.{State, then_read, give, while_next}
-use Rattle.camac_text.specs.Readers.{is_name, new_variable, one_more_variable}
+use Rattle.camac_text.specs.Readers.{is_name, new_variable}
+use Rattle.camac_text.specs.Declarations.{one_more_variable}
 use Rattle.camac_text.specs.Parser.{state}
 use Rattle.camac_text.proofs.Declares.{variables_progress, new_variable_ok, one_variable_less}
 use Rattle.camac_text.proofs.Loops.{goes, fails, ends, then_fails}

@@ -1,6 +1,7 @@
 use Rattle.std.proofs.Common.{◌≡◌, ◌+◌, ◌≤◌, length}
 use Rattle.camac_text.specs.Reading.{while_next}
-use Rattle.camac_text.specs.Readers.{is_name, one_more_variable}
+use Rattle.camac_text.specs.Readers.{is_name}
+use Rattle.camac_text.specs.Declarations.{one_more_variable}
 use Rattle.camac_text.specs.Parser.{state}
 use Rattle.camac_text.proofs.cursor.Parser.more_variables.Given as goal
 

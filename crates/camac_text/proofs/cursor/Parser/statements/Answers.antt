@@ -3,9 +3,9 @@ use Rattle.std.proofs.lemmas.Result.{err_from_is_err_and}
 use Rattle.std.proofs.lemmas.List.{map_push}
 use Rattle.camac_lang.specs.View.{statement_of}
 use Rattle.camac_text.specs.Reading.{one_more, many}
-use Rattle.camac_text.specs.Readers.{is_no_end, statement_at}
+use Rattle.camac_text.specs.Statements.{is_no_end, statement_at}
 use Rattle.camac_text.specs.Parser.{state}
-use Rattle.camac_text.proofs.Acts.{statement_ok}
+use Rattle.camac_text.proofs.StatementsRead.{statement_ok}
 use Rattle.camac_text.proofs.Bodies.{statements_progress}
 use Rattle.camac_text.proofs.Loops.{more, more_fails, ends}
 use Rattle.camac_text.proofs.cursor.Parser.statements.Goals as goal

@@ -1,7 +1,7 @@
 use Rattle.std.proofs.Common.{◌≡◌, length, map}
 use Rattle.camac_lang.specs.View.{statement_of}
 use Rattle.camac_text.specs.Reading.{while_next, one_more, many}
-use Rattle.camac_text.specs.Readers.{is_no_end, statement_at}
+use Rattle.camac_text.specs.Statements.{is_no_end, statement_at}
 use Rattle.camac_text.specs.Parser.{state}
 use Rattle.camac_text.proofs.cursor.Parser.statements.Given as goal
 

@@ -1,8 +1,8 @@
 use Rattle.std.proofs.Common.{◌≡◌, ℕ, ◌+◌, ◌*◌, take, arith}
 use Rattle.std.proofs.lemmas.Grind.{common_steps}
-use Rattle.camac_text.specs.Scanning.{decimal_value}
-use Rattle.camac_text.proofs.Scans.{too_large}
-use Rattle.camac_text.proofs.scanner.number.Goals as goal
+use Rattle.camac_tokens.specs.Scanning.{decimal_value}
+use Rattle.camac_tokens.proofs.Scans.{too_large}
+use Rattle.camac_tokens.proofs.scanner.number.Goals as goal
 
 pub returns-then-value-gt4294967295 : goal.returns-then-value-gt4294967295
 returns-then-value-gt4294967295 c =

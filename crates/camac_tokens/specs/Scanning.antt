@@ -1,16 +1,16 @@
 -- The one list of tokens of a text: at each place the longest.
 use Rattle.std.specs.Prelude.{ℕ, zero, suc, ◌+◌, ◌-◌, ◌*◌, min, Bool, not, ◌||◌, ◌==◌, nat_lt, if◌then◌else◌, List, [], ◌∷◌, length, fold, count_by, take_while, Option, Some, None, Result, Ok, Err}
 use Rattle.std.specs.Char.{is_ascii_digit, is_ascii_alphabetic}
-use Rattle.camac_text.specs.declared.token.Keyword.{Keyword}
-use Rattle.camac_text.specs.declared.token.Sign.{Sign}
-use Rattle.camac_text.specs.declared.token.Token.{Token}
-use Rattle.camac_text.specs.declared.token.TokenKind.TheVariants as kind
-use Rattle.camac_text.specs.declared.scanner.Front.{Front}
-use Rattle.camac_text.specs.declared.scanner.Front.TheVariants as front
-use Rattle.camac_text.specs.declared.fault.TextRule.{TextRule}
-use Rattle.camac_text.specs.declared.fault.TextRule.TheVariants.{BadByte, NumberTooLarge, LimitPassed}
-use Rattle.camac_text.specs.Fault.{Fault}
-use Rattle.camac_text.specs.Words.{spelled_in, keyword, pair_signs, single_signs}
+use Rattle.camac_tokens.specs.declared.token.Keyword.{Keyword}
+use Rattle.camac_tokens.specs.declared.token.Sign.{Sign}
+use Rattle.camac_tokens.specs.declared.token.Token.{Token}
+use Rattle.camac_tokens.specs.declared.token.TokenKind.TheVariants as kind
+use Rattle.camac_tokens.specs.declared.scanner.Front.{Front}
+use Rattle.camac_tokens.specs.declared.scanner.Front.TheVariants as front
+use Rattle.camac_tokens.specs.declared.fault.TextRule.{TextRule}
+use Rattle.camac_tokens.specs.declared.fault.TextRule.TheVariants.{BadByte, NumberTooLarge, LimitPassed}
+use Rattle.camac_tokens.specs.Fault.{Fault}
+use Rattle.camac_tokens.specs.Words.{spelled_in, keyword, pair_signs, single_signs}
 
 -- letters, digits and `_`
 abbrev pub is_name_byte : ℕ → Bool

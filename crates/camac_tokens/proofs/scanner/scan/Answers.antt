@@ -1,10 +1,10 @@
 use Rattle.std.proofs.Common.{◌≡◌, ℕ, ◌<◌, ◌++◌, Some, None, take, drop, length, sym, ap, ◌∙◌, arith}
 use Rattle.std.specs.Prelude.{slice_index}
 use Rattle.std.proofs.lemmas.Bool.{eqb-true}
-use Rattle.camac_text.specs.declared.scanner.Front.{Front}
-use Rattle.camac_text.specs.Scanning.{front_of, size, added, wrong, line_number, tokens_of}
-use Rattle.camac_text.proofs.Scans.{line_feeds, none_all, sizes, goes, fails, ends, feeds_le, some_left}
-use Rattle.camac_text.proofs.scanner.scan.Goals as goal
+use Rattle.camac_tokens.specs.declared.scanner.Front.{Front}
+use Rattle.camac_tokens.specs.Scanning.{front_of, size, added, wrong, line_number, tokens_of}
+use Rattle.camac_tokens.proofs.Scans.{line_feeds, none_all, sizes, goes, fails, ends, feeds_le, some_left}
+use Rattle.camac_tokens.proofs.scanner.scan.Goals as goal
 
 pub loop-rest-init : goal.loop-rest-init
 unfolding tokens_of

@@ -1,7 +1,7 @@
 // Why a script's text is refused.
 
 ghost use Rattle.std.specs.Prelude.{◌≡◌};
-ghost use Rattle.camac_text.specs.declared.fault.TextFault.TheVariants.{OutOfMemory};
+ghost use Rattle.camac_tokens.specs.declared.fault.TextFault.TheVariants.{OutOfMemory};
 
 use std::alloc::{AllocError, AllocFailed};
 use thiserror::Error;

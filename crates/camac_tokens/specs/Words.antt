@@ -1,10 +1,10 @@
 -- The words and signs of the language.
 use Rattle.std.specs.Prelude.{ℕ, List, [], ◌∷◌, Option, Some, None, codes, if◌then◌else◌}
 use Rattle.std.specs.Str.{bytes_eq}
-use Rattle.camac_text.specs.declared.token.Keyword.{Keyword}
-use Rattle.camac_text.specs.declared.token.Keyword.TheVariants as word
-use Rattle.camac_text.specs.declared.token.Sign.{Sign}
-use Rattle.camac_text.specs.declared.token.Sign.TheVariants as sign
+use Rattle.camac_tokens.specs.declared.token.Keyword.{Keyword}
+use Rattle.camac_tokens.specs.declared.token.Keyword.TheVariants as word
+use Rattle.camac_tokens.specs.declared.token.Sign.{Sign}
+use Rattle.camac_tokens.specs.declared.token.Sign.TheVariants as sign
 
 -- bytes, and the word or the sign that they spell
 pub record Spelling (W : Type 0) : Type 0 where

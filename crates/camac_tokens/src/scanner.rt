@@ -2,11 +2,11 @@
 
 ghost use Rattle.std.specs.Prelude.{◌≡◌, ◌<◌, List, length, take_while, count_by, nat_lt, ◌==◌, Some, None, if◌then◌else◌, slice_index, ◌++◌, IfOk, OnOk, IfErr};
 ghost use Rattle.std.specs.Char.{is_ascii_digit};
-ghost use Rattle.camac_text.specs.declared.token.Token.{Token};
-ghost use Rattle.camac_text.specs.Words.{keyword};
-ghost use Rattle.camac_text.specs.Scanning.{is_name_byte, is_blank, is_no_line_feed, decimal_value, keyword_or, number_or_fault, pair_at, single_at, pair_or_single, front_of, size, added, wrong, line_number, last_line, tokens_of};
-ghost use Rattle.camac_text.specs.Cut.{IsCut, HasTokens};
-ghost use Rattle.camac_text.specs.Fault.{AnswersList};
+ghost use Rattle.camac_tokens.specs.declared.token.Token.{Token};
+ghost use Rattle.camac_tokens.specs.Words.{keyword};
+ghost use Rattle.camac_tokens.specs.Scanning.{is_name_byte, is_blank, is_no_line_feed, decimal_value, keyword_or, number_or_fault, pair_at, single_at, pair_or_single, front_of, size, added, wrong, line_number, last_line, tokens_of};
+ghost use Rattle.camac_tokens.specs.Cut.{IsCut, HasTokens};
+ghost use Rattle.camac_tokens.specs.Fault.{AnswersList};
 
 use crate::fault::{TextFault, TextRule};
 use crate::signs::{pair_sign, single_sign};

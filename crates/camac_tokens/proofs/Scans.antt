@@ -5,15 +5,15 @@ use Rattle.std.specs.Char.{is_ascii_digit, is_ascii_alphabetic}
 use Rattle.std.proofs.lemmas.List.{append-nil}
 use Rattle.std.proofs.lemmas.Bool.{eqb-true, le-ltb}
 use Rattle.std.proofs.lemmas.List.Sums.{take_while-cons, sum_by-cons}
-use Rattle.camac_text.specs.declared.token.Token.{Token}
-use Rattle.camac_text.specs.declared.token.Keyword.{Keyword}
-use Rattle.camac_text.specs.declared.token.Sign.{Sign}
-use Rattle.camac_text.specs.declared.scanner.Front.{Front}
-use Rattle.camac_text.specs.declared.scanner.Front.TheVariants as front
-use Rattle.camac_text.specs.declared.fault.TextRule.{TextRule}
-use Rattle.camac_text.specs.Fault.{Fault}
-use Rattle.camac_text.specs.Scanning.{is_name_byte, is_blank, is_no_line_feed, keyword_or, pair_at, single_at, pair_or_single, front_of, size, added, wrong, decimal_value, tokens_from, tokens_by, with_first, line_after, line_number}
-use Rattle.camac_text.specs.Words.{keyword}
+use Rattle.camac_tokens.specs.declared.token.Token.{Token}
+use Rattle.camac_tokens.specs.declared.token.Keyword.{Keyword}
+use Rattle.camac_tokens.specs.declared.token.Sign.{Sign}
+use Rattle.camac_tokens.specs.declared.scanner.Front.{Front}
+use Rattle.camac_tokens.specs.declared.scanner.Front.TheVariants as front
+use Rattle.camac_tokens.specs.declared.fault.TextRule.{TextRule}
+use Rattle.camac_tokens.specs.Fault.{Fault}
+use Rattle.camac_tokens.specs.Scanning.{is_name_byte, is_blank, is_no_line_feed, keyword_or, pair_at, single_at, pair_or_single, front_of, size, added, wrong, decimal_value, tokens_from, tokens_by, with_first, line_after, line_number}
+use Rattle.camac_tokens.specs.Words.{keyword}
 
 -- ---- the bytes at the front that pass a test
 

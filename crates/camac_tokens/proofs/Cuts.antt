@@ -6,20 +6,20 @@ use Rattle.std.specs.Char.{is_ascii_digit, is_ascii_alphabetic}
 use Rattle.std.proofs.lemmas.Bool.{ltb-true, eqb-true}
 use Rattle.std.proofs.lemmas.List.{take-append-drop}
 use Rattle.std.proofs.lemmas.List.Sums.{take_while-cons}
-use Rattle.camac_text.specs.declared.token.Keyword.{Keyword}
-use Rattle.camac_text.specs.declared.token.Sign.{Sign}
-use Rattle.camac_text.specs.declared.token.Token.{Token}
-use Rattle.camac_text.specs.declared.token.TokenKind.{TokenKind}
-use Rattle.camac_text.specs.declared.token.TokenKind.TheVariants as kind
-use Rattle.camac_text.specs.declared.scanner.Front.{Front}
-use Rattle.camac_text.specs.declared.scanner.Front.TheVariants as front
-use Rattle.camac_text.specs.declared.fault.TextRule.TheVariants.{LimitPassed, NumberTooLarge}
-use Rattle.camac_text.specs.declared.fault.TextFault.{TextFault}
-use Rattle.camac_text.specs.Fault.{Fault, AnswersList}
-use Rattle.camac_text.specs.Words.{keyword}
-use Rattle.camac_text.specs.Scanning.{is_name_byte, is_blank, is_no_line_feed, decimal_value, keyword_or, pair_at, single_at, pair_or_single, front_of, size, added, wrong, line_number, line_after, tokens_by, tokens_from, tokens_of}
-use Rattle.camac_text.specs.Cut.{begins, IsRun, IsWord, IsName, IsKeyword, IsNumber, IsGap, Piece, IsPiece, joined, token_at, tokens_in, ArePieces, IsCut}
-use Rattle.camac_text.proofs.Scans.{line_feeds, take_run, name_begins, sized_front, with_all, front_step}
+use Rattle.camac_tokens.specs.declared.token.Keyword.{Keyword}
+use Rattle.camac_tokens.specs.declared.token.Sign.{Sign}
+use Rattle.camac_tokens.specs.declared.token.Token.{Token}
+use Rattle.camac_tokens.specs.declared.token.TokenKind.{TokenKind}
+use Rattle.camac_tokens.specs.declared.token.TokenKind.TheVariants as kind
+use Rattle.camac_tokens.specs.declared.scanner.Front.{Front}
+use Rattle.camac_tokens.specs.declared.scanner.Front.TheVariants as front
+use Rattle.camac_tokens.specs.declared.fault.TextRule.TheVariants.{LimitPassed, NumberTooLarge}
+use Rattle.camac_tokens.specs.declared.fault.TextFault.{TextFault}
+use Rattle.camac_tokens.specs.Fault.{Fault, AnswersList}
+use Rattle.camac_tokens.specs.Words.{keyword}
+use Rattle.camac_tokens.specs.Scanning.{is_name_byte, is_blank, is_no_line_feed, decimal_value, keyword_or, pair_at, single_at, pair_or_single, front_of, size, added, wrong, line_number, line_after, tokens_by, tokens_from, tokens_of}
+use Rattle.camac_tokens.specs.Cut.{begins, IsRun, IsWord, IsName, IsKeyword, IsNumber, IsGap, Piece, IsPiece, joined, token_at, tokens_in, ArePieces, IsCut}
+use Rattle.camac_tokens.proofs.Scans.{line_feeds, take_run, name_begins, sized_front, with_all, front_step}
 
 -- ---- runs of bytes
 

@@ -1,7 +1,7 @@
 // The signs of the language.
 
 ghost use Rattle.std.specs.Prelude.{◌≡◌};
-ghost use Rattle.camac_text.specs.Words.{spelled_in, pair_signs, single_signs};
+ghost use Rattle.camac_tokens.specs.Words.{spelled_in, pair_signs, single_signs};
 
 use crate::token::Sign;
 

@@ -1,9 +1,9 @@
 -- A fault of a text, beside the refusals of memory.
 use Rattle.std.specs.Prelude.{◌≡◌, ℕ, Result, Ok, Err, List}
 use Rattle.std.specs.Global.{Vec}
-use Rattle.camac_text.specs.declared.fault.TextRule.{TextRule}
-use Rattle.camac_text.specs.declared.fault.TextFault.{TextFault}
-use Rattle.camac_text.specs.declared.fault.TextFault.TheVariants as fault
+use Rattle.camac_tokens.specs.declared.fault.TextRule.{TextRule}
+use Rattle.camac_tokens.specs.declared.fault.TextFault.{TextFault}
+use Rattle.camac_tokens.specs.declared.fault.TextFault.TheVariants as fault
 
 -- the rule that is broken, and the line of the token that shows it
 pub record Fault : Type 0 where

@@ -1,7 +1,7 @@
 // The words of the language.
 
 ghost use Rattle.std.specs.Prelude.{◌≡◌};
-ghost use Rattle.camac_text.specs.Words.{spelled_in, declaration_words, action_words, call_words, control_words, keyword};
+ghost use Rattle.camac_tokens.specs.Words.{spelled_in, declaration_words, action_words, call_words, control_words, keyword};
 
 use crate::token::Keyword;
 

@@ -9,21 +9,21 @@ use Rattle.std.proofs.lemmas.Bool.{lt-ltb, le-ltb, eqb-true}
 use Rattle.std.proofs.lemmas.Bool.Decides.{nat_tests}
 use Rattle.std.proofs.lemmas.List.Sums.{take_while-cons}
 use Rattle.std.proofs.lemmas.Slice.Eq.{bytes_eq-Decides}
-use Rattle.camac_text.specs.declared.token.Keyword.{Keyword}
-use Rattle.camac_text.specs.declared.token.Sign.{Sign}
-use Rattle.camac_text.specs.declared.token.Sign.TheVariants as sign
-use Rattle.camac_text.specs.declared.token.Token.{Token}
-use Rattle.camac_text.specs.declared.token.TokenKind.{TokenKind}
-use Rattle.camac_text.specs.declared.token.TokenKind.TheVariants as kind
-use Rattle.camac_text.specs.declared.scanner.Front.{Front}
-use Rattle.camac_text.specs.declared.scanner.Front.TheVariants as front
-use Rattle.camac_text.specs.declared.fault.TextFault.{TextFault}
-use Rattle.camac_text.specs.declared.fault.TextFault.TheVariants as fault
-use Rattle.camac_text.specs.Fault.{Fault, AnswersList}
-use Rattle.camac_text.specs.Words.{Spelling, spelled_in, keyword, pair_signs, single_signs}
-use Rattle.camac_text.specs.Scanning.{is_name_byte, is_blank, is_no_line_feed, decimal_value, keyword_or, number_or_fault, pair_at, pair_or_single, front_of, size, added, wrong, line_number, tokens_from, tokens_of}
-use Rattle.camac_text.specs.Cut.{begins, IsRun, IsWord, IsName, IsKeyword, IsNumber, IsSign, IsGap, Piece, IsPiece, joined, token_at, tokens_in, ArePieces, IsCut, HasTokens}
-use Rattle.camac_text.proofs.Scans.{line_feeds, with_all, front_step}
+use Rattle.camac_tokens.specs.declared.token.Keyword.{Keyword}
+use Rattle.camac_tokens.specs.declared.token.Sign.{Sign}
+use Rattle.camac_tokens.specs.declared.token.Sign.TheVariants as sign
+use Rattle.camac_tokens.specs.declared.token.Token.{Token}
+use Rattle.camac_tokens.specs.declared.token.TokenKind.{TokenKind}
+use Rattle.camac_tokens.specs.declared.token.TokenKind.TheVariants as kind
+use Rattle.camac_tokens.specs.declared.scanner.Front.{Front}
+use Rattle.camac_tokens.specs.declared.scanner.Front.TheVariants as front
+use Rattle.camac_tokens.specs.declared.fault.TextFault.{TextFault}
+use Rattle.camac_tokens.specs.declared.fault.TextFault.TheVariants as fault
+use Rattle.camac_tokens.specs.Fault.{Fault, AnswersList}
+use Rattle.camac_tokens.specs.Words.{Spelling, spelled_in, keyword, pair_signs, single_signs}
+use Rattle.camac_tokens.specs.Scanning.{is_name_byte, is_blank, is_no_line_feed, decimal_value, keyword_or, number_or_fault, pair_at, pair_or_single, front_of, size, added, wrong, line_number, tokens_from, tokens_of}
+use Rattle.camac_tokens.specs.Cut.{begins, IsRun, IsWord, IsName, IsKeyword, IsNumber, IsSign, IsGap, Piece, IsPiece, joined, token_at, tokens_in, ArePieces, IsCut, HasTokens}
+use Rattle.camac_tokens.proofs.Scans.{line_feeds, with_all, front_step}
 
 -- ---- bytes
 

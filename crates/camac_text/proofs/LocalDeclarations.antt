@@ -1,0 +1,79 @@
+-- Readers of declarations are local.
+use Rattle.std.proofs.Common.{ℕ, ◌+◌, nat_lt, length, Option, Some, refl}
+use Rattle.camac_lang.specs.Tree.{Text, Lam}
+use Rattle.camac_tokens.specs.declared.fault.TextRule.TheVariants.{UnexpectedToken, LimitPassed}
+use Rattle.camac_tokens.specs.declared.token.Keyword.TheVariants as word
+use Rattle.camac_tokens.specs.declared.token.TokenKind.{TokenKind}
+use Rattle.camac_tokens.specs.declared.token.TokenKind.TheVariants as kind
+use Rattle.camac_text.specs.Reading.{State, Reader, ◌>>=◌, ◌>>◌, give, change, peek, advance, check, kind_of, line_of, while_next}
+use Rattle.camac_text.specs.Readers.{is_name, expect, any_number, branch_number, sub_address_number, new_name, new_variable, used_lam}
+use Rattle.camac_text.specs.Statements.{block_at}
+use Rattle.camac_text.specs.Declarations.{with_lam, lam_declaration, one_more_variable, with_variables_of, variable_declaration, with_service, service_declaration, declaration_by, declaration_at, is_token, declarations_at}
+use Rattle.camac_text.proofs.Declares.{variables_progress, declarations_progress}
+use Rattle.camac_text.proofs.Places.{IsLocal, local_then, local_peek, local_line, local_ask, local_change, local_give, local_fail, local_advance, local_check, local_while}
+use Rattle.camac_text.proofs.Local.{local_expect, local_any_number, local_branch, local_sub_address, local_new_name, local_new_variable, local_used_lam}
+use Rattle.camac_text.proofs.LocalStatements.{local_block}
+
+abbrev made : ℕ → Text → ℕ → ℕ → ℕ → Lam
+made line x c n a = record { line = line; name = x; crate_no = c; station = n; sub_address = a }
+
+local_lam : (line : ℕ) (s : State) → IsLocal (lam_declaration line) s
+unfolding lam_declaration
+local_lam line s =
+    local_ask (λ u. u.lams) (λ w ts n. refl) (λ known. check (nat_lt (length known) 64) LimitPassed >> (advance >> (new_name >>= λ x. advance >> (branch_number >> (any_number >>= λ c. any_number >>= λ n. sub_address_number >>= λ a. change (with_lam (made line x c n a))))))) s
+    (local_check (nat_lt (length s.lams) 64) LimitPassed (advance >> (new_name >>= λ x. advance >> (branch_number >> (any_number >>= λ c. any_number >>= λ n. sub_address_number >>= λ a. change (with_lam (made line x c n a)))))) s tt (λ _.
+    local_then advance (λ _. new_name >>= λ x. advance >> (branch_number >> (any_number >>= λ c. any_number >>= λ n. sub_address_number >>= λ a. change (with_lam (made line x c n a))))) s (local_advance s) (λ _ u _.
+    local_then new_name (λ x. advance >> (branch_number >> (any_number >>= λ c. any_number >>= λ n. sub_address_number >>= λ a. change (with_lam (made line x c n a))))) u (local_new_name u) (λ x u _.
+    local_then advance (λ _. branch_number >> (any_number >>= λ c. any_number >>= λ n. sub_address_number >>= λ a. change (with_lam (made line x c n a)))) u (local_advance u) (λ _ u _.
+    local_then branch_number (λ _. any_number >>= λ c. any_number >>= λ n. sub_address_number >>= λ a. change (with_lam (made line x c n a))) u (local_branch u) (λ _ u _.
+    local_then any_number (λ c. any_number >>= λ n. sub_address_number >>= λ a. change (with_lam (made line x c n a))) u (local_any_number u) (λ c u _.
+    local_then any_number (λ n. sub_address_number >>= λ a. change (with_lam (made line x c n a))) u (local_any_number u) (λ n u _.
+    local_then sub_address_number (λ a. change (with_lam (made line x c n a))) u (local_sub_address u) (λ a u _. local_change (with_lam (made line x c n a)) (λ w ts n. refl) (λ w. refl) u)))))))))
+
+local_variables : (line : ℕ) (s : State) → IsLocal (variable_declaration line) s
+unfolding variable_declaration
+local_variables line s =
+    local_then advance (λ _. new_variable >> (while_next is_name one_more_variable 1 >>= λ count. change (with_variables_of line count))) s (local_advance s) (λ _ u _.
+    local_then new_variable (λ _. while_next is_name one_more_variable 1 >>= λ count. change (with_variables_of line count)) u (local_new_variable u) (λ _ u _.
+    local_then (while_next is_name one_more_variable 1) (λ count. change (with_variables_of line count)) u
+    (local_while is_name one_more_variable variables_progress (λ n v _. local_then new_variable (λ _. give (n + 1)) v (local_new_variable v) (λ _ w _. local_give (n + 1) w)) 1 u)
+    (λ count v _. local_change (with_variables_of line count) (λ w ts n. refl) (λ w. refl) v)))
+
+-- a service from so many of its words on
+abbrev from_words : ℕ → ℕ → ℕ → ℕ → Reader (Unit {0})
+from_words line l c w = expect word.Words >> (block_at >>= λ body. change (with_service line l c w body))
+
+abbrev from_cycles : ℕ → ℕ → ℕ → Reader (Unit {0})
+from_cycles line l c = expect word.Cycles >> (expect word.Event >> (any_number >>= λ w. from_words line l c w))
+
+abbrev from_within : ℕ → ℕ → Reader (Unit {0})
+from_within line l = expect word.Within >> (any_number >>= λ c. from_cycles line l c)
+
+local_service : (line : ℕ) (s : State) → IsLocal (service_declaration line) s
+unfolding service_declaration
+local_service line s =
+    local_ask (λ u. u.services) (λ w ts n. refl) (λ known. check (nat_lt (length known) 24) LimitPassed >> (advance >> (used_lam >>= λ l. from_within line l))) s
+    (local_check (nat_lt (length s.services) 24) LimitPassed (advance >> (used_lam >>= λ l. from_within line l)) s tt (λ _.
+    local_then advance (λ _. used_lam >>= λ l. from_within line l) s (local_advance s) (λ _ u _.
+    local_then used_lam (λ l. from_within line l) u (local_used_lam u) (λ l u _.
+    local_then (expect word.Within) (λ _. any_number >>= λ c. from_cycles line l c) u (local_expect word.Within u) (λ _ u _.
+    local_then any_number (λ c. from_cycles line l c) u (local_any_number u) (λ c u _.
+    local_then (expect word.Cycles) (λ _. expect word.Event >> (any_number >>= λ w. from_words line l c w)) u (local_expect word.Cycles u) (λ _ u _.
+    local_then (expect word.Event) (λ _. any_number >>= λ w. from_words line l c w) u (local_expect word.Event u) (λ _ u _.
+    local_then any_number (λ w. from_words line l c w) u (local_any_number u) (λ w u _.
+    local_then (expect word.Words) (λ _. block_at >>= λ body. change (with_service line l c w body)) u (local_expect word.Words u) (λ _ u _.
+    local_then block_at (λ body. change (with_service line l c w body)) u (local_block u) (λ body u _. local_change (with_service line l c w body) (λ v ts n. refl) (λ v. refl) u)))))))))))
+
+local_declaration_by : (line : ℕ) (k : Option TokenKind) (s : State) → IsLocal (declaration_by line k) s
+local_declaration_by line (Some (kind.Keyword word.Cdlam)) s = local_lam line s
+local_declaration_by line (Some (kind.Keyword word.Var)) s = local_variables line s
+local_declaration_by line (Some (kind.Keyword word.Service)) s = local_service line s
+local_declaration_by line _ s = local_fail UnexpectedToken s tt
+
+local_declaration : (s : State) → IsLocal declaration_at s
+unfolding declaration_at
+local_declaration s = local_line (λ line. peek >>= λ k. declaration_by line k) s (local_peek (λ k. declaration_by (line_of s.rest s.end_line) k) s (local_declaration_by (line_of s.rest s.end_line) (kind_of s.rest) s))
+
+pub local_declarations : (s : State) → IsLocal declarations_at s
+unfolding declarations_at
+local_declarations s = local_while is_token (λ _. declaration_at) declarations_progress (λ _ u _. local_declaration u) tt s

@@ -1,0 +1,143 @@
+-- What is read at each place of a statement.
+use Rattle.std.specs.Prelude.{ℕ, suc, Bool, true, false, List, Option, Some, nat_lt, not, if◌then◌else◌}
+use Rattle.camac_lang.specs.Tree.{Move, no_data, into, from, Statement, set_register, single, put, crate_call, lam_call}
+use Rattle.camac_lang.specs.declared.word.WordSize.{WordSize}
+use Rattle.camac_lang.specs.declared.word.WordSize.TheVariants.{Full, Short}
+use Rattle.camac_lang.specs.declared.word.CrateCall.{CrateCall}
+use Rattle.camac_lang.specs.declared.word.CrateCall.TheVariants as crate_word
+use Rattle.camac_lang.specs.declared.word.LamCall.{LamCall}
+use Rattle.camac_lang.specs.declared.word.LamCall.TheVariants as lam_word
+use Rattle.camac_tokens.specs.declared.token.Keyword.TheVariants as word
+use Rattle.camac_tokens.specs.declared.token.Sign.TheVariants as sign
+use Rattle.camac_tokens.specs.declared.token.TokenKind.{TokenKind}
+use Rattle.camac_tokens.specs.declared.token.TokenKind.TheVariants as kind
+use Rattle.camac_tokens.specs.declared.fault.TextRule.TheVariants.{UnexpectedToken, LimitPassed}
+use Rattle.camac_text.specs.Reading.{Reader, ◌>>=◌, ◌>>◌, give, ask, change, peek, advance, line_here, fail, check, many}
+use Rattle.camac_text.specs.Readers.{is_sign, expect_sign, branch_number, function_number, set_name, used_register, used_variable, used_lam}
+use Rattle.camac_text.specs.Expressions.{literal, operand}
+
+-- the first token of a statement, which is counted
+unfoldable pub begin : Reader (Unit {0})
+begin = do
+  count ← ask (λ s. s.statements)
+  check (nat_lt count 4096) LimitPassed
+  change (λ s. record s { statements = suc s.statements })
+  advance
+
+unfoldable pub register_setting : ℕ → Reader Statement
+register_setting line = do
+  begin
+  register ← set_name
+  branch_number
+  crate_no ← literal
+  station ← literal
+  sub_address ← literal
+  give (set_register line register crate_no station sub_address)
+
+-- what a single action moves
+abbrev pub move_by : Option TokenKind → Reader Move
+move_by (Some (kind.Sign sign.Into)) = do
+  advance
+  place ← used_variable
+  give (into place)
+move_by (Some (kind.Sign sign.From)) = do
+  advance
+  value ← operand
+  give (from value)
+move_by _ = give no_data
+
+unfoldable pub move_at : Reader Move
+move_at = peek >>= move_by
+
+unfoldable pub single_action : WordSize → ℕ → Reader Statement
+single_action size line = do
+  begin
+  function ← function_number
+  register ← used_register
+  move ← move_at
+  give (single line size function register move)
+
+unfoldable pub put_action : ℕ → Reader Statement
+put_action line = do
+  begin
+  value ← operand
+  give (put line value)
+
+-- ---- crate calls and LAM calls
+
+-- `on` or `off`
+abbrev pub switch_by : Option TokenKind → Reader Bool
+switch_by (Some (kind.Keyword word.On)) = advance >> give true
+switch_by (Some (kind.Keyword word.Off)) = advance >> give false
+switch_by _ = fail UnexpectedToken
+
+unfoldable pub switch : Reader Bool
+switch = peek >>= switch_by
+
+unfoldable pub crate_action : CrateCall → ℕ → Reader Statement
+crate_action call line = do
+  begin
+  crate_no ← operand
+  give (crate_call line call crate_no)
+
+-- one that is switched on or off
+unfoldable pub crate_switch : CrateCall → CrateCall → ℕ → Reader Statement
+crate_switch on off line = do
+  begin
+  crate_no ← operand
+  is_on ← switch
+  give (crate_call line (if is_on then on else off) crate_no)
+
+unfoldable pub lam_action : LamCall → ℕ → Reader Statement
+lam_action call line = do
+  begin
+  lam ← used_lam
+  give (lam_call line call lam)
+
+unfoldable pub lam_switch : ℕ → Reader Statement
+lam_switch line = do
+  begin
+  lam ← used_lam
+  is_on ← switch
+  give (lam_call line (if is_on then lam_word.Enable else lam_word.Disable) lam)
+
+abbrev pub lam_call_by : ℕ → Option TokenKind → Reader Statement
+lam_call_by line (Some (kind.Keyword word.Cclm)) = lam_switch line
+lam_call_by line (Some (kind.Keyword word.Cclc)) = lam_action lam_word.Clear line
+lam_call_by line (Some (kind.Keyword word.Ctlm)) = lam_action lam_word.Test line
+lam_call_by line _ = fail UnexpectedToken
+
+abbrev pub crate_call_by : ℕ → Option TokenKind → Reader Statement
+crate_call_by line (Some (kind.Keyword word.Cccz)) = crate_action crate_word.Initialise line
+crate_call_by line (Some (kind.Keyword word.Cccc)) = crate_action crate_word.Clear line
+crate_call_by line (Some (kind.Keyword word.Ctci)) = crate_action crate_word.TestInhibit line
+crate_call_by line (Some (kind.Keyword word.Ctcd)) = crate_action crate_word.TestDemandOutput line
+crate_call_by line (Some (kind.Keyword word.Ctgl)) = crate_action crate_word.TestDemand line
+crate_call_by line (Some (kind.Keyword word.Ccci)) = crate_switch crate_word.InhibitOn crate_word.InhibitOff line
+crate_call_by line (Some (kind.Keyword word.Cccd)) = crate_switch crate_word.DemandOn crate_word.DemandOff line
+crate_call_by line k = lam_call_by line k
+
+-- ---- all statements
+
+abbrev pub statement_by : ℕ → Option TokenKind → Reader Statement
+statement_by line (Some (kind.Keyword word.Cdreg)) = register_setting line
+statement_by line (Some (kind.Keyword word.Cfsa)) = single_action Full line
+statement_by line (Some (kind.Keyword word.Cssa)) = single_action Short line
+statement_by line (Some (kind.Keyword word.Put)) = put_action line
+statement_by line k = crate_call_by line k
+
+unfoldable pub statement_at : Reader Statement
+statement_at = do
+  line ← line_here
+  next ← peek
+  statement_by line next
+
+abbrev pub is_no_end : Option TokenKind → Bool
+is_no_end k = not (is_sign sign.RightBrace k)
+
+unfoldable pub block_at : Reader (List Statement)
+block_at = do
+  expect_sign sign.LeftBrace
+  body ← many is_no_end statement_at
+  expect_sign sign.RightBrace
+  give body
