@@ -1,7 +1,6 @@
 -- A block, a statement at a time: what was found so far, and then the rest.
 use Rattle.std.proofs.Common.{◌≡◌, ℕ, suc, ◌+◌, ◌<◌, List, length, get_or, drop, drop-cons, add-one, Option, Some, None, Result, Ok, Err, refl, sym, ap, ◌∙◌, arith}
 use Rattle.camac_lang.specs.Tree.{Statement, Block, done, next}
-use Rattle.camac_branch.specs.Plan.{Layout}
 use Rattle.camac_model.specs.Fine.{Bounds}
 use Rattle.camac_rules.specs.Fault.{Fault, broken, not_served}
 use Rattle.camac_rules.specs.Refusal.{go_on, if_reached}
@@ -12,6 +11,7 @@ use Rattle.camac_rules.specs.Cycles.{Around}
 use Rattle.camac_rules.specs.Statements.{accept_statement, accept_block}
 use Rattle.camac_lang.specs.View.{statement_of, statements_of}
 use Rattle.camac_lang.specs.declared.tree.Stmt.{Stmt}
+use Rattle.camac_check.specs.declared.context.Context as code
 use Rattle.camac_check.specs.declared.fault.CheckFault.{CheckFault}
 use Rattle.camac_check.specs.declared.fault.CheckFault.TheVariants.{OutOfMemory, Broken, NotServed}
 use Rattle.camac_check.specs.Gives.{Fails, by_code}
@@ -36,74 +36,74 @@ abbrev pub joined : Verdict → Verdict → Verdict
 joined a v = verdict v.after (capped (plus a.costs v.costs))
 
 -- the rest of a block after what was found
-abbrev pub rest_rule : Layout → Around → Verdict → Block → Result Verdict Fault
-rest_rule plan around a b = go_on (if_reached unreached a.after (accept_block (by_code plan) around b)) (λ v. Ok (joined a v))
+abbrev pub rest_rule : code.Context → Around → Verdict → Block → Result Verdict Fault
+rest_rule context around a b = go_on (if_reached unreached a.after (accept_block (by_code context) around b)) (λ v. Ok (joined a v))
 
 verdict_ok : (known : Option Facts) (a b : Bounds) → a ≡ b → ◌≡◌ {A = Result Verdict Fault} (Ok (verdict known a)) (Ok (verdict known b))
 verdict_ok known a b e = ap (λ c. Ok (verdict known c)) e
 
 -- at the begin nothing was found
-pub block_begins : (plan : Layout) (around : Around) (b : Block) (k : Facts) → rest_rule plan around (verdict (Some k) no_costs) b ≡ accept_block (by_code plan) around b k
+pub block_begins : (context : code.Context) (around : Around) (b : Block) (k : Facts) → rest_rule context around (verdict (Some k) no_costs) b ≡ accept_block (by_code context) around b k
 unfolding go_on if_reached
-block_begins plan around done k = refl
-block_begins plan around (next s rest) k = go (accept_statement (by_code plan) around s k)
+block_begins context around done k = refl
+block_begins context around (next s rest) k = go (accept_statement (by_code context) around s k)
   where
     inner : (first : Verdict) (r : Result Verdict Fault) → go_on (go_on r (λ second. Ok (verdict second.after (capped (plus first.costs second.costs))))) (λ v. Ok (verdict v.after (capped (plus no_costs v.costs)))) ≡ go_on r (λ second. Ok (verdict second.after (capped (plus first.costs second.costs))))
     inner first (Ok second) = verdict_ok second.after _ _ (capped_first (plus first.costs second.costs))
     inner first (Err f) = refl
 
-    go : (r : Result Verdict Fault) → go_on (go_on r (λ first. go_on (if_reached unreached first.after (accept_block (by_code plan) around rest)) (λ second. Ok (verdict second.after (capped (plus first.costs second.costs)))))) (λ v. Ok (verdict v.after (capped (plus no_costs v.costs)))) ≡ go_on r (λ first. go_on (if_reached unreached first.after (accept_block (by_code plan) around rest)) (λ second. Ok (verdict second.after (capped (plus first.costs second.costs)))))
-    go (Ok first) = inner first (if_reached unreached first.after (accept_block (by_code plan) around rest))
+    go : (r : Result Verdict Fault) → go_on (go_on r (λ first. go_on (if_reached unreached first.after (accept_block (by_code context) around rest)) (λ second. Ok (verdict second.after (capped (plus first.costs second.costs)))))) (λ v. Ok (verdict v.after (capped (plus no_costs v.costs)))) ≡ go_on r (λ first. go_on (if_reached unreached first.after (accept_block (by_code context) around rest)) (λ second. Ok (verdict second.after (capped (plus first.costs second.costs)))))
+    go (Ok first) = inner first (if_reached unreached first.after (accept_block (by_code context) around rest))
     go (Err f) = refl
 
 -- one more statement
-pub block_step : (plan : Layout) (around : Around) (k : Facts) (c : Bounds) (s : Statement) (rest : Block) (found : Verdict) → accept_statement (by_code plan) around s k ≡ Ok found → rest_rule plan around (joined (verdict (Some k) c) found) rest ≡ rest_rule plan around (verdict (Some k) c) (next s rest)
+pub block_step : (context : code.Context) (around : Around) (k : Facts) (c : Bounds) (s : Statement) (rest : Block) (found : Verdict) → accept_statement (by_code context) around s k ≡ Ok found → rest_rule context around (joined (verdict (Some k) c) found) rest ≡ rest_rule context around (verdict (Some k) c) (next s rest)
 unfolding go_on if_reached
-block_step plan around k c s rest found e =
-    inner (if_reached unreached found.after (accept_block (by_code plan) around rest))
-    ∙ ap (λ r. go_on (go_on r (λ first. go_on (if_reached unreached first.after (accept_block (by_code plan) around rest)) (λ second. Ok (verdict second.after (capped (plus first.costs second.costs)))))) (λ v. Ok (joined (verdict (Some k) c) v))) (sym e)
+block_step context around k c s rest found e =
+    inner (if_reached unreached found.after (accept_block (by_code context) around rest))
+    ∙ ap (λ r. go_on (go_on r (λ first. go_on (if_reached unreached first.after (accept_block (by_code context) around rest)) (λ second. Ok (verdict second.after (capped (plus first.costs second.costs)))))) (λ v. Ok (joined (verdict (Some k) c) v))) (sym e)
   where
     inner : (r : Result Verdict Fault) → go_on r (λ v. Ok (joined (joined (verdict (Some k) c) found) v)) ≡ go_on (go_on r (λ second. Ok (verdict second.after (capped (plus found.costs second.costs))))) (λ v. Ok (joined (verdict (Some k) c) v))
     inner (Ok second) = verdict_ok second.after _ _ (sym (capped_then c found.costs second.costs))
     inner (Err f) = refl
 
 -- what is not reached costs nothing
-pub block_skips : (plan : Layout) (around : Around) (c : Bounds) (s : Statement) (rest : Block) → rest_rule plan around (joined (verdict None c) unreached) rest ≡ rest_rule plan around (verdict None c) (next s rest)
+pub block_skips : (context : code.Context) (around : Around) (c : Bounds) (s : Statement) (rest : Block) → rest_rule context around (joined (verdict None c) unreached) rest ≡ rest_rule context around (verdict None c) (next s rest)
 unfolding go_on if_reached
-block_skips plan around c s rest = verdict_ok None _ _ (capped_last (capped (plus c no_costs)) ∙ capped_twice (plus c no_costs))
+block_skips context around c s rest = verdict_ok None _ _ (capped_last (capped (plus c no_costs)) ∙ capped_twice (plus c no_costs))
 
 -- a statement that is refused
-pub block_fails : (plan : Layout) (around : Around) (k : Facts) (c : Bounds) (s : Statement) (rest : Block) (f : Fault) → accept_statement (by_code plan) around s k ≡ Err f → rest_rule plan around (verdict (Some k) c) (next s rest) ≡ Err f
+pub block_fails : (context : code.Context) (around : Around) (k : Facts) (c : Bounds) (s : Statement) (rest : Block) (f : Fault) → accept_statement (by_code context) around s k ≡ Err f → rest_rule context around (verdict (Some k) c) (next s rest) ≡ Err f
 unfolding go_on if_reached
-block_fails plan around k c s rest f e =
-    ap (λ r. go_on (go_on r (λ first. go_on (if_reached unreached first.after (accept_block (by_code plan) around rest)) (λ second. Ok (verdict second.after (capped (plus first.costs second.costs)))))) (λ v. Ok (joined (verdict (Some k) c) v))) e
+block_fails context around k c s rest f e =
+    ap (λ r. go_on (go_on r (λ first. go_on (if_reached unreached first.after (accept_block (by_code context) around rest)) (λ second. Ok (verdict second.after (capped (plus first.costs second.costs)))))) (λ v. Ok (joined (verdict (Some k) c) v))) e
 
 -- nothing is left
-pub block_ends : (plan : Layout) (around : Around) (a : Verdict) → capped a.costs ≡ a.costs → rest_rule plan around a done ≡ Ok (verdict a.after a.costs)
+pub block_ends : (context : code.Context) (around : Around) (a : Verdict) → capped a.costs ≡ a.costs → rest_rule context around a done ≡ Ok (verdict a.after a.costs)
 unfolding go_on if_reached
-block_ends plan around a e = go a.after
+block_ends context around a e = go a.after
   where
     go : (known : Option Facts) → go_on (if_reached unreached known (λ k. Ok (verdict (Some k) no_costs))) (λ v. Ok (verdict v.after (capped (plus a.costs v.costs)))) ≡ Ok (verdict known a.costs)
     go None = verdict_ok None _ _ (capped_last a.costs ∙ e)
     go (Some k) = verdict_ok (Some k) _ _ (capped_last a.costs ∙ e)
 
 -- one more statement, whether it is reached or not
-pub block_goes_on : (plan : Layout) (around : Around) (known : Option Facts) (c : Bounds) (s : Statement) (rest : Block) (found : Verdict) → if_reached unreached known (accept_statement (by_code plan) around s) ≡ Ok found → rest_rule plan around (joined (verdict known c) found) rest ≡ rest_rule plan around (verdict known c) (next s rest)
+pub block_goes_on : (context : code.Context) (around : Around) (known : Option Facts) (c : Bounds) (s : Statement) (rest : Block) (found : Verdict) → if_reached unreached known (accept_statement (by_code context) around s) ≡ Ok found → rest_rule context around (joined (verdict known c) found) rest ≡ rest_rule context around (verdict known c) (next s rest)
 unfolding if_reached
-block_goes_on plan around None c s rest found e =
+block_goes_on context around None c s rest found e =
     let same : found ≡ unreached = cc in
-    ap (λ v. rest_rule plan around (joined (verdict None c) v) rest) same ∙ block_skips plan around c s rest
-block_goes_on plan around (Some k) c s rest found e = block_step plan around k c s rest found e
+    ap (λ v. rest_rule context around (joined (verdict None c) v) rest) same ∙ block_skips context around c s rest
+block_goes_on context around (Some k) c s rest found e = block_step context around k c s rest found e
 
-block_refused : (plan : Layout) (around : Around) (known : Option Facts) (c : Bounds) (s : Statement) (rest : Block) (f : Fault) → if_reached unreached known (accept_statement (by_code plan) around s) ≡ Err f → rest_rule plan around (verdict known c) (next s rest) ≡ Err f
+block_refused : (context : code.Context) (around : Around) (known : Option Facts) (c : Bounds) (s : Statement) (rest : Block) (f : Fault) → if_reached unreached known (accept_statement (by_code context) around s) ≡ Err f → rest_rule context around (verdict known c) (next s rest) ≡ Err f
 unfolding if_reached
-block_refused plan around None c s rest f e = cc
-block_refused plan around (Some k) c s rest f e = block_fails plan around k c s rest f e
+block_refused context around None c s rest f e = cc
+block_refused context around (Some k) c s rest f e = block_fails context around k c s rest f e
 
-pub block_stops : (plan : Layout) (around : Around) (known : Option Facts) (c : Bounds) (s : Statement) (rest : Block) (e : CheckFault) → Fails e (if_reached unreached known (accept_statement (by_code plan) around s)) → Fails e (rest_rule plan around (verdict known c) (next s rest))
-block_stops plan around known c s rest OutOfMemory h = tt
-block_stops plan around known c s rest (Broken rule line) h = block_refused plan around known c s rest (broken rule line) h
-block_stops plan around known c s rest (NotServed line) h = block_refused plan around known c s rest (not_served line) h
+pub block_stops : (context : code.Context) (around : Around) (known : Option Facts) (c : Bounds) (s : Statement) (rest : Block) (e : CheckFault) → Fails e (if_reached unreached known (accept_statement (by_code context) around s)) → Fails e (rest_rule context around (verdict known c) (next s rest))
+block_stops context around known c s rest OutOfMemory h = tt
+block_stops context around known c s rest (Broken rule line) h = block_refused context around known c s rest (broken rule line) h
+block_stops context around known c s rest (NotServed line) h = block_refused context around known c s rest (not_served line) h
 
 -- the list of a block from its next statement on
 pub next_of : (xs : List Stmt) (i : ℕ) (x : Stmt) → i < length xs → x ≡ get_or xs i x → statements_of (drop i xs) ≡ next (statement_of x) (statements_of (drop (i + 1) xs))

@@ -6,12 +6,12 @@ use Rattle.camac_func.specs.Class.{class_of}
 use Rattle.camac_func.specs.declared.code.FunctionClass.TheVariants.{Read, Write, Control}
 use Rattle.camac_lang.specs.declared.word.WordSize.{WordSize}
 use Rattle.camac_lang.specs.Tree.{Move, no_data, into, from, Statement, assign, set_register, single, address_scan, q_stop, q_repeat, put, crate_call, lam_call, choose, choose_else, count, repeat, locked, call, Block, done, next, Service}
-use Rattle.camac_branch.specs.Plan.{Layout}
+use Rattle.camac_esone.specs.Calls.{lam_function}
 use Rattle.camac_model.specs.Fine.{Bounds}
 use Rattle.camac_model.specs.Meaning.{fits_size}
 use Rattle.camac_range.specs.Number.{greatest}
 use Rattle.camac_rules.specs.declared.rule.CheckRule.{CheckRule}
-use Rattle.camac_rules.specs.declared.rule.CheckRule.TheVariants.{WrongDirection, ValueTooWide, RegisterUnset, LoopVariableAssigned, WordTooWide, TooManyWords, TooManyCycles, TooManySteps}
+use Rattle.camac_rules.specs.declared.rule.CheckRule.TheVariants.{StationNotInstalled, WrongDirection, ValueTooWide, RegisterUnset, LoopVariableAssigned, CrateUnfit, WordTooWide, TooManyWords, TooManyCycles, TooManySteps}
 use Rattle.camac_rules.specs.Fault.{Fault}
 use Rattle.camac_rules.specs.Refusal.{go_on, required, given, if_reached}
 use Rattle.camac_rules.specs.Known.{region_at, Facts}
@@ -20,8 +20,10 @@ use Rattle.camac_rules.specs.Costs.{costs, plus, Verdict, verdict, unreached}
 use Rattle.camac_rules.specs.Capped.{capped}
 use Rattle.camac_rules.specs.Addresses.{command_widths}
 use Rattle.camac_rules.specs.Cycles.{Around, nothing_around, may_write, same_class, single_rule}
+use Rattle.camac_rules.specs.Calls.{is_crate, lam_region}
 use Rattle.camac_rules.specs.Statements.{greatest_word, accept_statement, accept_block}
 use Rattle.camac_rules.specs.Accept.{at_start, within, accept_service}
+use Rattle.camac_check.specs.declared.context.Context as code
 use Rattle.camac_check.specs.Gives.{by_code, by_rules}
 
 -- a verdict with its costs cut
@@ -54,48 +56,52 @@ same_costs a b c d e f p q r = cc
 plus_cut : (a b : Bounds) → capped (plus (capped a) (capped b)) ≡ capped (plus a b)
 plus_cut a b = same_costs _ _ _ _ _ _ (omega arith) (omega arith) (omega arith)
 
-single_cut : (plan : Layout) (around : Around) (line : ℕ) (size : WordSize) (f r : ℕ) (m : Move) (k : Facts) → single_rule (by_code plan) around line size f r m k ≡ cut_all (single_rule (by_rules plan) around line size f r m k)
-single_cut plan around line size f r no_data k =
+single_cut : (context : code.Context) (around : Around) (line : ℕ) (size : WordSize) (f r : ℕ) (m : Move) (k : Facts) → single_rule (by_code context) around line size f r m k ≡ cut_all (single_rule (by_rules context) around line size f r m k)
+single_cut context around line size f r no_data k =
     go_same (given (region_at k.registers r) RegisterUnset line) _ _ (λ g.
-    go_same (command_widths plan line f g) _ _ (λ w.
+    go_same (command_widths context.plan.now line f g) _ _ (λ w.
     go_same (required (same_class Control (class_of f)) WrongDirection line) _ _ (λ _. refl)))
-single_cut plan around line size f r (into x) k =
+single_cut context around line size f r (into x) k =
     go_same (required (may_write around x) LoopVariableAssigned line) _ _ (λ _.
     go_same (given (region_at k.registers r) RegisterUnset line) _ _ (λ g.
-    go_same (command_widths plan line f g) _ _ (λ w.
+    go_same (command_widths context.plan.now line f g) _ _ (λ w.
     go_same (required (same_class Read (class_of f)) WrongDirection line) _ _ (λ _. refl))))
-single_cut plan around line size f r (from e) k =
+single_cut context around line size f r (from e) k =
     go_same (range_of line e k.ranges) _ _ (λ v.
     go_same (given (region_at k.registers r) RegisterUnset line) _ _ (λ g.
-    go_same (command_widths plan line f g) _ _ (λ w.
+    go_same (command_widths context.plan.now line f g) _ _ (λ w.
     go_same (required (same_class Write (class_of f)) WrongDirection line) _ _ (λ _.
     go_same (required (nat_lt v.hi (2 ^ w.lo) && fits_size size v.hi) ValueTooWide line) _ _ (λ _. refl)))))
 
-statement_cut : (plan : Layout) (around : Around) (s : Statement) (k : Facts) → accept_statement (by_code plan) around s k ≡ cut_all (accept_statement (by_rules plan) around s k)
-statement_cut plan around (set_register line r e1 e2 e3) k =
+statement_cut : (context : code.Context) (around : Around) (s : Statement) (k : Facts) → accept_statement (by_code context) around s k ≡ cut_all (accept_statement (by_rules context) around s k)
+statement_cut context around (assign line x e) k =
+    go_same (range_of line e k.ranges) _ _ (λ r. go_same (required (may_write around x) LoopVariableAssigned line) _ _ (λ _. refl))
+statement_cut context around (set_register line r e1 e2 e3) k =
     go_same (range_of line e1 k.ranges) _ _ (λ c. go_same (range_of line e2 k.ranges) _ _ (λ n. go_same (range_of line e3 k.ranges) _ _ (λ a. refl)))
-statement_cut plan around (single line size f r m) k = single_cut plan around line size f r m k
-statement_cut plan around (put line e) k =
+statement_cut context around (single line size f r m) k = single_cut context around line size f r m k
+statement_cut context around (put line e) k =
     go_same (range_of line e k.ranges) _ _ (λ r. go_same (required (nat_le r.hi greatest_word) WordTooWide line) _ _ (λ _. refl))
-statement_cut plan around (assign line x e) k = refl
-statement_cut plan around (address_scan line f r1 r2 max x) k = refl
-statement_cut plan around (q_stop line f r t max x) k = refl
-statement_cut plan around (q_repeat line f r t max limit x) k = refl
-statement_cut plan around (crate_call line which e) k = refl
-statement_cut plan around (lam_call line which l) k = refl
-statement_cut plan around (choose line test a) k = refl
-statement_cut plan around (choose_else line test a b) k = refl
-statement_cut plan around (count line x e1 e2 keeps body) k = refl
-statement_cut plan around (repeat line test most m keeps body) k = refl
-statement_cut plan around (locked line e body) k = refl
-statement_cut plan around (call line p es) k = refl
+statement_cut context around (crate_call line which e) k =
+    go_same (range_of line e k.ranges) _ _ (λ r. go_same (required (is_crate context.plan.now r) CrateUnfit line) _ _ (λ _. refl))
+statement_cut context around (address_scan line f r1 r2 max x) k = refl
+statement_cut context around (q_stop line f r t max x) k = refl
+statement_cut context around (q_repeat line f r t max limit x) k = refl
+statement_cut context around (lam_call line which l) k =
+    go_same (given (lam_region (by_rules context) l) StationNotInstalled line) _ _ (λ g.
+    go_same (command_widths context.plan.now line (lam_function which) g) _ _ (λ w. refl))
+statement_cut context around (choose line test a) k = refl
+statement_cut context around (choose_else line test a b) k = refl
+statement_cut context around (count line x e1 e2 keeps body) k = refl
+statement_cut context around (repeat line test most m keeps body) k = refl
+statement_cut context around (locked line e body) k = refl
+statement_cut context around (call line p es) k = refl
 
-block_cut : (plan : Layout) (around : Around) (b : Block) (k : Facts) → accept_block (by_code plan) around b k ≡ cut_all (accept_block (by_rules plan) around b k)
-block_cut plan around done k = refl
-block_cut plan around (next s rest) k =
-    go_cut (accept_statement (by_code plan) around s k) (accept_statement (by_rules plan) around s k) _ _ (statement_cut plan around s k) (λ first.
-    go_cut (if_reached unreached first.after (accept_block (by_code plan) around rest)) (if_reached unreached first.after (accept_block (by_rules plan) around rest)) _ _
-    (if_reached_cut first.after (accept_block (by_code plan) around rest) (accept_block (by_rules plan) around rest) (λ q. block_cut plan around rest q))
+block_cut : (context : code.Context) (around : Around) (b : Block) (k : Facts) → accept_block (by_code context) around b k ≡ cut_all (accept_block (by_rules context) around b k)
+block_cut context around done k = refl
+block_cut context around (next s rest) k =
+    go_cut (accept_statement (by_code context) around s k) (accept_statement (by_rules context) around s k) _ _ (statement_cut context around s k) (λ first.
+    go_cut (if_reached unreached first.after (accept_block (by_code context) around rest)) (if_reached unreached first.after (accept_block (by_rules context) around rest)) _ _
+    (if_reached_cut first.after (accept_block (by_code context) around rest) (accept_block (by_rules context) around rest) (λ q. block_cut context around rest q))
     (λ second. ap (λ c. Ok (verdict second.after c)) (plus_cut first.costs second.costs)))
 
 leb_cut : (n w k : ℕ) → w < k → nat_le (min n k) w ≡ nat_le n w
@@ -126,7 +132,7 @@ unfolding go_on
 finish_all most line hc hw hs q (Ok v) e = ap (λ x. go_on x (λ v. within most v.costs line)) e ∙ within_cut most v.costs line hc hw hs
 finish_all most line hc hw hs q (Err f) e = ap (λ x. go_on x (λ v. within most v.costs line)) e
 
-pub service_cut : (plan : Layout) (v : Service) → v.cycles < 2 ^ 64 - 1 → v.words < 2 ^ 64 - 1 → accept_service (by_code plan) v ≡ accept_service (by_rules plan) v
-service_cut plan v hc hw =
-    finish_all (costs v.cycles v.words greatest) v.line hc hw (lit< tt) (accept_block (by_code plan) nothing_around v.body at_start) (accept_block (by_rules plan) nothing_around v.body at_start)
-    (block_cut plan nothing_around v.body at_start)
+pub service_cut : (context : code.Context) (v : Service) → v.cycles < 2 ^ 64 - 1 → v.words < 2 ^ 64 - 1 → accept_service (by_code context) v ≡ accept_service (by_rules context) v
+service_cut context v hc hw =
+    finish_all (costs v.cycles v.words greatest) v.line hc hw (lit< tt) (accept_block (by_code context) nothing_around v.body at_start) (accept_block (by_rules context) nothing_around v.body at_start)
+    (block_cut context nothing_around v.body at_start)

@@ -10,7 +10,7 @@ use Rattle.camac_branch.specs.Allowed.{allowed, widths, AllowsCommands}
 use Rattle.camac_branch.specs.Plan.{Layout}
 use Rattle.camac_rules.specs.Known.{Region}
 use Rattle.camac_rules.specs.Walks.{count_below, all_from, greatest_from, hull_with, hull_from}
-use Rattle.camac_rules.specs.Addresses.{crate_end, station_end, sub_address_end, are_stations_in, station_widths, crate_widths, region_widths, is_among, waits_in}
+use Rattle.camac_rules.specs.Addresses.{crate_end, station_end, sub_address_end, in_plan, are_stations_in, station_widths, crate_widths, region_widths, is_among, waits_in}
 use Rattle.camac_rules.specs.declared.rule.CheckRule.{CheckRule}
 use Rattle.camac_rules.specs.Refusal.{given}
 use Rattle.camac_check.specs.declared.fault.CheckFault.{CheckFault}
@@ -66,6 +66,9 @@ hull_stops range k end h e = ap (hull_from range k) (longer k end h) ∙ go (end
 pub ruleset hull_steps = (hull_done, hull_last, hull_more, hull_stops, none_hulls)
 
 -- There is no crate 0.
+pub no_crate : (plan : Layout) (c : ℕ) → c ≡ 0 → in_plan plan c ≡ false
+no_crate plan c e = ap (in_plan plan) e
+
 pub not_there : (plan : Layout) (stations : Interval) (c : ℕ) → c ≡ 0 → are_stations_in plan stations c ≡ false
 not_there plan stations c e = ap (are_stations_in plan stations) e
 

@@ -1,10 +1,12 @@
 -- What the checker's code answers, seen as what the rules say.
-use Rattle.std.specs.Prelude.{◌≡◌, Result, Ok, Err}
-use Rattle.camac_branch.specs.Plan.{Layout}
+use Rattle.std.specs.Prelude.{◌≡◌, map, Result, Ok, Err}
+use Rattle.camac_lang.specs.View.{lam_of}
+use Rattle.camac_model.specs.Meaning.{lam_address}
 use Rattle.camac_rules.specs.Fault.{Fault, broken, not_served}
 use Rattle.camac_rules.specs.Capped.{capped}
 use Rattle.camac_rules.specs.Costs.{Verdict, verdict}
 use Rattle.camac_rules.specs.Cycles.{Context}
+use Rattle.camac_check.specs.declared.context.Context as code
 use Rattle.camac_check.specs.declared.fault.CheckFault.{CheckFault}
 use Rattle.camac_check.specs.declared.fault.CheckFault.TheVariants.{OutOfMemory, Broken, NotServed}
 use Rattle.camac_check.specs.declared.statement.Findings.{Findings}
@@ -21,12 +23,12 @@ Gives view (Ok x) rules = rules ≡ Ok (view x)
 Gives view (Err e) rules = Fails e rules
 
 -- the rules as code follows them, with costs in 64 bits
-abbrev pub by_code : Layout → Context
-by_code plan = record { plan = plan; limit = capped }
+abbrev pub by_code : code.Context → Context
+by_code c = record { plan = c.plan.now; lams = map lam_address (map lam_of c.lams.now); limit = capped }
 
 abbrev pub verdict_of : Findings → Verdict
 verdict_of f = verdict f.known f.costs
 
 -- the rules themselves
-abbrev pub by_rules : Layout → Context
-by_rules plan = record { plan = plan; limit = λ c. c }
+abbrev pub by_rules : code.Context → Context
+by_rules c = record { plan = c.plan.now; lams = map lam_address (map lam_of c.lams.now); limit = λ k. k }

@@ -9,6 +9,7 @@ ghost use Rattle.camac_check.specs.Gives.{Gives, by_code, by_rules};
 
 use crate::around::Around;
 use crate::checked::Bounds;
+use crate::context::Context;
 use crate::cost::Costs;
 use crate::fault::CheckFault;
 use crate::known::Facts;
@@ -22,9 +23,13 @@ use std::alloc::Global;
 pub fn accept_script(alloc: Global, plan: &Plan, script: &Script) -> Result<Vec<Bounds>, CheckFault>
     ensures { Gives (λ v. v.items) result (accept plan.now script.now) }
 {
+    let context = Context {
+        plan,
+        lams: script.lams(),
+    };
     accept_items(
         alloc,
-        plan,
+        &context,
         script.order(),
         script.procedures(),
         script.services(),
@@ -35,57 +40,57 @@ pub fn accept_script(alloc: Global, plan: &Plan, script: &Script) -> Result<Vec<
 #[tactic(auto, unfolding(camac_rules::specs::Refusal::go_on))]
 fn accept_items(
     alloc: Global,
-    plan: &Plan,
+    context: &Context,
     items: &[Item],
     procedures: &[Procedure],
     services: &[Service],
 ) -> Result<Vec<Bounds>, CheckFault>
-    ensures { Gives (λ v. v.items) result (accept_items (by_rules plan.now) (map item_of items.now) (map procedure_of procedures.now) (map service_of services.now)) }
+    ensures { Gives (λ v. v.items) result (accept_items (by_rules context.now) (map item_of items.now) (map procedure_of procedures.now) (map service_of services.now)) }
 {
     match items {
         [] => Ok(Vec::new(alloc)),
         [Item::Procedure, rest @ ..] => match procedures {
-            [] => accept_items(alloc, plan, rest, procedures, services),
+            [] => accept_items(alloc, context, rest, procedures, services),
             [procedure, ..] => Err(CheckFault::NotServed {
                 line: procedure.line,
             }),
         },
         [Item::Service, rest @ ..] => match services {
-            [] => accept_items(alloc, plan, rest, procedures, services),
+            [] => accept_items(alloc, context, rest, procedures, services),
             [service, others @ ..] => {
-                let first = accept_service(alloc, plan, service)?;
-                let mut all = accept_items(alloc, plan, rest, procedures, others)?;
+                let first = accept_service(alloc, context, service)?;
+                let mut all = accept_items(alloc, context, rest, procedures, others)?;
                 all.insert(0, first)?;
                 Ok(all)
             }
         },
-        [_, rest @ ..] => accept_items(alloc, plan, rest, procedures, services),
+        [_, rest @ ..] => accept_items(alloc, context, rest, procedures, services),
     }
 }
 
 // What a service can cost.
-fn accept_service(alloc: Global, plan: &Plan, service: &Service) -> Result<Bounds, CheckFault>
-    ensures { Gives (λ b. b) result (accept_service (by_rules plan.now) (service_of service.now)) }
+fn accept_service(alloc: Global, context: &Context, service: &Service) -> Result<Bounds, CheckFault>
+    ensures { Gives (λ b. b) result (accept_service (by_rules context.now) (service_of service.now)) }
 {
-    accept_capped(alloc, plan, service, service.cycles, service.words)
+    accept_capped(alloc, context, service, service.cycles, service.words)
 }
 
 // The same with costs in 64 bits.
 #[tactic(auto, unfolding(camac_rules::specs::Refusal::go_on))]
 fn accept_capped(
     alloc: Global,
-    plan: &Plan,
+    context: &Context,
     service: &Service,
     cycles: u32,
     words: u32,
 ) -> Result<Bounds, CheckFault>
     requires cycles { cycles ≡ service.now.cycles }
     requires words { words ≡ service.now.words }
-    ensures { Gives (λ b. b) result (accept_service (by_code plan.now) (service_of service.now)) }
+    ensures { Gives (λ b. b) result (accept_service (by_code context.now) (service_of service.now)) }
 {
     let around = Around::nothing(alloc);
     let known = Facts::at_start(alloc);
-    let found = accept_block(alloc, plan, &around, &service.body, &known)?;
+    let found = accept_block(alloc, context, &around, &service.body, &known)?;
     within(cycles, words, found.costs, service.line)
 }
 

@@ -14,7 +14,8 @@ use camac_range::Range;
 use camac_rules::CheckRule;
 use camac_word::{CrateNo, Function, Station, SubAddress};
 
-const CRATE_END: u32 = 8;
+/// No crate is numbered from here on.
+pub const CRATE_END: u32 = 8;
 
 const STATION_END: u32 = 32;
 

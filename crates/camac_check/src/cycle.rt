@@ -14,12 +14,12 @@ ghost use Rattle.camac_check.specs.Gives.{Gives, by_code, verdict_of};
 
 use crate::address::{command_widths, cycle_cost};
 use crate::around::Around;
+use crate::context::Context;
 use crate::cost::Costs;
 use crate::expression::range_of;
 use crate::fault::{CheckFault, required};
 use crate::known::{Facts, Region};
 use crate::statement::Findings;
-use camac_branch::Plan;
 use camac_func::{FunctionClass, class};
 use camac_lang::{Expr, Move, WordSize};
 use camac_range::Range;
@@ -30,7 +30,7 @@ use std::alloc::Global;
 /// Checks a single action.
 pub fn single(
     alloc: Global,
-    plan: &Plan,
+    context: &Context,
     around: &Around,
     line: u32,
     size: WordSize,
@@ -39,14 +39,16 @@ pub fn single(
     moved: &Move,
     known: &Facts,
 ) -> Result<Findings, CheckFault>
-    ensures { Gives verdict_of result (single_rule (by_code plan.now) around.now line size f register (move_of moved.now) known.now) }
+    ensures { Gives verdict_of result (single_rule (by_code context.now) around.now line size f register (move_of moved.now) known.now) }
 {
     match moved {
-        Move::NoData => control(alloc, plan, around, line, f, register, known),
+        Move::NoData => control(alloc, context, around, line, f, register, known),
         Move::Into(variable) => read(
-            alloc, plan, around, line, size, f, register, *variable, known,
+            alloc, context, around, line, size, f, register, *variable, known,
         ),
-        Move::From(value) => write(alloc, plan, around, line, size, f, register, value, known),
+        Move::From(value) => write(
+            alloc, context, around, line, size, f, register, value, known,
+        ),
     }
 }
 
@@ -54,21 +56,21 @@ pub fn single(
 #[tactic(auto, unfolding(camac_rules::specs::Refusal::go_on))]
 fn control(
     alloc: Global,
-    plan: &Plan,
+    context: &Context,
     around: &Around,
     line: u32,
     f: Function,
     register: usize,
     known: &Facts,
 ) -> Result<Findings, CheckFault>
-    ensures { Gives verdict_of result (control_rule (by_code plan.now) around.now line f register known.now) }
+    ensures { Gives verdict_of result (control_rule (by_code context.now) around.now line f register known.now) }
 {
     let g = addresses_of(known, register, line)?;
-    let _widths = command_widths(plan, line, f, g)?;
+    let _widths = command_widths(context.plan, line, f, g)?;
     required(is_control(f), CheckRule::WrongDirection, line)?;
     Ok(Findings {
         known: Some(known.try_clone(alloc)?),
-        costs: one_cycle(plan, around, g.crates()),
+        costs: one_cycle(context, around, g.crates()),
     })
 }
 
@@ -76,7 +78,7 @@ fn control(
 #[tactic(auto, unfolding(camac_rules::specs::Refusal::go_on))]
 fn read(
     alloc: Global,
-    plan: &Plan,
+    context: &Context,
     around: &Around,
     line: u32,
     size: WordSize,
@@ -85,7 +87,7 @@ fn read(
     variable: usize,
     known: &Facts,
 ) -> Result<Findings, CheckFault>
-    ensures { Gives verdict_of result (read_rule (by_code plan.now) around.now line size f register variable known.now) }
+    ensures { Gives verdict_of result (read_rule (by_code context.now) around.now line size f register variable known.now) }
 {
     required(
         around.may_write(variable),
@@ -93,12 +95,12 @@ fn read(
         line,
     )?;
     let g = addresses_of(known, register, line)?;
-    let widths = command_widths(plan, line, f, g)?;
+    let widths = command_widths(context.plan, line, f, g)?;
     required(is_read(f), CheckRule::WrongDirection, line)?;
     let word = words_of(size, widths.hi());
     Ok(Findings {
         known: Some(known.with_range(alloc, variable, word)?),
-        costs: one_cycle(plan, around, g.crates()),
+        costs: one_cycle(context, around, g.crates()),
     })
 }
 
@@ -106,7 +108,7 @@ fn read(
 #[tactic(auto, unfolding(camac_rules::specs::Refusal::go_on))]
 fn write(
     alloc: Global,
-    plan: &Plan,
+    context: &Context,
     around: &Around,
     line: u32,
     size: WordSize,
@@ -115,16 +117,16 @@ fn write(
     value: &Expr,
     known: &Facts,
 ) -> Result<Findings, CheckFault>
-    ensures { Gives verdict_of result (write_rule (by_code plan.now) around.now line size f register (expression_of value.now) known.now) }
+    ensures { Gives verdict_of result (write_rule (by_code context.now) around.now line size f register (expression_of value.now) known.now) }
 {
     let v = range_of(line, value, known.ranges())?;
     let g = addresses_of(known, register, line)?;
-    let widths = command_widths(plan, line, f, g)?;
+    let widths = command_widths(context.plan, line, f, g)?;
     required(is_write(f), CheckRule::WrongDirection, line)?;
     required(fits(size, v, widths), CheckRule::ValueTooWide, line)?;
     Ok(Findings {
         known: Some(known.try_clone(alloc)?),
-        costs: one_cycle(plan, around, g.crates()),
+        costs: one_cycle(context, around, g.crates()),
     })
 }
 
@@ -142,11 +144,11 @@ fn addresses_of(known: &Facts, register: usize, line: u32) -> Result<Region, Che
     }
 }
 
-// The costs of one cycle.
-fn one_cycle(plan: &Plan, around: &Around, crates: Range) -> Costs
-    ensures { result ≡ one_cycle (by_code plan.now) around.now crates }
+/// The costs of one cycle.
+pub fn one_cycle(context: &Context, around: &Around, crates: Range) -> Costs
+    ensures { result ≡ one_cycle (by_code context.now) around.now crates }
 {
-    Costs::new(cycle_cost(plan, around, crates), 0, 1)
+    Costs::new(cycle_cost(context.plan, around, crates), 0, 1)
 }
 
 fn is_read(f: Function) -> bool

@@ -4,7 +4,9 @@
 mod accept;
 mod address;
 mod around;
+mod calls;
 mod checked;
+mod context;
 mod cost;
 mod cycle;
 mod expression;

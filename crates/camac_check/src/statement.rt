@@ -4,16 +4,17 @@ ghost use Rattle.std.specs.Prelude.{◌≡◌};
 ghost use Rattle.camac_lang.specs.View.{expression_of, statement_of, statements_of};
 ghost use Rattle.camac_rules.specs.Costs.{unreached};
 ghost use Rattle.camac_rules.specs.Refusal.{if_reached};
-ghost use Rattle.camac_rules.specs.Statements.{register_rule, put_rule, accept_statement, accept_block};
+ghost use Rattle.camac_rules.specs.Statements.{assign_rule, register_rule, put_rule, accept_statement, accept_block};
 ghost use Rattle.camac_check.specs.Gives.{Gives, by_code, verdict_of};
 
 use crate::around::Around;
+use crate::calls::{crate_call, lam_call};
+use crate::context::Context;
 use crate::cost::Costs;
 use crate::cycle::single;
 use crate::expression::range_of;
 use crate::fault::{CheckFault, required};
 use crate::known::{Facts, Region};
-use camac_branch::Plan;
 use camac_lang::{Expr, Stmt};
 use camac_rules::CheckRule;
 use std::alloc::Global;
@@ -28,19 +29,19 @@ pub struct Findings {
 /// Checks a block from what is known at its begin.
 pub fn accept_block(
     alloc: Global,
-    plan: &Plan,
+    context: &Context,
     around: &Around,
     block: &[Stmt],
     known: &Facts,
 ) -> Result<Findings, CheckFault>
-    ensures { Gives verdict_of result (accept_block (by_code plan.now) around.now (statements_of block.now) known.now) }
+    ensures { Gives verdict_of result (accept_block (by_code context.now) around.now (statements_of block.now) known.now) }
 {
     let mut found = Findings {
         known: Some(known.try_clone(alloc)?),
         costs: Costs::new(0, 0, 0),
     };
     'statements: for statement in block {
-        let next = match accept_next(alloc, plan, around, statement, &found.known) {
+        let next = match accept_next(alloc, context, around, statement, &found.known) {
             Ok(next) => next,
             Err(fault) => return Err(fault),
         };
@@ -56,33 +57,38 @@ pub fn accept_block(
 #[tactic(auto, unfolding(camac_rules::specs::Refusal::if_reached))]
 fn accept_next(
     alloc: Global,
-    plan: &Plan,
+    context: &Context,
     around: &Around,
     statement: &Stmt,
     known: &Option<Facts>,
 ) -> Result<Findings, CheckFault>
-    ensures { Gives verdict_of result (if_reached unreached known.now (accept_statement (by_code plan.now) around.now (statement_of statement.now))) }
+    ensures { Gives verdict_of result (if_reached unreached known.now (accept_statement (by_code context.now) around.now (statement_of statement.now))) }
 {
     match known {
         None => Ok(Findings {
             known: None,
             costs: Costs::new(0, 0, 0),
         }),
-        Some(known) => accept_statement(alloc, plan, around, statement, known),
+        Some(known) => accept_statement(alloc, context, around, statement, known),
     }
 }
 
 // Checks a statement.
 fn accept_statement(
     alloc: Global,
-    plan: &Plan,
+    context: &Context,
     around: &Around,
     statement: &Stmt,
     known: &Facts,
 ) -> Result<Findings, CheckFault>
-    ensures { Gives verdict_of result (accept_statement (by_code plan.now) around.now (statement_of statement.now) known.now) }
+    ensures { Gives verdict_of result (accept_statement (by_code context.now) around.now (statement_of statement.now) known.now) }
 {
     match statement {
+        Stmt::Assign {
+            line,
+            variable,
+            value,
+        } => assign(alloc, around, *line, *variable, value, known),
         Stmt::SetRegister {
             line,
             register,
@@ -105,12 +111,17 @@ fn accept_statement(
             register,
             data,
         } => single(
-            alloc, plan, around, *line, *size, *function, *register, data, known,
+            alloc, context, around, *line, *size, *function, *register, data, known,
         ),
         Stmt::Put { line, value } => put(alloc, *line, value, known),
-        Stmt::Assign { line, .. } | Stmt::Scan { line, .. } => not_served(*line),
+        Stmt::CrateCall { line, crate_no, .. } => {
+            crate_call(alloc, context, around, *line, crate_no, known)
+        }
+        Stmt::LamCall { line, call, lam } => {
+            lam_call(alloc, context, around, *line, *call, *lam, known)
+        }
+        Stmt::Scan { line, .. } => not_served(*line),
         Stmt::QStop { line, .. } | Stmt::QRepeat { line, .. } => not_served(*line),
-        Stmt::CrateCall { line, .. } | Stmt::LamCall { line, .. } => not_served(*line),
         Stmt::If { line, .. } | Stmt::IfElse { line, .. } => not_served(*line),
         Stmt::For { line, .. } | Stmt::While { line, .. } => not_served(*line),
         Stmt::Lock { line, .. } | Stmt::Call { line, .. } => not_served(*line),
@@ -121,6 +132,30 @@ fn not_served(line: u32) -> Result<Findings, CheckFault>
     ensures { result ≡ Err (CheckFault.NotServed line) }
 {
     Err(CheckFault::NotServed { line })
+}
+
+// A variable and its value.
+#[tactic(auto, unfolding(camac_rules::specs::Refusal::go_on))]
+fn assign(
+    alloc: Global,
+    around: &Around,
+    line: u32,
+    variable: usize,
+    value: &Expr,
+    known: &Facts,
+) -> Result<Findings, CheckFault>
+    ensures { Gives verdict_of result (assign_rule around.now line variable (expression_of value.now) known.now) }
+{
+    let assigned = range_of(line, value, known.ranges())?;
+    required(
+        around.may_write(variable),
+        CheckRule::LoopVariableAssigned,
+        line,
+    )?;
+    Ok(Findings {
+        known: Some(known.with_range(alloc, variable, assigned)?),
+        costs: Costs::new(0, 0, 1),
+    })
 }
 
 // `cdreg`.

@@ -7,7 +7,7 @@ use Rattle.std.proofs.lemmas.Bool.{and_parts, cond_both, ltb-true, leb-true, le-
 use Rattle.camac_lang.specs.declared.word.WordSize.{WordSize}
 use Rattle.camac_lang.specs.declared.word.WordSize.TheVariants.{Full, Short}
 use Rattle.camac_lang.specs.Tree.{Expression, Move, no_data, into, from, single}
-use Rattle.camac_range.specs.Interval.{Interval, interval}
+use Rattle.camac_range.specs.Interval.{Interval, interval, IsWithin}
 use Rattle.camac_func.specs.declared.code.FunctionClass.{FunctionClass}
 use Rattle.camac_func.specs.declared.code.FunctionClass.TheVariants.{Read, Write, Control}
 use Rattle.camac_branch.specs.Address.{Address}
@@ -44,7 +44,7 @@ HasWidths plan = (at : Address) (f w : ℕ) → allowed plan at f ≡ Some w →
 
 -- what the rules see of what a statement may refer to
 abbrev pub seen : Context → rules.Context
-seen c = record { plan = c.plan; limit = λ k. k }
+seen c = record { plan = c.plan; lams = c.lams; limit = λ k. k }
 
 -- goes on with what is there
 pub with_given : {A : Type 0} (plan : Layout) (around : Around) (after : Known) (c : Bounds) (s t : State) (o : Option A) (go : A → Action) (v : A) → o ≡ Some v → Sound plan around after c s (go v t) → Sound plan around after c s (given o go t)
@@ -101,15 +101,20 @@ controls Read e = e
 controls Write e = e
 controls Control e = refl
 
--- a cycle at a known register, whose address is allowed
+-- a cycle at an address that is allowed
+pub allowed_sound : (plan : Layout) (around : Around) (after : Known) (k : Facts) (s : State) (crates w : Interval) (at : Address) (f : ℕ) (d : DataMove) (go : Reply → Action) (a : IsAllowed plan at f w) → IsWithin crates at.crate_no → Inside around k s → IsSafe plan at f d → ((reply : Reply) (wait : ℕ) (rest : List Answer) → 1 + wait ≤ cycle_cost plan around.locked crates → Sound plan around after (costs (cycle_cost plan around.locked crates) 0 1) s (go reply (after_cycle at f reply wait rest (stepped s)))) → Sound plan around after (costs (cycle_cost plan around.locked crates) 0 1) s (cycle plan at f d s.answers go (stepped s))
+allowed_sound plan around after k s crates w at f d go a within i safe h =
+    cycle_sound plan around after s at f d go a.waits (cycle_cost plan around.locked crates) safe a.in_plan
+    (λ wait p. cost_counted plan around.locked crates at.crate_no a.waits wait within a.crate_below a.in_plan
+    (ap (λ l. permitted l a.waits wait) (sym (i.locks at.crate_no)) ∙ p)) h
+
+-- a cycle at a known register
 register_sound : (plan : Layout) (around : Around) (after : Known) (k : Facts) (s : State) (g : Region) (w : Interval) (f r : ℕ) (d : DataMove) (go : Reply → Action) (a : CanCycle plan around g w f s (s.registers r)) → Inside around k s → IsSafe plan a.at f d → ((reply : Reply) (wait : ℕ) (rest : List Answer) → 1 + wait ≤ cycle_cost plan around.locked g.crates → Sound plan around after (costs (cycle_cost plan around.locked g.crates) 0 1) s (go reply (after_cycle a.at f reply wait rest (stepped s)))) → Sound plan around after (costs (cycle_cost plan around.locked g.crates) 0 1) s (cycle plan a.at f d s.answers go (stepped s))
 register_sound plan around after k s g w f r d go a i safe h =
-    cycle_sound plan around after s a.at f d go a.allowed.waits (cycle_cost plan around.locked g.crates) safe a.allowed.in_plan
-    (λ wait p. cost_counted plan around.locked g.crates a.at.crate_no a.allowed.waits wait a.inside.crate_no a.allowed.crate_below a.allowed.in_plan
-    (ap (λ l. permitted l a.allowed.waits wait) (sym (i.locks a.at.crate_no)) ∙ p)) h
+    allowed_sound plan around after k s g.crates w a.at f d go a.allowed a.inside.crate_no i safe h
 
 -- the cycle ends where nothing more is done
-cycle_ends : (plan : Layout) (around : Around) (k : Facts) (s : State) (at : Address) (f u : ℕ) (r : Reply) (wait : ℕ) (rest : List Answer) → Inside around k s → 1 + wait ≤ u → Sound plan around (Some k) (costs u 0 1) s (ends (after_cycle at f r wait rest (stepped s)))
+pub cycle_ends : (plan : Layout) (around : Around) (k : Facts) (s : State) (at : Address) (f u : ℕ) (r : Reply) (wait : ℕ) (rest : List Answer) → Inside around k s → 1 + wait ≤ u → Sound plan around (Some k) (costs u 0 1) s (ends (after_cycle at f r wait rest (stepped s)))
 cycle_ends plan around k s at f u r wait rest i le = record {
   reaches = inside_cycle around k at f r wait rest s i;
   paid = paid_cycle at f r wait u rest s le;
@@ -150,7 +155,7 @@ kept_fits size w most word h small =
     record { within = record { low = omega arith; high = omega arith }; small = omega arith }
 
 -- a variable that may be written is none of the loops around
-written_other : (around : Around) (x v : ℕ) (env : Variables) → may_write around x ≡ true → (y : ℕ) → is_among y around.fixed ≡ true → set_at x v env y ≡ env y
+pub written_other : (around : Around) (x v : ℕ) (env : Variables) → may_write around x ≡ true → (y : ℕ) → is_among y around.fixed ≡ true → set_at x v env y ≡ env y
 written_other around x v env may y among =
     cond_both (nat_eq y x) v (env y) (λ n. n ≡ env y)
     (λ e. let same : y ≡ x = eqb-true y x e in
@@ -159,7 +164,7 @@ written_other around x v env may y among =
     absurd (false≢true (sym no ∙ yes')))
     (λ e. refl)
 
-inside_written : (around : Around) (k : Facts) (x v : ℕ) (r : Interval) (s : State) → Inside around k s → Fits r v → Inside around (with_range x r k) (with_variable x v s)
+pub inside_written : (around : Around) (k : Facts) (x v : ℕ) (r : Interval) (s : State) → Inside around k s → Fits r v → Inside around (with_range x r k) (with_variable x v s)
 inside_written around k x v r s i f = record {
   variables = variables_write k.ranges s.variables x v r i.variables f.within f.small;
   registers = i.registers;

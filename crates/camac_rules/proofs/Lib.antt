@@ -7,6 +7,7 @@ pub mod Sound
 pub mod Locks
 pub mod Cycles
 pub mod Actions
+pub mod Calls
 pub mod Statements
 pub mod Services
 pub mod Orders

@@ -23,7 +23,7 @@ pub record IsAllowed (plan : Layout) (at : Address) (f : ℕ) (w : Interval) : T
   pub low : w.lo ≤ width
   pub high : width ≤ w.hi
 
-some_of : (o : Option ℕ) → is_some o ≡ true → (v : ℕ) × (o ≡ Some v)
+pub some_of : (o : Option ℕ) → is_some o ≡ true → (v : ℕ) × (o ≡ Some v)
 some_of None e = cc
 some_of (Some v) e = (v, refl)
 

@@ -1,10 +1,12 @@
 -- Worked rows of straight scripts: verdicts and refusals, computed.
 use Rattle.std.proofs.Common.{◌≡◌, ℕ, List, [], ◌∷◌, Ok, Err, refl}
 use Rattle.std.specs.Prelude.{codes}
+use Rattle.camac_lang.specs.declared.word.CrateCall.TheVariants.{Initialise, Clear, InhibitOn, TestInhibit, DemandOn, DemandOff, TestDemandOutput, TestDemand}
+use Rattle.camac_lang.specs.declared.word.LamCall as lam_word
 use Rattle.camac_lang.specs.declared.word.WordSize.TheVariants.{Full, Short}
-use Rattle.camac_lang.specs.Tree.{Text, Expression, add, subtract, multiply, divide, remainder, group, number, variable, no_data, into, from, Statement, assign, set_register, single, put, Script}
-use Rattle.camac_model.specs.Sample.{sample_plan, script, script_of, v}
-use Rattle.camac_rules.specs.declared.rule.CheckRule.TheVariants.{StationNotInstalled, CommandNotDeclared, WrongDirection, ValueOutOfRange, ValueTooWide, RegisterUnset, TooManyWords, TooManyCycles, WordTooWide}
+use Rattle.camac_lang.specs.Tree.{Text, Expression, add, subtract, multiply, divide, remainder, group, number, variable, no_data, into, from, Statement, assign, set_register, single, put, crate_call, lam_call, locked, done, Script}
+use Rattle.camac_model.specs.Sample.{sample_plan, adc_lam, script, script_of, v, k}
+use Rattle.camac_rules.specs.declared.rule.CheckRule.TheVariants.{StationNotInstalled, CommandNotDeclared, WrongDirection, ValueOutOfRange, ValueTooWide, RegisterUnset, TooManyWords, TooManyCycles, CrateUnfit, WordTooWide}
 use Rattle.camac_rules.specs.Fault.{broken, not_served}
 use Rattle.camac_rules.specs.Refusal.{go_on, required, given, if_reached}
 use Rattle.camac_rules.specs.Costs.{costs}
@@ -174,7 +176,93 @@ sub_addresses_to_16 : accept sample_plan (computed 17) ≡ Err (broken CommandNo
 unfolding go_on required given if_reached
 sub_addresses_to_16 = refl
 
--- what is not accepted yet
-assignment : accept sample_plan (body (put 4 (number 1) ∷ assign 5 v (number 1) ∷ [])) ≡ Err (not_served 5)
+-- word-too-wide
+word_of_32_bits_set : accept sample_plan (body (assign 4 v (number 4000000000) ∷ put 5 (variable v) ∷ [])) ≡ Err (broken WordTooWide 5)
 unfolding go_on required given if_reached
-assignment = refl
+word_of_32_bits_set = refl
+
+word_cut :
+    accept sample_plan (body (assign 4 v (number 4000000000) ∷ assign 5 v (remainder (variable v) 16777216) ∷ put 6 (variable v) ∷ []))
+    ≡ Ok (costs 0 1 3 ∷ [])
+unfolding go_on required given if_reached
+word_cut = refl
+
+sum_too_great :
+    accept sample_plan (body (assign 4 v (number 4000000000) ∷ assign 5 v (add (variable v) (variable v)) ∷ []))
+    ≡ Err (broken ValueOutOfRange 5)
+unfolding go_on required given if_reached
+sum_too_great = refl
+
+-- computed-sub-address
+abbrev computed_at : ℕ → Script
+computed_at d =
+    script 6 0 registers (register 4 r 5 0 ∷ single 5 Full 0 r (into v) ∷ assign 6 v (remainder (variable v) d) ∷
+    set_register 7 s (number 1) (number 5) (variable v) ∷ single 8 Full 0 s (into k) ∷ [])
+
+computed_12 : accept sample_plan (computed_at 12) ≡ Ok (costs 6 0 5 ∷ [])
+unfolding go_on required given if_reached
+computed_12 = refl
+
+computed_16 : accept sample_plan (computed_at 16) ≡ Ok (costs 6 0 5 ∷ [])
+unfolding go_on required given if_reached
+computed_16 = refl
+
+computed_17 : accept sample_plan (computed_at 17) ≡ Err (broken CommandNotDeclared 8)
+unfolding go_on required given if_reached
+computed_17 = refl
+
+-- demand-disabled, initialise-crate
+demand_disabled : accept sample_plan (script 3 0 registers (crate_call 3 DemandOff (number 1) ∷ [])) ≡ Ok (costs 3 0 1 ∷ [])
+unfolding go_on required given if_reached
+demand_disabled = refl
+
+initialise_crate :
+    accept sample_plan (body (crate_call 4 Initialise (number 1) ∷ crate_call 5 TestInhibit (number 1) ∷ crate_call 6 TestDemandOutput (number 1) ∷ []))
+    ≡ Ok (costs 9 0 3 ∷ [])
+unfolding go_on required given if_reached
+initialise_crate = refl
+
+-- lam-calls
+abbrev calling : Text → ℕ → ℕ → ℕ → Script
+calling name n a l =
+    record (script 12 1 registers (lam_call 4 lam_word.TheVariants.Disable l ∷ lam_call 4 lam_word.TheVariants.Test l ∷
+    lam_call 4 lam_word.TheVariants.Clear l ∷ lam_call 4 lam_word.TheVariants.Enable l ∷ []))
+    { lams = adc_lam ∷ (record { line = 1; name = name; crate_no = 1; station = n; sub_address = a }) ∷ [] }
+
+lam_calls : accept sample_plan (calling (codes "m") 5 12 0) ≡ Ok (costs 12 0 4 ∷ [])
+unfolding go_on required given if_reached
+lam_calls = refl
+
+-- the second LAM, at a sub-address without these commands, and at no station
+lam_without_commands : accept sample_plan (calling (codes "m") 5 11 1) ≡ Err (broken CommandNotDeclared 4)
+unfolding go_on required given if_reached
+lam_without_commands = refl
+
+lam_at_no_station : accept sample_plan (calling (codes "m") 7 12 1) ≡ Err (broken StationNotInstalled 4)
+unfolding go_on required given if_reached
+lam_at_no_station = refl
+
+-- crate-not-in-plan
+call_not_in_plan : accept sample_plan (script 12 1 registers (crate_call 4 InhibitOn (number 2) ∷ [])) ≡ Err (broken CrateUnfit 4)
+unfolding go_on required given if_reached
+call_not_in_plan = refl
+
+call_past_all : accept sample_plan (body (crate_call 4 Clear (number 4000000000) ∷ [])) ≡ Err (broken CrateUnfit 4)
+unfolding go_on required given if_reached
+call_past_all = refl
+
+-- more than one number is no crate, and a value out of range comes first
+call_of_range :
+    accept sample_plan (body (register 4 r 5 0 ∷ single 5 Full 0 r (into v) ∷ crate_call 6 TestDemand (add (remainder (variable v) 2) (number 1)) ∷ []))
+    ≡ Err (broken CrateUnfit 6)
+unfolding go_on required given if_reached
+call_of_range = refl
+
+call_below_0 : accept sample_plan (body (crate_call 4 DemandOn (subtract (number 1) (number 2)) ∷ [])) ≡ Err (broken ValueOutOfRange 4)
+unfolding go_on required given if_reached
+call_below_0 = refl
+
+-- what is not accepted yet
+lock : accept sample_plan (body (put 4 (number 1) ∷ locked 5 (number 1) done ∷ [])) ≡ Err (not_served 5)
+unfolding go_on required given if_reached
+lock = refl

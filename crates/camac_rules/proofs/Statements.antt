@@ -3,24 +3,39 @@ use Rattle.std.proofs.Common.{◌≡◌, ℕ, ◌+◌, ◌^◌, ◌<◌, ◌≤�
 use Rattle.std.proofs.lemmas.Bool.{leb-true}
 use Rattle.camac_lang.specs.Tree.{Expression, Statement, assign, set_register, single, address_scan, q_stop, q_repeat, put, crate_call, lam_call, choose, choose_else, count, repeat, locked, call, Block, done, next}
 use Rattle.camac_branch.specs.Address.{address}
-use Rattle.camac_model.specs.State.{stepped, with_register, with_word}
+use Rattle.camac_model.specs.State.{stepped, with_variable, with_register, with_word}
 use Rattle.camac_model.specs.Behaviour.{ends, Action, given}
 use Rattle.camac_model.specs.Value.{value}
 use Rattle.camac_model.specs.Meaning.{Context, effect, block_meaning}
 use Rattle.camac_model.specs.Fine.{AreWords}
-use Rattle.camac_rules.specs.Known.{region, Facts, Known, with_region}
+use Rattle.camac_rules.specs.Known.{region, Facts, Known, with_range, with_region}
 use Rattle.camac_rules.specs.Costs.{costs, unreached}
 use Rattle.camac_rules.specs.Cycles.{Around}
-use Rattle.camac_rules.specs.Statements.{greatest_word, register_rule, put_rule, accept_statement, accept_block}
+use Rattle.camac_rules.specs.Statements.{greatest_word, assign_rule, register_rule, put_rule, accept_statement, accept_block}
 use Rattle.camac_rules.proofs.Allows.{Allows, allowed as allows, refused, then_allowed, required_allowed, if_reached_allowed}
 use Rattle.camac_rules.proofs.Stores.{InRegion, registers_write}
 use Rattle.camac_rules.proofs.Values.{range_each}
 use Rattle.camac_rules.proofs.Sound.{SoundFor, paid_nothing, sound_then}
-use Rattle.camac_rules.proofs.Actions.{HasWidths, seen, with_given, value_of, single_sound}
+use Rattle.camac_rules.proofs.Actions.{HasWidths, seen, with_given, value_of, inside_written, written_other, single_sound}
+use Rattle.camac_rules.proofs.Calls.{crate_sound, lam_sound}
 
 words_push : (ws : List ℕ) (v : ℕ) → v < 2 ^ 24 → AreWords ws → AreWords (ws ++ v ∷ [])
 words_push [] v h a = (h, tt)
 words_push (w ∷ ws) v h a = (a.0, words_push ws v h a.1)
+
+assign_sound : (c : Context) (around : Around) (line x : ℕ) (e : Expression) (k : Facts) → Allows (assign_rule around line x e k) (SoundFor c.plan around (Some k) (λ n s. effect c n (assign line x e) (stepped s)))
+assign_sound c around line x e k =
+    then_allowed (range_each line e k.ranges) (λ r gives.
+    required_allowed _ line (λ may. allows (record {
+      each = λ n le s i.
+          let v = value_of (value e s.variables) r (gives s.variables i.variables) in
+          with_given c.plan around (Some (with_range x r k)) (costs 0 0 1) s (stepped s) (value e s.variables) (λ m t. ends (with_variable x m t)) v.number v.is
+          (record {
+            reaches = inside_written around k x v.number r (stepped s) (record { variables = i.variables; registers = i.registers; locks = i.locks }) v.fits;
+            paid = record { cycles = omega arith; words = omega arith; steps = omega arith; are_words = λ w. w };
+            untouched = written_other around x v.number s.variables may;
+          });
+    })))
 
 put_sound : (c : Context) (around : Around) (line : ℕ) (e : Expression) (k : Facts) → Allows (put_rule line e k) (SoundFor c.plan around (Some k) (λ n s. effect c n (put line e) (stepped s)))
 put_sound c around line e k =
@@ -67,15 +82,15 @@ register_set_sound c around line r e1 e2 e3 k =
     }))))
 
 pub statement_sound : (c : Context) → HasWidths c.plan → (around : Around) (st : Statement) (k : Facts) → Allows (accept_statement (seen c) around st k) (SoundFor c.plan around (Some k) (λ n s. effect c n st (stepped s)))
+statement_sound c narrow around (assign line x e) k = assign_sound c around line x e k
 statement_sound c narrow around (set_register line r e1 e2 e3) k = register_set_sound c around line r e1 e2 e3 k
 statement_sound c narrow around (single line size f r m) k = single_sound c narrow around line size f r m k
 statement_sound c narrow around (put line e) k = put_sound c around line e k
-statement_sound c narrow around (assign line x e) k = refused
+statement_sound c narrow around (crate_call line which e) k = crate_sound c around line which e k
+statement_sound c narrow around (lam_call line which l) k = lam_sound c around line which l k
 statement_sound c narrow around (address_scan line f r1 r2 max x) k = refused
 statement_sound c narrow around (q_stop line f r t max x) k = refused
 statement_sound c narrow around (q_repeat line f r t max limit x) k = refused
-statement_sound c narrow around (crate_call line which e) k = refused
-statement_sound c narrow around (lam_call line which l) k = refused
 statement_sound c narrow around (choose line test a) k = refused
 statement_sound c narrow around (choose_else line test a b) k = refused
 statement_sound c narrow around (count line x e1 e2 keeps body) k = refused

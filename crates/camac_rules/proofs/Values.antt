@@ -107,7 +107,7 @@ remainder_gives d (Some x) r i g e =
     let is : rest_of x d ≡ Some (x % d) = ap (λ b. cond b None (Some (x % d))) p.0 in
     subst (Gives (rest_of x d)) p.1 (subst (λ o. Gives o left) (sym is) (rest_fits d x r pos g))
 
-only_within : (n : ℕ) → IsWithin (only n) n
+pub only_within : (n : ℕ) → IsWithin (only n) n
 only_within n = record { low = omega arith; high = omega arith }
 
 pub range_holds : (line : ℕ) (e : Expression) (rs : List Interval) (env : Variables) → VariablesInside rs env → Allows (range_of line e rs) (Gives (value e env))

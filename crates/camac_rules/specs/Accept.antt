@@ -1,8 +1,9 @@
 -- Acceptance of a linked script: services in text order, each within its heading.
-use Rattle.std.specs.Prelude.{ℕ, List, [], ◌∷◌, Result, Ok, Err, nat_le}
+use Rattle.std.specs.Prelude.{ℕ, List, [], ◌∷◌, map, Result, Ok, Err, nat_le}
 use Rattle.camac_lang.specs.Tree.{Procedure, Service, Item, next_table, next_lam, next_variables, next_procedure, next_service, Script}
 use Rattle.camac_range.specs.Number.{greatest}
 use Rattle.camac_branch.specs.Plan.{Layout}
+use Rattle.camac_model.specs.Meaning.{lam_address}
 use Rattle.camac_model.specs.Fine.{Bounds}
 use Rattle.camac_rules.specs.declared.rule.CheckRule.TheVariants.{TooManyWords, TooManyCycles, TooManySteps}
 use Rattle.camac_rules.specs.Fault.{Fault, not_served}
@@ -46,7 +47,7 @@ accept_items c (next_service ∷ rest) ps (v ∷ vs) = do
 
 abbrev pub accept_with : (Bounds → Bounds) → Layout → Script → Result (List Bounds) Fault
 accept_with limit plan script =
-    accept_items (record { plan = plan; limit = limit }) script.order script.procedures script.services
+    accept_items (record { plan = plan; lams = map lam_address script.lams; limit = limit }) script.order script.procedures script.services
 
 -- what each service can cost, or the first rule broken and its line
 abbrev pub accept : Layout → Script → Result (List Bounds) Fault

@@ -5,6 +5,7 @@ use Rattle.camac_lang.specs.Tree.{Expression, Move, no_data, into, from}
 use Rattle.camac_range.specs.Interval.{Interval, interval}
 use Rattle.camac_func.specs.declared.code.FunctionClass.{FunctionClass}
 use Rattle.camac_func.specs.declared.code.FunctionClass.TheVariants.{Read, Write, Control}
+use Rattle.camac_branch.specs.Address.{Address}
 use Rattle.camac_branch.specs.Plan.{Layout}
 use Rattle.camac_func.specs.Class.{class_of}
 use Rattle.camac_model.specs.Cycle.{sized}
@@ -18,9 +19,10 @@ use Rattle.camac_rules.specs.Expressions.{range_of}
 use Rattle.camac_rules.specs.Costs.{costs, Verdict, verdict}
 use Rattle.camac_rules.specs.Addresses.{is_among, command_widths, cycle_cost}
 
--- The plan, and what becomes of each cost: by the rules it stays, in code it is cut at a greatest number.
+-- What a statement may refer to by its number, and what becomes of each cost: by the rules it stays, in code it is cut at a greatest number.
 pub record Context : Type 0 where
   pub plan : Layout
+  pub lams : List Address
   pub limit : Bounds → Bounds
 
 -- what stands around a statement: the variables of the `for` loops, and the crates that are locked

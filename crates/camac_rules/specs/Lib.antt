@@ -6,6 +6,7 @@ pub mod Costs
 pub mod Walks
 pub mod Addresses
 pub mod Cycles
+pub mod Calls
 pub mod Statements
 pub mod Accept
 pub mod Capped

@@ -1,17 +1,24 @@
 -- The rules of all statements: what is known after each and what it can cost, or the first rule that it breaks.
 use Rattle.std.specs.Prelude.{ℕ, Some, Result, Ok, Err, nat_le}
 use Rattle.camac_lang.specs.Tree.{Expression, Statement, assign, set_register, single, address_scan, q_stop, q_repeat, put, crate_call, lam_call, choose, choose_else, count, repeat, locked, call, Block, done, next}
-use Rattle.camac_rules.specs.declared.rule.CheckRule.TheVariants.{WordTooWide}
+use Rattle.camac_rules.specs.declared.rule.CheckRule.TheVariants.{WordTooWide, LoopVariableAssigned}
 use Rattle.camac_rules.specs.Fault.{Fault, not_served}
 use Rattle.camac_rules.specs.Refusal.{◌>>=◌, ◌>>◌, required, if_reached}
-use Rattle.camac_rules.specs.Known.{Facts, region, with_region}
+use Rattle.camac_rules.specs.Known.{Facts, region, with_range, with_region}
 use Rattle.camac_rules.specs.Expressions.{range_of}
 use Rattle.camac_rules.specs.Costs.{costs, no_costs, plus, Verdict, verdict, unreached}
-use Rattle.camac_rules.specs.Cycles.{Context, Around, single_rule}
+use Rattle.camac_rules.specs.Cycles.{Context, Around, may_write, single_rule}
+use Rattle.camac_rules.specs.Calls.{crate_rule, lam_rule}
 
 -- the greatest word of 24 bits
 abbrev pub greatest_word : ℕ
 greatest_word = 16777215
+
+abbrev pub assign_rule : Around → ℕ → ℕ → Expression → Facts → Result Verdict Fault
+assign_rule around line x e k = do
+  r ← range_of line e k.ranges
+  required (may_write around x) LoopVariableAssigned line
+  Ok (verdict (Some (with_range x r k)) (costs 0 0 1))
 
 abbrev pub register_rule : ℕ → ℕ → Expression → Expression → Expression → Facts → Result Verdict Fault
 register_rule line r e1 e2 e3 k = do
@@ -27,15 +34,15 @@ put_rule line e k = do
   Ok (verdict (Some k) (costs 0 1 1))
 
 abbrev pub accept_statement : Context → Around → Statement → Facts → Result Verdict Fault
+accept_statement c around (assign line x e) k = assign_rule around line x e k
 accept_statement c around (set_register line r e1 e2 e3) k = register_rule line r e1 e2 e3 k
 accept_statement c around (single line size f r move) k = single_rule c around line size f r move k
 accept_statement c around (put line e) k = put_rule line e k
-accept_statement c around (assign line x e) k = Err (not_served line)
+accept_statement c around (crate_call line which e) k = crate_rule c around line e k
+accept_statement c around (lam_call line which l) k = lam_rule c around line which l k
 accept_statement c around (address_scan line f r1 r2 max x) k = Err (not_served line)
 accept_statement c around (q_stop line f r t max x) k = Err (not_served line)
 accept_statement c around (q_repeat line f r t max limit x) k = Err (not_served line)
-accept_statement c around (crate_call line which e) k = Err (not_served line)
-accept_statement c around (lam_call line which l) k = Err (not_served line)
 accept_statement c around (choose line test a) k = Err (not_served line)
 accept_statement c around (choose_else line test a b) k = Err (not_served line)
 accept_statement c around (count line x e1 e2 keeps body) k = Err (not_served line)

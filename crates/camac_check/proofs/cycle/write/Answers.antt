@@ -15,5 +15,5 @@ returns c =
     (step _ c.in_ok-widths.widths _ _ c.in_ok-widths.ensures.rule
     (step _ tt _ _ (ap (λ b. required b WrongDirection c.args.line) (sym c.is_write.ensures) ∙ c.in_ok-required.ensures)
     (step _ tt _ _ (ap (λ b. required b ValueTooWide c.args.line) (sym c.fits.ensures) ∙ c.in_ok-required-2.ensures)
-    (same_findings c.in_ok-try_clone.field-0 c.args.known.now c.one_cycle.result (one_cycle (by_code c.args.plan.now) c.args.around.now c.in_ok-g.g.crates)
-    c.in_ok-try_clone.ensures (c.one_cycle.ensures ∙ ap (λ r. one_cycle (by_code c.args.plan.now) c.args.around.now r) c.crates.ensures))))))
+    (same_findings c.in_ok-try_clone.field-0 c.args.known.now c.one_cycle.result (one_cycle (by_code c.args.context.now) c.args.around.now c.in_ok-g.g.crates)
+    c.in_ok-try_clone.ensures (c.one_cycle.ensures ∙ ap (λ r. one_cycle (by_code c.args.context.now) c.args.around.now r) c.crates.ensures))))))

@@ -10,33 +10,33 @@ use Rattle.camac_check.proofs.statement.accept_block.Goals as goal
 
 pub statements-init : goal.statements-init
 statements-init c =
-    let plan = c.args.plan.now in
+    let context = c.args.context.now in
     let around = c.args.around.now in
     let block = statements_of c.args.block.now in
     let Cut : Bounds → Type 0 = λ a. capped a ≡ a in
     record {
       rest =
-          ap (λ a. rest_rule plan around (verdict (Some c.in_ok-try_clone.field-0) a) block) c.new.ensures
-          ∙ ap (λ k. rest_rule plan around (verdict (Some k) no_costs) block) c.in_ok-try_clone.ensures
-          ∙ block_begins plan around block c.args.known.now;
+          ap (λ a. rest_rule context around (verdict (Some c.in_ok-try_clone.field-0) a) block) c.new.ensures
+          ∙ ap (λ k. rest_rule context around (verdict (Some k) no_costs) block) c.in_ok-try_clone.ensures
+          ∙ block_begins context around block c.args.known.now;
       cut = subst Cut (sym c.new.ensures) refl;
     }
 
 pub returns-in-Err : goal.returns-in-Err
 returns-in-Err c =
-    let plan = c.args.plan.now in
+    let context = c.args.context.now in
     let around = c.args.around.now in
     let xs = c.args.block.now in
     let i = c.statements.statement-index in
     let lt : i < length xs = omega arith in
     let found = c.statements.found in
     subst (λ r. Fails c.in-Err.fault r)
-    (ap (λ b. rest_rule plan around (verdict_of found) b) (sym (next_of xs i c.statement-item.result lt c.statement-item.is)) ∙ c.statements.invariant.rest)
-    (block_stops plan around found.known found.costs (statement_of c.statement-item.result) (statements_of (drop (i + 1) xs)) c.in-Err.fault c.in-Err.ensures)
+    (ap (λ b. rest_rule context around (verdict_of found) b) (sym (next_of xs i c.statement-item.result lt c.statement-item.is)) ∙ c.statements.invariant.rest)
+    (block_stops context around found.known found.costs (statement_of c.statement-item.result) (statements_of (drop (i + 1) xs)) c.in-Err.fault c.in-Err.ensures)
 
 pub statements-preserved : goal.statements-preserved
 statements-preserved c =
-    let plan = c.args.plan.now in
+    let context = c.args.context.now in
     let around = c.args.around.now in
     let xs = c.args.block.now in
     let i = c.statements.statement-index in
@@ -46,20 +46,20 @@ statements-preserved c =
     let Cut : Bounds → Type 0 = λ a. capped a ≡ a in
     record {
       rest =
-          ap (λ a. rest_rule plan around (verdict c.in-Ok.next.known a) rest) c.then.ensures
-          ∙ block_goes_on plan around found.known found.costs (statement_of c.statement-item.result) rest (verdict_of c.in-Ok.next) c.in-Ok.ensures
-          ∙ ap (λ b. rest_rule plan around (verdict_of found) b) (sym (next_of xs i c.statement-item.result lt c.statement-item.is))
+          ap (λ a. rest_rule context around (verdict c.in-Ok.next.known a) rest) c.then.ensures
+          ∙ block_goes_on context around found.known found.costs (statement_of c.statement-item.result) rest (verdict_of c.in-Ok.next) c.in-Ok.ensures
+          ∙ ap (λ b. rest_rule context around (verdict_of found) b) (sym (next_of xs i c.statement-item.result lt c.statement-item.is))
           ∙ c.statements.invariant.rest;
       cut = subst Cut (sym c.then.ensures) (capped_twice (plus found.costs c.in-Ok.next.costs));
     }
 
 pub returns : goal.returns
 returns c =
-    let plan = c.args.plan.now in
+    let context = c.args.context.now in
     let around = c.args.around.now in
     let xs = c.args.block.now in
     let found = c.statements.found in
     let le : length xs ≤ c.statements.statement-index = omega arith in
     sym c.statements.invariant.rest
-    ∙ ap (λ l. rest_rule plan around (verdict_of found) (statements_of l)) (drop_all c.statements.statement-index xs le)
-    ∙ block_ends plan around (verdict_of found) c.statements.invariant.cut
+    ∙ ap (λ l. rest_rule context around (verdict_of found) (statements_of l)) (drop_all c.statements.statement-index xs le)
+    ∙ block_ends context around (verdict_of found) c.statements.invariant.cut

@@ -8,6 +8,6 @@ use Rattle.camac_check.proofs.statement.accept_block.Given as goal
 
 abbrev pub invariant-statements : goal.invariant-statements
 invariant-statements l = record {
-  rest : rest_rule l.plan l.around (verdict_of l.found) (statements_of (drop l.statement-index l.block)) ≡ accept_block (by_code l.plan) l.around (statements_of l.block) l.known;
+  rest : rest_rule l.context l.around (verdict_of l.found) (statements_of (drop l.statement-index l.block)) ≡ accept_block (by_code l.context) l.around (statements_of l.block) l.known;
   cut : capped l.found.costs ≡ l.found.costs;
 }

@@ -1,0 +1,117 @@
+// The rules of crate calls and LAM calls.
+
+ghost use Rattle.std.specs.Prelude.{◌≡◌, ◌<◌};
+ghost use Rattle.camac_esone.specs.Calls.{lam_function};
+ghost use Rattle.camac_lang.specs.View.{expression_of};
+ghost use Rattle.camac_rules.specs.Addresses.{in_plan};
+ghost use Rattle.camac_rules.specs.Calls.{is_crate, crate_rule, lam_region, lam_rule};
+ghost use Rattle.camac_rules.specs.Refusal.{given};
+ghost use Rattle.camac_check.specs.Gives.{Gives, by_code, verdict_of};
+
+use crate::address::{CRATE_END, command_widths};
+use crate::around::Around;
+use crate::context::Context;
+use crate::cycle::one_cycle;
+use crate::expression::range_of;
+use crate::fault::{CheckFault, required};
+use crate::known::{Facts, Region};
+use crate::statement::Findings;
+use camac_branch::Plan;
+use camac_lang::{Expr, LamCall};
+use camac_range::Range;
+use camac_rules::CheckRule;
+use camac_word::{CrateNo, Function};
+use std::alloc::Global;
+
+/// Checks a crate call.
+#[tactic(auto, unfolding(camac_rules::specs::Refusal::go_on))]
+pub fn crate_call(
+    alloc: Global,
+    context: &Context,
+    around: &Around,
+    line: u32,
+    crate_no: &Expr,
+    known: &Facts,
+) -> Result<Findings, CheckFault>
+    ensures { Gives verdict_of result (crate_rule (by_code context.now) around.now line (expression_of crate_no.now) known.now) }
+{
+    let crates = range_of(line, crate_no, known.ranges())?;
+    required(is_crate(context.plan, crates), CheckRule::CrateUnfit, line)?;
+    Ok(Findings {
+        known: Some(known.try_clone(alloc)?),
+        costs: one_cycle(context, around, crates),
+    })
+}
+
+/// Checks a LAM call.
+#[tactic(auto, unfolding(camac_rules::specs::Refusal::go_on))]
+pub fn lam_call(
+    alloc: Global,
+    context: &Context,
+    around: &Around,
+    line: u32,
+    call: LamCall,
+    lam: usize,
+    known: &Facts,
+) -> Result<Findings, CheckFault>
+    ensures { Gives verdict_of result (lam_rule (by_code context.now) around.now line call lam known.now) }
+{
+    let at = address_of(context, lam, line)?;
+    let _widths = command_widths(context.plan, line, function_of(call), at)?;
+    Ok(Findings {
+        known: Some(known.try_clone(alloc)?),
+        costs: one_cycle(context, around, at.crates()),
+    })
+}
+
+// The address of a LAM. E1 where there is no such LAM.
+#[tactic(auto, unfolding(camac_rules::specs::Refusal::given))]
+fn address_of(context: &Context, lam: usize, line: u32) -> Result<Region, CheckFault>
+    ensures { Gives (λ g. g) result (given (lam_region (by_code context.now) lam) CheckRule.StationNotInstalled line) }
+{
+    match context.lams.get(lam) {
+        Some(lam) => Ok(Region::new(
+            Range::only(lam.crate_no),
+            Range::only(lam.station),
+            Range::only(lam.sub_address.get()),
+        )),
+        None => Err(CheckFault::Broken {
+            rule: CheckRule::StationNotInstalled,
+            line,
+        }),
+    }
+}
+
+fn function_of(call: LamCall) -> Function
+    ensures { result ≡ lam_function call }
+{
+    let function = match call {
+        LamCall::Enable => 26,
+        LamCall::Disable => 24,
+        LamCall::Clear => 10,
+        LamCall::Test => 8,
+    };
+    match Function::new(function) {
+        Some(function) => function,
+        None => unreachable!(),
+    }
+}
+
+// Whether a range is one number, which is that of a crate of the plan.
+fn is_crate(plan: &Plan, crates: Range) -> bool
+    ensures { result ≡ is_crate plan.now crates }
+{
+    let c = crates.lo();
+    c == crates.hi() && c < CRATE_END && is_in_plan(plan, c)
+}
+
+#[tactic(auto, using(crate::proofs::Walks::no_crate))]
+fn is_in_plan(plan: &Plan, c: u32) -> bool
+    requires { c < 8 }
+    ensures { result ≡ in_plan plan.now c }
+{
+    match CrateNo::new(c) {
+        Some(crate_no) => plan.waits(crate_no).is_some(),
+        None => false,
+    }
+}
