@@ -55,6 +55,7 @@ pub is_checked : (c : CheckedScript) → IsPlan c.plan → IsTrue (is_well_forme
 is_checked c plan formed linked e =
     let fine = accepted_fine c.plan c.script c.bounds plan formed e in
     record {
+      accepted = e;
       services = fine;
       runs = fine_services_run c.plan c.script c.bounds fine;
       headings = accepted_within c.plan c.script c.bounds plan formed (linked_events c.plan c.script linked) e;

@@ -24,6 +24,8 @@ linked_of c = record { plan = c.plan; script = c.script }
 
 -- what is true of each checked script, whatever the branch answers
 pub record IsChecked (c : CheckedScript) : Type 0 where
+  -- no rule is broken, so each statement is of a kind that is served
+  pub accepted : accept c.plan c.script ≡ Ok c.bounds
   -- each service by itself keeps to its bounds, and all its cycles are safe
   pub services : AreFineServices c.plan c.script c.bounds
   -- so does every run
