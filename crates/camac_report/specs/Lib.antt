@@ -1,3 +1,4 @@
 pub mod Codes
+pub mod Items
 pub mod Refusal
 pub mod Verdict
