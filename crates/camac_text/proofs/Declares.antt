@@ -226,7 +226,7 @@ pub record ServiceDeclaration (s s' : State) : Type 0 where
   pub words : ℕ
   pub statements : List Statement
   pub between : State
-  pub body : Body s statements between
+  pub body : Body 15 s statements between
   pub room : length s.services < 24
   pub lam_fits : lam < length s.lams
   pub cycles_fit : AllFit s.rest → is_number cycles ≡ true
@@ -257,7 +257,7 @@ service_is s k line y next e =
     let to_f : Moves t f.0.1 = then_moves t d.0.1 f.0.1 to_d (expect_ok word.Event d.0.1 f.0 f.1) in
     let to_g : Moves t g.0.1 = then_moves t f.0.1 g.0.1 to_f (one_moves f.0.1 (kind.Number g.0.0) g.0.1 words) in
     let to_h : Moves t h.0.1 = then_moves t g.0.1 h.0.1 to_g (expect_ok word.Words g.0.1 h.0 h.1) in
-    let inner : Body t i.0.0 i.0.1 = behind_moves t h.0.1 i.0.0 i.0.1 to_h body in
+    let inner : Body 15 t i.0.0 i.0.1 = behind_moves 15 t h.0.1 i.0.0 i.0.1 to_h body in
     let left : y.1 ≡ with_service line a.0.0 c.0.0 g.0.0 i.0.0 i.0.1 = sym (ap (λ (p : Unit {0} × State). p.1) (ok_is (tt, with_service line a.0.0 c.0.0 g.0.0 i.0.0 i.0.1) y i.2)) in
     let less : length (behind s.rest) < length s.rest = behind_less s.rest k next in
     let shorter : length i.0.1.rest ≤ length (behind s.rest) = inner.shorter in
@@ -268,7 +268,7 @@ service_is s k line y next e =
       words = g.0.0;
       statements = i.0.0;
       between = i.0.1;
-      body = behind_moves s t i.0.0 i.0.1 (moved s) inner;
+      body = behind_moves 15 s t i.0.0 i.0.1 (moved s) inner;
       room = ltb-true (length s.services) 24 c0.0;
       lam_fits = lam.0;
       cycles_fit = λ fits. kind_fit b.0.1.rest (kind.Number c.0.0) cycles.next (to_b.fit ((moved s).fit fits));

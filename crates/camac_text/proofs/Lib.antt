@@ -5,6 +5,8 @@ pub mod Places
 pub mod Moves
 pub mod Uses
 pub mod Acts
+pub mod ExpressionsRead
+pub mod BracketsRead
 pub mod ActionsRead
 pub mod CallsRead
 pub mod StatementsRead
@@ -13,6 +15,7 @@ pub mod Declares
 pub mod Fitting
 pub mod WellFormed
 pub mod Local
+pub mod LocalExpressions
 pub mod LocalStatements
 pub mod LocalDeclarations
 pub mod Faults

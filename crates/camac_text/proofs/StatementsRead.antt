@@ -8,16 +8,17 @@ use Rattle.camac_tokens.specs.declared.token.TokenKind.TheVariants as kind
 use Rattle.camac_text.specs.Reading.{State, kind_of, line_of}
 use Rattle.camac_text.specs.Statements.{statement_by, statement_at}
 use Rattle.camac_text.proofs.Acts.{Acts}
-use Rattle.camac_text.proofs.ActionsRead.{put_is, single_is, setting_is}
+use Rattle.camac_text.proofs.ActionsRead.{assignment_is, put_is, single_is, setting_is}
 use Rattle.camac_text.proofs.CallsRead.{crate_call_is}
 
-statement_is : (s : State) (line : ℕ) (k : Option TokenKind) (y : Statement × State) → kind_of s.rest ≡ k → statement_by line k s ≡ Ok y → Acts s y.0 y.1
-statement_is s line (Some (kind.Keyword word.Cdreg)) y next e = setting_is s (kind.Keyword word.Cdreg) line y next e
-statement_is s line (Some (kind.Keyword word.Cfsa)) y next e = single_is s (kind.Keyword word.Cfsa) Full line y next e
-statement_is s line (Some (kind.Keyword word.Cssa)) y next e = single_is s (kind.Keyword word.Cssa) Short line y next e
-statement_is s line (Some (kind.Keyword word.Put)) y next e = put_is s (kind.Keyword word.Put) line y next e
-statement_is s line k y next e = crate_call_is s line k y next e
+statement_is : (room : ℕ) (s : State) (line : ℕ) (k : Option TokenKind) (y : Statement × State) → kind_of s.rest ≡ k → statement_by room line k s ≡ Ok y → Acts room s y.0 y.1
+statement_is room s line (Some (kind.Name x)) y next e = assignment_is room s line y e
+statement_is room s line (Some (kind.Keyword word.Cdreg)) y next e = setting_is room s (kind.Keyword word.Cdreg) line y next e
+statement_is room s line (Some (kind.Keyword word.Cfsa)) y next e = single_is room s (kind.Keyword word.Cfsa) Full line y next e
+statement_is room s line (Some (kind.Keyword word.Cssa)) y next e = single_is room s (kind.Keyword word.Cssa) Short line y next e
+statement_is room s line (Some (kind.Keyword word.Put)) y next e = put_is room s (kind.Keyword word.Put) line y next e
+statement_is room s line k y next e = crate_call_is room s line k y next e
 
-pub statement_ok : (s : State) (y : Statement × State) → statement_at s ≡ Ok y → Acts s y.0 y.1
+pub statement_ok : (room : ℕ) (s : State) (y : Statement × State) → statement_at room s ≡ Ok y → Acts room s y.0 y.1
 unfolding statement_at
-statement_ok s y e = statement_is s (line_of s.rest s.end_line) (kind_of s.rest) y refl e
+statement_ok room s y e = statement_is room s (line_of s.rest s.end_line) (kind_of s.rest) y refl e

@@ -17,18 +17,18 @@ impl Parser<'_> {
         ensures { Gives (λ b. map statement_of b.items) result self.new (block_at (state self.old)) }
     {
         self.expect_sign(Sign::LeftBrace)?;
-        let body = self.statements()?;
+        let body = self.statements(15)?;
         self.expect_sign(Sign::RightBrace)?;
         Ok(body)
     }
 
     #[tactic(auto, unfolding(crate::specs::Reading::many))]
-    fn statements(&mut self) -> Result<Vec<Stmt>, TextFault>
-        ensures { Gives (λ b. map statement_of b.items) result self.new (many is_no_end statement_at (state self.old)) }
+    fn statements(&mut self, room: u32) -> Result<Vec<Stmt>, TextFault>
+        ensures { Gives (λ b. map statement_of b.items) result self.new (many is_no_end (statement_at room) (state self.old)) }
     {
         let mut body = Vec::new(self.alloc);
         while self.is_in_block() {
-            let statement = self.statement()?;
+            let statement = self.statement(room)?;
             body.push(statement)?;
         }
         Ok(body)
@@ -42,16 +42,25 @@ impl Parser<'_> {
     }
 
     #[tactic(auto, unfolding(crate::specs::Statements::statement_at))]
-    fn statement(&mut self) -> Result<Stmt, TextFault>
-        ensures { Gives statement_of result self.new (statement_at (state self.old)) }
+    fn statement(&mut self, room: u32) -> Result<Stmt, TextFault>
+        ensures { Gives statement_of result self.new (statement_at room (state self.old)) }
     {
         let line = self.line_here();
         match self.peek() {
-            Some(TokenKind::Keyword(Keyword::Cdreg)) => self.register_setting(line),
-            Some(TokenKind::Keyword(Keyword::Cfsa)) => self.single_action(WordSize::Full, line),
-            Some(TokenKind::Keyword(Keyword::Cssa)) => self.single_action(WordSize::Short, line),
-            Some(TokenKind::Keyword(Keyword::Put)) => self.put_action(line),
-            _ => self.crate_call(line),
+            Some(TokenKind::Name(_)) => self.assignment(room, line),
+            Some(TokenKind::Keyword(Keyword::Cdreg)) => self.register_setting(room, line),
+            Some(TokenKind::Keyword(Keyword::Cfsa)) => self.single_action(
+                WordSize::Full,
+                room,
+                line,
+            ),
+            Some(TokenKind::Keyword(Keyword::Cssa)) => self.single_action(
+                WordSize::Short,
+                room,
+                line,
+            ),
+            Some(TokenKind::Keyword(Keyword::Put)) => self.put_action(room, line),
+            _ => self.crate_call(room, line),
         }
     }
 

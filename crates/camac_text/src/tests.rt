@@ -191,3 +191,23 @@ fn calls(rt: HostRuntime) {
         Some((TextRule::UnexpectedToken, 4))
     );
 }
+
+#[test]
+fn expressions(rt: HostRuntime) -> Result<(), Fail> {
+    assert!(rt;
+        parse(
+            rt.alloc(),
+            b"cdlam adc 1 1 5 12\nvar v\nservice adc within 100 cycles event 100 words {\n  v = (((((((((((((((1)))))))))))))))\n  cdreg r 1 v / 2 v % 3 1 + 2 * (v - 1)\n  cssa 16 r <- v + 1\n}\n"
+        )
+        .is_ok()
+    );
+    let opening =
+        b"cdlam adc 1 1 5 12\nvar v\nservice adc within 100 cycles event 100 words {\n  v = ";
+    let pairs = fault_of_many(&rt, opening, b"(", 16)?;
+    assert_eq!(rt; pairs, Some((TextRule::LimitPassed, 4)));
+    let operators = fault_of_many(&rt, opening, b"1+", 33)?;
+    assert_eq!(rt; operators, Some((TextRule::LimitPassed, 4)));
+    let few_operators = fault_of_many(&rt, opening, b"1+", 32)?;
+    assert_eq!(rt; few_operators, Some((TextRule::UnexpectedToken, 4)));
+    Ok(())
+}

@@ -13,15 +13,15 @@ use Rattle.camac_text.proofs.cursor.Parser.statements.Goals as goal
 pub returns-in_err-statement : goal.returns-in_err-statement
 returns-in_err-statement c =
     let p = err_from_is_err_and c.from_residual.result c.from_residual.ensures.1 in
-    rw (p.1, p.2) (more_fails is_no_end statement_at statements_progress (map statement_of c.loop-self.body.items) (state c.loop-self.self) (many is_no_end statement_at (state c.args.self.now)) c.in_err-statement.field-0.0 (sym c.is_in_block.ensures ∙ c.loop-self-test.true) c.in_err-statement.ensures c.loop-self.invariant)
+    rw (p.1, p.2) (more_fails is_no_end (statement_at c.args.room) (statements_progress c.args.room) (map statement_of c.loop-self.body.items) (state c.loop-self.self) (many is_no_end (statement_at c.args.room) (state c.args.self.now)) c.in_err-statement.field-0.0 (sym c.is_in_block.ensures ∙ c.loop-self-test.true) c.in_err-statement.ensures c.loop-self.invariant)
 
 pub loop-self-smaller : goal.loop-self-smaller
-loop-self-smaller c = (statement_ok (state c.loop-self.self) (statement_of c.in_ok-statement.statement, state c.statement.new.self) c.in_ok-statement.ensures).less
+loop-self-smaller c = (statement_ok c.args.room (state c.loop-self.self) (statement_of c.in_ok-statement.statement, state c.statement.new.self) c.in_ok-statement.ensures).less
 
 pub loop-self-preserved : goal.loop-self-preserved
 loop-self-preserved c =
     let e : (map statement_of c.push.new.self.items) ≡ (map statement_of c.loop-self.body.items) ++ (statement_of c.in_ok-statement.statement) ∷ [] = rw c.in_ok-push.ensures.items (map_push statement_of c.loop-self.body.items c.in_ok-statement.statement) in
-    rw e (more is_no_end statement_at statements_progress (map statement_of c.loop-self.body.items) (state c.loop-self.self) (many is_no_end statement_at (state c.args.self.now)) (statement_of c.in_ok-statement.statement) (state c.statement.new.self) (sym c.is_in_block.ensures ∙ c.loop-self-test.true) c.in_ok-statement.ensures c.loop-self.invariant)
+    rw e (more is_no_end (statement_at c.args.room) (statements_progress c.args.room) (map statement_of c.loop-self.body.items) (state c.loop-self.self) (many is_no_end (statement_at c.args.room) (state c.args.self.now)) (statement_of c.in_ok-statement.statement) (state c.statement.new.self) (sym c.is_in_block.ensures ∙ c.loop-self-test.true) c.in_ok-statement.ensures c.loop-self.invariant)
 
 pub returns : goal.returns
-returns c = ends is_no_end (one_more statement_at) statements_progress (map statement_of c.loop-self.body.items) (state c.loop-self.self) (many is_no_end statement_at (state c.args.self.now)) (sym c.is_in_block.ensures ∙ c.loop-self-test.false) c.loop-self.invariant
+returns c = ends is_no_end (one_more (statement_at c.args.room)) (statements_progress c.args.room) (map statement_of c.loop-self.body.items) (state c.loop-self.self) (many is_no_end (statement_at c.args.room) (state c.args.self.now)) (sym c.is_in_block.ensures ∙ c.loop-self-test.false) c.loop-self.invariant

@@ -6,7 +6,7 @@ use Rattle.camac_text.specs.Parser.{state}
 use Rattle.camac_text.proofs.cursor.Parser.statements.Given as goal
 
 abbrev pub invariant-loop-self : goal.invariant-loop-self
-invariant-loop-self l = while_next is_no_end (one_more statement_at) (map statement_of l.body.items) (state l.self) ≡ many is_no_end statement_at (state l.fn.self)
+invariant-loop-self l = while_next is_no_end (one_more (statement_at l.room)) (map statement_of l.body.items) (state l.self) ≡ many is_no_end (statement_at l.fn.room) (state l.fn.self)
 
 abbrev pub decreases-loop-self : goal.decreases-loop-self
 decreases-loop-self l = length l.self.rest.now
