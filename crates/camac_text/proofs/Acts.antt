@@ -42,7 +42,7 @@ pub record RegistersFit (declared registers : List Text) : Type 0 where
   pub names : are_declarable registers declared ≡ true
   pub few : length registers ≤ 64
 
-each_push : {A : Type 0} (test : A → Bool) (xs : List A) (x : A) → each test xs ≡ true → test x ≡ true → each test (xs ++ x ∷ []) ≡ true
+pub each_push : {A : Type 0} (test : A → Bool) (xs : List A) (x : A) → each test xs ≡ true → test x ≡ true → each test (xs ++ x ∷ []) ≡ true
 each_push test [] x e h = both (test x) true h refl
 each_push test (y ∷ ys) x e h =
     both (test y) (each test (ys ++ x ∷ [])) (first_of_both (test y) (each test ys) e) (each_push test ys x (second_of_both (test y) (each test ys) e) h)

@@ -7,8 +7,11 @@ pub mod Uses
 pub mod Acts
 pub mod ExpressionsRead
 pub mod BracketsRead
+pub mod ConditionsRead
+pub mod Blocks
 pub mod ActionsRead
 pub mod CallsRead
+pub mod ChoicesRead
 pub mod StatementsRead
 pub mod Bodies
 pub mod Declares
@@ -16,6 +19,7 @@ pub mod Fitting
 pub mod WellFormed
 pub mod Local
 pub mod LocalExpressions
+pub mod LocalConditions
 pub mod LocalStatements
 pub mod LocalDeclarations
 pub mod Faults

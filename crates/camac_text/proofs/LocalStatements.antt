@@ -1,6 +1,7 @@
 -- Readers of statements are local.
-use Rattle.std.proofs.Common.{true, false, cond, ℕ, suc, nat_lt, [], ◌∷◌, ◌++◌, Option, Some, refl}
-use Rattle.camac_lang.specs.Tree.{no_data, into, from, assign, set_register, single, put, crate_call, lam_call}
+use Rattle.std.proofs.Common.{◌≡◌, true, false, cond, ℕ, zero, suc, List, Ok, nat_lt, [], ◌∷◌, ◌++◌, Option, Some, refl}
+use Rattle.camac_lang.specs.Tree.{no_data, into, from, assign, set_register, single, put, crate_call, lam_call, choose, choose_else, Statement, Condition}
+use Rattle.camac_lang.specs.View.{block_of}
 use Rattle.camac_lang.specs.declared.word.WordSize.{WordSize}
 use Rattle.camac_lang.specs.declared.word.WordSize.TheVariants.{Full, Short}
 use Rattle.camac_lang.specs.declared.word.CrateCall.{CrateCall}
@@ -12,12 +13,15 @@ use Rattle.camac_tokens.specs.declared.token.Keyword.TheVariants as word
 use Rattle.camac_tokens.specs.declared.token.Sign.TheVariants as sign
 use Rattle.camac_tokens.specs.declared.token.TokenKind.{TokenKind}
 use Rattle.camac_tokens.specs.declared.token.TokenKind.TheVariants as kind
-use Rattle.camac_text.specs.Reading.{State, ◌>>=◌, ◌>>◌, give, change, peek, advance, check, kind_of, line_of, one_more, many}
-use Rattle.camac_text.specs.Readers.{expect_sign, branch_number, function_number, set_name, used_register, used_variable, variable_here, used_lam}
+use Rattle.camac_text.specs.Reading.{State, Reader, fail, ◌>>=◌, ◌>>◌, give, change, peek, advance, check, kind_of, line_of, one_more, many}
+use Rattle.camac_text.specs.Readers.{is_sign, expect_sign, branch_number, function_number, set_name, used_register, used_variable, variable_here, used_lam}
 use Rattle.camac_text.specs.Expressions.{expression_at}
-use Rattle.camac_text.specs.Statements.{begin, assignment, register_setting, move_by, move_at, single_action, put_action, switch_by, switch, crate_action, crate_switch, lam_action, lam_switch, lam_call_by, crate_call_by, statement_by, statement_at, is_no_end, block_at}
-use Rattle.camac_text.proofs.Bodies.{statements_progress}
-use Rattle.camac_text.proofs.Places.{IsLocal, local_then, local_peek, local_line, local_ask, local_change, local_give, local_fail, local_advance, local_check, local_while}
+use Rattle.camac_text.specs.Statements.{begin, assignment, register_setting, move_by, move_at, single_action, put_action, switch_by, switch, crate_action, crate_switch, lam_action, lam_switch, lam_call_by, crate_call_by, else_by, choice, statement_by, statement_with, is_no_end, block_at}
+use Rattle.camac_text.specs.Conditions.{condition_at}
+use Rattle.camac_text.proofs.Blocks.{Body}
+use Rattle.camac_text.proofs.Bodies.{with_progress, block_ok}
+use Rattle.camac_text.proofs.LocalConditions.{local_condition}
+use Rattle.camac_text.proofs.Places.{IsLocal, local_then, local_peek, local_line, local_ask, local_change, local_give, local_fail, local_advance, local_if, local_check, local_while}
 use Rattle.camac_text.proofs.Local.{local_take, local_used_lam, local_expect_sign, local_branch, local_function, local_set_name, local_used_register, local_used_variable, local_variable_here}
 use Rattle.camac_text.proofs.LocalExpressions.{local_expression}
 
@@ -128,27 +132,46 @@ local_crate_call_by room line k s = local_lam_call_by line k s
 
 -- ---- all statements
 
-local_statement_by : (room line : ℕ) (k : Option TokenKind) (s : State) → IsLocal (statement_by room line k) s
-local_statement_by room line (Some (kind.Name x)) s = local_assignment room line s
-local_statement_by room line (Some (kind.Keyword word.Cdreg)) s = local_setting room line s
-local_statement_by room line (Some (kind.Keyword word.Cfsa)) s = local_single Full room line s
-local_statement_by room line (Some (kind.Keyword word.Cssa)) s = local_single Short room line s
-local_statement_by room line (Some (kind.Keyword word.Put)) s = local_put room line s
-local_statement_by room line k s = local_crate_call_by room line k s
+module _ (room : ℕ) (block : Reader (List Statement)) (block_is : (s : State) (y : List Statement × State) → block s ≡ Ok y → Body room s y.0 y.1) (block_local : (s : State) → IsLocal block s) where
+  local_else_by : (line : ℕ) (c : Condition) (xs : List Statement) (k : Option TokenKind) (s : State) → IsLocal (else_by block line c xs k) s
+  local_else_by line c xs (Some (kind.Keyword word.Else)) s =
+      local_then advance (λ _. block >>= λ ys. give (choose_else line c (block_of xs) (block_of ys))) s (local_advance s) (λ _ u _.
+      local_then block (λ ys. give (choose_else line c (block_of xs) (block_of ys))) u (block_local u) (λ ys v _. local_give (choose_else line c (block_of xs) (block_of ys)) v))
+  local_else_by line c xs _ s = local_give (choose line c (block_of xs)) s
 
-pub local_statement : (room : ℕ) (s : State) → IsLocal (statement_at room) s
-unfolding statement_at
-local_statement room s = local_line (λ line. peek >>= λ k. statement_by room line k) s (local_peek (λ k. statement_by room (line_of s.rest s.end_line) k) s (local_statement_by room (line_of s.rest s.end_line) (kind_of s.rest) s))
+  local_choice : (line : ℕ) (s : State) → IsLocal (choice room block line) s
+  unfolding choice
+  local_choice line s =
+      local_then begin (λ _. condition_at room >>= λ c. block >>= λ xs. peek >>= λ k. else_by block line c xs k) s (local_begin s) (λ _ u _.
+      local_then (condition_at room) (λ c. block >>= λ xs. peek >>= λ k. else_by block line c xs k) u (local_condition room u) (λ c u _.
+      local_then block (λ xs. peek >>= λ k. else_by block line c xs k) u (block_local u) (λ xs v _.
+      local_peek (λ k. else_by block line c xs k) v (local_else_by line c xs (kind_of v.rest) v))))
 
-pub local_statements : (room : ℕ) (s : State) → IsLocal (many is_no_end (statement_at room)) s
-unfolding many
-local_statements room s =
-    local_while is_no_end (one_more (statement_at room)) (statements_progress room) (λ xs u _.
-    local_then (statement_at room) (λ x. give (xs ++ x ∷ [])) u (local_statement room u) (λ x v _. local_give (xs ++ x ∷ []) v)) [] s
+  local_statement_by : (line : ℕ) (k : Option TokenKind) (s : State) → IsLocal (statement_by room block line k) s
+  local_statement_by line (Some (kind.Name x)) s = local_assignment room line s
+  local_statement_by line (Some (kind.Keyword word.Cdreg)) s = local_setting room line s
+  local_statement_by line (Some (kind.Keyword word.Cfsa)) s = local_single Full room line s
+  local_statement_by line (Some (kind.Keyword word.Cssa)) s = local_single Short room line s
+  local_statement_by line (Some (kind.Keyword word.Put)) s = local_put room line s
+  local_statement_by line (Some (kind.Keyword word.If)) s = local_choice line s
+  local_statement_by line k s = local_crate_call_by room line k s
 
-pub local_block : (s : State) → IsLocal block_at s
+  local_statement : (s : State) → IsLocal (statement_with room block) s
+  unfolding statement_with
+  local_statement s = local_line (λ line. peek >>= λ k. statement_by room block line k) s (local_peek (λ k. statement_by room block (line_of s.rest s.end_line) k) s (local_statement_by (line_of s.rest s.end_line) (kind_of s.rest) s))
+
+  local_statements : (s : State) → IsLocal (many is_no_end (statement_with room block)) s
+  unfolding many
+  local_statements s =
+      local_while is_no_end (one_more (statement_with room block)) (with_progress room block block_is) (λ xs u _.
+      local_then (statement_with room block) (λ x. give (xs ++ x ∷ [])) u (local_statement u) (λ x v _. local_give (xs ++ x ∷ []) v)) [] s
+
+pub local_block : (room : ℕ) (s : State) → IsLocal (block_at room) s
 unfolding block_at
-local_block s =
-    local_then (expect_sign sign.LeftBrace) (λ _. many is_no_end (statement_at 15) >>= λ body. expect_sign sign.RightBrace >> give body) s (local_expect_sign sign.LeftBrace s) (λ _ u _.
-    local_then (many is_no_end (statement_at 15)) (λ body. expect_sign sign.RightBrace >> give body) u (local_statements 15 u) (λ body v _.
+local_block zero s =
+    local_peek (λ k. cond (is_sign sign.LeftBrace k) (fail LimitPassed) (fail UnexpectedToken)) s
+    (local_if (is_sign sign.LeftBrace (kind_of s.rest)) (fail LimitPassed) (fail UnexpectedToken) s (λ _. local_fail LimitPassed s tt) (λ _. local_fail UnexpectedToken s tt))
+local_block (suc room) s =
+    local_then (expect_sign sign.LeftBrace) (λ _. many is_no_end (statement_with room (block_at room)) >>= λ body. expect_sign sign.RightBrace >> give body) s (local_expect_sign sign.LeftBrace s) (λ _ u _.
+    local_then (many is_no_end (statement_with room (block_at room))) (λ body. expect_sign sign.RightBrace >> give body) u (local_statements room (block_at room) (block_ok room) (local_block room) u) (λ body v _.
     local_then (expect_sign sign.RightBrace) (λ _. give body) v (local_expect_sign sign.RightBrace v) (λ _ w _. local_give body w)))

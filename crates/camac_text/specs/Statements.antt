@@ -1,6 +1,7 @@
 -- What is read at each place of a statement.
-use Rattle.std.specs.Prelude.{ℕ, suc, Bool, true, false, List, Option, Some, nat_lt, not, if◌then◌else◌}
-use Rattle.camac_lang.specs.Tree.{Move, no_data, into, from, Statement, assign, set_register, single, put, crate_call, lam_call}
+use Rattle.std.specs.Prelude.{ℕ, zero, suc, Bool, true, false, List, Option, Some, nat_lt, not, if◌then◌else◌}
+use Rattle.camac_lang.specs.Tree.{Move, no_data, into, from, Statement, assign, set_register, single, put, crate_call, lam_call, choose, choose_else, Condition}
+use Rattle.camac_lang.specs.View.{block_of}
 use Rattle.camac_lang.specs.declared.word.WordSize.{WordSize}
 use Rattle.camac_lang.specs.declared.word.WordSize.TheVariants.{Full, Short}
 use Rattle.camac_lang.specs.declared.word.CrateCall.{CrateCall}
@@ -15,6 +16,7 @@ use Rattle.camac_tokens.specs.declared.fault.TextRule.TheVariants.{UnexpectedTok
 use Rattle.camac_text.specs.Reading.{Reader, ◌>>=◌, ◌>>◌, give, ask, change, peek, advance, line_here, fail, check, many}
 use Rattle.camac_text.specs.Readers.{is_sign, expect_sign, branch_number, function_number, set_name, used_register, used_variable, variable_here, used_lam}
 use Rattle.camac_text.specs.Expressions.{expression_at}
+use Rattle.camac_text.specs.Conditions.{condition_at}
 
 -- the first token of a statement, which is counted
 unfoldable pub begin : Reader (Unit {0})
@@ -127,28 +129,48 @@ crate_call_by room line k = lam_call_by line k
 
 -- ---- all statements
 
-abbrev pub statement_by : ℕ → ℕ → Option TokenKind → Reader Statement
-statement_by room line (Some (kind.Name x)) = assignment room line
-statement_by room line (Some (kind.Keyword word.Cdreg)) = register_setting room line
-statement_by room line (Some (kind.Keyword word.Cfsa)) = single_action Full room line
-statement_by room line (Some (kind.Keyword word.Cssa)) = single_action Short room line
-statement_by room line (Some (kind.Keyword word.Put)) = put_action room line
-statement_by room line k = crate_call_by room line k
+-- what stands behind a condition and its block
+abbrev pub else_by : Reader (List Statement) → ℕ → Condition → List Statement → Option TokenKind → Reader Statement
+else_by block line test body (Some (kind.Keyword word.Else)) = do
+  advance
+  other ← block
+  give (choose_else line test (block_of body) (block_of other))
+else_by block line test body _ = give (choose line test (block_of body))
 
--- a statement, where so many brackets may be open at once
-unfoldable pub statement_at : ℕ → Reader Statement
-statement_at room = do
+unfoldable pub choice : ℕ → Reader (List Statement) → ℕ → Reader Statement
+choice room block line = do
+  begin
+  test ← condition_at room
+  body ← block
+  next ← peek
+  else_by block line test body next
+
+-- a statement, where so many brackets and braces may be open at once and this is read as a block
+abbrev pub statement_by : ℕ → Reader (List Statement) → ℕ → Option TokenKind → Reader Statement
+statement_by room block line (Some (kind.Name x)) = assignment room line
+statement_by room block line (Some (kind.Keyword word.Cdreg)) = register_setting room line
+statement_by room block line (Some (kind.Keyword word.Cfsa)) = single_action Full room line
+statement_by room block line (Some (kind.Keyword word.Cssa)) = single_action Short room line
+statement_by room block line (Some (kind.Keyword word.Put)) = put_action room line
+statement_by room block line (Some (kind.Keyword word.If)) = choice room block line
+statement_by room block line k = crate_call_by room line k
+
+unfoldable pub statement_with : ℕ → Reader (List Statement) → Reader Statement
+statement_with room block = do
   line ← line_here
   next ← peek
-  statement_by room line next
+  statement_by room block line next
+
+-- ---- blocks
 
 abbrev pub is_no_end : Option TokenKind → Bool
 is_no_end k = not (is_sign sign.RightBrace k)
 
--- the body of a service, whose brace is one of 16 that may be open
-unfoldable pub block_at : Reader (List Statement)
-block_at = do
+-- a block, where so many braces may be open at once
+unfoldable pub block_at : ℕ → Reader (List Statement)
+block_at zero = peek >>= λ k. if is_sign sign.LeftBrace k then fail LimitPassed else fail UnexpectedToken
+block_at (suc room) = do
   expect_sign sign.LeftBrace
-  body ← many is_no_end (statement_at 15)
+  body ← many is_no_end (statement_with room (block_at room))
   expect_sign sign.RightBrace
   give body
