@@ -42,7 +42,7 @@ pub record RegistersFit (declared registers : List Text) : Type 0 where
   pub names : are_declarable registers declared ≡ true
   pub few : length registers ≤ 64
 
-each_push : {A : Type 0} (test : A → Bool) (xs : List A) (x : A) → each test xs ≡ true → test x ≡ true → each test (xs ++ x ∷ []) ≡ true
+pub each_push : {A : Type 0} (test : A → Bool) (xs : List A) (x : A) → each test xs ≡ true → test x ≡ true → each test (xs ++ x ∷ []) ≡ true
 each_push test [] x e h = both (test x) true h refl
 each_push test (y ∷ ys) x e h =
     both (test y) (each test (ys ++ x ∷ [])) (first_of_both (test y) (each test ys) e) (each_push test ys x (second_of_both (test y) (each test ys) e) h)
@@ -118,30 +118,30 @@ begin_ok s y e =
     let c = check_ok (nat_lt s.statements 4096) LimitPassed (change (λ u. record u { statements = suc u.statements }) >> advance) s y e in
     (ltb-true s.statements 4096 c.0, sym (ap (λ (p : Unit {0} × State). p.1) (ok_is (tt, begun s) y c.1)))
 
--- a statement is read
-pub record Acts (s : State) (x : Statement) (s' : State) : Type 0 where
-  pub same : s' ≡ record s { rest = s'.rest; registers = s'.registers; statements = suc s.statements }
+-- a statement is read, where so many brackets and braces may be open
+pub record Acts (room : ℕ) (s : State) (x : Statement) (s' : State) : Type 0 where
+  pub same : s' ≡ record s { rest = s'.rest; registers = s'.registers; statements = s.statements + statements_in x }
   pub fit : AllFit s.rest → AllFit s'.rest
   pub less : length s'.rest < length s.rest
-  pub room : s.statements < 4096
+  pub few : s.statements ≤ 4096 → s'.statements ≤ 4096
   pub after : AllFit s.rest → after (scope_of s) (length s.registers) x ≡ Some (length s'.registers)
   pub registers : AllFit s.rest → RegistersFit s.declared s.registers → RegistersFit s.declared s'.registers
-  pub flat : statement_depth [] x ≡ 0
-  pub one : statements_in x ≡ 1
+  pub deep : statement_depth [] x ≤ room
 
 -- one that sets no register
-pub acts : (s : State) (x : Statement) (k : TokenKind) (t : State) → kind_of s.rest ≡ Some k → s.statements < 4096 → Moves (begun s) t → (AllFit s.rest → after (scope_of s) (length s.registers) x ≡ Some (length s.registers)) → statement_depth [] x ≡ 0 → statements_in x ≡ 1 → Acts s x t
-acts s x k t next room m rule flat one =
+pub acts : (room : ℕ) (s : State) (x : Statement) (k : TokenKind) (t : State) → kind_of s.rest ≡ Some k → s.statements < 4096 → Moves (begun s) t → (AllFit s.rest → after (scope_of s) (length s.registers) x ≡ Some (length s.registers)) → statement_depth [] x ≤ room → statements_in x ≡ 1 → Acts room s x t
+acts room s x k t next below m rule deep one =
     let registers : t.registers ≡ s.registers = ap (λ (w : State). w.registers) m.same in
+    let counted : t.statements ≡ suc s.statements = ap (λ (w : State). w.statements) m.same in
+    let count : suc s.statements ≡ s.statements + statements_in x = omega (arith, one) in
     let less : length (behind s.rest) < length s.rest = behind_less s.rest k next in
     let shorter : length t.rest ≤ length (behind s.rest) = m.shorter in
     record {
-      same = m.same ∙ ap (λ (rs : List Text). record s { rest = t.rest; registers = rs; statements = suc s.statements }) (sym registers);
+      same = m.same ∙ ap (λ (rs : List Text). record s { rest = t.rest; registers = rs; statements = suc s.statements }) (sym registers) ∙ ap (λ (n : ℕ). record s { rest = t.rest; registers = t.registers; statements = n }) count;
       fit = λ h. m.fit ((moved s).fit h);
       less = omega arith;
-      room = room;
+      few = λ h. omega arith;
       after = λ h. rule h ∙ ap (λ (rs : List Text). Some (length rs)) (sym registers);
       registers = λ h fits. subst (λ (rs : List Text). RegistersFit s.declared rs) (sym registers) fits;
-      flat = flat;
-      one = one;
+      deep = deep;
     }

@@ -17,7 +17,8 @@ use Rattle.camac_text.proofs.Steps.{then_ok, ok_is, err_no_ok, Progresses, while
 use Rattle.camac_text.proofs.Moves.{AllFit, Moves, kind_fit, behind_less, stays, moved, then_moves, one_moves, check_ok, any_number_ok, branch_ok, sub_address_ok, expect_ok, new_name_ok}
 use Rattle.camac_text.proofs.Uses.{used_lam_ok}
 use Rattle.camac_text.proofs.Acts.{below_le, declarable_push, first_of_both, second_of_both}
-use Rattle.camac_text.proofs.Bodies.{Body, behind_moves, block_ok}
+use Rattle.camac_text.proofs.Blocks.{Body, behind_moves}
+use Rattle.camac_text.proofs.Bodies.{block_ok}
 
 -- ---- variables
 
@@ -226,7 +227,7 @@ pub record ServiceDeclaration (s s' : State) : Type 0 where
   pub words : ℕ
   pub statements : List Statement
   pub between : State
-  pub body : Body s statements between
+  pub body : Body 16 s statements between
   pub room : length s.services < 24
   pub lam_fits : lam < length s.lams
   pub cycles_fit : AllFit s.rest → is_number cycles ≡ true
@@ -249,15 +250,15 @@ service_is s k line y next e =
     let g = then_ok (any_number f.0.1) _ y f.2 in
     let words = any_number_ok f.0.1 g.0 g.1 in
     let h = then_ok (expect word.Words g.0.1) _ y g.2 in
-    let i = then_ok (block_at h.0.1) _ y h.2 in
-    let body = block_ok h.0.1 i.0 i.1 in
+    let i = then_ok (block_at 16 h.0.1) _ y h.2 in
+    let body = block_ok 16 h.0.1 i.0 i.1 in
     let to_b : Moves t b.0.1 = then_moves t a.0.1 b.0.1 lam.1 (expect_ok word.Within a.0.1 b.0 b.1) in
     let to_c : Moves t c.0.1 = then_moves t b.0.1 c.0.1 to_b (one_moves b.0.1 (kind.Number c.0.0) c.0.1 cycles) in
     let to_d : Moves t d.0.1 = then_moves t c.0.1 d.0.1 to_c (expect_ok word.Cycles c.0.1 d.0 d.1) in
     let to_f : Moves t f.0.1 = then_moves t d.0.1 f.0.1 to_d (expect_ok word.Event d.0.1 f.0 f.1) in
     let to_g : Moves t g.0.1 = then_moves t f.0.1 g.0.1 to_f (one_moves f.0.1 (kind.Number g.0.0) g.0.1 words) in
     let to_h : Moves t h.0.1 = then_moves t g.0.1 h.0.1 to_g (expect_ok word.Words g.0.1 h.0 h.1) in
-    let inner : Body t i.0.0 i.0.1 = behind_moves t h.0.1 i.0.0 i.0.1 to_h body in
+    let inner : Body 16 t i.0.0 i.0.1 = behind_moves 16 t h.0.1 i.0.0 i.0.1 to_h body in
     let left : y.1 ≡ with_service line a.0.0 c.0.0 g.0.0 i.0.0 i.0.1 = sym (ap (λ (p : Unit {0} × State). p.1) (ok_is (tt, with_service line a.0.0 c.0.0 g.0.0 i.0.0 i.0.1) y i.2)) in
     let less : length (behind s.rest) < length s.rest = behind_less s.rest k next in
     let shorter : length i.0.1.rest ≤ length (behind s.rest) = inner.shorter in
@@ -268,7 +269,7 @@ service_is s k line y next e =
       words = g.0.0;
       statements = i.0.0;
       between = i.0.1;
-      body = behind_moves s t i.0.0 i.0.1 (moved s) inner;
+      body = behind_moves 16 s t i.0.0 i.0.1 (moved s) inner;
       room = ltb-true (length s.services) 24 c0.0;
       lam_fits = lam.0;
       cycles_fit = λ fits. kind_fit b.0.1.rest (kind.Number c.0.0) cycles.next (to_b.fit ((moved s).fit fits));

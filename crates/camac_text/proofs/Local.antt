@@ -9,7 +9,7 @@ use Rattle.camac_tokens.specs.declared.token.TokenKind.{TokenKind}
 use Rattle.camac_tokens.specs.declared.token.TokenKind.TheVariants as kind
 use Rattle.camac_text.specs.Names.{place_of, lam_place}
 use Rattle.camac_text.specs.Reading.{State, ◌>>=◌, ◌>>◌, give, ask, change, advance, fail, check, kind_of}
-use Rattle.camac_text.specs.Readers.{is_keyword, is_sign, expect, expect_sign, name_of, name_here, number_of, number_here, any_number, branch_number, function_number, sub_address_number, new_name, with_variable, new_variable, with_register, register_at, set_name, used_at, used_register, used_variable, used_lam}
+use Rattle.camac_text.specs.Readers.{is_keyword, is_sign, expect, expect_sign, name_of, name_here, number_of, number_here, any_number, branch_number, function_number, sub_address_number, new_name, with_variable, new_variable, with_register, register_at, set_name, used_at, used_register, used_variable, used_lam, known_at, variable_here}
 use Rattle.camac_text.proofs.Moves.{number_ok, name_ok, new_name_ok}
 use Rattle.camac_text.proofs.Places.{IsLocal, local_then, local_peek, local_ask, local_change, local_give, local_fail, local_advance, local_if, local_check}
 
@@ -122,3 +122,13 @@ unfolding used_lam
 local_used_lam s =
     local_then name_here (λ x. ask (λ u. u.lams) >>= λ known. used_at (lam_place x known)) s (local_name s) (λ x u took.
     local_ask (λ w. w.lams) (λ w ts n. refl) (λ known. used_at (lam_place x known)) u (local_used_at x (lam_place x u.lams) u (name_at s x u took)))
+
+local_known_at : (x : Text) (place : Option ℕ) (s : State) → kind_of s.rest ≡ Some (kind.Name x) → IsLocal (known_at place) s
+local_known_at x (Some place) s at = local_give place s
+local_known_at x None s at = local_fail NotDeclared s (x, at)
+
+pub local_variable_here : (s : State) → IsLocal variable_here s
+unfolding variable_here
+local_variable_here s =
+    local_then name_here (λ x. ask (λ u. u.variables) >>= λ known. known_at (place_of x known)) s (local_name s) (λ x u took.
+    local_ask (λ w. w.variables) (λ w ts n. refl) (λ known. known_at (place_of x known)) u (local_known_at x (place_of x u.variables) u (name_at s x u took)))

@@ -41,7 +41,7 @@ local_variables line s =
 
 -- a service from so many of its words on
 abbrev from_words : ℕ → ℕ → ℕ → ℕ → Reader (Unit {0})
-from_words line l c w = expect word.Words >> (block_at >>= λ body. change (with_service line l c w body))
+from_words line l c w = expect word.Words >> (block_at 16 >>= λ body. change (with_service line l c w body))
 
 abbrev from_cycles : ℕ → ℕ → ℕ → Reader (Unit {0})
 from_cycles line l c = expect word.Cycles >> (expect word.Event >> (any_number >>= λ w. from_words line l c w))
@@ -61,8 +61,8 @@ local_service line s =
     local_then (expect word.Cycles) (λ _. expect word.Event >> (any_number >>= λ w. from_words line l c w)) u (local_expect word.Cycles u) (λ _ u _.
     local_then (expect word.Event) (λ _. any_number >>= λ w. from_words line l c w) u (local_expect word.Event u) (λ _ u _.
     local_then any_number (λ w. from_words line l c w) u (local_any_number u) (λ w u _.
-    local_then (expect word.Words) (λ _. block_at >>= λ body. change (with_service line l c w body)) u (local_expect word.Words u) (λ _ u _.
-    local_then block_at (λ body. change (with_service line l c w body)) u (local_block u) (λ body u _. local_change (with_service line l c w body) (λ v ts n. refl) (λ v. refl) u)))))))))))
+    local_then (expect word.Words) (λ _. block_at 16 >>= λ body. change (with_service line l c w body)) u (local_expect word.Words u) (λ _ u _.
+    local_then (block_at 16) (λ body. change (with_service line l c w body)) u (local_block 16 u) (λ body u _. local_change (with_service line l c w body) (λ v ts n. refl) (λ v. refl) u)))))))))))
 
 local_declaration_by : (line : ℕ) (k : Option TokenKind) (s : State) → IsLocal (declaration_by line k) s
 local_declaration_by line (Some (kind.Keyword word.Cdlam)) s = local_lam line s

@@ -1,6 +1,7 @@
 -- Readers of statements are local.
-use Rattle.std.proofs.Common.{true, false, cond, ℕ, suc, nat_lt, [], ◌∷◌, ◌++◌, Option, Some, refl}
-use Rattle.camac_lang.specs.Tree.{number, variable, no_data, into, from, set_register, single, put, crate_call, lam_call}
+use Rattle.std.proofs.Common.{◌≡◌, true, false, cond, ℕ, zero, suc, List, Ok, nat_lt, [], ◌∷◌, ◌++◌, Option, Some, refl}
+use Rattle.camac_lang.specs.Tree.{no_data, into, from, assign, set_register, single, put, crate_call, lam_call, choose, choose_else, Statement, Condition}
+use Rattle.camac_lang.specs.View.{block_of}
 use Rattle.camac_lang.specs.declared.word.WordSize.{WordSize}
 use Rattle.camac_lang.specs.declared.word.WordSize.TheVariants.{Full, Short}
 use Rattle.camac_lang.specs.declared.word.CrateCall.{CrateCall}
@@ -12,74 +13,69 @@ use Rattle.camac_tokens.specs.declared.token.Keyword.TheVariants as word
 use Rattle.camac_tokens.specs.declared.token.Sign.TheVariants as sign
 use Rattle.camac_tokens.specs.declared.token.TokenKind.{TokenKind}
 use Rattle.camac_tokens.specs.declared.token.TokenKind.TheVariants as kind
-use Rattle.camac_text.specs.Reading.{State, ◌>>=◌, ◌>>◌, give, change, peek, advance, check, kind_of, line_of, one_more, many}
-use Rattle.camac_text.specs.Readers.{expect_sign, any_number, branch_number, function_number, set_name, used_register, used_variable, used_lam}
-use Rattle.camac_text.specs.Expressions.{literal, operand_by, operand}
-use Rattle.camac_text.specs.Statements.{begin, register_setting, move_by, move_at, single_action, put_action, switch_by, switch, crate_action, crate_switch, lam_action, lam_switch, lam_call_by, crate_call_by, statement_by, statement_at, is_no_end, block_at}
-use Rattle.camac_text.proofs.Bodies.{statements_progress}
-use Rattle.camac_text.proofs.Places.{IsLocal, local_then, local_peek, local_line, local_ask, local_change, local_give, local_fail, local_advance, local_check, local_while}
-use Rattle.camac_text.proofs.Local.{local_take, local_used_lam, local_expect_sign, local_any_number, local_branch, local_function, local_set_name, local_used_register, local_used_variable}
+use Rattle.camac_text.specs.Reading.{State, Reader, fail, ◌>>=◌, ◌>>◌, give, change, peek, advance, check, kind_of, line_of, one_more, many}
+use Rattle.camac_text.specs.Readers.{is_sign, expect_sign, branch_number, function_number, set_name, used_register, used_variable, variable_here, used_lam}
+use Rattle.camac_text.specs.Expressions.{expression_at}
+use Rattle.camac_text.specs.Statements.{begin, assignment, register_setting, move_by, move_at, single_action, put_action, switch_by, switch, crate_action, crate_switch, lam_action, lam_switch, lam_call_by, crate_call_by, else_by, choice, statement_by, statement_with, is_no_end, block_at}
+use Rattle.camac_text.specs.Conditions.{condition_at}
+use Rattle.camac_text.proofs.Blocks.{Body}
+use Rattle.camac_text.proofs.Bodies.{with_progress, block_ok}
+use Rattle.camac_text.proofs.LocalConditions.{local_condition}
+use Rattle.camac_text.proofs.Places.{IsLocal, local_then, local_peek, local_line, local_ask, local_change, local_give, local_fail, local_advance, local_if, local_check, local_while}
+use Rattle.camac_text.proofs.Local.{local_take, local_used_lam, local_expect_sign, local_branch, local_function, local_set_name, local_used_register, local_used_variable, local_variable_here}
+use Rattle.camac_text.proofs.LocalExpressions.{local_expression}
 
--- ---- expressions
-
-pub local_literal : (s : State) → IsLocal literal s
-unfolding literal
-local_literal s = local_then any_number (λ n. give (number n)) s (local_any_number s) (λ n u _. local_give (number n) u)
-
-pub local_operand_by : (k : Option TokenKind) (s : State) → IsLocal (operand_by k) s
-local_operand_by (Some (kind.Number n)) s = local_literal s
-local_operand_by (Some (kind.Name x)) s = local_then used_variable (λ place. give (variable place)) s (local_used_variable s) (λ place u _. local_give (variable place) u)
-local_operand_by _ s = local_fail UnexpectedToken s tt
-
-pub local_operand : (s : State) → IsLocal operand s
-unfolding operand
-local_operand s = local_peek operand_by s (local_operand_by (kind_of s.rest) s)
-
--- ---- statements
-
-pub local_begin : (s : State) → IsLocal begin s
+local_begin : (s : State) → IsLocal begin s
 unfolding begin
 local_begin s =
     local_ask (λ u. u.statements) (λ w ts n. refl) (λ count. check (nat_lt count 4096) LimitPassed >> (change (λ u. record u { statements = suc u.statements }) >> advance)) s
     (local_check (nat_lt s.statements 4096) LimitPassed (change (λ u. record u { statements = suc u.statements }) >> advance) s tt (λ _.
     local_then (change (λ u. record u { statements = suc u.statements })) (λ _. advance) s (local_change (λ u. record u { statements = suc u.statements }) (λ w ts n. refl) (λ w. refl) s) (λ _ u _. local_advance u)))
 
-pub local_setting : (line : ℕ) (s : State) → IsLocal (register_setting line) s
-unfolding register_setting
-local_setting line s =
-    local_then begin (λ _. set_name >>= λ r. branch_number >> (literal >>= λ c. literal >>= λ n. literal >>= λ a. give (set_register line r c n a))) s (local_begin s) (λ _ u _.
-    local_then set_name (λ r. branch_number >> (literal >>= λ c. literal >>= λ n. literal >>= λ a. give (set_register line r c n a))) u (local_set_name u) (λ r u _.
-    local_then branch_number (λ _. literal >>= λ c. literal >>= λ n. literal >>= λ a. give (set_register line r c n a)) u (local_branch u) (λ _ u _.
-    local_then literal (λ c. literal >>= λ n. literal >>= λ a. give (set_register line r c n a)) u (local_literal u) (λ c u _.
-    local_then literal (λ n. literal >>= λ a. give (set_register line r c n a)) u (local_literal u) (λ n u _.
-    local_then literal (λ a. give (set_register line r c n a)) u (local_literal u) (λ a u _. local_give (set_register line r c n a) u))))))
+local_assignment : (room line : ℕ) (s : State) → IsLocal (assignment room line) s
+unfolding assignment
+local_assignment room line s =
+    local_then variable_here (λ v. begin >> (expect_sign sign.Equals >> (expression_at room >>= λ e. give (assign line v e)))) s (local_variable_here s) (λ v u _.
+    local_then begin (λ _. expect_sign sign.Equals >> (expression_at room >>= λ e. give (assign line v e))) u (local_begin u) (λ _ u _.
+    local_then (expect_sign sign.Equals) (λ _. expression_at room >>= λ e. give (assign line v e)) u (local_expect_sign sign.Equals u) (λ _ u _.
+    local_then (expression_at room) (λ e. give (assign line v e)) u (local_expression room u) (λ e u _. local_give (assign line v e) u))))
 
-pub local_move_by : (k : Option TokenKind) (s : State) → IsLocal (move_by k) s
-local_move_by (Some (kind.Sign sign.Into)) s =
+local_setting : (room line : ℕ) (s : State) → IsLocal (register_setting room line) s
+unfolding register_setting
+local_setting room line s =
+    local_then begin (λ _. set_name >>= λ r. branch_number >> (expression_at room >>= λ c. expression_at room >>= λ n. expression_at room >>= λ a. give (set_register line r c n a))) s (local_begin s) (λ _ u _.
+    local_then set_name (λ r. branch_number >> (expression_at room >>= λ c. expression_at room >>= λ n. expression_at room >>= λ a. give (set_register line r c n a))) u (local_set_name u) (λ r u _.
+    local_then branch_number (λ _. expression_at room >>= λ c. expression_at room >>= λ n. expression_at room >>= λ a. give (set_register line r c n a)) u (local_branch u) (λ _ u _.
+    local_then (expression_at room) (λ c. expression_at room >>= λ n. expression_at room >>= λ a. give (set_register line r c n a)) u (local_expression room u) (λ c u _.
+    local_then (expression_at room) (λ n. expression_at room >>= λ a. give (set_register line r c n a)) u (local_expression room u) (λ n u _.
+    local_then (expression_at room) (λ a. give (set_register line r c n a)) u (local_expression room u) (λ a u _. local_give (set_register line r c n a) u))))))
+
+pub local_move_by : (room : ℕ) (k : Option TokenKind) (s : State) → IsLocal (move_by room k) s
+local_move_by room (Some (kind.Sign sign.Into)) s =
     local_then advance (λ _. used_variable >>= λ place. give (into place)) s (local_advance s) (λ _ u _.
     local_then used_variable (λ place. give (into place)) u (local_used_variable u) (λ place v _. local_give (into place) v))
-local_move_by (Some (kind.Sign sign.From)) s =
-    local_then advance (λ _. operand >>= λ value. give (from value)) s (local_advance s) (λ _ u _.
-    local_then operand (λ value. give (from value)) u (local_operand u) (λ value v _. local_give (from value) v))
-local_move_by _ s = local_give no_data s
+local_move_by room (Some (kind.Sign sign.From)) s =
+    local_then advance (λ _. expression_at room >>= λ value. give (from value)) s (local_advance s) (λ _ u _.
+    local_then (expression_at room) (λ value. give (from value)) u (local_expression room u) (λ value v _. local_give (from value) v))
+local_move_by room _ s = local_give no_data s
 
-pub local_move : (s : State) → IsLocal move_at s
+pub local_move : (room : ℕ) (s : State) → IsLocal (move_at room) s
 unfolding move_at
-local_move s = local_peek move_by s (local_move_by (kind_of s.rest) s)
+local_move room s = local_peek (move_by room) s (local_move_by room (kind_of s.rest) s)
 
-pub local_single : (size : WordSize) (line : ℕ) (s : State) → IsLocal (single_action size line) s
+pub local_single : (size : WordSize) (room line : ℕ) (s : State) → IsLocal (single_action size room line) s
 unfolding single_action
-local_single size line s =
-    local_then begin (λ _. function_number >>= λ f. used_register >>= λ r. move_at >>= λ m. give (single line size f r m)) s (local_begin s) (λ _ u _.
-    local_then function_number (λ f. used_register >>= λ r. move_at >>= λ m. give (single line size f r m)) u (local_function u) (λ f u _.
-    local_then used_register (λ r. move_at >>= λ m. give (single line size f r m)) u (local_used_register u) (λ r u _.
-    local_then move_at (λ m. give (single line size f r m)) u (local_move u) (λ m u _. local_give (single line size f r m) u))))
+local_single size room line s =
+    local_then begin (λ _. function_number >>= λ f. used_register >>= λ r. move_at room >>= λ m. give (single line size f r m)) s (local_begin s) (λ _ u _.
+    local_then function_number (λ f. used_register >>= λ r. move_at room >>= λ m. give (single line size f r m)) u (local_function u) (λ f u _.
+    local_then used_register (λ r. move_at room >>= λ m. give (single line size f r m)) u (local_used_register u) (λ r u _.
+    local_then (move_at room) (λ m. give (single line size f r m)) u (local_move room u) (λ m u _. local_give (single line size f r m) u))))
 
-pub local_put : (line : ℕ) (s : State) → IsLocal (put_action line) s
+pub local_put : (room line : ℕ) (s : State) → IsLocal (put_action room line) s
 unfolding put_action
-local_put line s =
-    local_then begin (λ _. operand >>= λ value. give (put line value)) s (local_begin s) (λ _ u _.
-    local_then operand (λ value. give (put line value)) u (local_operand u) (λ value v _. local_give (put line value) v))
+local_put room line s =
+    local_then begin (λ _. expression_at room >>= λ value. give (put line value)) s (local_begin s) (λ _ u _.
+    local_then (expression_at room) (λ value. give (put line value)) u (local_expression room u) (λ value v _. local_give (put line value) v))
 
 -- ---- crate calls and LAM calls
 
@@ -92,17 +88,17 @@ local_switch : (s : State) → IsLocal switch s
 unfolding switch
 local_switch s = local_peek switch_by s (local_switch_by (kind_of s.rest) s)
 
-local_crate : (call : CrateCall) (line : ℕ) (s : State) → IsLocal (crate_action call line) s
+local_crate : (call : CrateCall) (room line : ℕ) (s : State) → IsLocal (crate_action call room line) s
 unfolding crate_action
-local_crate call line s =
-    local_then begin (λ _. operand >>= λ c. give (crate_call line call c)) s (local_begin s) (λ _ u _.
-    local_then operand (λ c. give (crate_call line call c)) u (local_operand u) (λ c v _. local_give (crate_call line call c) v))
+local_crate call room line s =
+    local_then begin (λ _. expression_at room >>= λ c. give (crate_call line call c)) s (local_begin s) (λ _ u _.
+    local_then (expression_at room) (λ c. give (crate_call line call c)) u (local_expression room u) (λ c v _. local_give (crate_call line call c) v))
 
-local_crate_switch : (on off : CrateCall) (line : ℕ) (s : State) → IsLocal (crate_switch on off line) s
+local_crate_switch : (on off : CrateCall) (room line : ℕ) (s : State) → IsLocal (crate_switch on off room line) s
 unfolding crate_switch
-local_crate_switch on off line s =
-    local_then begin (λ _. operand >>= λ c. switch >>= λ is. give (crate_call line (cond is on off) c)) s (local_begin s) (λ _ u _.
-    local_then operand (λ c. switch >>= λ is. give (crate_call line (cond is on off) c)) u (local_operand u) (λ c u _.
+local_crate_switch on off room line s =
+    local_then begin (λ _. expression_at room >>= λ c. switch >>= λ is. give (crate_call line (cond is on off) c)) s (local_begin s) (λ _ u _.
+    local_then (expression_at room) (λ c. switch >>= λ is. give (crate_call line (cond is on off) c)) u (local_expression room u) (λ c u _.
     local_then switch (λ is. give (crate_call line (cond is on off) c)) u (local_switch u) (λ is v _. local_give (crate_call line (cond is on off) c) v)))
 
 local_lam_action : (call : LamCall) (line : ℕ) (s : State) → IsLocal (lam_action call line) s
@@ -124,38 +120,58 @@ local_lam_call_by line (Some (kind.Keyword word.Cclc)) s = local_lam_action lam_
 local_lam_call_by line (Some (kind.Keyword word.Ctlm)) s = local_lam_action lam_word.Test line s
 local_lam_call_by line _ s = local_fail UnexpectedToken s tt
 
-local_crate_call_by : (line : ℕ) (k : Option TokenKind) (s : State) → IsLocal (crate_call_by line k) s
-local_crate_call_by line (Some (kind.Keyword word.Cccz)) s = local_crate crate_word.Initialise line s
-local_crate_call_by line (Some (kind.Keyword word.Cccc)) s = local_crate crate_word.Clear line s
-local_crate_call_by line (Some (kind.Keyword word.Ctci)) s = local_crate crate_word.TestInhibit line s
-local_crate_call_by line (Some (kind.Keyword word.Ctcd)) s = local_crate crate_word.TestDemandOutput line s
-local_crate_call_by line (Some (kind.Keyword word.Ctgl)) s = local_crate crate_word.TestDemand line s
-local_crate_call_by line (Some (kind.Keyword word.Ccci)) s = local_crate_switch crate_word.InhibitOn crate_word.InhibitOff line s
-local_crate_call_by line (Some (kind.Keyword word.Cccd)) s = local_crate_switch crate_word.DemandOn crate_word.DemandOff line s
-local_crate_call_by line k s = local_lam_call_by line k s
+local_crate_call_by : (room line : ℕ) (k : Option TokenKind) (s : State) → IsLocal (crate_call_by room line k) s
+local_crate_call_by room line (Some (kind.Keyword word.Cccz)) s = local_crate crate_word.Initialise room line s
+local_crate_call_by room line (Some (kind.Keyword word.Cccc)) s = local_crate crate_word.Clear room line s
+local_crate_call_by room line (Some (kind.Keyword word.Ctci)) s = local_crate crate_word.TestInhibit room line s
+local_crate_call_by room line (Some (kind.Keyword word.Ctcd)) s = local_crate crate_word.TestDemandOutput room line s
+local_crate_call_by room line (Some (kind.Keyword word.Ctgl)) s = local_crate crate_word.TestDemand room line s
+local_crate_call_by room line (Some (kind.Keyword word.Ccci)) s = local_crate_switch crate_word.InhibitOn crate_word.InhibitOff room line s
+local_crate_call_by room line (Some (kind.Keyword word.Cccd)) s = local_crate_switch crate_word.DemandOn crate_word.DemandOff room line s
+local_crate_call_by room line k s = local_lam_call_by line k s
 
 -- ---- all statements
 
-local_statement_by : (line : ℕ) (k : Option TokenKind) (s : State) → IsLocal (statement_by line k) s
-local_statement_by line (Some (kind.Keyword word.Cdreg)) s = local_setting line s
-local_statement_by line (Some (kind.Keyword word.Cfsa)) s = local_single Full line s
-local_statement_by line (Some (kind.Keyword word.Cssa)) s = local_single Short line s
-local_statement_by line (Some (kind.Keyword word.Put)) s = local_put line s
-local_statement_by line k s = local_crate_call_by line k s
+module _ (room : ℕ) (block : Reader (List Statement)) (block_is : (s : State) (y : List Statement × State) → block s ≡ Ok y → Body room s y.0 y.1) (block_local : (s : State) → IsLocal block s) where
+  local_else_by : (line : ℕ) (c : Condition) (xs : List Statement) (k : Option TokenKind) (s : State) → IsLocal (else_by block line c xs k) s
+  local_else_by line c xs (Some (kind.Keyword word.Else)) s =
+      local_then advance (λ _. block >>= λ ys. give (choose_else line c (block_of xs) (block_of ys))) s (local_advance s) (λ _ u _.
+      local_then block (λ ys. give (choose_else line c (block_of xs) (block_of ys))) u (block_local u) (λ ys v _. local_give (choose_else line c (block_of xs) (block_of ys)) v))
+  local_else_by line c xs _ s = local_give (choose line c (block_of xs)) s
 
-pub local_statement : (s : State) → IsLocal statement_at s
-unfolding statement_at
-local_statement s = local_line (λ line. peek >>= λ k. statement_by line k) s (local_peek (λ k. statement_by (line_of s.rest s.end_line) k) s (local_statement_by (line_of s.rest s.end_line) (kind_of s.rest) s))
+  local_choice : (line : ℕ) (s : State) → IsLocal (choice room block line) s
+  unfolding choice
+  local_choice line s =
+      local_then begin (λ _. condition_at room >>= λ c. block >>= λ xs. peek >>= λ k. else_by block line c xs k) s (local_begin s) (λ _ u _.
+      local_then (condition_at room) (λ c. block >>= λ xs. peek >>= λ k. else_by block line c xs k) u (local_condition room u) (λ c u _.
+      local_then block (λ xs. peek >>= λ k. else_by block line c xs k) u (block_local u) (λ xs v _.
+      local_peek (λ k. else_by block line c xs k) v (local_else_by line c xs (kind_of v.rest) v))))
 
-pub local_statements : (s : State) → IsLocal (many is_no_end statement_at) s
-unfolding many
-local_statements s =
-    local_while is_no_end (one_more statement_at) statements_progress (λ xs u _.
-    local_then statement_at (λ x. give (xs ++ x ∷ [])) u (local_statement u) (λ x v _. local_give (xs ++ x ∷ []) v)) [] s
+  local_statement_by : (line : ℕ) (k : Option TokenKind) (s : State) → IsLocal (statement_by room block line k) s
+  local_statement_by line (Some (kind.Name x)) s = local_assignment room line s
+  local_statement_by line (Some (kind.Keyword word.Cdreg)) s = local_setting room line s
+  local_statement_by line (Some (kind.Keyword word.Cfsa)) s = local_single Full room line s
+  local_statement_by line (Some (kind.Keyword word.Cssa)) s = local_single Short room line s
+  local_statement_by line (Some (kind.Keyword word.Put)) s = local_put room line s
+  local_statement_by line (Some (kind.Keyword word.If)) s = local_choice line s
+  local_statement_by line k s = local_crate_call_by room line k s
 
-pub local_block : (s : State) → IsLocal block_at s
+  local_statement : (s : State) → IsLocal (statement_with room block) s
+  unfolding statement_with
+  local_statement s = local_line (λ line. peek >>= λ k. statement_by room block line k) s (local_peek (λ k. statement_by room block (line_of s.rest s.end_line) k) s (local_statement_by (line_of s.rest s.end_line) (kind_of s.rest) s))
+
+  local_statements : (s : State) → IsLocal (many is_no_end (statement_with room block)) s
+  unfolding many
+  local_statements s =
+      local_while is_no_end (one_more (statement_with room block)) (with_progress room block block_is) (λ xs u _.
+      local_then (statement_with room block) (λ x. give (xs ++ x ∷ [])) u (local_statement u) (λ x v _. local_give (xs ++ x ∷ []) v)) [] s
+
+pub local_block : (room : ℕ) (s : State) → IsLocal (block_at room) s
 unfolding block_at
-local_block s =
-    local_then (expect_sign sign.LeftBrace) (λ _. many is_no_end statement_at >>= λ body. expect_sign sign.RightBrace >> give body) s (local_expect_sign sign.LeftBrace s) (λ _ u _.
-    local_then (many is_no_end statement_at) (λ body. expect_sign sign.RightBrace >> give body) u (local_statements u) (λ body v _.
+local_block zero s =
+    local_peek (λ k. cond (is_sign sign.LeftBrace k) (fail LimitPassed) (fail UnexpectedToken)) s
+    (local_if (is_sign sign.LeftBrace (kind_of s.rest)) (fail LimitPassed) (fail UnexpectedToken) s (λ _. local_fail LimitPassed s tt) (λ _. local_fail UnexpectedToken s tt))
+local_block (suc room) s =
+    local_then (expect_sign sign.LeftBrace) (λ _. many is_no_end (statement_with room (block_at room)) >>= λ body. expect_sign sign.RightBrace >> give body) s (local_expect_sign sign.LeftBrace s) (λ _ u _.
+    local_then (many is_no_end (statement_with room (block_at room))) (λ body. expect_sign sign.RightBrace >> give body) u (local_statements room (block_at room) (block_ok room) (local_block room) u) (λ body v _.
     local_then (expect_sign sign.RightBrace) (λ _. give body) v (local_expect_sign sign.RightBrace v) (λ _ w _. local_give body w)))

@@ -22,6 +22,7 @@ use Rattle.camac_text.proofs.Fitting.{tokens_fit}
 use Rattle.camac_text.proofs.Moves.{AllFit}
 use Rattle.camac_text.proofs.Uses.{scope_of}
 use Rattle.camac_text.proofs.Acts.{both, below_le, RegistersFit}
+use Rattle.camac_text.proofs.ConditionsRead.{most_push}
 use Rattle.camac_text.proofs.Bodies.{and_then_some}
 use Rattle.camac_text.proofs.Declares.{each_append, VariableDeclaration, LamDeclaration, ServiceDeclaration, Declares, a_lam, some_variables, a_service, declaration_ok}
 
@@ -36,10 +37,6 @@ between xs ys zs =
     ap (λ (w : List _). take (length ys) (drop (length xs) w)) (append_assoc xs ys zs)
     ∙ ap (take (length ys)) (drop-append_seam xs (ys ++ zs))
     ∙ take-append_seam ys zs
-
-most_push : {A : Type 0} (f : A → ℕ) (xs : List A) (x : A) (n : ℕ) → most f xs ≤ n → f x ≤ n → most f (xs ++ x ∷ []) ≤ n
-most_push f [] x n h k = omega arith
-most_push f (y ∷ ys) x n h k = let rest : most f (ys ++ x ∷ []) ≤ n = most_push f ys x n (omega arith) k in omega arith
 
 total_push : {A : Type 0} (f : A → ℕ) (xs : List A) (x : A) → total f (xs ++ x ∷ []) ≡ total f xs + f x
 total_push f [] x = omega arith
@@ -236,9 +233,9 @@ service_next s u line lam cycles words body names t x stands =
     ∙ ap (λ (b : Bool). unless_broken b (with_service (before_of names s))) stands
     ∙ ap (λ (n : ℕ). Some (record (before_of names s) { services = n })) (sym (length-append s.services (v ∷ [])))
 
-body_stands : (s : State) (registers : List Text) (body : List Statement) → after_block (scope_of s) 0 (block_of body) ≡ Some (length registers) → inner_depth [] (block_of body) ≡ 0 → body_fits (scope_of s) registers (block_of body) ≡ true
-body_stands s registers body after flat =
-    both _ _ (ap (λ (o : Option ℕ). has o (λ n. nat_eq n (length registers))) after ∙ same_number (length registers)) (ap (λ (n : ℕ). nat_le (suc n) 16) flat)
+body_stands : (s : State) (registers : List Text) (body : List Statement) → after_block (scope_of s) 0 (block_of body) ≡ Some (length registers) → inner_depth [] (block_of body) < 16 → body_fits (scope_of s) registers (block_of body) ≡ true
+body_stands s registers body after deep =
+    both _ _ (ap (λ (o : Option ℕ). has o (λ n. nat_eq n (length registers))) after ∙ same_number (length registers)) (below_le (suc (inner_depth [] (block_of body))) 16 (omega arith))
 
 no_registers_fit : (known : List Text) → RegistersFit known []
 no_registers_fit known = record { names = refl; few = omega arith }
@@ -253,11 +250,11 @@ service_sofar s s' so d =
     let registers : RegistersFit s.declared u.registers = d.body.registers so.fit begins in
     let names : are_declarable u.registers so.names ≡ true = declarable_same u.registers so.names s.declared so.same_names ∙ registers.names in
     let after : after_block (scope_of s) 0 (block_of d.statements) ≡ Some (length u.registers) = subst (λ (rs : List Text). after_block (scope_of s) (length rs) (block_of d.statements) ≡ Some (length u.registers)) so.no_registers (d.body.after so.fit) in
-    let stands : service_stands (before_of so.names s) v ≡ true = both _ _ (lt-ltb d.lam (length s.lams) d.lam_fits) (both _ _ (d.cycles_fit so.fit) (both _ _ (d.words_fit so.fit) (both _ _ names (body_stands s u.registers d.statements after d.body.flat)))) in
+    let stands : service_stands (before_of so.names s) v ≡ true = both _ _ (lt-ltb d.lam (length s.lams) d.lam_fits) (both _ _ (d.cycles_fit so.fit) (both _ _ (d.words_fit so.fit) (both _ _ names (body_stands s u.registers d.statements after d.body.deep)))) in
     let room : length s.services < 24 = d.room in
     let longer : length (s.services ++ v ∷ []) ≡ length s.services + 1 = length-append s.services (v ∷ []) in
     let counted : u.statements ≡ s.statements + statements (block_of d.statements) = ap (λ (z : State). z.statements) d.body.same in
-    let few : u.statements ≤ 4096 = d.body.room so.few_statements in
+    let few : u.statements ≤ 4096 = d.body.few so.few_statements in
     subst (λ (z : State). Sofar z) (sym is) (record {
       fit = d.body.fit so.fit;
       no_tables = so.no_tables;

@@ -60,7 +60,7 @@ service_declaration line = do
   expect word.Event
   words ← any_number
   expect word.Words
-  body ← block_at
+  body ← block_at 16
   change (with_service line lam cycles words body)
 
 abbrev pub declaration_by : ℕ → Option TokenKind → Reader (Unit {0})

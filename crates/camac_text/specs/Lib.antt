@@ -2,6 +2,7 @@ pub mod Names
 pub mod Reading
 pub mod Readers
 pub mod Expressions
+pub mod Conditions
 pub mod Statements
 pub mod Declarations
 pub mod Parser

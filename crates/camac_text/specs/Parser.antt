@@ -1,13 +1,15 @@
 -- What the parser's functions return, beside the readers.
 use Rattle.std.specs.Prelude.{◌≡◌, ℕ, List, [], map, Result, Ok, Err}
 use Rattle.camac_lang.specs.Tree.{Script}
-use Rattle.camac_lang.specs.View.{item_of, table_of, lam_of, procedure_of, service_of}
+use Rattle.camac_lang.specs.View.{expression_of, item_of, table_of, lam_of, procedure_of, service_of}
 use Rattle.camac_tokens.specs.declared.token.Token.{Token}
 use Rattle.camac_tokens.specs.declared.fault.TextFault.{TextFault}
 use Rattle.camac_text.specs.declared.cursor.Parser.{Parser}
+use Rattle.camac_text.specs.declared.expressions.Counted as rust_counted
 use Rattle.camac_tokens.specs.Fault.{Fault, Fails}
 use Rattle.camac_tokens.specs.Scanning.{tokens_of, last_line}
 use Rattle.camac_text.specs.Reading.{State}
+use Rattle.camac_text.specs.Expressions.{Counted, counted}
 use Rattle.camac_text.specs.Declarations.{declarations_at}
 
 abbrev pub state : Parser → State
@@ -24,6 +26,9 @@ state p = record {
   registers = p.registers.items;
   statements = p.statements;
 }
+
+abbrev pub counted_of : rust_counted.Counted → Counted
+counted_of c = counted (expression_of c.value) c.operators
 
 -- What a function returned, seen by view, and what it left are what is read, unless memory was refused.
 abbrev pub Gives : {X Y : Type 0} → (X → Y) → Result X TextFault → Parser → Result (Y × State) Fault → Type 0

@@ -138,3 +138,14 @@ used_lam = do
   name ← name_here
   known ← ask (λ s. s.lams)
   used_at (lam_place name known)
+
+-- the number of a variable whose name stays where it is
+abbrev pub known_at : Option ℕ → Reader ℕ
+known_at (Some place) = give place
+known_at None = fail NotDeclared
+
+unfoldable pub variable_here : Reader ℕ
+variable_here = do
+  name ← name_here
+  known ← ask (λ s. s.variables)
+  known_at (place_of name known)

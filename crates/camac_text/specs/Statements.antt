@@ -1,6 +1,7 @@
 -- What is read at each place of a statement.
-use Rattle.std.specs.Prelude.{ℕ, suc, Bool, true, false, List, Option, Some, nat_lt, not, if◌then◌else◌}
-use Rattle.camac_lang.specs.Tree.{Move, no_data, into, from, Statement, set_register, single, put, crate_call, lam_call}
+use Rattle.std.specs.Prelude.{ℕ, zero, suc, Bool, true, false, List, Option, Some, nat_lt, not, if◌then◌else◌}
+use Rattle.camac_lang.specs.Tree.{Move, no_data, into, from, Statement, assign, set_register, single, put, crate_call, lam_call, choose, choose_else, Condition}
+use Rattle.camac_lang.specs.View.{block_of}
 use Rattle.camac_lang.specs.declared.word.WordSize.{WordSize}
 use Rattle.camac_lang.specs.declared.word.WordSize.TheVariants.{Full, Short}
 use Rattle.camac_lang.specs.declared.word.CrateCall.{CrateCall}
@@ -13,8 +14,9 @@ use Rattle.camac_tokens.specs.declared.token.TokenKind.{TokenKind}
 use Rattle.camac_tokens.specs.declared.token.TokenKind.TheVariants as kind
 use Rattle.camac_tokens.specs.declared.fault.TextRule.TheVariants.{UnexpectedToken, LimitPassed}
 use Rattle.camac_text.specs.Reading.{Reader, ◌>>=◌, ◌>>◌, give, ask, change, peek, advance, line_here, fail, check, many}
-use Rattle.camac_text.specs.Readers.{is_sign, expect_sign, branch_number, function_number, set_name, used_register, used_variable, used_lam}
-use Rattle.camac_text.specs.Expressions.{literal, operand}
+use Rattle.camac_text.specs.Readers.{is_sign, expect_sign, branch_number, function_number, set_name, used_register, used_variable, variable_here, used_lam}
+use Rattle.camac_text.specs.Expressions.{expression_at}
+use Rattle.camac_text.specs.Conditions.{condition_at}
 
 -- the first token of a statement, which is counted
 unfoldable pub begin : Reader (Unit {0})
@@ -24,43 +26,51 @@ begin = do
   change (λ s. record s { statements = suc s.statements })
   advance
 
-unfoldable pub register_setting : ℕ → Reader Statement
-register_setting line = do
+unfoldable pub assignment : ℕ → ℕ → Reader Statement
+assignment room line = do
+  place ← variable_here
+  begin
+  expect_sign sign.Equals
+  value ← expression_at room
+  give (assign line place value)
+
+unfoldable pub register_setting : ℕ → ℕ → Reader Statement
+register_setting room line = do
   begin
   register ← set_name
   branch_number
-  crate_no ← literal
-  station ← literal
-  sub_address ← literal
+  crate_no ← expression_at room
+  station ← expression_at room
+  sub_address ← expression_at room
   give (set_register line register crate_no station sub_address)
 
 -- what a single action moves
-abbrev pub move_by : Option TokenKind → Reader Move
-move_by (Some (kind.Sign sign.Into)) = do
+abbrev pub move_by : ℕ → Option TokenKind → Reader Move
+move_by room (Some (kind.Sign sign.Into)) = do
   advance
   place ← used_variable
   give (into place)
-move_by (Some (kind.Sign sign.From)) = do
+move_by room (Some (kind.Sign sign.From)) = do
   advance
-  value ← operand
+  value ← expression_at room
   give (from value)
-move_by _ = give no_data
+move_by room _ = give no_data
 
-unfoldable pub move_at : Reader Move
-move_at = peek >>= move_by
+unfoldable pub move_at : ℕ → Reader Move
+move_at room = peek >>= move_by room
 
-unfoldable pub single_action : WordSize → ℕ → Reader Statement
-single_action size line = do
+unfoldable pub single_action : WordSize → ℕ → ℕ → Reader Statement
+single_action size room line = do
   begin
   function ← function_number
   register ← used_register
-  move ← move_at
+  move ← move_at room
   give (single line size function register move)
 
-unfoldable pub put_action : ℕ → Reader Statement
-put_action line = do
+unfoldable pub put_action : ℕ → ℕ → Reader Statement
+put_action room line = do
   begin
-  value ← operand
+  value ← expression_at room
   give (put line value)
 
 -- ---- crate calls and LAM calls
@@ -74,17 +84,17 @@ switch_by _ = fail UnexpectedToken
 unfoldable pub switch : Reader Bool
 switch = peek >>= switch_by
 
-unfoldable pub crate_action : CrateCall → ℕ → Reader Statement
-crate_action call line = do
+unfoldable pub crate_action : CrateCall → ℕ → ℕ → Reader Statement
+crate_action call room line = do
   begin
-  crate_no ← operand
+  crate_no ← expression_at room
   give (crate_call line call crate_no)
 
 -- one that is switched on or off
-unfoldable pub crate_switch : CrateCall → CrateCall → ℕ → Reader Statement
-crate_switch on off line = do
+unfoldable pub crate_switch : CrateCall → CrateCall → ℕ → ℕ → Reader Statement
+crate_switch on off room line = do
   begin
-  crate_no ← operand
+  crate_no ← expression_at room
   is_on ← switch
   give (crate_call line (if is_on then on else off) crate_no)
 
@@ -107,37 +117,60 @@ lam_call_by line (Some (kind.Keyword word.Cclc)) = lam_action lam_word.Clear lin
 lam_call_by line (Some (kind.Keyword word.Ctlm)) = lam_action lam_word.Test line
 lam_call_by line _ = fail UnexpectedToken
 
-abbrev pub crate_call_by : ℕ → Option TokenKind → Reader Statement
-crate_call_by line (Some (kind.Keyword word.Cccz)) = crate_action crate_word.Initialise line
-crate_call_by line (Some (kind.Keyword word.Cccc)) = crate_action crate_word.Clear line
-crate_call_by line (Some (kind.Keyword word.Ctci)) = crate_action crate_word.TestInhibit line
-crate_call_by line (Some (kind.Keyword word.Ctcd)) = crate_action crate_word.TestDemandOutput line
-crate_call_by line (Some (kind.Keyword word.Ctgl)) = crate_action crate_word.TestDemand line
-crate_call_by line (Some (kind.Keyword word.Ccci)) = crate_switch crate_word.InhibitOn crate_word.InhibitOff line
-crate_call_by line (Some (kind.Keyword word.Cccd)) = crate_switch crate_word.DemandOn crate_word.DemandOff line
-crate_call_by line k = lam_call_by line k
+abbrev pub crate_call_by : ℕ → ℕ → Option TokenKind → Reader Statement
+crate_call_by room line (Some (kind.Keyword word.Cccz)) = crate_action crate_word.Initialise room line
+crate_call_by room line (Some (kind.Keyword word.Cccc)) = crate_action crate_word.Clear room line
+crate_call_by room line (Some (kind.Keyword word.Ctci)) = crate_action crate_word.TestInhibit room line
+crate_call_by room line (Some (kind.Keyword word.Ctcd)) = crate_action crate_word.TestDemandOutput room line
+crate_call_by room line (Some (kind.Keyword word.Ctgl)) = crate_action crate_word.TestDemand room line
+crate_call_by room line (Some (kind.Keyword word.Ccci)) = crate_switch crate_word.InhibitOn crate_word.InhibitOff room line
+crate_call_by room line (Some (kind.Keyword word.Cccd)) = crate_switch crate_word.DemandOn crate_word.DemandOff room line
+crate_call_by room line k = lam_call_by line k
 
 -- ---- all statements
 
-abbrev pub statement_by : ℕ → Option TokenKind → Reader Statement
-statement_by line (Some (kind.Keyword word.Cdreg)) = register_setting line
-statement_by line (Some (kind.Keyword word.Cfsa)) = single_action Full line
-statement_by line (Some (kind.Keyword word.Cssa)) = single_action Short line
-statement_by line (Some (kind.Keyword word.Put)) = put_action line
-statement_by line k = crate_call_by line k
+-- what stands behind a condition and its block
+abbrev pub else_by : Reader (List Statement) → ℕ → Condition → List Statement → Option TokenKind → Reader Statement
+else_by block line test body (Some (kind.Keyword word.Else)) = do
+  advance
+  other ← block
+  give (choose_else line test (block_of body) (block_of other))
+else_by block line test body _ = give (choose line test (block_of body))
 
-unfoldable pub statement_at : Reader Statement
-statement_at = do
+unfoldable pub choice : ℕ → Reader (List Statement) → ℕ → Reader Statement
+choice room block line = do
+  begin
+  test ← condition_at room
+  body ← block
+  next ← peek
+  else_by block line test body next
+
+-- a statement, where so many brackets and braces may be open at once and this is read as a block
+abbrev pub statement_by : ℕ → Reader (List Statement) → ℕ → Option TokenKind → Reader Statement
+statement_by room block line (Some (kind.Name x)) = assignment room line
+statement_by room block line (Some (kind.Keyword word.Cdreg)) = register_setting room line
+statement_by room block line (Some (kind.Keyword word.Cfsa)) = single_action Full room line
+statement_by room block line (Some (kind.Keyword word.Cssa)) = single_action Short room line
+statement_by room block line (Some (kind.Keyword word.Put)) = put_action room line
+statement_by room block line (Some (kind.Keyword word.If)) = choice room block line
+statement_by room block line k = crate_call_by room line k
+
+unfoldable pub statement_with : ℕ → Reader (List Statement) → Reader Statement
+statement_with room block = do
   line ← line_here
   next ← peek
-  statement_by line next
+  statement_by room block line next
+
+-- ---- blocks
 
 abbrev pub is_no_end : Option TokenKind → Bool
 is_no_end k = not (is_sign sign.RightBrace k)
 
-unfoldable pub block_at : Reader (List Statement)
-block_at = do
+-- a block, where so many braces may be open at once
+unfoldable pub block_at : ℕ → Reader (List Statement)
+block_at zero = peek >>= λ k. if is_sign sign.LeftBrace k then fail LimitPassed else fail UnexpectedToken
+block_at (suc room) = do
   expect_sign sign.LeftBrace
-  body ← many is_no_end statement_at
+  body ← many is_no_end (statement_with room (block_at room))
   expect_sign sign.RightBrace
   give body

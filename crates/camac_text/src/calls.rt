@@ -12,35 +12,45 @@ use camac_tokens::{Keyword, TextFault, TextRule, TokenKind};
 
 impl Parser<'_> {
     /// A crate call or a LAM call, whichever keyword stands next.
-    pub fn crate_call(&mut self, line: u32) -> Result<Stmt, TextFault>
-        ensures { Gives statement_of result self.new (crate_call_by line (kind_of self.old.rest.now) (state self.old)) }
+    pub fn crate_call(&mut self, room: u32, line: u32) -> Result<Stmt, TextFault>
+        ensures { Gives statement_of result self.new (crate_call_by room line (kind_of self.old.rest.now) (state self.old)) }
     {
         match self.peek() {
             Some(TokenKind::Keyword(Keyword::Cccz)) => self.crate_action(
                 CrateCall::Initialise,
+                room,
                 line,
             ),
-            Some(TokenKind::Keyword(Keyword::Cccc)) => self.crate_action(CrateCall::Clear, line),
+            Some(TokenKind::Keyword(Keyword::Cccc)) => self.crate_action(
+                CrateCall::Clear,
+                room,
+                line,
+            ),
             Some(TokenKind::Keyword(Keyword::Ctci)) => self.crate_action(
                 CrateCall::TestInhibit,
+                room,
                 line,
             ),
             Some(TokenKind::Keyword(Keyword::Ctcd)) => self.crate_action(
                 CrateCall::TestDemandOutput,
+                room,
                 line,
             ),
             Some(TokenKind::Keyword(Keyword::Ctgl)) => self.crate_action(
                 CrateCall::TestDemand,
+                room,
                 line,
             ),
             Some(TokenKind::Keyword(Keyword::Ccci)) => self.crate_switch(
                 CrateCall::InhibitOn,
                 CrateCall::InhibitOff,
+                room,
                 line,
             ),
             Some(TokenKind::Keyword(Keyword::Cccd)) => self.crate_switch(
                 CrateCall::DemandOn,
                 CrateCall::DemandOff,
+                room,
                 line,
             ),
             _ => self.lam_call(line),
@@ -59,11 +69,11 @@ impl Parser<'_> {
     }
 
     #[tactic(auto, unfolding(crate::specs::Statements::crate_action))]
-    fn crate_action(&mut self, call: CrateCall, line: u32) -> Result<Stmt, TextFault>
-        ensures { Gives statement_of result self.new (crate_action call line (state self.old)) }
+    fn crate_action(&mut self, call: CrateCall, room: u32, line: u32) -> Result<Stmt, TextFault>
+        ensures { Gives statement_of result self.new (crate_action call room line (state self.old)) }
     {
         self.begin()?;
-        let crate_no = self.operand()?;
+        let crate_no = self.expression(room)?;
         Ok(Stmt::CrateCall {
             line,
             call,
@@ -73,11 +83,17 @@ impl Parser<'_> {
 
     /// A crate call that is switched on or off.
     #[tactic(auto, unfolding(crate::specs::Statements::crate_switch))]
-    fn crate_switch(&mut self, on: CrateCall, off: CrateCall, line: u32) -> Result<Stmt, TextFault>
-        ensures { Gives statement_of result self.new (crate_switch on off line (state self.old)) }
+    fn crate_switch(
+        &mut self,
+        on: CrateCall,
+        off: CrateCall,
+        room: u32,
+        line: u32,
+    ) -> Result<Stmt, TextFault>
+        ensures { Gives statement_of result self.new (crate_switch on off room line (state self.old)) }
     {
         self.begin()?;
-        let crate_no = self.operand()?;
+        let crate_no = self.expression(room)?;
         let call = if self.switch()? { on } else { off };
         Ok(Stmt::CrateCall {
             line,

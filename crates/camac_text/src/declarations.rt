@@ -106,7 +106,7 @@ impl Parser<'_> {
         self.expect(Keyword::Event)?;
         let words = self.any_number()?;
         self.expect(Keyword::Words)?;
-        let body = self.block()?;
+        let body = self.block(16)?;
         let registers = mem::replace(&mut self.registers, Vec::new(self.alloc));
         self.services.push(Service {
             line,

@@ -3,6 +3,7 @@
 
 mod actions;
 mod calls;
+mod conditions;
 mod cursor;
 mod declarations;
 mod expressions;

@@ -1,7 +1,7 @@
 // Names that are declared, and names that are used.
 
 ghost use Rattle.std.specs.Prelude.{◌≡◌};
-ghost use Rattle.camac_text.specs.Readers.{new_name, new_variable, register_at, set_name, used_at, used_register, used_variable, used_lam};
+ghost use Rattle.camac_text.specs.Readers.{new_name, new_variable, register_at, set_name, used_at, used_register, used_variable, used_lam, variable_here};
 ghost use Rattle.camac_text.specs.Parser.{state, Gives};
 
 use crate::cursor::Parser;
@@ -105,5 +105,17 @@ impl Parser<'_> {
         let name = self.name_here()?;
         let place = lam_place(&self.lams, &name);
         self.used_at(place)
+    }
+
+    /// The number of a variable whose name stays where it is.
+    #[tactic(auto, unfolding(crate::specs::Readers::variable_here))]
+    pub fn variable_here(&mut self) -> Result<usize, TextFault>
+        ensures { Gives (λ n. n) result self.new (variable_here (state self.old)) }
+    {
+        let name = self.name_here()?;
+        match place_of(&self.variables, &name) {
+            Some(place) => Ok(place),
+            None => Err(self.fault(TextRule::NotDeclared)),
+        }
     }
 }

@@ -191,3 +191,69 @@ fn calls(rt: HostRuntime) {
         Some((TextRule::UnexpectedToken, 4))
     );
 }
+
+#[test]
+fn expressions(rt: HostRuntime) -> Result<(), Fail> {
+    assert!(rt;
+        parse(
+            rt.alloc(),
+            b"cdlam adc 1 1 5 12\nvar v\nservice adc within 100 cycles event 100 words {\n  v = (((((((((((((((1)))))))))))))))\n  cdreg r 1 v / 2 v % 3 1 + 2 * (v - 1)\n  cssa 16 r <- v + 1\n}\n"
+        )
+        .is_ok()
+    );
+    let opening =
+        b"cdlam adc 1 1 5 12\nvar v\nservice adc within 100 cycles event 100 words {\n  v = ";
+    let pairs = fault_of_many(&rt, opening, b"(", 16)?;
+    assert_eq!(rt; pairs, Some((TextRule::LimitPassed, 4)));
+    let operators = fault_of_many(&rt, opening, b"1+", 33)?;
+    assert_eq!(rt; operators, Some((TextRule::LimitPassed, 4)));
+    let few_operators = fault_of_many(&rt, opening, b"1+", 32)?;
+    assert_eq!(rt; few_operators, Some((TextRule::UnexpectedToken, 4)));
+    Ok(())
+}
+
+#[test]
+fn choices(rt: HostRuntime) -> Result<(), Fail> {
+    assert!(rt;
+        parse(
+            rt.alloc(),
+            b"cdlam adc 1 1 5 12\nvar v\nservice adc within 100 cycles event 100 words {\n  if q and not x and v + 1 <= 3 and not (v) != 2 { put 1 } else { if v == 0 {} }\n}\n"
+        )
+        .is_ok()
+    );
+    let opening =
+        b"cdlam adc 1 1 5 12\nvar v\nservice adc within 100 cycles event 100 words {\n  if q";
+    assert_eq!(rt;
+        fault(
+            &rt,
+            b"cdlam adc 1 1 5 12\nvar v\nservice adc within 100 cycles event 100 words {\n  if q and {}\n}\n"
+        ),
+        Some((TextRule::UnexpectedToken, 4))
+    );
+    let parts = fault_of_many(&rt, opening, b" and x", 16)?;
+    assert_eq!(rt; parts, Some((TextRule::LimitPassed, 4)));
+    let few_parts = fault_of_many(&rt, opening, b" and x", 15)?;
+    assert_eq!(rt; few_parts, Some((TextRule::UnexpectedToken, 4)));
+    let names = fault_of_many(
+        &rt,
+        opening,
+        b" and q and q and q and q and q and q and q and q and q and q and q and q and q and q and q and w",
+        1,
+    )?;
+    assert_eq!(rt; names, Some((TextRule::NotDeclared, 4)));
+    let depth = fault_of_many(
+        &rt,
+        b"cdlam adc 1 1 5 12\nvar v\nservice adc within 100 cycles event 100 words {",
+        b"\nif q {",
+        16,
+    )?;
+    assert_eq!(rt; depth, Some((TextRule::LimitPassed, 19)));
+    let few_braces = fault_of_many(
+        &rt,
+        b"cdlam adc 1 1 5 12\nvar v\nservice adc within 100 cycles event 100 words {",
+        b"\nif q {",
+        15,
+    )?;
+    assert_eq!(rt; few_braces, Some((TextRule::UnexpectedToken, 18)));
+    Ok(())
+}
