@@ -12,8 +12,8 @@ use Rattle.camac_rules.specs.Statements.{accept_statement, accept_block}
 use Rattle.camac_lang.specs.View.{statement_of, statements_of}
 use Rattle.camac_lang.specs.declared.tree.Stmt.{Stmt}
 use Rattle.camac_check.specs.declared.context.Context as code
-use Rattle.camac_check.specs.declared.fault.CheckFault.{CheckFault}
-use Rattle.camac_check.specs.declared.fault.CheckFault.TheVariants.{OutOfMemory, Broken, NotServed}
+use Rattle.camac_known.specs.declared.fault.CheckFault.{CheckFault}
+use Rattle.camac_known.specs.declared.fault.CheckFault.TheVariants.{OutOfMemory, Broken, NotServed}
 use Rattle.camac_check.specs.Gives.{Fails, by_code}
 
 same_costs : (a b c d e f : ℕ) → a ≡ d → b ≡ e → c ≡ f → costs a b c ≡ costs d e f

@@ -7,14 +7,11 @@ ghost use Rattle.camac_rules.specs.Accept.{within, accept_service, accept_items,
 ghost use Rattle.camac_rules.specs.Costs.{costs};
 ghost use Rattle.camac_check.specs.Gives.{Gives, by_code, by_rules};
 
-use crate::around::Around;
 use crate::checked::Bounds;
 use crate::context::Context;
-use crate::cost::Costs;
-use crate::fault::CheckFault;
-use crate::known::Facts;
 use crate::statement::accept_block;
 use camac_branch::Plan;
+use camac_known::{Around, CheckFault, Costs, Facts};
 use camac_lang::{Item, Procedure, Script, Service};
 use camac_rules::CheckRule;
 use std::alloc::Global;
@@ -95,7 +92,7 @@ fn accept_capped(
 }
 
 // The costs of a body within the numbers of its heading, on this line.
-#[tactic(auto, using(crate::proofs::Steps::steps), unfolding(camac_rules::specs::Refusal::go_on, camac_rules::specs::Refusal::required))]
+#[tactic(auto, using(camac_known::proofs::Steps::steps), unfolding(camac_rules::specs::Refusal::go_on, camac_rules::specs::Refusal::required))]
 fn within(cycles: u32, words: u32, found: Costs, line: u32) -> Result<Bounds, CheckFault>
     ensures { Gives (λ b. b) result (within (costs cycles words greatest) found line) }
 {

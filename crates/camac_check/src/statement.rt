@@ -7,14 +7,10 @@ ghost use Rattle.camac_rules.specs.Refusal.{if_reached};
 ghost use Rattle.camac_rules.specs.Statements.{assign_rule, register_rule, put_rule, accept_statement, accept_block};
 ghost use Rattle.camac_check.specs.Gives.{Gives, by_code, verdict_of};
 
-use crate::around::Around;
 use crate::calls::{crate_call, lam_call};
 use crate::context::Context;
-use crate::cost::Costs;
 use crate::cycle::single;
-use crate::expression::range_of;
-use crate::fault::{CheckFault, required};
-use crate::known::{Facts, Region};
+use camac_known::{Around, CheckFault, Costs, Facts, Region, range_of, required};
 use camac_lang::{Expr, Stmt};
 use camac_rules::CheckRule;
 use std::alloc::Global;
