@@ -73,7 +73,7 @@ fn accept_service(alloc: Global, context: &Context, service: &Service) -> Result
 }
 
 // The same with costs in 64 bits.
-#[tactic(auto, unfolding(camac_rules::specs::Refusal::go_on))]
+#[tactic(auto, unfolding(camac_rules::specs::Refusal::go_on, camac_rules::specs::Refusal::if_reached))]
 fn accept_capped(
     alloc: Global,
     context: &Context,
@@ -87,7 +87,7 @@ fn accept_capped(
 {
     let around = Around::nothing(alloc);
     let known = Facts::at_start(alloc);
-    let found = accept_block(alloc, context, &around, &service.body, &known)?;
+    let found = accept_block(alloc, context, &around, &service.body, Some(known))?;
     within(cycles, words, found.costs, service.line)
 }
 

@@ -1,6 +1,8 @@
 -- What the checker's code answers, seen as what the rules say.
 use Rattle.std.specs.Prelude.{◌≡◌, Result, Ok, Err}
 use Rattle.camac_rules.specs.Fault.{Fault, broken, not_served}
+use Rattle.camac_rules.specs.Conditions.{Branches, branches}
+use Rattle.camac_known.specs.declared.condition.Branches as code
 use Rattle.camac_known.specs.declared.fault.CheckFault.{CheckFault}
 use Rattle.camac_known.specs.declared.fault.CheckFault.TheVariants.{OutOfMemory, Broken, NotServed}
 
@@ -14,3 +16,7 @@ Fails (NotServed line) rules = rules ≡ Err (not_served line)
 abbrev pub Gives : {X Y : Type 0} → (X → Y) → Result X CheckFault → Result Y Fault → Type 0
 Gives view (Ok x) rules = rules ≡ Ok (view x)
 Gives view (Err e) rules = Fails e rules
+
+-- both ways out of a condition
+abbrev pub branches_of : code.Branches → Branches
+branches_of b = branches b.holds b.fails

@@ -1,7 +1,7 @@
 // What statements can cost.
 
 ghost use Rattle.std.specs.Prelude.{◌≡◌};
-ghost use Rattle.camac_rules.specs.Costs.{costs, no_costs, plus};
+ghost use Rattle.camac_rules.specs.Costs.{costs, no_costs, plus, choice_costs};
 ghost use Rattle.camac_rules.specs.Capped.{capped};
 
 use std::marker::Model;
@@ -44,6 +44,17 @@ impl Costs {
             cycles: self.cycles.saturating_add(other.cycles),
             words: self.words.saturating_add(other.words),
             steps: self.steps.saturating_add(other.steps),
+        }
+    }
+
+    /// Those of a choice between this and the other: a step, and the greater of each.
+    pub fn or(self, other: Costs) -> Self
+        ensures { result ≡ capped (choice_costs self other) }
+    {
+        Costs {
+            cycles: self.cycles.max(other.cycles),
+            words: self.words.max(other.words),
+            steps: self.steps.max(other.steps).saturating_add(1),
         }
     }
 

@@ -2,8 +2,10 @@
 
 ghost use Rattle.std.specs.Prelude.{◌≡◌, IfOk, OnOk, Some, None};
 ghost use Rattle.camac_range.specs.Interval.{only};
+ghost use Rattle.camac_rules.specs.Joined.{join_region, join_facts};
 ghost use Rattle.camac_rules.specs.Known.{write, region, facts, range_at, region_at, with_range, with_region};
 
+use crate::joined::{hulls, join_registers};
 use camac_range::Range;
 use std::alloc::{AllocError, Global};
 use std::marker::Model;
@@ -34,6 +36,17 @@ impl Region {
             crates,
             stations,
             sub_addresses,
+        }
+    }
+
+    /// The smallest region around both.
+    pub fn join(self, other: Region) -> Self
+        ensures { result ≡ join_region self other }
+    {
+        Region {
+            crates: self.crates.hull(other.crates),
+            stations: self.stations.hull(other.stations),
+            sub_addresses: self.sub_addresses.hull(other.sub_addresses),
         }
     }
 
@@ -104,10 +117,17 @@ impl Facts {
     pub fn register(&self, register: usize) -> Option<Region>
         ensures { result ≡ region_at self.now.registers register }
     {
-        match self.registers.get(register) {
-            Some(region) => *region,
-            None => None,
-        }
+        region_in(&self.registers, register)
+    }
+
+    /// What is known where this way and another meet.
+    pub fn join(&self, alloc: Global, other: &Facts) -> Result<Self, AllocError>
+        ensures { IfOk result (λ k. k ≡ join_facts self.now other.now) }
+    {
+        Ok(Facts {
+            ranges: hulls(alloc, &self.ranges, &other.ranges)?,
+            registers: join_registers(alloc, &self.registers, &other.registers)?,
+        })
     }
 
     /// A copy in which a variable has another range.
@@ -142,6 +162,16 @@ impl Facts {
             ranges: Vec::from_slice(alloc, &self.ranges)?,
             registers,
         })
+    }
+}
+
+/// The addresses of a register, unless it may be unset.
+pub fn region_in(registers: &[Option<Region>], register: usize) -> Option<Region>
+    ensures { result ≡ region_at registers.now register }
+{
+    match registers.get(register) {
+        Some(region) => *region,
+        None => None,
     }
 }
 

@@ -1,29 +1,28 @@
-use Rattle.std.proofs.Common.{◌≡◌, ◌<◌, ◌≤◌, ◌+◌, length, drop, refl, sym, ap, ◌∙◌, subst, arith, Some}
+use Rattle.std.proofs.Common.{◌≡◌, ◌<◌, ◌≤◌, ◌+◌, length, drop, refl, sym, ap, ◌∙◌, subst, arith}
 use Rattle.std.proofs.lemmas.List.{drop_all}
 use Rattle.camac_lang.specs.View.{statement_of, statements_of}
 use Rattle.camac_model.specs.Fine.{Bounds}
 use Rattle.camac_rules.specs.Capped.{capped}
-use Rattle.camac_rules.specs.Costs.{no_costs, plus, verdict}
+use Rattle.camac_rules.specs.Costs.{plus, verdict}
 use Rattle.camac_check.specs.Gives.{Fails, verdict_of}
-use Rattle.camac_check.proofs.Blocks.{rest_rule, capped_twice, block_begins, block_goes_on, block_stops, block_ends, next_of}
-use Rattle.camac_check.proofs.statement.accept_block.Goals as goal
+use Rattle.camac_check.proofs.Blocks.{rest_rule, capped_twice, block_starts, block_goes_on, block_stops, block_ends, next_of}
+use Rattle.camac_check.proofs.statement.+statements.Goals as goal
 
-pub statements-init : goal.statements-init
-statements-init c =
+pub accept_block-statements-init : goal.accept_block-statements-init
+accept_block-statements-init t c =
     let context = c.args.context.now in
     let around = c.args.around.now in
     let block = statements_of c.args.block.now in
     let Cut : Bounds → Type 0 = λ a. capped a ≡ a in
     record {
       rest =
-          ap (λ a. rest_rule context around (verdict (Some c.in_ok-try_clone.field-0) a) block) c.new.ensures
-          ∙ ap (λ k. rest_rule context around (verdict (Some k) no_costs) block) c.in_ok-try_clone.ensures
-          ∙ block_begins context around block c.args.known.now;
+          ap (λ a. rest_rule context around (verdict c.args.known a) block) c.new.ensures
+          ∙ block_starts context around block c.args.known;
       cut = subst Cut (sym c.new.ensures) refl;
     }
 
-pub returns-in-Err : goal.returns-in-Err
-returns-in-Err c =
+pub accept_block-returns-in-Err : goal.accept_block-returns-in-Err
+accept_block-returns-in-Err t c =
     let context = c.args.context.now in
     let around = c.args.around.now in
     let xs = c.args.block.now in
@@ -34,8 +33,8 @@ returns-in-Err c =
     (ap (λ b. rest_rule context around (verdict_of found) b) (sym (next_of xs i c.statement-item.result lt c.statement-item.is)) ∙ c.statements.invariant.rest)
     (block_stops context around found.known found.costs (statement_of c.statement-item.result) (statements_of (drop (i + 1) xs)) c.in-Err.fault c.in-Err.ensures)
 
-pub statements-preserved : goal.statements-preserved
-statements-preserved c =
+pub accept_block-statements-preserved : goal.accept_block-statements-preserved
+accept_block-statements-preserved t c =
     let context = c.args.context.now in
     let around = c.args.around.now in
     let xs = c.args.block.now in
@@ -53,8 +52,8 @@ statements-preserved c =
       cut = subst Cut (sym c.then.ensures) (capped_twice (plus found.costs c.in-Ok.next.costs));
     }
 
-pub returns : goal.returns
-returns c =
+pub accept_block-returns : goal.accept_block-returns
+accept_block-returns t c =
     let context = c.args.context.now in
     let around = c.args.around.now in
     let xs = c.args.block.now in
