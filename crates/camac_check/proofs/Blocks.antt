@@ -12,8 +12,8 @@ use Rattle.camac_rules.specs.Statements.{accept_statement, accept_block}
 use Rattle.camac_lang.specs.View.{statement_of, statements_of}
 use Rattle.camac_lang.specs.declared.tree.Stmt.{Stmt}
 use Rattle.camac_check.specs.declared.context.Context as code
-use Rattle.camac_check.specs.declared.fault.CheckFault.{CheckFault}
-use Rattle.camac_check.specs.declared.fault.CheckFault.TheVariants.{OutOfMemory, Broken, NotServed}
+use Rattle.camac_known.specs.declared.fault.CheckFault.{CheckFault}
+use Rattle.camac_known.specs.declared.fault.CheckFault.TheVariants.{OutOfMemory, Broken, NotServed}
 use Rattle.camac_check.specs.Gives.{Fails, by_code}
 
 same_costs : (a b c d e f : ℕ) → a ≡ d → b ≡ e → c ≡ f → costs a b c ≡ costs d e f
@@ -43,7 +43,7 @@ verdict_ok : (known : Option Facts) (a b : Bounds) → a ≡ b → ◌≡◌ {A 
 verdict_ok known a b e = ap (λ c. Ok (verdict known c)) e
 
 -- at the begin nothing was found
-pub block_begins : (context : code.Context) (around : Around) (b : Block) (k : Facts) → rest_rule context around (verdict (Some k) no_costs) b ≡ accept_block (by_code context) around b k
+block_begins : (context : code.Context) (around : Around) (b : Block) (k : Facts) → rest_rule context around (verdict (Some k) no_costs) b ≡ accept_block (by_code context) around b k
 unfolding go_on if_reached
 block_begins context around done k = refl
 block_begins context around (next s rest) k = go (accept_statement (by_code context) around s k)
@@ -55,6 +55,12 @@ block_begins context around (next s rest) k = go (accept_statement (by_code cont
     go : (r : Result Verdict Fault) → go_on (go_on r (λ first. go_on (if_reached unreached first.after (accept_block (by_code context) around rest)) (λ second. Ok (verdict second.after (capped (plus first.costs second.costs)))))) (λ v. Ok (verdict v.after (capped (plus no_costs v.costs)))) ≡ go_on r (λ first. go_on (if_reached unreached first.after (accept_block (by_code context) around rest)) (λ second. Ok (verdict second.after (capped (plus first.costs second.costs)))))
     go (Ok first) = inner first (if_reached unreached first.after (accept_block (by_code context) around rest))
     go (Err f) = refl
+
+-- the same of a block that may not be reached
+pub block_starts : (context : code.Context) (around : Around) (b : Block) (known : Option Facts) → rest_rule context around (verdict known no_costs) b ≡ if_reached unreached known (accept_block (by_code context) around b)
+unfolding go_on if_reached
+block_starts context around b None = refl
+block_starts context around b (Some k) = block_begins context around b k
 
 -- one more statement
 pub block_step : (context : code.Context) (around : Around) (k : Facts) (c : Bounds) (s : Statement) (rest : Block) (found : Verdict) → accept_statement (by_code context) around s k ≡ Ok found → rest_rule context around (joined (verdict (Some k) c) found) rest ≡ rest_rule context around (verdict (Some k) c) (next s rest)

@@ -15,8 +15,10 @@ use Rattle.camac_rules.specs.declared.rule.CheckRule.TheVariants.{StationNotInst
 use Rattle.camac_rules.specs.Fault.{Fault}
 use Rattle.camac_rules.specs.Refusal.{go_on, required, given, if_reached}
 use Rattle.camac_rules.specs.Known.{region_at, Facts}
+use Rattle.camac_rules.specs.Joined.{join}
 use Rattle.camac_rules.specs.Expressions.{range_of}
-use Rattle.camac_rules.specs.Costs.{costs, plus, Verdict, verdict, unreached}
+use Rattle.camac_rules.specs.Conditions.{split}
+use Rattle.camac_rules.specs.Costs.{costs, no_costs, plus, choice_costs, Verdict, verdict, unreached}
 use Rattle.camac_rules.specs.Capped.{capped}
 use Rattle.camac_rules.specs.Addresses.{command_widths}
 use Rattle.camac_rules.specs.Cycles.{Around, nothing_around, may_write, same_class, single_rule}
@@ -56,6 +58,9 @@ same_costs a b c d e f p q r = cc
 plus_cut : (a b : Bounds) → capped (plus (capped a) (capped b)) ≡ capped (plus a b)
 plus_cut a b = same_costs _ _ _ _ _ _ (omega arith) (omega arith) (omega arith)
 
+choice_cut : (a b : Bounds) → capped (choice_costs (capped a) (capped b)) ≡ capped (choice_costs a b)
+choice_cut a b = same_costs _ _ _ _ _ _ (omega arith) (omega arith) (omega arith)
+
 single_cut : (context : code.Context) (around : Around) (line : ℕ) (size : WordSize) (f r : ℕ) (m : Move) (k : Facts) → single_rule (by_code context) around line size f r m k ≡ cut_all (single_rule (by_rules context) around line size f r m k)
 single_cut context around line size f r no_data k =
     go_same (given (region_at k.registers r) RegisterUnset line) _ _ (λ g.
@@ -73,36 +78,48 @@ single_cut context around line size f r (from e) k =
     go_same (required (same_class Write (class_of f)) WrongDirection line) _ _ (λ _.
     go_same (required (nat_lt v.hi (2 ^ w.lo) && fits_size size v.hi) ValueTooWide line) _ _ (λ _. refl)))))
 
-statement_cut : (context : code.Context) (around : Around) (s : Statement) (k : Facts) → accept_statement (by_code context) around s k ≡ cut_all (accept_statement (by_rules context) around s k)
-statement_cut context around (assign line x e) k =
-    go_same (range_of line e k.ranges) _ _ (λ r. go_same (required (may_write around x) LoopVariableAssigned line) _ _ (λ _. refl))
-statement_cut context around (set_register line r e1 e2 e3) k =
-    go_same (range_of line e1 k.ranges) _ _ (λ c. go_same (range_of line e2 k.ranges) _ _ (λ n. go_same (range_of line e3 k.ranges) _ _ (λ a. refl)))
-statement_cut context around (single line size f r m) k = single_cut context around line size f r m k
-statement_cut context around (put line e) k =
-    go_same (range_of line e k.ranges) _ _ (λ r. go_same (required (nat_le r.hi greatest_word) WordTooWide line) _ _ (λ _. refl))
-statement_cut context around (crate_call line which e) k =
-    go_same (range_of line e k.ranges) _ _ (λ r. go_same (required (is_crate context.plan.now r) CrateUnfit line) _ _ (λ _. refl))
-statement_cut context around (address_scan line f r1 r2 max x) k = refl
-statement_cut context around (q_stop line f r t max x) k = refl
-statement_cut context around (q_repeat line f r t max limit x) k = refl
-statement_cut context around (lam_call line which l) k =
-    go_same (given (lam_region (by_rules context) l) StationNotInstalled line) _ _ (λ g.
-    go_same (command_widths context.plan.now line (lam_function which) g) _ _ (λ w. refl))
-statement_cut context around (choose line test a) k = refl
-statement_cut context around (choose_else line test a b) k = refl
-statement_cut context around (count line x e1 e2 keeps body) k = refl
-statement_cut context around (repeat line test most m keeps body) k = refl
-statement_cut context around (locked line e body) k = refl
-statement_cut context around (call line p es) k = refl
+mutual
+  statement_cut : (context : code.Context) (around : Around) (s : Statement) (k : Facts) → accept_statement (by_code context) around s k ≡ cut_all (accept_statement (by_rules context) around s k)
+  statement_cut context around (assign line x e) k =
+      go_same (range_of line e k.ranges) _ _ (λ r. go_same (required (may_write around x) LoopVariableAssigned line) _ _ (λ _. refl))
+  statement_cut context around (set_register line r e1 e2 e3) k =
+      go_same (range_of line e1 k.ranges) _ _ (λ c. go_same (range_of line e2 k.ranges) _ _ (λ n. go_same (range_of line e3 k.ranges) _ _ (λ a. refl)))
+  statement_cut context around (single line size f r m) k = single_cut context around line size f r m k
+  statement_cut context around (put line e) k =
+      go_same (range_of line e k.ranges) _ _ (λ r. go_same (required (nat_le r.hi greatest_word) WordTooWide line) _ _ (λ _. refl))
+  statement_cut context around (crate_call line which e) k =
+      go_same (range_of line e k.ranges) _ _ (λ r. go_same (required (is_crate context.plan.now r) CrateUnfit line) _ _ (λ _. refl))
+  statement_cut context around (address_scan line f r1 r2 max x) k = refl
+  statement_cut context around (q_stop line f r t max x) k = refl
+  statement_cut context around (q_repeat line f r t max limit x) k = refl
+  statement_cut context around (lam_call line which l) k =
+      go_same (given (lam_region (by_rules context) l) StationNotInstalled line) _ _ (λ g.
+      go_same (command_widths context.plan.now line (lam_function which) g) _ _ (λ w. refl))
+  statement_cut context around (choose line test a) k =
+      go_same (split line test k) _ _ (λ ways.
+      go_cut (if_reached unreached ways.holds (accept_block (by_code context) around a)) (if_reached unreached ways.holds (accept_block (by_rules context) around a)) _ _
+      (if_reached_cut ways.holds (accept_block (by_code context) around a) (accept_block (by_rules context) around a) (λ q. block_cut context around a q))
+      (λ first. ap (λ c. Ok (verdict (join first.after ways.fails) c)) (choice_cut first.costs no_costs)))
+  statement_cut context around (choose_else line test a b) k =
+      go_same (split line test k) _ _ (λ ways.
+      go_cut (if_reached unreached ways.holds (accept_block (by_code context) around a)) (if_reached unreached ways.holds (accept_block (by_rules context) around a)) _ _
+      (if_reached_cut ways.holds (accept_block (by_code context) around a) (accept_block (by_rules context) around a) (λ q. block_cut context around a q))
+      (λ first.
+      go_cut (if_reached unreached ways.fails (accept_block (by_code context) around b)) (if_reached unreached ways.fails (accept_block (by_rules context) around b)) _ _
+      (if_reached_cut ways.fails (accept_block (by_code context) around b) (accept_block (by_rules context) around b) (λ q. block_cut context around b q))
+      (λ second. ap (λ c. Ok (verdict (join first.after second.after) c)) (choice_cut first.costs second.costs))))
+  statement_cut context around (count line x e1 e2 keeps body) k = refl
+  statement_cut context around (repeat line test most m keeps body) k = refl
+  statement_cut context around (locked line e body) k = refl
+  statement_cut context around (call line p es) k = refl
 
-block_cut : (context : code.Context) (around : Around) (b : Block) (k : Facts) → accept_block (by_code context) around b k ≡ cut_all (accept_block (by_rules context) around b k)
-block_cut context around done k = refl
-block_cut context around (next s rest) k =
-    go_cut (accept_statement (by_code context) around s k) (accept_statement (by_rules context) around s k) _ _ (statement_cut context around s k) (λ first.
-    go_cut (if_reached unreached first.after (accept_block (by_code context) around rest)) (if_reached unreached first.after (accept_block (by_rules context) around rest)) _ _
-    (if_reached_cut first.after (accept_block (by_code context) around rest) (accept_block (by_rules context) around rest) (λ q. block_cut context around rest q))
-    (λ second. ap (λ c. Ok (verdict second.after c)) (plus_cut first.costs second.costs)))
+  block_cut : (context : code.Context) (around : Around) (b : Block) (k : Facts) → accept_block (by_code context) around b k ≡ cut_all (accept_block (by_rules context) around b k)
+  block_cut context around done k = refl
+  block_cut context around (next s rest) k =
+      go_cut (accept_statement (by_code context) around s k) (accept_statement (by_rules context) around s k) _ _ (statement_cut context around s k) (λ first.
+      go_cut (if_reached unreached first.after (accept_block (by_code context) around rest)) (if_reached unreached first.after (accept_block (by_rules context) around rest)) _ _
+      (if_reached_cut first.after (accept_block (by_code context) around rest) (accept_block (by_rules context) around rest) (λ q. block_cut context around rest q))
+      (λ second. ap (λ c. Ok (verdict second.after c)) (plus_cut first.costs second.costs)))
 
 leb_cut : (n w k : ℕ) → w < k → nat_le (min n k) w ≡ nat_le n w
 leb_cut n w k h =

@@ -1,6 +1,4 @@
 pub mod Steps
-pub mod Walks
-pub mod Lists
 pub mod Lams
 pub mod Capped
 pub mod Judged

@@ -9,8 +9,8 @@ use Rattle.camac_model.specs.Fine.{Bounds, AreFineServices}
 use Rattle.camac_model.specs.Headline.{RunsSafely, WithinHeadings}
 use Rattle.camac_rules.specs.Accept.{accept}
 use Rattle.camac_rules.specs.Fault.{broken, not_served}
-use Rattle.camac_check.specs.declared.fault.CheckFault.{CheckFault}
-use Rattle.camac_check.specs.declared.fault.CheckFault.TheVariants.{OutOfMemory, Broken, NotServed}
+use Rattle.camac_known.specs.declared.fault.CheckFault.{CheckFault}
+use Rattle.camac_known.specs.declared.fault.CheckFault.TheVariants.{OutOfMemory, Broken, NotServed}
 
 -- with the bounds of each service, in text order
 pub record CheckedScript : Type 0 where

@@ -7,14 +7,11 @@ ghost use Rattle.camac_rules.specs.Accept.{within, accept_service, accept_items,
 ghost use Rattle.camac_rules.specs.Costs.{costs};
 ghost use Rattle.camac_check.specs.Gives.{Gives, by_code, by_rules};
 
-use crate::around::Around;
 use crate::checked::Bounds;
 use crate::context::Context;
-use crate::cost::Costs;
-use crate::fault::CheckFault;
-use crate::known::Facts;
 use crate::statement::accept_block;
 use camac_branch::Plan;
+use camac_known::{Around, CheckFault, Costs, Facts};
 use camac_lang::{Item, Procedure, Script, Service};
 use camac_rules::CheckRule;
 use std::alloc::Global;
@@ -76,7 +73,7 @@ fn accept_service(alloc: Global, context: &Context, service: &Service) -> Result
 }
 
 // The same with costs in 64 bits.
-#[tactic(auto, unfolding(camac_rules::specs::Refusal::go_on))]
+#[tactic(auto, unfolding(camac_rules::specs::Refusal::go_on, camac_rules::specs::Refusal::if_reached))]
 fn accept_capped(
     alloc: Global,
     context: &Context,
@@ -90,12 +87,12 @@ fn accept_capped(
 {
     let around = Around::nothing(alloc);
     let known = Facts::at_start(alloc);
-    let found = accept_block(alloc, context, &around, &service.body, &known)?;
+    let found = accept_block(alloc, context, &around, &service.body, Some(known))?;
     within(cycles, words, found.costs, service.line)
 }
 
 // The costs of a body within the numbers of its heading, on this line.
-#[tactic(auto, using(crate::proofs::Steps::steps), unfolding(camac_rules::specs::Refusal::go_on, camac_rules::specs::Refusal::required))]
+#[tactic(auto, using(camac_known::proofs::Steps::steps), unfolding(camac_rules::specs::Refusal::go_on, camac_rules::specs::Refusal::required))]
 fn within(cycles: u32, words: u32, found: Costs, line: u32) -> Result<Bounds, CheckFault>
     ensures { Gives (λ b. b) result (within (costs cycles words greatest) found line) }
 {

@@ -1,26 +1,22 @@
 // The rules of crate calls and LAM calls.
 
-ghost use Rattle.std.specs.Prelude.{◌≡◌, ◌<◌};
+ghost use Rattle.std.specs.Prelude.{◌≡◌};
 ghost use Rattle.camac_esone.specs.Calls.{lam_function};
 ghost use Rattle.camac_lang.specs.View.{expression_of};
-ghost use Rattle.camac_rules.specs.Addresses.{in_plan};
-ghost use Rattle.camac_rules.specs.Calls.{is_crate, crate_rule, lam_region, lam_rule};
+ghost use Rattle.camac_rules.specs.Calls.{crate_rule, lam_region, lam_rule};
 ghost use Rattle.camac_rules.specs.Refusal.{given};
 ghost use Rattle.camac_check.specs.Gives.{Gives, by_code, verdict_of};
 
-use crate::address::{CRATE_END, command_widths};
-use crate::around::Around;
 use crate::context::Context;
 use crate::cycle::one_cycle;
-use crate::expression::range_of;
-use crate::fault::{CheckFault, required};
-use crate::known::{Facts, Region};
 use crate::statement::Findings;
-use camac_branch::Plan;
+use camac_known::{
+    Around, CheckFault, Facts, Region, command_widths, is_crate, range_of, required,
+};
 use camac_lang::{Expr, LamCall};
 use camac_range::Range;
 use camac_rules::CheckRule;
-use camac_word::{CrateNo, Function};
+use camac_word::Function;
 use std::alloc::Global;
 
 /// Checks a crate call.
@@ -94,24 +90,5 @@ fn function_of(call: LamCall) -> Function
     match Function::new(function) {
         Some(function) => function,
         None => unreachable!(),
-    }
-}
-
-// Whether a range is one number, which is that of a crate of the plan.
-fn is_crate(plan: &Plan, crates: Range) -> bool
-    ensures { result ≡ is_crate plan.now crates }
-{
-    let c = crates.lo();
-    c == crates.hi() && c < CRATE_END && is_in_plan(plan, c)
-}
-
-#[tactic(auto, using(crate::proofs::Walks::no_crate))]
-fn is_in_plan(plan: &Plan, c: u32) -> bool
-    requires { c < 8 }
-    ensures { result ≡ in_plan plan.now c }
-{
-    match CrateNo::new(c) {
-        Some(crate_no) => plan.waits(crate_no).is_some(),
-        None => false,
     }
 }

@@ -12,15 +12,12 @@ ghost use Rattle.camac_rules.specs.Known.{region_at};
 ghost use Rattle.camac_rules.specs.Refusal.{given};
 ghost use Rattle.camac_check.specs.Gives.{Gives, by_code, verdict_of};
 
-use crate::address::{command_widths, cycle_cost};
-use crate::around::Around;
 use crate::context::Context;
-use crate::cost::Costs;
-use crate::expression::range_of;
-use crate::fault::{CheckFault, required};
-use crate::known::{Facts, Region};
 use crate::statement::Findings;
 use camac_func::{FunctionClass, class};
+use camac_known::{
+    Around, CheckFault, Costs, Facts, Region, command_widths, cycle_cost, range_of, required,
+};
 use camac_lang::{Expr, Move, WordSize};
 use camac_range::Range;
 use camac_rules::CheckRule;

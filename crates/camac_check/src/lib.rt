@@ -2,19 +2,13 @@
 #![tactic(auto)]
 
 mod accept;
-mod address;
-mod around;
 mod calls;
 mod checked;
 mod context;
-mod cost;
 mod cycle;
-mod expression;
-mod fault;
 mod judge;
-mod known;
 mod statement;
 
+pub use camac_known::CheckFault;
 pub use checked::{Bounds, Checked};
-pub use fault::CheckFault;
 pub use judge::check;

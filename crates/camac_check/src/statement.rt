@@ -7,14 +7,10 @@ ghost use Rattle.camac_rules.specs.Refusal.{if_reached};
 ghost use Rattle.camac_rules.specs.Statements.{assign_rule, register_rule, put_rule, accept_statement, accept_block};
 ghost use Rattle.camac_check.specs.Gives.{Gives, by_code, verdict_of};
 
-use crate::around::Around;
 use crate::calls::{crate_call, lam_call};
 use crate::context::Context;
-use crate::cost::Costs;
 use crate::cycle::single;
-use crate::expression::range_of;
-use crate::fault::{CheckFault, required};
-use crate::known::{Facts, Region};
+use camac_known::{Around, CheckFault, Costs, Facts, Region, join, range_of, required, split};
 use camac_lang::{Expr, Stmt};
 use camac_rules::CheckRule;
 use std::alloc::Global;
@@ -26,22 +22,23 @@ pub struct Findings {
     pub costs: Costs,
 }
 
-/// Checks a block from what is known at its begin.
+/// Checks a block from what is known at its begin, if it can be reached.
+#[cycle(statements)]
 pub fn accept_block(
     alloc: Global,
     context: &Context,
     around: &Around,
     block: &[Stmt],
-    known: &Facts,
+    known: Option<Facts>,
 ) -> Result<Findings, CheckFault>
-    ensures { Gives verdict_of result (accept_block (by_code context.now) around.now (statements_of block.now) known.now) }
+    ensures { Gives verdict_of result (if_reached unreached known (accept_block (by_code context.now) around.now (statements_of block.now))) }
 {
     let mut found = Findings {
-        known: Some(known.try_clone(alloc)?),
+        known,
         costs: Costs::new(0, 0, 0),
     };
     'statements: for statement in block {
-        let next = match accept_next(alloc, context, around, statement, &found.known) {
+        let next = match accept_statement(alloc, context, around, statement, &found.known) {
             Ok(next) => next,
             Err(fault) => return Err(fault),
         };
@@ -54,8 +51,9 @@ pub fn accept_block(
 }
 
 // Checks a statement, if it can be reached.
-#[tactic(auto, unfolding(camac_rules::specs::Refusal::if_reached))]
-fn accept_next(
+#[cycle(statements)]
+#[tactic(auto, unfolding(camac_rules::specs::Refusal::go_on, camac_rules::specs::Refusal::if_reached))]
+fn accept_statement(
     alloc: Global,
     context: &Context,
     around: &Around,
@@ -64,25 +62,12 @@ fn accept_next(
 ) -> Result<Findings, CheckFault>
     ensures { Gives verdict_of result (if_reached unreached known.now (accept_statement (by_code context.now) around.now (statement_of statement.now))) }
 {
-    match known {
-        None => Ok(Findings {
+    let Some(known) = known else {
+        return Ok(Findings {
             known: None,
             costs: Costs::new(0, 0, 0),
-        }),
-        Some(known) => accept_statement(alloc, context, around, statement, known),
-    }
-}
-
-// Checks a statement.
-fn accept_statement(
-    alloc: Global,
-    context: &Context,
-    around: &Around,
-    statement: &Stmt,
-    known: &Facts,
-) -> Result<Findings, CheckFault>
-    ensures { Gives verdict_of result (accept_statement (by_code context.now) around.now (statement_of statement.now) known.now) }
-{
+        });
+    };
     match statement {
         Stmt::Assign {
             line,
@@ -120,9 +105,30 @@ fn accept_statement(
         Stmt::LamCall { line, call, lam } => {
             lam_call(alloc, context, around, *line, *call, *lam, known)
         }
+        Stmt::If { line, test, then } => {
+            let ways = split(alloc, *line, &test.parts, known)?;
+            let first = accept_block(alloc, context, around, then, ways.holds)?;
+            Ok(Findings {
+                known: join(alloc, first.known, ways.fails)?,
+                costs: first.costs.or(Costs::new(0, 0, 0)),
+            })
+        }
+        Stmt::IfElse {
+            line,
+            test,
+            then,
+            otherwise,
+        } => {
+            let ways = split(alloc, *line, &test.parts, known)?;
+            let first = accept_block(alloc, context, around, then, ways.holds)?;
+            let second = accept_block(alloc, context, around, otherwise, ways.fails)?;
+            Ok(Findings {
+                known: join(alloc, first.known, second.known)?,
+                costs: first.costs.or(second.costs),
+            })
+        }
         Stmt::Scan { line, .. } => not_served(*line),
         Stmt::QStop { line, .. } | Stmt::QRepeat { line, .. } => not_served(*line),
-        Stmt::If { line, .. } | Stmt::IfElse { line, .. } => not_served(*line),
         Stmt::For { line, .. } | Stmt::While { line, .. } => not_served(*line),
         Stmt::Lock { line, .. } | Stmt::Call { line, .. } => not_served(*line),
     }

@@ -1,6 +1,8 @@
 pub mod Allows
 pub mod Stores
 pub mod Values
+pub mod Joined
+pub mod Conditions
 pub mod Walks
 pub mod Regions
 pub mod Sound
@@ -13,3 +15,4 @@ pub mod Services
 pub mod Orders
 pub mod Accepted
 mod Rows
+mod Arms

@@ -1,8 +1,8 @@
 -- What the rules promise of a behaviour, and how the promises of parts join.
-use Rattle.std.proofs.Common.{◌≡◌, ℕ, ◌+◌, ◌≤◌, length, true, ◌∙◌, arith}
+use Rattle.std.proofs.Common.{◌≡◌, ℕ, ◌+◌, ◌≤◌, length, true, Some, None, ◌∙◌, arith}
 use Rattle.camac_branch.specs.Plan.{Layout}
 use Rattle.camac_model.specs.Moments.{Meets}
-use Rattle.camac_model.specs.State.{State}
+use Rattle.camac_model.specs.State.{State, stepped}
 use Rattle.camac_model.specs.Behaviour.{Piece, Behaviour, does, ends, stops, Stop, Action, then_do}
 use Rattle.camac_model.specs.Safe.{IsSafePiece}
 use Rattle.camac_model.specs.Fine.{Bounds, AreWords, IsOfAnswers, most_turns}
@@ -92,3 +92,23 @@ sound_then plan around mid after c d s b go h k =
     (λ w u f. record { of_answers = f.of_answers; paid = paid_then c d s t u e.paid f.paid })
     (λ u f. record { reaches = f.reaches; paid = paid_then c d s t u e.paid f.paid; untouched = untouched_then around s t u e.untouched f.untouched })
     (k t e.reaches))
+
+stepped_reaches : (around : Around) (k : Known) (s : State) → Reaches around k s → Reaches around k (stepped s)
+stepped_reaches around None s h = h
+stepped_reaches around (Some k) s h = record { variables = h.variables; registers = h.registers; locks = h.locks }
+
+-- a part after the statement's own step; less may be known, and more may be paid
+pub sound_begun : (plan : Layout) (around : Around) (k mid after : Known) (c d : Bounds) (s : State) (go : Action) → Reaches around k s → ((t : State) → Reaches around k t → Sound plan around mid c t (go t)) → ((t : State) → Reaches around mid t → Reaches around after t) → c.cycles ≤ d.cycles → c.words ≤ d.words → 1 + c.steps ≤ d.steps → Sound plan around after d s (go (stepped s))
+sound_begun plan around k mid after c d s go r h known cycles words steps =
+    meets_more plan (StopsWell c (stepped s)) (StopsWell d s) (EndsWell around mid c (stepped s)) (EndsWell around after d s) (go (stepped s))
+    (λ w t e. record { of_answers = e.of_answers; paid = begun t e.paid })
+    (λ t e. record { reaches = known t e.reaches; paid = begun t e.paid; untouched = e.untouched })
+    (h (stepped s) (stepped_reaches around k s r))
+  where
+    begun : (t : State) → Paid c (stepped s) t → Paid d s t
+    begun t p = record {
+      cycles = omega (arith, p.cycles);
+      words = omega (arith, p.words);
+      steps = omega (arith, p.steps);
+      are_words = p.are_words;
+    }

@@ -1,21 +1,27 @@
 -- What the rules accept of statements runs safely: one induction over statements.
-use Rattle.std.proofs.Common.{◌≡◌, ℕ, ◌+◌, ◌^◌, ◌<◌, ◌≤◌, List, [], ◌∷◌, ◌++◌, length, length-append, Some, refl, arith}
+use Rattle.std.proofs.Common.{◌≡◌, ℕ, ◌+◌, ◌^◌, ◌<◌, ◌≤◌, List, [], ◌∷◌, ◌++◌, length, length-append, Option, Some, None, Bool, true, false, refl, arith}
 use Rattle.std.proofs.lemmas.Bool.{leb-true}
 use Rattle.camac_lang.specs.Tree.{Expression, Statement, assign, set_register, single, address_scan, q_stop, q_repeat, put, crate_call, lam_call, choose, choose_else, count, repeat, locked, call, Block, done, next}
 use Rattle.camac_branch.specs.Address.{address}
-use Rattle.camac_model.specs.State.{stepped, with_variable, with_register, with_word}
-use Rattle.camac_model.specs.Behaviour.{ends, Action, given}
-use Rattle.camac_model.specs.Value.{value}
+use Rattle.camac_branch.specs.Plan.{Layout}
+use Rattle.camac_model.specs.State.{State, stepped, with_variable, with_register, with_word}
+use Rattle.camac_model.specs.Behaviour.{ends, Action, given, decide}
+use Rattle.camac_model.specs.Value.{value, truth}
 use Rattle.camac_model.specs.Meaning.{Context, effect, block_meaning}
 use Rattle.camac_model.specs.Fine.{AreWords}
 use Rattle.camac_rules.specs.Known.{region, Facts, Known, with_range, with_region}
-use Rattle.camac_rules.specs.Costs.{costs, unreached}
+use Rattle.camac_rules.specs.Refusal.{if_reached}
+use Rattle.camac_rules.specs.Joined.{join}
+use Rattle.camac_rules.specs.Conditions.{Branches}
+use Rattle.camac_rules.specs.Costs.{costs, no_costs, choice_costs, Verdict, verdict, unreached}
 use Rattle.camac_rules.specs.Cycles.{Around}
 use Rattle.camac_rules.specs.Statements.{greatest_word, assign_rule, register_rule, put_rule, accept_statement, accept_block}
 use Rattle.camac_rules.proofs.Allows.{Allows, allowed as allows, refused, then_allowed, required_allowed, if_reached_allowed}
-use Rattle.camac_rules.proofs.Stores.{InRegion, registers_write}
+use Rattle.camac_rules.proofs.Stores.{InRegion, Reaches, registers_write}
+use Rattle.camac_rules.proofs.Joined.{join_left, join_right}
+use Rattle.camac_rules.proofs.Conditions.{Decides, split_each}
 use Rattle.camac_rules.proofs.Values.{range_each}
-use Rattle.camac_rules.proofs.Sound.{SoundFor, paid_nothing, sound_then}
+use Rattle.camac_rules.proofs.Sound.{Sound, SoundFor, paid_nothing, sound_then, sound_begun}
 use Rattle.camac_rules.proofs.Actions.{HasWidths, seen, with_given, value_of, inside_written, written_other, single_sound}
 use Rattle.camac_rules.proofs.Calls.{crate_sound, lam_sound}
 
@@ -81,33 +87,64 @@ register_set_sound c around line r e1 e2 e3 k =
           })));
     }))))
 
-pub statement_sound : (c : Context) → HasWidths c.plan → (around : Around) (st : Statement) (k : Facts) → Allows (accept_statement (seen c) around st k) (SoundFor c.plan around (Some k) (λ n s. effect c n st (stepped s)))
-statement_sound c narrow around (assign line x e) k = assign_sound c around line x e k
-statement_sound c narrow around (set_register line r e1 e2 e3) k = register_set_sound c around line r e1 e2 e3 k
-statement_sound c narrow around (single line size f r m) k = single_sound c narrow around line size f r m k
-statement_sound c narrow around (put line e) k = put_sound c around line e k
-statement_sound c narrow around (crate_call line which e) k = crate_sound c around line which e k
-statement_sound c narrow around (lam_call line which l) k = lam_sound c around line which l k
-statement_sound c narrow around (address_scan line f r1 r2 max x) k = refused
-statement_sound c narrow around (q_stop line f r t max x) k = refused
-statement_sound c narrow around (q_repeat line f r t max limit x) k = refused
-statement_sound c narrow around (choose line test a) k = refused
-statement_sound c narrow around (choose_else line test a b) k = refused
-statement_sound c narrow around (count line x e1 e2 keeps body) k = refused
-statement_sound c narrow around (repeat line test most m keeps body) k = refused
-statement_sound c narrow around (locked line e body) k = refused
-statement_sound c narrow around (call line p es) k = refused
+-- a block, if it can be reached
+reached_sound : (c : Context) (around : Around) (b : Block) (known : Known) → ((k : Facts) → Allows (accept_block (seen c) around b k) (SoundFor c.plan around (Some k) (λ n. block_meaning c n b))) → Allows (if_reached unreached known (accept_block (seen c) around b)) (SoundFor c.plan around known (λ n. block_meaning c n b))
+reached_sound c around b known h =
+    if_reached_allowed unreached known (accept_block (seen c) around b) (λ k. SoundFor c.plan around k (λ n. block_meaning c n b))
+    (record { each = λ n le s i. absurd i }) h
 
--- a block, from what is known at its begin, if that can be reached
-pub block_sound : (c : Context) → HasWidths c.plan → (around : Around) (b : Block) (k : Facts) → Allows (accept_block (seen c) around b k) (SoundFor c.plan around (Some k) (λ n. block_meaning c n b))
-block_sound c narrow around done k =
-    allows (record { each = λ n le s i. record { reaches = i; paid = paid_nothing s; untouched = λ y among. refl } })
-block_sound c narrow around (next st rest) k =
-    then_allowed (statement_sound c narrow around st k) (λ first h.
-    then_allowed
-    (if_reached_allowed unreached first.after (accept_block (seen c) around rest) (λ known. SoundFor c.plan around known (λ n. block_meaning c n rest))
-    (record { each = λ n le s i. absurd i }) (λ q. block_sound c narrow around rest q)) (λ second g.
-    allows (record {
-      each = λ n le s i.
-          sound_then c.plan around first.after second.after first.costs second.costs s (effect c n st (stepped s)) (block_meaning c n rest) (h.each n le s i) (λ t j. g.each n le t j);
-    })))
+-- the arm of a condition's truth, each arm from the states that can reach it
+choice_sound : (plan : Layout) (around : Around) (arms : Branches) (first second : Verdict) (s : State) (o : Option Bool) (go other : Action) → Decides around o arms s → ((t : State) → Reaches around arms.holds t → Sound plan around first.after first.costs t (go t)) → ((t : State) → Reaches around arms.fails t → Sound plan around second.after second.costs t (other t)) → Sound plan around (join first.after second.after) (choice_costs first.costs second.costs) s (decide o go other (stepped s))
+choice_sound plan around arms first second s None go other d f g = absurd d
+choice_sound plan around arms first second s (Some true) go other d f g =
+    sound_begun plan around arms.holds first.after (join first.after second.after) first.costs (choice_costs first.costs second.costs) s go d f
+    (join_left around first.after second.after) (omega arith) (omega arith) (omega arith)
+choice_sound plan around arms first second s (Some false) go other d f g =
+    sound_begun plan around arms.fails second.after (join first.after second.after) second.costs (choice_costs first.costs second.costs) s other d g
+    (join_right around first.after second.after) (omega arith) (omega arith) (omega arith)
+
+mutual
+  pub statement_sound : (c : Context) → HasWidths c.plan → (around : Around) (st : Statement) (k : Facts) → Allows (accept_statement (seen c) around st k) (SoundFor c.plan around (Some k) (λ n s. effect c n st (stepped s)))
+  statement_sound c narrow around (assign line x e) k = assign_sound c around line x e k
+  statement_sound c narrow around (set_register line r e1 e2 e3) k = register_set_sound c around line r e1 e2 e3 k
+  statement_sound c narrow around (single line size f r m) k = single_sound c narrow around line size f r m k
+  statement_sound c narrow around (choose line test a) k =
+      then_allowed (split_each around line test k) (λ arms d.
+      then_allowed (reached_sound c around a arms.holds (λ q. block_sound c narrow around a q)) (λ first h. allows (record {
+        each = λ n le s i.
+            choice_sound c.plan around arms first (verdict arms.fails no_costs) s (truth test s.variables s.q s.x) (block_meaning c n a) ends (d s i)
+            (λ t j. h.each n le t j)
+            (λ t j. record { reaches = j; paid = paid_nothing t; untouched = λ y among. refl });
+      })))
+  statement_sound c narrow around (choose_else line test a b) k =
+      then_allowed (split_each around line test k) (λ arms d.
+      then_allowed (reached_sound c around a arms.holds (λ q. block_sound c narrow around a q)) (λ first h.
+      then_allowed (reached_sound c around b arms.fails (λ q. block_sound c narrow around b q)) (λ second g. allows (record {
+        each = λ n le s i.
+            choice_sound c.plan around arms first second s (truth test s.variables s.q s.x) (block_meaning c n a) (block_meaning c n b) (d s i)
+            (λ t j. h.each n le t j)
+            (λ t j. g.each n le t j);
+      }))))
+  statement_sound c narrow around (put line e) k = put_sound c around line e k
+  statement_sound c narrow around (crate_call line which e) k = crate_sound c around line which e k
+  statement_sound c narrow around (lam_call line which l) k = lam_sound c around line which l k
+  statement_sound c narrow around (address_scan line f r1 r2 max x) k = refused
+  statement_sound c narrow around (q_stop line f r t max x) k = refused
+  statement_sound c narrow around (q_repeat line f r t max limit x) k = refused
+  statement_sound c narrow around (count line x e1 e2 keeps body) k = refused
+  statement_sound c narrow around (repeat line test most m keeps body) k = refused
+  statement_sound c narrow around (locked line e body) k = refused
+  statement_sound c narrow around (call line p es) k = refused
+
+  -- a block, from what is known at its begin, if that can be reached
+  pub block_sound : (c : Context) → HasWidths c.plan → (around : Around) (b : Block) (k : Facts) → Allows (accept_block (seen c) around b k) (SoundFor c.plan around (Some k) (λ n. block_meaning c n b))
+  block_sound c narrow around done k =
+      allows (record { each = λ n le s i. record { reaches = i; paid = paid_nothing s; untouched = λ y among. refl } })
+  block_sound c narrow around (next st rest) k =
+      then_allowed (statement_sound c narrow around st k) (λ first h.
+      then_allowed
+      (reached_sound c around rest first.after (λ q. block_sound c narrow around rest q)) (λ second g.
+      allows (record {
+        each = λ n le s i.
+            sound_then c.plan around first.after second.after first.costs second.costs s (effect c n st (stepped s)) (block_meaning c n rest) (h.each n le s i) (λ t j. g.each n le t j);
+      })))

@@ -1,5 +1,5 @@
 -- What statements can cost, in numbers of any size, and what a statement is found to leave and cost.
-use Rattle.std.specs.Prelude.{ℕ, ◌+◌, None}
+use Rattle.std.specs.Prelude.{ℕ, ◌+◌, None, max}
 use Rattle.camac_model.specs.Fine.{Bounds}
 use Rattle.camac_rules.specs.Known.{Known}
 
@@ -12,6 +12,10 @@ no_costs = costs 0 0 0
 -- one after the other
 abbrev pub plus : Bounds → Bounds → Bounds
 plus a b = costs (a.cycles + b.cycles) (a.words + b.words) (a.steps + b.steps)
+
+-- a step, and the greater arm
+abbrev pub choice_costs : Bounds → Bounds → Bounds
+choice_costs a b = costs (max a.cycles b.cycles) (max a.words b.words) (1 + max a.steps b.steps)
 
 -- what is known after a statement, and what it can cost
 pub record Verdict : Type 0 where

@@ -1,7 +1,9 @@
 pub mod Fault
 pub mod Refusal
 pub mod Known
+pub mod Joined
 pub mod Expressions
+pub mod Conditions
 pub mod Costs
 pub mod Walks
 pub mod Addresses

@@ -5,8 +5,10 @@ use Rattle.camac_rules.specs.declared.rule.CheckRule.TheVariants.{WordTooWide, L
 use Rattle.camac_rules.specs.Fault.{Fault, not_served}
 use Rattle.camac_rules.specs.Refusal.{◌>>=◌, ◌>>◌, required, if_reached}
 use Rattle.camac_rules.specs.Known.{Facts, region, with_range, with_region}
+use Rattle.camac_rules.specs.Joined.{join}
 use Rattle.camac_rules.specs.Expressions.{range_of}
-use Rattle.camac_rules.specs.Costs.{costs, no_costs, plus, Verdict, verdict, unreached}
+use Rattle.camac_rules.specs.Conditions.{split}
+use Rattle.camac_rules.specs.Costs.{costs, no_costs, plus, choice_costs, Verdict, verdict, unreached}
 use Rattle.camac_rules.specs.Cycles.{Context, Around, may_write, single_rule}
 use Rattle.camac_rules.specs.Calls.{crate_rule, lam_rule}
 
@@ -33,27 +35,35 @@ put_rule line e k = do
   required (nat_le r.hi greatest_word) WordTooWide line
   Ok (verdict (Some k) (costs 0 1 1))
 
-abbrev pub accept_statement : Context → Around → Statement → Facts → Result Verdict Fault
-accept_statement c around (assign line x e) k = assign_rule around line x e k
-accept_statement c around (set_register line r e1 e2 e3) k = register_rule line r e1 e2 e3 k
-accept_statement c around (single line size f r move) k = single_rule c around line size f r move k
-accept_statement c around (put line e) k = put_rule line e k
-accept_statement c around (crate_call line which e) k = crate_rule c around line e k
-accept_statement c around (lam_call line which l) k = lam_rule c around line which l k
-accept_statement c around (address_scan line f r1 r2 max x) k = Err (not_served line)
-accept_statement c around (q_stop line f r t max x) k = Err (not_served line)
-accept_statement c around (q_repeat line f r t max limit x) k = Err (not_served line)
-accept_statement c around (choose line test a) k = Err (not_served line)
-accept_statement c around (choose_else line test a b) k = Err (not_served line)
-accept_statement c around (count line x e1 e2 keeps body) k = Err (not_served line)
-accept_statement c around (repeat line test most m keeps body) k = Err (not_served line)
-accept_statement c around (locked line e body) k = Err (not_served line)
-accept_statement c around (call line p es) k = Err (not_served line)
+abbrev mutual
+  pub accept_statement : Context → Around → Statement → Facts → Result Verdict Fault
+  accept_statement c around (assign line x e) k = assign_rule around line x e k
+  accept_statement c around (set_register line r e1 e2 e3) k = register_rule line r e1 e2 e3 k
+  accept_statement c around (single line size f r move) k = single_rule c around line size f r move k
+  accept_statement c around (choose line test a) k = do
+    arms ← split line test k
+    first ← if_reached unreached arms.holds (accept_block c around a)
+    Ok (verdict (join first.after arms.fails) (c.limit (choice_costs first.costs no_costs)))
+  accept_statement c around (choose_else line test a b) k = do
+    arms ← split line test k
+    first ← if_reached unreached arms.holds (accept_block c around a)
+    second ← if_reached unreached arms.fails (accept_block c around b)
+    Ok (verdict (join first.after second.after) (c.limit (choice_costs first.costs second.costs)))
+  accept_statement c around (put line e) k = put_rule line e k
+  accept_statement c around (crate_call line which e) k = crate_rule c around line e k
+  accept_statement c around (lam_call line which l) k = lam_rule c around line which l k
+  accept_statement c around (address_scan line f r1 r2 max x) k = Err (not_served line)
+  accept_statement c around (q_stop line f r t max x) k = Err (not_served line)
+  accept_statement c around (q_repeat line f r t max limit x) k = Err (not_served line)
+  accept_statement c around (count line x e1 e2 keeps body) k = Err (not_served line)
+  accept_statement c around (repeat line test most m keeps body) k = Err (not_served line)
+  accept_statement c around (locked line e body) k = Err (not_served line)
+  accept_statement c around (call line p es) k = Err (not_served line)
 
--- a list costs the sum
-abbrev pub accept_block : Context → Around → Block → Facts → Result Verdict Fault
-accept_block c around done k = Ok (verdict (Some k) no_costs)
-accept_block c around (next s rest) k = do
-  first ← accept_statement c around s k
-  second ← if_reached unreached first.after (accept_block c around rest)
-  Ok (verdict second.after (c.limit (plus first.costs second.costs)))
+  -- a list costs the sum
+  pub accept_block : Context → Around → Block → Facts → Result Verdict Fault
+  accept_block c around done k = Ok (verdict (Some k) no_costs)
+  accept_block c around (next s rest) k = do
+    first ← accept_statement c around s k
+    second ← if_reached unreached first.after (accept_block c around rest)
+    Ok (verdict second.after (c.limit (plus first.costs second.costs)))

@@ -1,0 +1,78 @@
+// What statements can cost.
+
+ghost use Rattle.std.specs.Prelude.{◌≡◌};
+ghost use Rattle.camac_rules.specs.Costs.{costs, no_costs, plus, choice_costs};
+ghost use Rattle.camac_rules.specs.Capped.{capped};
+
+use std::marker::Model;
+
+/// Bounds on the dataway cycles with those of auxiliary controllers, on the event words and on the steps. A number that would pass 64 bits
+/// stays at their greatest.
+#[derive(Clone, Copy)]
+pub struct Costs {
+    cycles: u64,
+    words: u64,
+    steps: u64,
+}
+
+impl Model for Costs {
+    ghost use Rattle.camac_model.specs.Fine.{Bounds};
+
+    ghost Value = { Bounds };
+
+    ghost view = { λ c. record { cycles = c.cycles; words = c.words; steps = c.steps } };
+
+    ghost inverse = { λ b. record { cycles = b.cycles; words = b.words; steps = b.steps } };
+}
+
+impl Costs {
+    pub fn new(cycles: u64, words: u64, steps: u64) -> Self
+        ensures { result ≡ costs cycles words steps }
+    {
+        Costs {
+            cycles,
+            words,
+            steps,
+        }
+    }
+
+    /// Those of this and then of the other.
+    pub fn then(self, other: Costs) -> Self
+        ensures { result ≡ capped (plus self other) }
+    {
+        Costs {
+            cycles: self.cycles.saturating_add(other.cycles),
+            words: self.words.saturating_add(other.words),
+            steps: self.steps.saturating_add(other.steps),
+        }
+    }
+
+    /// Those of a choice between this and the other: a step, and the greater of each.
+    pub fn or(self, other: Costs) -> Self
+        ensures { result ≡ capped (choice_costs self other) }
+    {
+        Costs {
+            cycles: self.cycles.max(other.cycles),
+            words: self.words.max(other.words),
+            steps: self.steps.max(other.steps).saturating_add(1),
+        }
+    }
+
+    pub fn cycles(self) -> u64
+        ensures { result ≡ self.cycles }
+    {
+        self.cycles
+    }
+
+    pub fn words(self) -> u64
+        ensures { result ≡ self.words }
+    {
+        self.words
+    }
+
+    pub fn steps(self) -> u64
+        ensures { result ≡ self.steps }
+    {
+        self.steps
+    }
+}
