@@ -1,3 +1,4 @@
 pub mod Codes
+pub mod Plan
 pub mod Refusal
 pub mod Verdict

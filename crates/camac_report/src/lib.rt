@@ -1,11 +1,13 @@
-//! The lines that the program prints: verdicts and refusals.
+//! The lines that the program prints: verdicts, refusals and plans.
 #![tactic(auto)]
 
 mod code;
 mod line;
+mod plan;
 mod refusal;
 mod verdict;
 
 pub use code::{AnswerCode, CheckCode, CodeText, EventCode, LinkCode, PlanCode, TextCode};
+pub use plan::write_plan;
 pub use refusal::{Refusal, write_refusal};
 pub use verdict::write_verdict;

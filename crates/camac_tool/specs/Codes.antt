@@ -1,16 +1,31 @@
 -- Refusal codes of the rules of the lower crates.
+use Rattle.camac_plan.specs.declared.fault.PlanRule.{PlanRule}
+use Rattle.camac_plan.specs.declared.fault.PlanRule.TheVariants as plan_rule
 use Rattle.camac_text.specs.declared.fault.TextRule.{TextRule}
 use Rattle.camac_text.specs.declared.fault.TextRule.TheVariants as text_rule
 use Rattle.camac_names.specs.declared.fault.LinkRule.{LinkRule}
 use Rattle.camac_names.specs.declared.fault.LinkRule.TheVariants as link_rule
 use Rattle.camac_rules.specs.declared.rule.CheckRule.{CheckRule}
 use Rattle.camac_rules.specs.declared.rule.CheckRule.TheVariants as check_rule
+use Rattle.camac_report.specs.declared.code.PlanCode.{PlanCode}
+use Rattle.camac_report.specs.declared.code.PlanCode.TheVariants as plan
 use Rattle.camac_report.specs.declared.code.TextCode.{TextCode}
 use Rattle.camac_report.specs.declared.code.TextCode.TheVariants as text
 use Rattle.camac_report.specs.declared.code.LinkCode.{LinkCode}
 use Rattle.camac_report.specs.declared.code.LinkCode.TheVariants as link
 use Rattle.camac_report.specs.declared.code.CheckCode.{CheckCode}
 use Rattle.camac_report.specs.declared.code.CheckCode.TheVariants as check
+
+abbrev pub plan_code : PlanRule → PlanCode
+plan_code plan_rule.NotToml = plan.NotToml
+plan_code plan_rule.UnknownKey = plan.UnknownKey
+plan_code plan_rule.MissingOrWrongKind = plan.MissingKey
+plan_code plan_rule.OutOfRange = plan.OutOfRange
+plan_code plan_rule.CrateTwice = plan.CrateTwice
+plan_code plan_rule.StationTwice = plan.StationTwice
+plan_code plan_rule.UnknownType = plan.UnknownType
+plan_code plan_rule.DeclaredTwice = plan.DeclaredTwice
+plan_code plan_rule.BitTwice = plan.GlBitTwice
 
 abbrev pub text_code : TextRule → TextCode
 text_code text_rule.BadByte = text.BadByte

@@ -1,7 +1,8 @@
--- What `camac check` tells of a script.
+-- What `camac plan` tells of a plan, and `camac check` of a plan and a script.
 use Rattle.std.specs.Prelude.{ℕ, List, Option, Some, None, Result, Ok, Err}
 use Rattle.camac_lang.specs.Tree.{Script}
 use Rattle.camac_branch.specs.Plan.{Layout}
+use Rattle.camac_plan.specs.declared.fault.PlanRule.{PlanRule}
 use Rattle.camac_text.specs.Fault.{Fault as TextFault}
 use Rattle.camac_text.specs.Parser.{script_of}
 use Rattle.camac_names.specs.Link.{link_fault}
@@ -10,11 +11,12 @@ use Rattle.camac_names.specs.declared.fault.LinkFault.TheVariants as link_fault_
 use Rattle.camac_rules.specs.Fault.{Fault as CheckFault, broken, not_served}
 use Rattle.camac_rules.specs.Accept.{accept}
 use Rattle.camac_model.specs.Fine.{Bounds}
+use Rattle.camac_report.specs.Plan.{plan_text}
 use Rattle.camac_report.specs.Refusal.{refusal_text}
 use Rattle.camac_report.specs.Verdict.{verdict_text}
 use Rattle.camac_report.specs.declared.refusal.Refusal.{Refusal}
 use Rattle.camac_report.specs.declared.refusal.Refusal.TheVariants as refusal
-use Rattle.camac_tool.specs.Codes.{text_code, link_code, check_code}
+use Rattle.camac_tool.specs.Codes.{plan_code, text_code, link_code, check_code}
 use Rattle.camac_tool.specs.declared.judging.Judged.{Judged}
 use Rattle.camac_tool.specs.declared.judging.Judged.TheVariants as judged
 use Rattle.camac_tool.specs.declared.outcome.Outcome.{Outcome}
@@ -47,6 +49,11 @@ report_read plan (Err fault) = refused (refusal.Text (text_code fault.rule) faul
 -- of a script's text
 abbrev pub report : Layout → List ℕ → Report
 report plan text = report_read plan (script_of text)
+
+-- of what the plan says
+abbrev pub report_plan : Result Layout PlanRule → Report
+report_plan (Ok plan) = Some (Good, plan_text plan)
+report_plan (Err rule) = refused (refusal.Plan (plan_code rule))
 
 abbrev pub report_of : Judged → Report
 report_of (judged.Accepted c) = Some (Good, verdict_text c.plan c.script c.bounds)

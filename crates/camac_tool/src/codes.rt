@@ -1,12 +1,30 @@
 // Refusal codes of the rules of the lower crates.
 
 ghost use Rattle.std.specs.Prelude.{◌≡◌};
-ghost use Rattle.camac_tool.specs.Codes.{text_code, link_code, check_code};
+ghost use Rattle.camac_tool.specs.Codes.{plan_code, text_code, link_code, check_code};
 
 use camac_names::LinkRule;
-use camac_report::{CheckCode, LinkCode, TextCode};
+use camac_plan::PlanRule;
+use camac_report::{CheckCode, LinkCode, PlanCode, TextCode};
 use camac_rules::CheckRule;
 use camac_text::TextRule;
+
+/// The code of a rule of a plan.
+pub fn plan_code(rule: PlanRule) -> PlanCode
+    ensures { result ≡ plan_code rule }
+{
+    match rule {
+        PlanRule::NotToml => PlanCode::NotToml,
+        PlanRule::UnknownKey => PlanCode::UnknownKey,
+        PlanRule::MissingOrWrongKind => PlanCode::MissingKey,
+        PlanRule::OutOfRange => PlanCode::OutOfRange,
+        PlanRule::CrateTwice => PlanCode::CrateTwice,
+        PlanRule::StationTwice => PlanCode::StationTwice,
+        PlanRule::UnknownType => PlanCode::UnknownType,
+        PlanRule::DeclaredTwice => PlanCode::DeclaredTwice,
+        PlanRule::BitTwice => PlanCode::GlBitTwice,
+    }
+}
 
 /// The code of a rule of a script's text.
 pub fn text_code(rule: TextRule) -> TextCode

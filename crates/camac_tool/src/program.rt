@@ -1,9 +1,10 @@
 // The program, from its arguments to its exit status.
 
-use crate::engine::{PlanSource, engine_check};
+use crate::engine::{engine_check, engine_plan};
 use crate::fault::ToolFault;
 use crate::input::{Input, open};
 use crate::outcome::{Outcome, status};
+use crate::plan::PlanSource;
 use crate::words::{Job, JobFault, read_words};
 use camac_word::Watched;
 use clap::Error;
@@ -53,9 +54,16 @@ fn arguments<R: Runtime + AllocGlobal>(rt: &R) -> Result<Vec<String>, Unread> {
 
 fn serve<R: Runtime + AllocGlobal>(rt: &R, job: Job<'_>) -> u8 {
     match job {
-        Job::Check(plan, script) if plan == "@sample" => finished(rt, check(rt, plan, script)),
+        Job::Plan(plan) => finished(rt, show_plan(rt, plan)),
+        Job::Check(plan, script) => finished(rt, check(rt, plan, script)),
         _ => misused(rt, "fault not served yet"),
     }
+}
+
+fn show_plan<R: Runtime + AllocGlobal>(rt: &R, plan: &str) -> Result<Outcome, ToolFault> {
+    let mut plan = plan_source(rt, plan)?;
+    let mut out = Watched::new(io::writer(rt));
+    engine_plan(rt.alloc(), &mut plan, &mut out)
 }
 
 fn check<R: Runtime + AllocGlobal>(rt: &R, plan: &str, script: &str) -> Result<Outcome, ToolFault> {

@@ -10,6 +10,9 @@ use camac_word::Watched;
 use std::alloc::Global;
 use std::io::Read;
 
+/// The greatest length of a plan and of a script, in bytes.
+pub const TEXT_LIMIT: usize = 1_048_576;
+
 /// How many bytes are asked for at a time.
 const CHUNK: usize = 4096;
 
