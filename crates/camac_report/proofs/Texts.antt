@@ -1,5 +1,5 @@
 -- Texts one after another.
-use Rattle.std.proofs.Common.{◌≡◌, ℕ, ◌+◌, ◌-◌, ◌<◌, ◌≤◌, List, [], ◌++◌, Option, ap, sym, ◌∙◌, suc, append_assoc, append-nil, subst, arith}
+use Rattle.std.proofs.Common.{◌≡◌, ℕ, ◌+◌, ◌-◌, ◌<◌, ◌≤◌, List, [], ◌∷◌, ◌++◌, length, get_or, drop, Option, ap, sym, ◌∙◌, zero, suc, append_assoc, append-nil, add-one, subst, arith}
 use Rattle.std.specs.Prelude.{Result, Ok, Err}
 use Rattle.std.specs.List.{flat_map, range_with_len}
 use Rattle.std.specs.Io.KnownBytes.{Appends}
@@ -42,3 +42,23 @@ pub under_way_ends : (text rest : List ℕ) (a b : Option (List ℕ)) → IsUnde
 under_way_ends text rest a b so_far none =
     let whole : text ≡ so_far.front = so_far.parts ∙ ap (λ (l : List ℕ). so_far.front ++ l) none ∙ append-nil so_far.front in
     subst (λ (t : List ℕ). Appends a b t) (sym whole) so_far.written
+
+-- the last of a text was written
+pub under_way_last : {T E : Type 0} (r : Result T E) (text rest last : List ℕ) (a b c : Option (List ℕ)) → IsUnderWay text rest a b → rest ≡ last → Writes b c r last → Writes a c r text
+under_way_last r text rest last a b c so_far same p =
+    let whole : text ≡ so_far.front ++ last = so_far.parts ∙ ap (λ (l : List ℕ). so_far.front ++ l) same in
+    subst (λ (t : List ℕ). Writes a c r t) (sym whole) (Writes-after r so_far.front last a b c so_far.written p)
+
+-- the texts of a list's elements from one of them on
+flat_map-drop : {X : Type 0} (f : X → List ℕ) (xs : List X) (i : ℕ) (x : X) → i < length xs → x ≡ get_or xs i x → flat_map f (drop i xs) ≡ f x ++ flat_map f (drop (suc i) xs)
+flat_map-drop f [] i x lt is = absurd (omega (arith, lt))
+flat_map-drop f (y ∷ ys) zero x lt is = ap (λ e. f e ++ flat_map f ys) (sym is)
+flat_map-drop f (y ∷ ys) (suc i) x lt is =
+    let less : i < length ys = omega (arith, lt) in
+    flat_map-drop f ys i x less is
+
+-- the same of a line that is the element's text
+pub flat_map-next : {X : Type 0} (f : X → List ℕ) (xs : List X) (i : ℕ) (x : X) (line : List ℕ) → i < length xs → x ≡ get_or xs i x → line ≡ f x
+    → flat_map f (drop i xs) ≡ line ++ flat_map f (drop (i + 1) xs)
+flat_map-next f xs i x line lt is text =
+    flat_map-drop f xs i x lt is ∙ ap (λ (l : List ℕ). l ++ flat_map f (drop (suc i) xs)) (sym text) ∙ ap (λ (j : ℕ). line ++ flat_map f (drop j xs)) (sym (add-one i))

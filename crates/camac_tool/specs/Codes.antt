@@ -7,6 +7,8 @@ use Rattle.camac_names.specs.declared.fault.LinkRule.{LinkRule}
 use Rattle.camac_names.specs.declared.fault.LinkRule.TheVariants as link_rule
 use Rattle.camac_rules.specs.declared.rule.CheckRule.{CheckRule}
 use Rattle.camac_rules.specs.declared.rule.CheckRule.TheVariants as check_rule
+use Rattle.camac_event.specs.declared.fault.EventRule.{EventRule}
+use Rattle.camac_event.specs.declared.fault.EventRule.TheVariants as event_rule
 use Rattle.camac_report.specs.declared.code.PlanCode.{PlanCode}
 use Rattle.camac_report.specs.declared.code.PlanCode.TheVariants as plan
 use Rattle.camac_report.specs.declared.code.TextCode.{TextCode}
@@ -15,6 +17,8 @@ use Rattle.camac_report.specs.declared.code.LinkCode.{LinkCode}
 use Rattle.camac_report.specs.declared.code.LinkCode.TheVariants as link
 use Rattle.camac_report.specs.declared.code.CheckCode.{CheckCode}
 use Rattle.camac_report.specs.declared.code.CheckCode.TheVariants as check
+use Rattle.camac_report.specs.declared.code.EventCode.{EventCode}
+use Rattle.camac_report.specs.declared.code.EventCode.TheVariants as event
 
 abbrev pub plan_code : PlanRule → PlanCode
 plan_code plan_rule.NotToml = plan.NotToml
@@ -62,3 +66,13 @@ check_code check_rule.WordTooWide = check.WordTooWide
 check_code check_rule.LoopVariableAssigned = check.LoopVariableAssigned
 check_code check_rule.TooManySteps = check.TooManySteps
 check_code check_rule.ArgumentOutOfRange = check.ArgumentOutOfRange
+
+abbrev pub event_code : EventRule → EventCode
+event_code event_rule.WrongHeader = event.Header
+event_code event_rule.WrongMarker = event.Marker
+event_code event_rule.GlOutOfRange = event.GlNumber
+event_code event_rule.NumberOutOfOrder = event.EventNumber
+event_code event_rule.CountAboveLimit = event.Count
+event_code event_rule.WordTooWide = event.Word
+event_code event_rule.Truncated = event.Truncated
+event_code event_rule.MissedAboveCycles = event.MissedAboveCycles

@@ -3,17 +3,18 @@ use Rattle.std.specs.Prelude.{◌≡◌, ◌⊎◌, ℕ, ◌+◌, Bool, true, fa
 use Rattle.std.specs.Io.KnownBytes.{Appends, Keeps}
 use Rattle.camac_word.specs.Writing.{AppendsFront}
 use Rattle.camac_branch.specs.Plan.{Layout}
+use Rattle.camac_event.specs.Reading.{file_at}
 use Rattle.camac_plan.specs.declared.fault.PlanRule.{PlanRule}
 use Rattle.camac_tool.specs.Reading.{ConsumesSome, WasRead}
 use Rattle.camac_tool.specs.Plan.{Says, IsPlanTooLong}
-use Rattle.camac_tool.specs.Report.{Report, report, report_plan, report_of}
+use Rattle.camac_tool.specs.Report.{Report, report, report_plan, report_events, report_of}
 use Rattle.camac_tool.specs.declared.fault.ToolFault.{ToolFault}
 use Rattle.camac_tool.specs.declared.fault.ToolFault.TheVariants as fault
 use Rattle.camac_tool.specs.declared.outcome.Outcome.{Outcome}
 use Rattle.camac_tool.specs.declared.outcome.Outcome.TheVariants.{Good, Refused}
 use Rattle.camac_tool.specs.declared.judging.Judged.{Judged}
 use Rattle.camac_tool.specs.declared.plan.PlanSource.{PlanSource}
-use Rattle.camac_tool.specs.declared.reading.TheConstants.{TEXT_LIMIT}
+use Rattle.camac_tool.specs.declared.reading.TheConstants.{TEXT_LIMIT, EVENTS_LIMIT}
 
 -- a script was judged, memory was refused, or something in it is not served yet
 abbrev pub Judges : Result Judged ToolFault → Report → Type 0
@@ -43,12 +44,12 @@ ShowsPlan left plan plan' o p (Err fault.NotServed) = ⊥
 
 -- What was read of a script for a plan, and written: the report on the text, and nothing after a fault before it.
 abbrev pub ChecksOn : Layout → (a b : Option (List ℕ)) → (o p : Option (List ℕ)) → Result Outcome ToolFault → Type 0
-ChecksOn plan a b o p (Ok outcome) = (text : List ℕ) × WasRead a b text × Shows (report plan text) o p (Ok outcome)
-ChecksOn plan a b o p (Err fault.Write) = (text : List ℕ) × WasRead a b text × Shows (report plan text) o p (Err fault.Write)
+ChecksOn plan a b o p (Ok outcome) = (text : List ℕ) × WasRead TEXT_LIMIT a b text × Shows (report plan text) o p (Ok outcome)
+ChecksOn plan a b o p (Err fault.Write) = (text : List ℕ) × WasRead TEXT_LIMIT a b text × Shows (report plan text) o p (Err fault.Write)
 ChecksOn plan a b o p (Err fault.Read) = Keeps o p
 ChecksOn plan a b o p (Err fault.Memory) = Keeps o p
 ChecksOn plan a b o p (Err fault.TooLong) = ConsumesSome a b (TEXT_LIMIT + 1) × Keeps o p
-ChecksOn plan a b o p (Err fault.NotServed) = ((text : List ℕ) × WasRead a b text × (report plan text ≡ None)) × Keeps o p
+ChecksOn plan a b o p (Err fault.NotServed) = ((text : List ℕ) × WasRead TEXT_LIMIT a b text × (report plan text ≡ None)) × Keeps o p
 
 -- the same where the plan may be refused: of the script nothing is read then
 abbrev pub ChecksIf : Result Layout PlanRule → (a b : Option (List ℕ)) → (o p : Option (List ℕ)) → Result Outcome ToolFault → Type 0
@@ -63,6 +64,22 @@ Checks left plan plan' a b o p (Err fault.TooLong) =
     (IsPlanTooLong left plan plan' × (b ≡ a) × Keeps o p)
     ⊎ ((says : Result Layout PlanRule) × Says left plan plan' says × ChecksIf says a b o p (Err fault.TooLong))
 Checks left plan plan' a b o p r = (says : Result Layout PlanRule) × Says left plan plan' says × ChecksIf says a b o p r
+
+-- what was written of an event file's bytes, unless memory was refused
+abbrev pub ListsEvents : List ℕ → (o p : Option (List ℕ)) → Result Outcome ToolFault → Type 0
+ListsEvents bytes o p (Ok outcome) = Shows (report_events (file_at bytes)) o p (Ok outcome)
+ListsEvents bytes o p (Err fault.Write) = Shows (report_events (file_at bytes)) o p (Err fault.Write)
+ListsEvents bytes o p (Err fault.Memory) = Keeps o p
+ListsEvents bytes o p (Err _) = ⊥
+
+-- What was read of an event file, and written: its lines or its refusal, and nothing after a fault before them.
+abbrev pub ShowsEvents : (a b : Option (List ℕ)) → (o p : Option (List ℕ)) → Result Outcome ToolFault → Type 0
+ShowsEvents a b o p (Ok outcome) = (bytes : List ℕ) × WasRead EVENTS_LIMIT a b bytes × Shows (report_events (file_at bytes)) o p (Ok outcome)
+ShowsEvents a b o p (Err fault.Write) = (bytes : List ℕ) × WasRead EVENTS_LIMIT a b bytes × Shows (report_events (file_at bytes)) o p (Err fault.Write)
+ShowsEvents a b o p (Err fault.Read) = Keeps o p
+ShowsEvents a b o p (Err fault.Memory) = Keeps o p
+ShowsEvents a b o p (Err fault.TooLong) = ConsumesSome a b (EVENTS_LIMIT + 1) × Keeps o p
+ShowsEvents a b o p (Err fault.NotServed) = ⊥
 
 abbrev pub is_write_fault : {T : Type 0} → Result T ToolFault → Bool
 is_write_fault (Err fault.Write) = true

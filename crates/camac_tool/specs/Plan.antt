@@ -1,6 +1,5 @@
 -- The plan of a source.
-use Rattle.std.specs.Prelude.{◌≡◌, ℕ, ◌+◌, ◌≤◌, Bool, false, List, Option, Result, Ok, Err}
-use Rattle.camac_word.specs.declared.watched.Watched.{Watched}
+use Rattle.std.specs.Prelude.{◌≡◌, ℕ, ◌+◌, Bool, false, List, Option, Result, Ok, Err}
 use Rattle.camac_word.specs.Watched.{inner_of, has_failed}
 use Rattle.camac_branch.specs.Plan.{Layout}
 use Rattle.camac_plan.specs.declared.fault.PlanRule.{PlanRule}
@@ -16,7 +15,7 @@ use Rattle.camac_tool.specs.declared.reading.TheConstants.{TEXT_LIMIT}
 -- The source says this: the sample plan, or what all that its reader had left reads as. Of a reader, `left` tells the bytes that it has left.
 abbrev pub Says : {R : Type 0} → (left : R → Option (List ℕ)) → (old new : PlanSource R) → Result Layout PlanRule → Type 0
 Says left Sample Sample says = says ≡ Ok sample
-Says left (Text old) (Text new) says = (text : List ℕ) × WasRead (left (inner_of old)) (left (inner_of new)) text × (says ≡ reading text)
+Says left (Text old) (Text new) says = (text : List ℕ) × WasRead TEXT_LIMIT (left (inner_of old)) (left (inner_of new)) text × (says ≡ reading text)
 Says left _ _ says = ⊥
 
 -- the source's text is longer than the limit

@@ -1,11 +1,12 @@
 // Refusal codes of the rules of the lower crates.
 
 ghost use Rattle.std.specs.Prelude.{◌≡◌};
-ghost use Rattle.camac_tool.specs.Codes.{plan_code, text_code, link_code, check_code};
+ghost use Rattle.camac_tool.specs.Codes.{plan_code, text_code, link_code, check_code, event_code};
 
+use camac_event::EventRule;
 use camac_names::LinkRule;
 use camac_plan::PlanRule;
-use camac_report::{CheckCode, LinkCode, PlanCode, TextCode};
+use camac_report::{CheckCode, EventCode, LinkCode, PlanCode, TextCode};
 use camac_rules::CheckRule;
 use camac_text::TextRule;
 
@@ -77,5 +78,21 @@ pub fn check_code(rule: CheckRule) -> CheckCode
         CheckRule::LoopVariableAssigned => CheckCode::LoopVariableAssigned,
         CheckRule::TooManySteps => CheckCode::TooManySteps,
         CheckRule::ArgumentOutOfRange => CheckCode::ArgumentOutOfRange,
+    }
+}
+
+/// The code of a rule of an event file.
+pub fn event_code(rule: EventRule) -> EventCode
+    ensures { result ≡ event_code rule }
+{
+    match rule {
+        EventRule::WrongHeader => EventCode::Header,
+        EventRule::WrongMarker => EventCode::Marker,
+        EventRule::GlOutOfRange => EventCode::GlNumber,
+        EventRule::NumberOutOfOrder => EventCode::EventNumber,
+        EventRule::CountAboveLimit => EventCode::Count,
+        EventRule::WordTooWide => EventCode::Word,
+        EventRule::Truncated => EventCode::Truncated,
+        EventRule::MissedAboveCycles => EventCode::MissedAboveCycles,
     }
 }

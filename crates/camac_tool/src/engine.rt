@@ -1,20 +1,21 @@
 // The engines: from the bytes of their inputs to the bytes of their output.
 
 ghost use Rattle.std.specs.Prelude.{◌≡◌, ◌||◌};
-ghost use Rattle.camac_tool.specs.Engine.{Checks, ChecksOn, ShowsPlan, Shows, is_write_fault};
+ghost use Rattle.camac_tool.specs.Engine.{Checks, ChecksOn, ListsEvents, ShowsEvents, ShowsPlan, Shows, is_write_fault};
 ghost use Rattle.camac_tool.specs.Plan.{plan_failed};
 ghost use Rattle.camac_tool.specs.Reading.{is_read_fault};
 ghost use Rattle.camac_tool.specs.Report.{refused, report_of};
 ghost use Rattle.camac_word.specs.Watched.{inner_of, has_failed};
 
-use crate::codes::plan_code;
+use crate::codes::{event_code, plan_code};
 use crate::fault::ToolFault;
 use crate::judging::{Judged, judge};
 use crate::outcome::Outcome;
 use crate::plan::{PlanSource, read_plan};
-use crate::reading::{TEXT_LIMIT, read_whole};
+use crate::reading::{EVENTS_LIMIT, TEXT_LIMIT, read_whole};
 use camac_branch::Plan;
-use camac_report::{Refusal, write_plan, write_refusal, write_verdict};
+use camac_event::{EventFault, decode};
+use camac_report::{Refusal, write_events, write_plan, write_refusal, write_verdict};
 use camac_word::Watched;
 use std::alloc::Global;
 use std::io::{Read, Write};
@@ -93,4 +94,43 @@ fn refuse<W: Write>(out: &mut Watched<W>, refusal: Refusal) -> Result<Outcome, T
 {
     write_refusal(out, refusal)?;
     Ok(Outcome::Refused)
+}
+
+/// Lists an event file of either version: its lines, or the line of its refusal, are written to `out`. Nothing is written before a fault
+/// but one of the writer, which leaves a front of the text.
+pub fn engine_events<R: Read, W: Write>(
+    alloc: Global,
+    input: &mut Watched<R>,
+    out: &mut Watched<W>,
+) -> Result<Outcome, ToolFault>
+    ensures shows { ShowsEvents (R.remaining (inner_of input.old)) (R.remaining (inner_of input.new)) (W.contents (inner_of out.old)) (W.contents (inner_of out.new)) result }
+    ensures out_failed { has_failed out.new ≡ (has_failed out.old || is_write_fault result) }
+    ensures in_failed { has_failed input.new ≡ (has_failed input.old || is_read_fault result) }
+{
+    let bytes = read_whole(alloc, input, EVENTS_LIMIT)?;
+    list_events(alloc, &bytes, out)
+}
+
+fn list_events<W: Write>(
+    alloc: Global,
+    bytes: &[u8],
+    out: &mut Watched<W>,
+) -> Result<Outcome, ToolFault>
+    ensures lists { ListsEvents bytes.now (W.contents (inner_of out.old)) (W.contents (inner_of out.new)) result }
+    ensures failed { has_failed out.new ≡ (has_failed out.old || is_write_fault result) }
+{
+    match decode(alloc, bytes) {
+        Ok(events) => {
+            write_events(out, &events)?;
+            Ok(Outcome::Good)
+        }
+        Err(EventFault::Broken { rule, offset }) => refuse(
+            out,
+            Refusal::Event {
+                code: event_code(rule),
+                byte: offset,
+            },
+        ),
+        Err(EventFault::OutOfMemory) => Err(ToolFault::Memory),
+    }
 }

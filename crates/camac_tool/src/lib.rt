@@ -14,7 +14,7 @@ mod reading;
 mod sample;
 mod words;
 
-pub use engine::{engine_check, engine_plan};
+pub use engine::{engine_check, engine_events, engine_plan};
 pub use fault::ToolFault;
 pub use outcome::{Outcome, status};
 pub use plan::PlanSource;

@@ -1,6 +1,6 @@
 // The program, from its arguments to its exit status.
 
-use crate::engine::{engine_check, engine_plan};
+use crate::engine::{engine_check, engine_events, engine_plan};
 use crate::fault::ToolFault;
 use crate::input::{Input, open};
 use crate::outcome::{Outcome, status};
@@ -10,6 +10,7 @@ use camac_word::Watched;
 use clap::Error;
 use clap::error::ErrorKind;
 use std::alloc::AllocError;
+use std::io::{BufWriter, Write};
 use std::rt::Runtime;
 use std::{env, io};
 
@@ -56,7 +57,8 @@ fn serve<R: Runtime + AllocGlobal>(rt: &R, job: Job<'_>) -> u8 {
     match job {
         Job::Plan(plan) => finished(rt, show_plan(rt, plan)),
         Job::Check(plan, script) => finished(rt, check(rt, plan, script)),
-        _ => misused(rt, "fault not served yet"),
+        Job::Events(file) => finished(rt, show_events(rt, file)),
+        Job::Run(..) => misused(rt, "fault not served yet"),
     }
 }
 
@@ -71,6 +73,20 @@ fn check<R: Runtime + AllocGlobal>(rt: &R, plan: &str, script: &str) -> Result<O
     let mut script = Watched::new(open(rt, script)?);
     let mut out = Watched::new(io::writer(rt));
     engine_check(rt.alloc(), &mut plan, &mut script, &mut out)
+}
+
+// The lines are many, so they are gathered before they go out.
+fn show_events<R: Runtime + AllocGlobal>(rt: &R, file: &str) -> Result<Outcome, ToolFault> {
+    let mut input = Watched::new(open(rt, file)?);
+    let Ok(gathered) = BufWriter::new(rt.alloc(), io::writer(rt)) else {
+        return Err(ToolFault::Memory);
+    };
+    let mut out = Watched::new(gathered);
+    let outcome = engine_events(rt.alloc(), &mut input, &mut out)?;
+    match out.flush() {
+        Ok(()) => Ok(outcome),
+        Err(_) => Err(ToolFault::Write),
+    }
 }
 
 fn plan_source<R: Runtime + AllocGlobal>(
