@@ -1,7 +1,6 @@
 -- The lines of a listing.
 use Rattle.std.specs.Prelude.{ℕ, Bool, true, false, List, [], ◌++◌, codes, decimal, Option, Some, None, option_map, unwrap_or, slice_get}
-use Rattle.hex.specs.Hex.{encode_lower}
-use Rattle.byteorder.specs.Endian.{big_bytes}
+use Rattle.camac_report.specs.Digits.{hex_word}
 use Rattle.camac_func.specs.declared.data.DataMove.{DataMove}
 use Rattle.camac_func.specs.declared.data.DataMove.TheVariants as moved
 use Rattle.camac_branch.specs.Address.{Address}
@@ -10,18 +9,14 @@ use Rattle.camac_lang.specs.Tree.{Script}
 use Rattle.camac_model.specs.Behaviour.{Piece, demanded, cycled, lock_taken, lock_released, event_left, Stop, short, overrun, wrong, more}
 use Rattle.camac_report.specs.Verdict.{lam_name}
 
--- a word of 24 bits: six hexadecimal digits in lower case
-abbrev pub word_text : ℕ → List ℕ
-word_text word = encode_lower (big_bytes 3 word)
-
 abbrev pub bit_text : Bool → List ℕ
 bit_text true = codes "1"
 bit_text false = codes "0"
 
 -- a read with all 24 bits of the reply, a write with the word sent
 abbrev pub move_text : DataMove → Reply → List ℕ
-move_text moved.In r = codes "in " ++ word_text r.word
-move_text (moved.Out word) r = codes "out " ++ word_text word
+move_text moved.In r = codes "in " ++ hex_word r.word
+move_text (moved.Out word) r = codes "out " ++ hex_word word
 move_text moved.None r = codes "none"
 
 -- `cycle CRATE STATION SUB_ADDRESS FUNCTION `
@@ -46,7 +41,7 @@ called_text script (Some i) = service_name script i
 -- `demand PATTERN SERVICE`, with `-` where no service is called
 abbrev pub demand_text : Script → ℕ → Option ℕ → List ℕ
 demand_text script pattern service =
-    codes "demand " ++ word_text pattern ++ codes " " ++ called_text script service ++ codes "\n"
+    codes "demand " ++ hex_word pattern ++ codes " " ++ called_text script service ++ codes "\n"
 
 -- `lock CRATE wait WAIT`
 abbrev pub lock_text : ℕ → ℕ → List ℕ

@@ -1,4 +1,7 @@
 pub mod Codes
+pub mod Digits
+pub mod Events
 pub mod Items
+pub mod Plan
 pub mod Refusal
 pub mod Verdict

@@ -1,10 +1,10 @@
 // An output line while it is laid out.
 
 ghost use Rattle.std.specs.Prelude.{◌≡◌, ◌≤◌, ◌+◌, ◌++◌, [], length};
-ghost use Rattle.camac_report.specs.Items.{word_text};
+ghost use Rattle.camac_report.specs.Digits.{hex_word};
 
+use crate::digits::hex_word;
 use arrayvec::ArrayVec;
-use byteorder::{BigEndian, ByteOrder};
 use camac_word::Word24;
 use itoa::{Buffer, Integer};
 use std::marker::Model;
@@ -68,14 +68,10 @@ impl Line {
     /// The line with the word at its end, in six hexadecimal digits.
     pub fn with_word(self, word: Word24) -> Line
         requires room { length self + 6 ≤ LONGEST }
-        ensures bytes { result ≡ self ++ word_text word }
+        ensures bytes { result ≡ self ++ hex_word word }
         ensures len { length result ≡ length self + 6 }
     {
-        let mut bytes = [0; 3];
-        BigEndian::write_u24(&mut bytes, word.get());
-        let mut digits = [0; 6];
-        hex::encode_to_slice(bytes, &mut digits).unwrap();
-        self.with_bytes(&digits)
+        self.with_bytes(&hex_word(word))
     }
 
     pub fn as_bytes(&self) -> &[u8]

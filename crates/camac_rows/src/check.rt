@@ -1,5 +1,6 @@
 // What `camac check @sample` writes of a script.
 
+use crate::plans::SAMPLE;
 use crate::scripts::{STRAIGHT_LINE, VERDICT};
 use camac_tool::{Outcome, PlanSource, ToolFault, engine_check};
 use camac_word::Watched;
@@ -41,6 +42,37 @@ pub fn expect_accepted(
 #[test]
 fn straight_line(rt: HostRuntime) -> Result<(), Fail> {
     expect_accepted(&rt, STRAIGHT_LINE, VERDICT)
+}
+
+// The outcome of a plan's text and a script, and what was written.
+fn checked_on(alloc: Global, plan: &[u8], script: &[u8]) -> Result<(Outcome, Vec<u8>), ToolFault> {
+    let mut plan = PlanSource::Text(Watched::new(plan));
+    let mut script = Watched::new(script);
+    let mut out = Watched::new(Vec::new(alloc));
+    let outcome = engine_check(alloc, &mut plan, &mut script, &mut out)?;
+    Ok((outcome, out.into_inner()))
+}
+
+#[test]
+fn straight_line_on_a_plan_text(rt: HostRuntime) -> Result<(), Fail> {
+    let (outcome, written) = checked_on(rt.alloc(), SAMPLE, STRAIGHT_LINE)?;
+    assert_eq!(rt; outcome, Outcome::Good);
+    assert_eq!(rt; written.as_slice(), VERDICT);
+    Ok(())
+}
+
+#[test]
+fn the_plan_is_judged_first(rt: HostRuntime) -> Result<(), Fail> {
+    let (outcome, written) = checked_on(rt.alloc(), b"=", b"!")?;
+    assert_eq!(rt; outcome, Outcome::Refused);
+    assert_eq!(rt; written.as_slice(), b"refused P1: not TOML\n".as_slice());
+    let (outcome, written) = checked_on(rt.alloc(), b"", STRAIGHT_LINE)?;
+    assert_eq!(rt; outcome, Outcome::Refused);
+    assert_eq!(rt;
+        written.as_slice(),
+        b"refused L1 line 1: LAM at no installed station\n".as_slice()
+    );
+    Ok(())
 }
 
 #[test]

@@ -10,6 +10,12 @@ mod fakes;
 #[cfg(test)]
 mod faults;
 #[cfg(test)]
+mod listing;
+#[cfg(test)]
+mod plan_faults;
+#[cfg(test)]
+mod plans;
+#[cfg(test)]
 mod scripts;
 #[cfg(test)]
 mod tree;

@@ -1,20 +1,20 @@
 -- What an engine takes from its readers, writes and answers.
-use Rattle.std.specs.Prelude.{◌≡◌, ◌⊎◌, ℕ, ◌+◌, ◌≤◌, Bool, true, false, List, length, Option, Some, None, Result, Ok, Err}
-use Rattle.std.specs.Io.KnownBytes.{Appends, Keeps, Consumes, IsAtEnd}
-use Rattle.camac_word.specs.Watched.{has_failed}
+use Rattle.std.specs.Prelude.{◌≡◌, ◌⊎◌, ℕ, ◌+◌, Bool, true, false, List, Option, Some, None, Result, Ok, Err}
+use Rattle.std.specs.Io.KnownBytes.{Appends, Keeps}
 use Rattle.camac_word.specs.Writing.{AppendsFront}
 use Rattle.camac_branch.specs.Plan.{Layout}
-use Rattle.camac_tool.specs.Reading.{ConsumesSome}
-use Rattle.camac_tool.specs.Report.{Report, report, report_of}
-use Rattle.camac_tool.specs.Sample.{sample}
+use Rattle.camac_event.specs.Reading.{file_at}
+use Rattle.camac_plan.specs.declared.fault.PlanRule.{PlanRule}
+use Rattle.camac_tool.specs.Reading.{ConsumesSome, WasRead}
+use Rattle.camac_tool.specs.Plan.{Says, IsPlanTooLong}
+use Rattle.camac_tool.specs.Report.{Report, report, report_plan, report_events, report_of}
 use Rattle.camac_tool.specs.declared.fault.ToolFault.{ToolFault}
 use Rattle.camac_tool.specs.declared.fault.ToolFault.TheVariants as fault
 use Rattle.camac_tool.specs.declared.outcome.Outcome.{Outcome}
 use Rattle.camac_tool.specs.declared.outcome.Outcome.TheVariants.{Good, Refused}
 use Rattle.camac_tool.specs.declared.judging.Judged.{Judged}
-use Rattle.camac_tool.specs.declared.engine.PlanSource.{PlanSource}
-use Rattle.camac_tool.specs.declared.engine.PlanSource.TheVariants.{Sample, Text}
-use Rattle.camac_tool.specs.declared.engine.TheConstants.{TEXT_LIMIT}
+use Rattle.camac_tool.specs.declared.plan.PlanSource.{PlanSource}
+use Rattle.camac_tool.specs.declared.reading.TheConstants.{TEXT_LIMIT, EVENTS_LIMIT}
 
 -- a script was judged, memory was refused, or something in it is not served yet
 abbrev pub Judges : Result Judged ToolFault → Report → Type 0
@@ -22,10 +22,6 @@ Judges (Ok j) r = r ≡ report_of j
 Judges (Err fault.Memory) r = Unit {0}
 Judges (Err fault.NotServed) r = r ≡ None
 Judges (Err _) r = ⊥
-
--- all that a reader had left, within the limit
-abbrev pub WasRead : Option (List ℕ) → Option (List ℕ) → List ℕ → Type 0
-WasRead old new text = (length text ≤ TEXT_LIMIT) × Consumes old new text × IsAtEnd new
 
 abbrev pub Tells : Report → (Outcome → List ℕ → Type 0) → Type 0
 Tells None P = ⊥
@@ -37,33 +33,57 @@ Shows r old new (Ok outcome) = Tells r (λ told text. (outcome ≡ told) × Appe
 Shows r old new (Err fault.Write) = Tells r (λ told text. AppendsFront old new text)
 Shows r old new (Err _) = ⊥
 
-abbrev pub IsText : {R : Type 0} → PlanSource R → Type 0
-IsText Sample = ⊥
-IsText (Text text) = Unit {0}
+-- What was read of a plan, and written: its lines or its refusal, and nothing after a fault before them.
+abbrev pub ShowsPlan : {R : Type 0} → (left : R → Option (List ℕ)) → (plan plan' : PlanSource R) → (o p : Option (List ℕ)) → Result Outcome ToolFault → Type 0
+ShowsPlan left plan plan' o p (Ok outcome) = (says : Result Layout PlanRule) × Says left plan plan' says × Shows (report_plan says) o p (Ok outcome)
+ShowsPlan left plan plan' o p (Err fault.Write) = (says : Result Layout PlanRule) × Says left plan plan' says × Shows (report_plan says) o p (Err fault.Write)
+ShowsPlan left plan plan' o p (Err fault.Read) = Keeps o p
+ShowsPlan left plan plan' o p (Err fault.Memory) = Keeps o p
+ShowsPlan left plan plan' o p (Err fault.TooLong) = IsPlanTooLong left plan plan' × Keeps o p
+ShowsPlan left plan plan' o p (Err fault.NotServed) = ⊥
 
--- the plan of a source; a plan's text is not served yet
-abbrev pub PlanIs : {R : Type 0} → PlanSource R → Result Layout ToolFault → Type 0
-PlanIs source (Ok plan) = plan ≡ sample
-PlanIs source (Err fault.Memory) = Unit {0}
-PlanIs source (Err fault.NotServed) = IsText source
-PlanIs source (Err _) = ⊥
+-- What was read of a script for a plan, and written: the report on the text, and nothing after a fault before it.
+abbrev pub ChecksOn : Layout → (a b : Option (List ℕ)) → (o p : Option (List ℕ)) → Result Outcome ToolFault → Type 0
+ChecksOn plan a b o p (Ok outcome) = (text : List ℕ) × WasRead TEXT_LIMIT a b text × Shows (report plan text) o p (Ok outcome)
+ChecksOn plan a b o p (Err fault.Write) = (text : List ℕ) × WasRead TEXT_LIMIT a b text × Shows (report plan text) o p (Err fault.Write)
+ChecksOn plan a b o p (Err fault.Read) = Keeps o p
+ChecksOn plan a b o p (Err fault.Memory) = Keeps o p
+ChecksOn plan a b o p (Err fault.TooLong) = ConsumesSome a b (TEXT_LIMIT + 1) × Keeps o p
+ChecksOn plan a b o p (Err fault.NotServed) = ((text : List ℕ) × WasRead TEXT_LIMIT a b text × (report plan text ≡ None)) × Keeps o p
 
--- What was read of the script, and written: the report on the text, and nothing after a fault before it.
-abbrev pub Checks : {R : Type 0} → PlanSource R → (a b : Option (List ℕ)) → (o p : Option (List ℕ)) → Result Outcome ToolFault → Type 0
-Checks plan a b o p (Ok outcome) = (text : List ℕ) × WasRead a b text × Shows (report sample text) o p (Ok outcome)
-Checks plan a b o p (Err fault.Write) = (text : List ℕ) × WasRead a b text × Shows (report sample text) o p (Err fault.Write)
-Checks plan a b o p (Err fault.Read) = Keeps o p
-Checks plan a b o p (Err fault.Memory) = Keeps o p
-Checks plan a b o p (Err fault.TooLong) = ConsumesSome a b (TEXT_LIMIT + 1) × Keeps o p
-Checks plan a b o p (Err fault.NotServed) = (IsText plan ⊎ ((text : List ℕ) × WasRead a b text × (report sample text ≡ None))) × Keeps o p
+-- the same where the plan may be refused: of the script nothing is read then
+abbrev pub ChecksIf : Result Layout PlanRule → (a b : Option (List ℕ)) → (o p : Option (List ℕ)) → Result Outcome ToolFault → Type 0
+ChecksIf (Ok plan) a b o p r = ChecksOn plan a b o p r
+ChecksIf (Err rule) a b o p r = (b ≡ a) × Shows (report_plan (Err rule)) o p r
+
+-- What was read of a plan and then of a script, and written. A fault may come before the plan is judged.
+abbrev pub Checks : {R : Type 0} → (left : R → Option (List ℕ)) → (plan plan' : PlanSource R) → (a b : Option (List ℕ)) → (o p : Option (List ℕ)) → Result Outcome ToolFault → Type 0
+Checks left plan plan' a b o p (Err fault.Read) = Keeps o p
+Checks left plan plan' a b o p (Err fault.Memory) = Keeps o p
+Checks left plan plan' a b o p (Err fault.TooLong) =
+    (IsPlanTooLong left plan plan' × (b ≡ a) × Keeps o p)
+    ⊎ ((says : Result Layout PlanRule) × Says left plan plan' says × ChecksIf says a b o p (Err fault.TooLong))
+Checks left plan plan' a b o p r = (says : Result Layout PlanRule) × Says left plan plan' says × ChecksIf says a b o p r
+
+-- what was written of an event file's bytes, unless memory was refused
+abbrev pub ListsEvents : List ℕ → (o p : Option (List ℕ)) → Result Outcome ToolFault → Type 0
+ListsEvents bytes o p (Ok outcome) = Shows (report_events (file_at bytes)) o p (Ok outcome)
+ListsEvents bytes o p (Err fault.Write) = Shows (report_events (file_at bytes)) o p (Err fault.Write)
+ListsEvents bytes o p (Err fault.Memory) = Keeps o p
+ListsEvents bytes o p (Err _) = ⊥
+
+-- What was read of an event file, and written: its lines or its refusal, and nothing after a fault before them.
+abbrev pub ShowsEvents : (a b : Option (List ℕ)) → (o p : Option (List ℕ)) → Result Outcome ToolFault → Type 0
+ShowsEvents a b o p (Ok outcome) = (bytes : List ℕ) × WasRead EVENTS_LIMIT a b bytes × Shows (report_events (file_at bytes)) o p (Ok outcome)
+ShowsEvents a b o p (Err fault.Write) = (bytes : List ℕ) × WasRead EVENTS_LIMIT a b bytes × Shows (report_events (file_at bytes)) o p (Err fault.Write)
+ShowsEvents a b o p (Err fault.Read) = Keeps o p
+ShowsEvents a b o p (Err fault.Memory) = Keeps o p
+ShowsEvents a b o p (Err fault.TooLong) = ConsumesSome a b (EVENTS_LIMIT + 1) × Keeps o p
+ShowsEvents a b o p (Err fault.NotServed) = ⊥
 
 abbrev pub is_write_fault : {T : Type 0} → Result T ToolFault → Bool
 is_write_fault (Err fault.Write) = true
 is_write_fault _ = false
-
-abbrev pub plan_failed : {R : Type 0} → PlanSource R → Bool
-plan_failed Sample = false
-plan_failed (Text text) = has_failed text
 
 abbrev pub status_of : Result Outcome ToolFault → ℕ
 status_of (Ok Good) = 0

@@ -1,8 +1,9 @@
--- What `camac check` tells of a script.
+-- What `camac plan` tells of a plan, `camac check` of a plan and a script, and `camac events` of an event file.
 use Rattle.std.specs.Prelude.{ℕ, List, Option, Some, None, Result, Ok, Err}
 use Rattle.camac_lang.specs.Tree.{Script}
 use Rattle.camac_branch.specs.Plan.{Layout}
 use Rattle.camac_tokens.specs.Fault.{Fault as TextFault}
+use Rattle.camac_plan.specs.declared.fault.PlanRule.{PlanRule}
 use Rattle.camac_text.specs.Parser.{script_of}
 use Rattle.camac_names.specs.Link.{link_fault}
 use Rattle.camac_names.specs.declared.fault.LinkFault.{LinkFault}
@@ -10,11 +11,16 @@ use Rattle.camac_names.specs.declared.fault.LinkFault.TheVariants as link_fault_
 use Rattle.camac_rules.specs.Fault.{Fault as CheckFault, broken, not_served}
 use Rattle.camac_rules.specs.Accept.{accept}
 use Rattle.camac_model.specs.Fine.{Bounds}
+use Rattle.camac_event.specs.declared.event.Version.{Version}
+use Rattle.camac_event.specs.Spelling.{Entry}
+use Rattle.camac_event.specs.Reading.{Flaw}
+use Rattle.camac_report.specs.Events.{events_text}
+use Rattle.camac_report.specs.Plan.{plan_text}
 use Rattle.camac_report.specs.Refusal.{refusal_text}
 use Rattle.camac_report.specs.Verdict.{verdict_text}
 use Rattle.camac_report.specs.declared.refusal.Refusal.{Refusal}
 use Rattle.camac_report.specs.declared.refusal.Refusal.TheVariants as refusal
-use Rattle.camac_tool.specs.Codes.{text_code, link_code, check_code}
+use Rattle.camac_tool.specs.Codes.{plan_code, text_code, link_code, check_code, event_code}
 use Rattle.camac_tool.specs.declared.judging.Judged.{Judged}
 use Rattle.camac_tool.specs.declared.judging.Judged.TheVariants as judged
 use Rattle.camac_tool.specs.declared.outcome.Outcome.{Outcome}
@@ -47,6 +53,16 @@ report_read plan (Err fault) = refused (refusal.Text (text_code fault.rule) faul
 -- of a script's text
 abbrev pub report : Layout → List ℕ → Report
 report plan text = report_read plan (script_of text)
+
+-- of what the plan says
+abbrev pub report_plan : Result Layout PlanRule → Report
+report_plan (Ok plan) = Some (Good, plan_text plan)
+report_plan (Err rule) = refused (refusal.Plan (plan_code rule))
+
+-- of what an event file says
+abbrev pub report_events : Result (Version × List Entry) Flaw → Report
+report_events (Ok file) = Some (Good, events_text file.1)
+report_events (Err flaw) = refused (refusal.Event (event_code flaw.rule) flaw.offset)
 
 abbrev pub report_of : Judged → Report
 report_of (judged.Accepted c) = Some (Good, verdict_text c.plan c.script c.bounds)

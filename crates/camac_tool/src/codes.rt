@@ -1,12 +1,31 @@
 // Refusal codes of the rules of the lower crates.
 
 ghost use Rattle.std.specs.Prelude.{◌≡◌};
-ghost use Rattle.camac_tool.specs.Codes.{text_code, link_code, check_code};
+ghost use Rattle.camac_tool.specs.Codes.{plan_code, text_code, link_code, check_code, event_code};
 
+use camac_event::EventRule;
 use camac_names::LinkRule;
-use camac_report::{CheckCode, LinkCode, TextCode};
+use camac_plan::PlanRule;
+use camac_report::{CheckCode, EventCode, LinkCode, PlanCode, TextCode};
 use camac_rules::CheckRule;
 use camac_text::TextRule;
+
+/// The code of a rule of a plan.
+pub fn plan_code(rule: PlanRule) -> PlanCode
+    ensures { result ≡ plan_code rule }
+{
+    match rule {
+        PlanRule::NotToml => PlanCode::NotToml,
+        PlanRule::UnknownKey => PlanCode::UnknownKey,
+        PlanRule::MissingOrWrongKind => PlanCode::MissingKey,
+        PlanRule::OutOfRange => PlanCode::OutOfRange,
+        PlanRule::CrateTwice => PlanCode::CrateTwice,
+        PlanRule::StationTwice => PlanCode::StationTwice,
+        PlanRule::UnknownType => PlanCode::UnknownType,
+        PlanRule::DeclaredTwice => PlanCode::DeclaredTwice,
+        PlanRule::BitTwice => PlanCode::GlBitTwice,
+    }
+}
 
 /// The code of a rule of a script's text.
 pub fn text_code(rule: TextRule) -> TextCode
@@ -59,5 +78,21 @@ pub fn check_code(rule: CheckRule) -> CheckCode
         CheckRule::LoopVariableAssigned => CheckCode::LoopVariableAssigned,
         CheckRule::TooManySteps => CheckCode::TooManySteps,
         CheckRule::ArgumentOutOfRange => CheckCode::ArgumentOutOfRange,
+    }
+}
+
+/// The code of a rule of an event file.
+pub fn event_code(rule: EventRule) -> EventCode
+    ensures { result ≡ event_code rule }
+{
+    match rule {
+        EventRule::WrongHeader => EventCode::Header,
+        EventRule::WrongMarker => EventCode::Marker,
+        EventRule::GlOutOfRange => EventCode::GlNumber,
+        EventRule::NumberOutOfOrder => EventCode::EventNumber,
+        EventRule::CountAboveLimit => EventCode::Count,
+        EventRule::WordTooWide => EventCode::Word,
+        EventRule::Truncated => EventCode::Truncated,
+        EventRule::MissedAboveCycles => EventCode::MissedAboveCycles,
     }
 }

@@ -1,35 +1,46 @@
 // The engines: from the bytes of their inputs to the bytes of their output.
 
-ghost use Rattle.std.specs.Prelude.{◌≡◌, ◌||◌, IfOk};
-ghost use Rattle.camac_tool.specs.Engine.{Checks, PlanIs, Shows, is_write_fault, plan_failed};
+ghost use Rattle.std.specs.Prelude.{◌≡◌, ◌||◌};
+ghost use Rattle.camac_tool.specs.Engine.{Checks, ChecksOn, ListsEvents, ShowsEvents, ShowsPlan, Shows, is_write_fault};
+ghost use Rattle.camac_tool.specs.Plan.{plan_failed};
 ghost use Rattle.camac_tool.specs.Reading.{is_read_fault};
-ghost use Rattle.camac_tool.specs.Report.{report_of};
+ghost use Rattle.camac_tool.specs.Report.{refused, report_of};
 ghost use Rattle.camac_word.specs.Watched.{inner_of, has_failed};
 
+use crate::codes::{event_code, plan_code};
 use crate::fault::ToolFault;
 use crate::judging::{Judged, judge};
 use crate::outcome::Outcome;
-use crate::reading::read_whole;
-use crate::sample::sample_plan;
+use crate::plan::{PlanSource, read_plan};
+use crate::reading::{EVENTS_LIMIT, TEXT_LIMIT, read_whole};
 use camac_branch::Plan;
-use camac_report::{write_refusal, write_verdict};
+use camac_event::{EventFault, decode};
+use camac_report::{Refusal, write_events, write_plan, write_refusal, write_verdict};
 use camac_word::Watched;
 use std::alloc::Global;
 use std::io::{Read, Write};
 
-/// The greatest length of a plan and of a script, in bytes.
-pub const TEXT_LIMIT: usize = 1_048_576;
-
-/// Where a plan comes from.
-#[derive(Drop)]
-pub enum PlanSource<R> {
-    /// The sample plan.
-    Sample,
-    /// The text that a reader has.
-    Text(Watched<R>),
+/// Lists a plan: its lines, or the line of its refusal, are written to `out`. Nothing is written before a fault but one of the writer,
+/// which leaves a front of the text.
+pub fn engine_plan<P: Read, W: Write>(
+    alloc: Global,
+    plan: &mut PlanSource<P>,
+    out: &mut Watched<W>,
+) -> Result<Outcome, ToolFault>
+    ensures shows { ShowsPlan P.remaining plan.old plan.new (W.contents (inner_of out.old)) (W.contents (inner_of out.new)) result }
+    ensures out_failed { has_failed out.new ≡ (has_failed out.old || is_write_fault result) }
+    ensures in_failed { plan_failed plan.new ≡ (plan_failed plan.old || is_read_fault result) }
+{
+    match read_plan(alloc, plan)? {
+        Ok(plan) => {
+            write_plan(out, &plan)?;
+            Ok(Outcome::Good)
+        }
+        Err(rule) => refuse(out, Refusal::Plan(plan_code(rule))),
+    }
 }
 
-/// Checks a script against a plan: the verdict, or the line of its first refusal, is written to `out`. The plan is read and judged
+/// Checks a script against a plan: the verdict, or the line of the first refusal, is written to `out`. The plan is read and judged
 /// first, then the script. Nothing is written before a fault but one of the writer, which leaves a front of the text.
 pub fn engine_check<P: Read, S: Read, W: Write>(
     alloc: Global,
@@ -37,24 +48,31 @@ pub fn engine_check<P: Read, S: Read, W: Write>(
     script: &mut Watched<S>,
     out: &mut Watched<W>,
 ) -> Result<Outcome, ToolFault>
-    ensures checks { Checks plan.old (S.remaining (inner_of script.old)) (S.remaining (inner_of script.new)) (W.contents (inner_of out.old)) (W.contents (inner_of out.new)) result }
+    ensures checks { Checks P.remaining plan.old plan.new (S.remaining (inner_of script.old)) (S.remaining (inner_of script.new)) (W.contents (inner_of out.old)) (W.contents (inner_of out.new)) result }
     ensures out_failed { has_failed out.new ≡ (has_failed out.old || is_write_fault result) }
     ensures in_failed { (plan_failed plan.new || has_failed script.new)
         ≡ (plan_failed plan.old || has_failed script.old || is_read_fault result) }
 {
-    let plan = read_plan(alloc, plan)?;
-    let text = read_whole(alloc, script, TEXT_LIMIT)?;
-    let judged = judge(alloc, &plan, &text)?;
-    show(out, &judged)
+    let says = read_plan(alloc, plan)?;
+    match says {
+        Ok(plan) => check_on(alloc, &plan, script, out),
+        Err(rule) => refuse(out, Refusal::Plan(plan_code(rule))),
+    }
 }
 
-fn read_plan<P>(alloc: Global, source: &PlanSource<P>) -> Result<Plan, ToolFault>
-    ensures { PlanIs source.now result }
+fn check_on<S: Read, W: Write>(
+    alloc: Global,
+    plan: &Plan,
+    script: &mut Watched<S>,
+    out: &mut Watched<W>,
+) -> Result<Outcome, ToolFault>
+    ensures checks { ChecksOn plan.now (S.remaining (inner_of script.old)) (S.remaining (inner_of script.new)) (W.contents (inner_of out.old)) (W.contents (inner_of out.new)) result }
+    ensures out_failed { has_failed out.new ≡ (has_failed out.old || is_write_fault result) }
+    ensures in_failed { has_failed script.new ≡ (has_failed script.old || is_read_fault result) }
 {
-    match source {
-        PlanSource::Sample => Ok(sample_plan(alloc)?),
-        PlanSource::Text(_) => Err(ToolFault::NotServed),
-    }
+    let text = read_whole(alloc, script, TEXT_LIMIT)?;
+    let judged = judge(alloc, plan, &text)?;
+    show(out, &judged)
 }
 
 fn show<W: Write>(out: &mut Watched<W>, judged: &Judged) -> Result<Outcome, ToolFault>
@@ -66,9 +84,53 @@ fn show<W: Write>(out: &mut Watched<W>, judged: &Judged) -> Result<Outcome, Tool
             write_verdict(out, checked)?;
             Ok(Outcome::Good)
         }
-        Judged::Refused(refusal) => {
-            write_refusal(out, *refusal)?;
-            Ok(Outcome::Refused)
+        Judged::Refused(refusal) => refuse(out, *refusal),
+    }
+}
+
+fn refuse<W: Write>(out: &mut Watched<W>, refusal: Refusal) -> Result<Outcome, ToolFault>
+    ensures shows { Shows (refused refusal) (W.contents (inner_of out.old)) (W.contents (inner_of out.new)) result }
+    ensures failed { has_failed out.new ≡ (has_failed out.old || is_write_fault result) }
+{
+    write_refusal(out, refusal)?;
+    Ok(Outcome::Refused)
+}
+
+/// Lists an event file of either version: its lines, or the line of its refusal, are written to `out`. Nothing is written before a fault
+/// but one of the writer, which leaves a front of the text.
+pub fn engine_events<R: Read, W: Write>(
+    alloc: Global,
+    input: &mut Watched<R>,
+    out: &mut Watched<W>,
+) -> Result<Outcome, ToolFault>
+    ensures shows { ShowsEvents (R.remaining (inner_of input.old)) (R.remaining (inner_of input.new)) (W.contents (inner_of out.old)) (W.contents (inner_of out.new)) result }
+    ensures out_failed { has_failed out.new ≡ (has_failed out.old || is_write_fault result) }
+    ensures in_failed { has_failed input.new ≡ (has_failed input.old || is_read_fault result) }
+{
+    let bytes = read_whole(alloc, input, EVENTS_LIMIT)?;
+    list_events(alloc, &bytes, out)
+}
+
+fn list_events<W: Write>(
+    alloc: Global,
+    bytes: &[u8],
+    out: &mut Watched<W>,
+) -> Result<Outcome, ToolFault>
+    ensures lists { ListsEvents bytes.now (W.contents (inner_of out.old)) (W.contents (inner_of out.new)) result }
+    ensures failed { has_failed out.new ≡ (has_failed out.old || is_write_fault result) }
+{
+    match decode(alloc, bytes) {
+        Ok(events) => {
+            write_events(out, &events)?;
+            Ok(Outcome::Good)
         }
+        Err(EventFault::Broken { rule, offset }) => refuse(
+            out,
+            Refusal::Event {
+                code: event_code(rule),
+                byte: offset,
+            },
+        ),
+        Err(EventFault::OutOfMemory) => Err(ToolFault::Memory),
     }
 }

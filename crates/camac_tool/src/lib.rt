@@ -8,14 +8,16 @@ mod fault;
 mod input;
 mod judging;
 mod outcome;
+mod plan;
 mod program;
 mod reading;
 mod sample;
 mod words;
 
-pub use engine::{PlanSource, engine_check};
+pub use engine::{engine_check, engine_events, engine_plan};
 pub use fault::ToolFault;
 pub use outcome::{Outcome, status};
+pub use plan::PlanSource;
 pub use program::exit_status;
 pub use sample::sample_plan;
 pub use words::{Job, JobFault, read_words};

@@ -1,14 +1,16 @@
 // The program, from its arguments to its exit status.
 
-use crate::engine::{PlanSource, engine_check};
+use crate::engine::{engine_check, engine_events, engine_plan};
 use crate::fault::ToolFault;
 use crate::input::{Input, open};
 use crate::outcome::{Outcome, status};
+use crate::plan::PlanSource;
 use crate::words::{Job, JobFault, read_words};
 use camac_word::Watched;
 use clap::Error;
 use clap::error::ErrorKind;
 use std::alloc::AllocError;
+use std::io::{BufWriter, Write};
 use std::rt::Runtime;
 use std::{env, io};
 
@@ -53,9 +55,17 @@ fn arguments<R: Runtime + AllocGlobal>(rt: &R) -> Result<Vec<String>, Unread> {
 
 fn serve<R: Runtime + AllocGlobal>(rt: &R, job: Job<'_>) -> u8 {
     match job {
-        Job::Check(plan, script) if plan == "@sample" => finished(rt, check(rt, plan, script)),
-        _ => misused(rt, "fault not served yet"),
+        Job::Plan(plan) => finished(rt, show_plan(rt, plan)),
+        Job::Check(plan, script) => finished(rt, check(rt, plan, script)),
+        Job::Events(file) => finished(rt, show_events(rt, file)),
+        Job::Run(..) => misused(rt, "fault not served yet"),
     }
+}
+
+fn show_plan<R: Runtime + AllocGlobal>(rt: &R, plan: &str) -> Result<Outcome, ToolFault> {
+    let mut plan = plan_source(rt, plan)?;
+    let mut out = Watched::new(io::writer(rt));
+    engine_plan(rt.alloc(), &mut plan, &mut out)
 }
 
 fn check<R: Runtime + AllocGlobal>(rt: &R, plan: &str, script: &str) -> Result<Outcome, ToolFault> {
@@ -63,6 +73,20 @@ fn check<R: Runtime + AllocGlobal>(rt: &R, plan: &str, script: &str) -> Result<O
     let mut script = Watched::new(open(rt, script)?);
     let mut out = Watched::new(io::writer(rt));
     engine_check(rt.alloc(), &mut plan, &mut script, &mut out)
+}
+
+// The lines are many, so they are gathered before they go out.
+fn show_events<R: Runtime + AllocGlobal>(rt: &R, file: &str) -> Result<Outcome, ToolFault> {
+    let mut input = Watched::new(open(rt, file)?);
+    let Ok(gathered) = BufWriter::new(rt.alloc(), io::writer(rt)) else {
+        return Err(ToolFault::Memory);
+    };
+    let mut out = Watched::new(gathered);
+    let outcome = engine_events(rt.alloc(), &mut input, &mut out)?;
+    match out.flush() {
+        Ok(()) => Ok(outcome),
+        Err(_) => Err(ToolFault::Write),
+    }
 }
 
 fn plan_source<R: Runtime + AllocGlobal>(

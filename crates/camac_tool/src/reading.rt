@@ -10,6 +10,12 @@ use camac_word::Watched;
 use std::alloc::Global;
 use std::io::Read;
 
+/// The greatest length of a plan and of a script, in bytes.
+pub const TEXT_LIMIT: usize = 1_048_576;
+
+/// The greatest length of an event file, in bytes.
+pub const EVENTS_LIMIT: usize = 16_777_216;
+
 /// How many bytes are asked for at a time.
 const CHUNK: usize = 4096;
 

@@ -1,0 +1,64 @@
+-- Texts one after another.
+use Rattle.std.proofs.Common.{◌≡◌, ℕ, ◌+◌, ◌-◌, ◌<◌, ◌≤◌, List, [], ◌∷◌, ◌++◌, length, get_or, drop, Option, ap, sym, ◌∙◌, zero, suc, append_assoc, append-nil, add-one, subst, arith}
+use Rattle.std.specs.Prelude.{Result, Ok, Err}
+use Rattle.std.specs.List.{flat_map, range_with_len}
+use Rattle.std.specs.Io.KnownBytes.{Appends}
+use Rattle.std.proofs.KnownBytes.{Appends-trans}
+use Rattle.camac_word.proofs.Fronts.{IsUnderWay}
+use Rattle.camac_word.specs.Writing.{AppendsFront, Writes}
+use Rattle.camac_report.specs.Plan.{texts}
+
+-- a front of the second text
+pub front_after : (x y : List ℕ) (a b c : Option (List ℕ)) → Appends a b x → AppendsFront b c y → AppendsFront a c (x ++ y)
+front_after x y a b c p (front, left, split, some, q) = (
+  x ++ front,
+  left,
+  ap (λ (l : List ℕ). x ++ l) split ∙ sym (append_assoc x front left),
+  some,
+  Appends-trans a b c x front p q,
+)
+
+-- the second text, as far as it went
+pub Writes-after : {T E : Type 0} (r : Result T E) (x y : List ℕ) (a b c : Option (List ℕ)) → Appends a b x → Writes b c r y → Writes a c r (x ++ y)
+Writes-after (Ok v) x y a b c p q = Appends-trans a b c x y p q
+Writes-after (Err e) x y a b c p q = front_after x y a b c p q
+
+-- the first text, and then the others
+pub texts-next : (f : ℕ → List ℕ) (i end j : ℕ) → i < end → j ≡ i → texts f i (end - i) ≡ f j ++ texts f (i + 1) (end - (i + 1))
+unfolding texts
+texts-next f i end j lt same =
+    let count : end - i ≡ suc (end - (i + 1)) = omega (arith, lt) in
+    ap (λ (n : ℕ). flat_map f (range_with_len i n)) count ∙ ap (λ (k : ℕ). f k ++ flat_map f (range_with_len (i + 1) (end - (i + 1)))) (sym same)
+
+-- no texts
+pub texts-none : (f : ℕ → List ℕ) (i end : ℕ) → end ≤ i → texts f i (end - i) ≡ []
+unfolding texts
+texts-none f i end le =
+    let count : end - i ≡ 0 = omega (arith, le) in
+    ap (λ (n : ℕ). flat_map f (range_with_len i n)) count
+
+-- all was written
+pub under_way_ends : (text rest : List ℕ) (a b : Option (List ℕ)) → IsUnderWay text rest a b → rest ≡ [] → Appends a b text
+under_way_ends text rest a b so_far none =
+    let whole : text ≡ so_far.front = so_far.parts ∙ ap (λ (l : List ℕ). so_far.front ++ l) none ∙ append-nil so_far.front in
+    subst (λ (t : List ℕ). Appends a b t) (sym whole) so_far.written
+
+-- the last of a text was written
+pub under_way_last : {T E : Type 0} (r : Result T E) (text rest last : List ℕ) (a b c : Option (List ℕ)) → IsUnderWay text rest a b → rest ≡ last → Writes b c r last → Writes a c r text
+under_way_last r text rest last a b c so_far same p =
+    let whole : text ≡ so_far.front ++ last = so_far.parts ∙ ap (λ (l : List ℕ). so_far.front ++ l) same in
+    subst (λ (t : List ℕ). Writes a c r t) (sym whole) (Writes-after r so_far.front last a b c so_far.written p)
+
+-- the texts of a list's elements from one of them on
+flat_map-drop : {X : Type 0} (f : X → List ℕ) (xs : List X) (i : ℕ) (x : X) → i < length xs → x ≡ get_or xs i x → flat_map f (drop i xs) ≡ f x ++ flat_map f (drop (suc i) xs)
+flat_map-drop f [] i x lt is = absurd (omega (arith, lt))
+flat_map-drop f (y ∷ ys) zero x lt is = ap (λ e. f e ++ flat_map f ys) (sym is)
+flat_map-drop f (y ∷ ys) (suc i) x lt is =
+    let less : i < length ys = omega (arith, lt) in
+    flat_map-drop f ys i x less is
+
+-- the same of a line that is the element's text
+pub flat_map-next : {X : Type 0} (f : X → List ℕ) (xs : List X) (i : ℕ) (x : X) (line : List ℕ) → i < length xs → x ≡ get_or xs i x → line ≡ f x
+    → flat_map f (drop i xs) ≡ line ++ flat_map f (drop (i + 1) xs)
+flat_map-next f xs i x line lt is text =
+    flat_map-drop f xs i x lt is ∙ ap (λ (l : List ℕ). l ++ flat_map f (drop (suc i) xs)) (sym text) ∙ ap (λ (j : ℕ). line ++ flat_map f (drop j xs)) (sym (add-one i))

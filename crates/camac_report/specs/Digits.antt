@@ -1,0 +1,8 @@
+-- Words of 24 bits in hexadecimal.
+use Rattle.std.specs.Prelude.{ℕ, List}
+use Rattle.byteorder.specs.Endian.{big_bytes}
+use Rattle.hex.specs.Hex.{encode_lower}
+
+-- the six digits of a word, in lower case
+unfoldable pub hex_word : ℕ → List ℕ
+hex_word word = encode_lower (big_bytes 3 word)
