@@ -4,3 +4,4 @@ pub mod Report
 pub mod Reading
 pub mod Engine
 pub mod Words
+pub mod Input
