@@ -5,3 +5,4 @@ pub mod Reading
 pub mod Plan
 pub mod Engine
 pub mod Words
+pub mod Input

@@ -1,5 +1,9 @@
 // What the program reads: a file, or standard input.
 
+ghost use Rattle.std.specs.Io.{ReadsAtMost};
+ghost use Rattle.std.specs.Io.KnownBytes.{ReadConsumes};
+ghost use Rattle.camac_tool.specs.Input.{left_in};
+
 use crate::fault::ToolFault;
 use std::fs::Files;
 use std::io::{Input as StandardInput, Read};
@@ -27,7 +31,12 @@ pub fn open<R: Files + StandardInput>(
 }
 
 impl<S: Read + Drop, F: Read + Drop> Read for Input<S, F> {
-    fn read(&mut self, buf: &mut [u8]) -> io::Result<usize> {
+    ghost remaining = { λ i. left_in S.remaining F.remaining i };
+
+    fn read(&mut self, buf: &mut [u8]) -> io::Result<usize>
+        ensures bound { ReadsAtMost result buf.new }
+        ensures bytes { ReadConsumes (left_in S.remaining F.remaining self.old) (left_in S.remaining F.remaining self.new) result buf.new }
+    {
         match self {
             Input::Standard(reader) => reader.read(buf),
             Input::File(reader) => reader.read(buf),

@@ -1,9 +1,10 @@
 // What the words after the program's name ask for.
 
-ghost use Rattle.std.specs.Prelude.{◌≡◌, ◌≤◌, ◌↔◌, IsTrue, option_map, map, string_bytes, codes, Some, IfOk, IfSome};
+ghost use Rattle.std.specs.Prelude.{◌≡◌, ◌≤◌, ◌↔◌, IsTrue, option_map, map, string_bytes, codes, Some, IfOk, IfErr, IfSome, IfNone};
 ghost use Rattle.std.specs.Str.{bytes_eq};
 ghost use Rattle.clap.specs.Words.{first_of, found_of, rows_of, subcommand_of, subcommand_rows_of};
-ghost use Rattle.camac_tool.specs.Words.{camac_app, IsJob, input_count_of};
+ghost use Rattle.camac_tool.specs.declared.words.JobFault.TheVariants.{Usage};
+ghost use Rattle.camac_tool.specs.Words.{camac_app, IsJob, IsFaultOf, IsOfMemory, NamesNoJob, input_count_of};
 
 use crate::command::camac_command;
 use clap::error::ErrorKind;
@@ -29,12 +30,16 @@ pub enum JobFault {
 }
 
 impl From<Error> for JobFault {
+    ghost from_gives = { λ error fault. fault ≡ Usage error };
+
     fn from(error: Error) -> JobFault {
         JobFault::Usage(error)
     }
 }
 
 impl From<AllocError> for JobFault {
+    ghost from_gives = { λ _ fault. IsOfMemory fault };
+
     fn from(error: AllocError) -> JobFault {
         JobFault::Usage(Error::from(error))
     }
@@ -45,6 +50,7 @@ pub fn read_words<'a>(alloc: Global, words: &'a [String]) -> Result<Job<'a>, Job
     // The subcommand and, in order, the values that the matches of the words hold.
     ensures job { IfOk result (λ job. IsJob job (subcommand_of camac_app (map string_bytes words.now))) }
     ensures inputs { IfOk result (λ job. input_count_of job ≤ 1) }
+    ensures fault { IfErr result (IsFaultOf (map string_bytes words.now)) }
 {
     let mut command = camac_command(alloc)?;
     let matches = command.try_get_matches_from_mut(words)?;
@@ -67,19 +73,22 @@ fn value_of<'a>(found: &ArgMatches<'a>, id: &str) -> Option<&'a str>
 }
 
 fn plan_job<'a>(found: &ArgMatches<'a>) -> Option<Job<'a>>
-    ensures { IfSome result (λ job. IsJob job (Some (codes "plan", rows_of (found_of found.now)))) }
+    ensures some { IfSome result (λ job. IsJob job (Some (codes "plan", rows_of (found_of found.now)))) }
+    ensures none { IfNone result (NamesNoJob (Some (codes "plan", rows_of (found_of found.now)))) }
 {
     Some(Job::Plan(value_of(found, "PLAN")?))
 }
 
 fn check_job<'a>(found: &ArgMatches<'a>) -> Option<Job<'a>>
-    ensures { IfSome result (λ job. IsJob job (Some (codes "check", rows_of (found_of found.now)))) }
+    ensures some { IfSome result (λ job. IsJob job (Some (codes "check", rows_of (found_of found.now)))) }
+    ensures none { IfNone result (NamesNoJob (Some (codes "check", rows_of (found_of found.now)))) }
 {
     Some(Job::Check(value_of(found, "PLAN")?, value_of(found, "SCRIPT")?))
 }
 
 fn run_job<'a>(found: &ArgMatches<'a>) -> Option<Job<'a>>
-    ensures { IfSome result (λ job. IsJob job (Some (codes "run", rows_of (found_of found.now)))) }
+    ensures some { IfSome result (λ job. IsJob job (Some (codes "run", rows_of (found_of found.now)))) }
+    ensures none { IfNone result (NamesNoJob (Some (codes "run", rows_of (found_of found.now)))) }
 {
     let plan = value_of(found, "PLAN")?;
     let script = value_of(found, "SCRIPT")?;
@@ -88,7 +97,8 @@ fn run_job<'a>(found: &ArgMatches<'a>) -> Option<Job<'a>>
 }
 
 fn events_job<'a>(found: &ArgMatches<'a>) -> Option<Job<'a>>
-    ensures { IfSome result (λ job. IsJob job (Some (codes "events", rows_of (found_of found.now)))) }
+    ensures some { IfSome result (λ job. IsJob job (Some (codes "events", rows_of (found_of found.now)))) }
+    ensures none { IfNone result (NamesNoJob (Some (codes "events", rows_of (found_of found.now)))) }
 {
     Some(Job::Events(value_of(found, "FILE")?))
 }
@@ -101,7 +111,8 @@ fn is_word(word: &str, text: &str) -> bool
 
 // The job of a subcommand with its matches.
 fn job_in<'a>(name: &str, found: &ArgMatches<'a>) -> Option<Job<'a>>
-    ensures { IfSome result (λ job. IsJob job (Some (name.now, rows_of (found_of found.now)))) }
+    ensures some { IfSome result (λ job. IsJob job (Some (name.now, rows_of (found_of found.now)))) }
+    ensures none { IfNone result (NamesNoJob (Some (name.now, rows_of (found_of found.now)))) }
 {
     if is_word(name, "plan") {
         plan_job(found)
@@ -117,7 +128,8 @@ fn job_in<'a>(name: &str, found: &ArgMatches<'a>) -> Option<Job<'a>>
 }
 
 fn job_of<'a>(matches: &ArgMatches<'a>) -> Option<Job<'a>>
-    ensures { IfSome result (λ job. IsJob job (subcommand_rows_of matches.now)) }
+    ensures some { IfSome result (λ job. IsJob job (subcommand_rows_of matches.now)) }
+    ensures none { IfNone result (NamesNoJob (subcommand_rows_of matches.now)) }
 {
     let (name, found) = matches.subcommand()?;
     job_in(name, found)

@@ -1,0 +1,9 @@
+-- What an input of the program has left.
+use Rattle.std.specs.Prelude.{ℕ, List, Option}
+use Rattle.camac_tool.specs.declared.input.Input.{Input}
+use Rattle.camac_tool.specs.declared.input.Input.TheVariants.{Standard, File}
+
+-- that of the reader in it
+abbrev pub left_in : {S F : Type 0} → (S → Option (List ℕ)) → (F → Option (List ℕ)) → Input S F → Option (List ℕ)
+left_in standard file (Standard reader) = standard reader
+left_in standard file (File reader) = file reader
