@@ -8,10 +8,12 @@ pub mod Acts
 pub mod ExpressionsRead
 pub mod BracketsRead
 pub mod ConditionsRead
+pub mod KeepsRead
 pub mod Blocks
 pub mod ActionsRead
 pub mod CallsRead
 pub mod ChoicesRead
+pub mod LoopsRead
 pub mod StatementsRead
 pub mod Bodies
 pub mod Declares
@@ -20,6 +22,7 @@ pub mod WellFormed
 pub mod Local
 pub mod LocalExpressions
 pub mod LocalConditions
+pub mod LocalKeeps
 pub mod LocalStatements
 pub mod LocalDeclarations
 pub mod Faults
