@@ -16,6 +16,7 @@ pub mod ChoicesRead
 pub mod LoopsRead
 pub mod StatementsRead
 pub mod Bodies
+pub mod Listed
 pub mod Declares
 pub mod Fitting
 pub mod WellFormed
