@@ -1,9 +1,9 @@
 -- What a block that is read leaves, and a statement that holds blocks.
-use Rattle.std.proofs.Common.{◌≡◌, ℕ, suc, ◌+◌, ◌≤◌, ◌<◌, Bool, true, List, [], length, Some, sym, ap, subst, ◌∙◌, arith}
+use Rattle.std.proofs.Common.{◌≡◌, ℕ, suc, ◌+◌, ◌≤◌, ◌<◌, Bool, true, List, [], length, Some, refl, sym, ap, subst, ◌∙◌, arith}
 use Rattle.std.specs.Prelude.{option_and_then}
-use Rattle.camac_lang.specs.Depth.{part_depth, inner_depth}
+use Rattle.camac_lang.specs.Depth.{part_depth, statement_depth, inner_depth}
 use Rattle.camac_lang.specs.Expressions.{Scope, condition_fits}
-use Rattle.camac_lang.specs.Statements.{after_block, statements}
+use Rattle.camac_lang.specs.Statements.{after, after_block, statements_in, statements}
 use Rattle.camac_lang.specs.Tests.{most, unless_broken}
 use Rattle.camac_lang.specs.Tree.{Text, Statement, choose, choose_else, Condition}
 use Rattle.camac_lang.specs.View.{block_of}
@@ -59,22 +59,29 @@ before_moves room s xs t u b m =
 
 -- ---- statements that hold blocks
 
--- behind a condition, a block
-pub holds_one : (room : ℕ) (s : State) (k : TokenKind) (line : ℕ) (c : Condition) (xs : List Statement) (u : State) → kind_of s.rest ≡ Some k → s.statements < 4096 → (AllFit s.rest → condition_fits (scope_of s) c ≡ true) → most part_depth c ≤ room → Body room (begun s) xs u → Acts room s (choose line c (block_of xs)) u
-holds_one room s k line c xs u next below rule deep b =
-    let count : suc s.statements + statements (block_of xs) ≡ s.statements + suc (statements (block_of xs)) = omega arith in
+-- behind what tells how it runs, a block
+pub holds_block : (room : ℕ) (s : State) (k : TokenKind) (x : Statement) (xs : List Statement) (u : State) → kind_of s.rest ≡ Some k → s.statements < 4096 → (AllFit s.rest → after (scope_of s) (length s.registers) x ≡ after_block (scope_of s) (length s.registers) (block_of xs)) → statements_in x ≡ suc (statements (block_of xs)) → statement_depth [] x ≤ room → Body room (begun s) xs u → Acts room s x u
+holds_block room s k x xs u next below rule one deep b =
+    let count : suc s.statements + statements (block_of xs) ≡ s.statements + statements_in x = omega (arith, one) in
     let less : length (behind s.rest) < length s.rest = behind_less s.rest k next in
     let shorter : length u.rest ≤ length (behind s.rest) = b.shorter in
-    let inner : inner_depth [] (block_of xs) < room = b.deep in
     record {
       same = b.same ∙ ap (λ (n : ℕ). record s { rest = u.rest; registers = u.registers; statements = n }) count;
       fit = λ h. b.fit ((moved s).fit h);
       less = omega arith;
       few = λ h. b.few (omega arith);
-      after = λ h. ap (λ (holds : Bool). option_and_then (λ (n : ℕ). after_block (scope_of s) n (block_of xs)) (unless_broken holds (length s.registers))) (rule h) ∙ b.after ((moved s).fit h);
+      after = λ h. rule h ∙ b.after ((moved s).fit h);
       registers = λ h fits. b.registers ((moved s).fit h) fits;
-      deep = omega arith;
+      deep = deep;
     }
+
+-- behind a condition, a block
+pub holds_one : (room : ℕ) (s : State) (k : TokenKind) (line : ℕ) (c : Condition) (xs : List Statement) (u : State) → kind_of s.rest ≡ Some k → s.statements < 4096 → (AllFit s.rest → condition_fits (scope_of s) c ≡ true) → most part_depth c ≤ room → Body room (begun s) xs u → Acts room s (choose line c (block_of xs)) u
+holds_one room s k line c xs u next below rule deep b =
+    let inner : inner_depth [] (block_of xs) < room = b.deep in
+    holds_block room s k (choose line c (block_of xs)) xs u next below
+    (λ h. ap (λ (holds : Bool). option_and_then (λ (n : ℕ). after_block (scope_of s) n (block_of xs)) (unless_broken holds (length s.registers))) (rule h))
+    refl (omega arith) b
 
 -- and another one behind `else`
 pub holds_two : (room : ℕ) (s : State) (k : TokenKind) (line : ℕ) (c : Condition) (xs : List Statement) (u : State) (ys : List Statement) (t : State) → kind_of s.rest ≡ Some k → s.statements < 4096 → (AllFit s.rest → condition_fits (scope_of s) c ≡ true) → most part_depth c ≤ room → Body room (begun s) xs u → Body room u ys t → Acts room s (choose_else line c (block_of xs) (block_of ys)) t

@@ -1,9 +1,9 @@
 -- What a declaration that is read leaves.
-use Rattle.std.proofs.Common.{◌≡◌, ℕ, ◌+◌, ◌≤◌, ◌<◌, Bool, true, false, ◌&&◌, nat_lt, List, [], ◌∷◌, ◌++◌, length, Option, Some, Ok, refl, sym, ap, subst, ◌∙◌, append_assoc, length-append, arith}
+use Rattle.std.proofs.Common.{◌≡◌, ℕ, ◌+◌, ◌≤◌, ◌<◌, true, ◌&&◌, nat_lt, List, [], ◌∷◌, ◌++◌, length, Option, Some, Ok, refl, sym, ap, subst, ◌∙◌, append_assoc, length-append, arith}
 use Rattle.std.proofs.lemmas.Bool.{ltb-true}
 use Rattle.std.proofs.lemmas.List.{append-nil}
 use Rattle.camac_lang.specs.Scope.{are_declarable}
-use Rattle.camac_lang.specs.Tests.{each, is_name, is_new, is_number, is_sub_address}
+use Rattle.camac_lang.specs.Tests.{is_name, is_new, is_number, is_sub_address}
 use Rattle.camac_lang.specs.Tree.{Text, Statement, Lam}
 use Rattle.camac_tokens.specs.declared.fault.TextRule.TheVariants.{LimitPassed}
 use Rattle.camac_tokens.specs.declared.token.Keyword.TheVariants as word
@@ -19,6 +19,7 @@ use Rattle.camac_text.proofs.Uses.{used_lam_ok}
 use Rattle.camac_text.proofs.Acts.{below_le, declarable_push, first_of_both, second_of_both}
 use Rattle.camac_text.proofs.Blocks.{Body, behind_moves}
 use Rattle.camac_text.proofs.Bodies.{block_ok}
+use Rattle.camac_text.proofs.Listed.{each_append}
 
 -- ---- variables
 
@@ -54,13 +55,6 @@ variables_progress count s y s' on took =
     let m = then_ok (new_variable s) (λ _. give (count + 1)) (y, s') took in
     let d = new_variable_ok s m.0 m.1 in
     subst (λ (p : ℕ × State). length p.1.rest < length s.rest) (ok_is (count + 1, m.0.1) (y, s') m.2) (one_variable_less s d.0 m.0.1 d.1)
-
-pub each_append : {A : Type 0} (test : A → Bool) (xs ys : List A) → each test (xs ++ ys) ≡ (each test xs && each test ys)
-each_append test [] ys = refl
-each_append test (x ∷ xs) ys = ap (λ (b : Bool). test x && b) (each_append test xs ys) ∙ sym (and_assoc (test x) (each test xs) (each test ys)) where
-  and_assoc : (a b c : Bool) → ((a && b) && c) ≡ (a && (b && c))
-  and_assoc true b c = refl
-  and_assoc false b c = refl
 
 -- so many variables are declared
 pub record DeclaresVariables (s : State) (count : ℕ) (s' : State) : Type 0 where

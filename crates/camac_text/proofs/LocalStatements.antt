@@ -1,6 +1,6 @@
 -- Readers of statements are local.
 use Rattle.std.proofs.Common.{◌≡◌, true, false, cond, ℕ, zero, suc, List, Ok, nat_lt, [], ◌∷◌, ◌++◌, Option, Some, refl}
-use Rattle.camac_lang.specs.Tree.{no_data, into, from, assign, set_register, single, put, crate_call, lam_call, choose, choose_else, Statement, Condition}
+use Rattle.camac_lang.specs.Tree.{no_data, into, from, assign, set_register, single, put, crate_call, lam_call, choose, choose_else, count, repeat, locked, Statement, Condition}
 use Rattle.camac_lang.specs.View.{block_of}
 use Rattle.camac_lang.specs.declared.word.WordSize.{WordSize}
 use Rattle.camac_lang.specs.declared.word.WordSize.TheVariants.{Full, Short}
@@ -14,21 +14,23 @@ use Rattle.camac_tokens.specs.declared.token.Sign.TheVariants as sign
 use Rattle.camac_tokens.specs.declared.token.TokenKind.{TokenKind}
 use Rattle.camac_tokens.specs.declared.token.TokenKind.TheVariants as kind
 use Rattle.camac_text.specs.Reading.{State, Reader, fail, ◌>>=◌, ◌>>◌, give, change, peek, advance, check, kind_of, line_of, one_more, many}
-use Rattle.camac_text.specs.Readers.{is_sign, expect_sign, branch_number, function_number, set_name, used_register, used_variable, variable_here, used_lam}
+use Rattle.camac_text.specs.Readers.{is_sign, expect, expect_sign, any_number, branch_number, function_number, set_name, used_register, used_variable, variable_here, used_lam}
 use Rattle.camac_text.specs.Expressions.{expression_at}
-use Rattle.camac_text.specs.Statements.{begin, assignment, register_setting, move_by, move_at, single_action, put_action, switch_by, switch, crate_action, crate_switch, lam_action, lam_switch, lam_call_by, crate_call_by, else_by, choice, statement_by, statement_with, is_no_end, block_at}
+use Rattle.camac_text.specs.Statements.{begin, assignment, register_setting, move_by, move_at, single_action, put_action, switch_by, switch, crate_action, crate_switch, lam_action, lam_switch, lam_call_by, crate_call_by, else_by, choice, counting, repetition, locking, nested_by, statement_by, statement_with, is_no_end, block_at}
 use Rattle.camac_text.specs.Conditions.{condition_at}
+use Rattle.camac_text.specs.Keeps.{keeps_at}
 use Rattle.camac_text.proofs.Blocks.{Body}
 use Rattle.camac_text.proofs.Bodies.{with_progress, block_ok}
 use Rattle.camac_text.proofs.LocalConditions.{local_condition}
+use Rattle.camac_text.proofs.LocalKeeps.{local_keeps}
 use Rattle.camac_text.proofs.Places.{IsLocal, local_then, local_peek, local_line, local_ask, local_change, local_give, local_fail, local_advance, local_if, local_check, local_while}
-use Rattle.camac_text.proofs.Local.{local_take, local_used_lam, local_expect_sign, local_branch, local_function, local_set_name, local_used_register, local_used_variable, local_variable_here}
+use Rattle.camac_text.proofs.Local.{local_take, local_expect, local_any_number, local_used_lam, local_expect_sign, local_branch, local_function, local_set_name, local_used_register, local_used_variable, local_variable_here}
 use Rattle.camac_text.proofs.LocalExpressions.{local_expression}
 
 local_begin : (s : State) → IsLocal begin s
 unfolding begin
 local_begin s =
-    local_ask (λ u. u.statements) (λ w ts n. refl) (λ count. check (nat_lt count 4096) LimitPassed >> (change (λ u. record u { statements = suc u.statements }) >> advance)) s
+    local_ask (λ u. u.statements) (λ w ts n. refl) (λ n. check (nat_lt n 4096) LimitPassed >> (change (λ u. record u { statements = suc u.statements }) >> advance)) s
     (local_check (nat_lt s.statements 4096) LimitPassed (change (λ u. record u { statements = suc u.statements }) >> advance) s tt (λ _.
     local_then (change (λ u. record u { statements = suc u.statements })) (λ _. advance) s (local_change (λ u. record u { statements = suc u.statements }) (λ w ts n. refl) (λ w. refl) s) (λ _ u _. local_advance u)))
 
@@ -147,14 +149,51 @@ module _ (room : ℕ) (block : Reader (List Statement)) (block_is : (s : State) 
       local_then block (λ xs. peek >>= λ k. else_by block line c xs k) u (block_local u) (λ xs v _.
       local_peek (λ k. else_by block line c xs k) v (local_else_by line c xs (kind_of v.rest) v))))
 
+  local_counting : (line : ℕ) (s : State) → IsLocal (counting room block line) s
+  unfolding counting
+  local_counting line s =
+      local_then begin (λ _. used_variable >>= λ v. expect_sign sign.Equals >> (expression_at room >>= λ a. expect word.To >> (expression_at room >>= λ b. keeps_at v >>= λ ks. block >>= λ xs. give (count line v a b ks (block_of xs))))) s (local_begin s) (λ _ u _.
+      local_then used_variable (λ v. expect_sign sign.Equals >> (expression_at room >>= λ a. expect word.To >> (expression_at room >>= λ b. keeps_at v >>= λ ks. block >>= λ xs. give (count line v a b ks (block_of xs))))) u (local_used_variable u) (λ v u _.
+      local_then (expect_sign sign.Equals) (λ _. expression_at room >>= λ a. expect word.To >> (expression_at room >>= λ b. keeps_at v >>= λ ks. block >>= λ xs. give (count line v a b ks (block_of xs)))) u (local_expect_sign sign.Equals u) (λ _ u _.
+      local_then (expression_at room) (λ a. expect word.To >> (expression_at room >>= λ b. keeps_at v >>= λ ks. block >>= λ xs. give (count line v a b ks (block_of xs)))) u (local_expression room u) (λ a u _.
+      local_then (expect word.To) (λ _. expression_at room >>= λ b. keeps_at v >>= λ ks. block >>= λ xs. give (count line v a b ks (block_of xs))) u (local_expect word.To u) (λ _ u _.
+      local_then (expression_at room) (λ b. keeps_at v >>= λ ks. block >>= λ xs. give (count line v a b ks (block_of xs))) u (local_expression room u) (λ b u _.
+      local_then (keeps_at v) (λ ks. block >>= λ xs. give (count line v a b ks (block_of xs))) u (local_keeps v u) (λ ks u _.
+      local_then block (λ xs. give (count line v a b ks (block_of xs))) u (block_local u) (λ xs u _. local_give (count line v a b ks (block_of xs)) u))))))))
+
+  local_repetition : (line : ℕ) (s : State) → IsLocal (repetition room block line) s
+  unfolding repetition
+  local_repetition line s =
+      local_then begin (λ _. condition_at room >>= λ c. expect word.Turns >> (any_number >>= λ n. expect word.By >> (used_variable >>= λ v. keeps_at v >>= λ ks. block >>= λ xs. give (repeat line c n v ks (block_of xs))))) s (local_begin s) (λ _ u _.
+      local_then (condition_at room) (λ c. expect word.Turns >> (any_number >>= λ n. expect word.By >> (used_variable >>= λ v. keeps_at v >>= λ ks. block >>= λ xs. give (repeat line c n v ks (block_of xs))))) u (local_condition room u) (λ c u _.
+      local_then (expect word.Turns) (λ _. any_number >>= λ n. expect word.By >> (used_variable >>= λ v. keeps_at v >>= λ ks. block >>= λ xs. give (repeat line c n v ks (block_of xs)))) u (local_expect word.Turns u) (λ _ u _.
+      local_then any_number (λ n. expect word.By >> (used_variable >>= λ v. keeps_at v >>= λ ks. block >>= λ xs. give (repeat line c n v ks (block_of xs)))) u (local_any_number u) (λ n u _.
+      local_then (expect word.By) (λ _. used_variable >>= λ v. keeps_at v >>= λ ks. block >>= λ xs. give (repeat line c n v ks (block_of xs))) u (local_expect word.By u) (λ _ u _.
+      local_then used_variable (λ v. keeps_at v >>= λ ks. block >>= λ xs. give (repeat line c n v ks (block_of xs))) u (local_used_variable u) (λ v u _.
+      local_then (keeps_at v) (λ ks. block >>= λ xs. give (repeat line c n v ks (block_of xs))) u (local_keeps v u) (λ ks u _.
+      local_then block (λ xs. give (repeat line c n v ks (block_of xs))) u (block_local u) (λ xs u _. local_give (repeat line c n v ks (block_of xs)) u))))))))
+
+  local_locking : (line : ℕ) (s : State) → IsLocal (locking room block line) s
+  unfolding locking
+  local_locking line s =
+      local_then begin (λ _. expression_at room >>= λ e. block >>= λ xs. give (locked line e (block_of xs))) s (local_begin s) (λ _ u _.
+      local_then (expression_at room) (λ e. block >>= λ xs. give (locked line e (block_of xs))) u (local_expression room u) (λ e u _.
+      local_then block (λ xs. give (locked line e (block_of xs))) u (block_local u) (λ xs u _. local_give (locked line e (block_of xs)) u)))
+
+  local_nested_by : (line : ℕ) (k : Option TokenKind) (s : State) → IsLocal (nested_by room block line k) s
+  local_nested_by line (Some (kind.Keyword word.If)) s = local_choice line s
+  local_nested_by line (Some (kind.Keyword word.For)) s = local_counting line s
+  local_nested_by line (Some (kind.Keyword word.While)) s = local_repetition line s
+  local_nested_by line (Some (kind.Keyword word.Lock)) s = local_locking line s
+  local_nested_by line k s = local_crate_call_by room line k s
+
   local_statement_by : (line : ℕ) (k : Option TokenKind) (s : State) → IsLocal (statement_by room block line k) s
   local_statement_by line (Some (kind.Name x)) s = local_assignment room line s
   local_statement_by line (Some (kind.Keyword word.Cdreg)) s = local_setting room line s
   local_statement_by line (Some (kind.Keyword word.Cfsa)) s = local_single Full room line s
   local_statement_by line (Some (kind.Keyword word.Cssa)) s = local_single Short room line s
   local_statement_by line (Some (kind.Keyword word.Put)) s = local_put room line s
-  local_statement_by line (Some (kind.Keyword word.If)) s = local_choice line s
-  local_statement_by line k s = local_crate_call_by room line k s
+  local_statement_by line k s = local_nested_by line k s
 
   local_statement : (s : State) → IsLocal (statement_with room block) s
   unfolding statement_with

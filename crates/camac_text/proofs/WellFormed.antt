@@ -1,16 +1,13 @@
 -- What is read is well formed.
-use Rattle.std.proofs.Common.{◌≡◌, ℕ, suc, ◌+◌, ◌≤◌, ◌<◌, Bool, true, not, ◌&&◌, nat_eq, nat_le, List, [], ◌∷◌, ◌++◌, length, take, drop, Option, Some, Ok, refl, sym, ap, subst, ◌∙◌, append_assoc, length-append, arith}
+use Rattle.std.proofs.Common.{◌≡◌, ℕ, suc, ◌+◌, ◌≤◌, ◌<◌, Bool, true, ◌&&◌, nat_eq, nat_le, List, [], ◌∷◌, ◌++◌, length, take, drop, Option, Some, Ok, refl, sym, ap, subst, ◌∙◌, append_assoc, length-append, arith}
 use Rattle.std.specs.Prelude.{slice_get, option_and_then, IsTrue}
-use Rattle.std.specs.Str.{bytes_eq}
-use Rattle.std.proofs.Math.Bool.{and_comm}
-use Rattle.std.proofs.Math.Seq.{take-append_seam, drop-append_seam}
 use Rattle.std.proofs.lemmas.Bool.{lt-ltb}
 use Rattle.std.proofs.lemmas.List.{append-nil}
 use Rattle.camac_lang.specs.Depth.{inner_depth}
 use Rattle.camac_lang.specs.Scope.{body_fits, Before, are_declarable, lam_stands, service_stands, with_lam, with_variables, with_service, declared, all_declared, is_all, nothing_before, within_limits, is_well_formed}
 use Rattle.camac_lang.specs.Statements.{after_block, statements}
-use Rattle.camac_lang.specs.Tests.{each, has, unless_broken, total, most, is_name, is_new, are_new, is_number, is_sub_address}
-use Rattle.camac_lang.specs.Tree.{Text, Statement, Lam, Service, Item, next_lam, next_variables, next_service, Script}
+use Rattle.camac_lang.specs.Tests.{has, unless_broken, total, most, is_new, is_number, is_sub_address}
+use Rattle.camac_lang.specs.Tree.{Text, Statement, Lam, Service, next_lam, next_variables, next_service, Script}
 use Rattle.camac_lang.specs.View.{block_of}
 use Rattle.camac_tokens.specs.declared.token.Token.{Token}
 use Rattle.camac_text.specs.Reading.{State}
@@ -23,54 +20,10 @@ use Rattle.camac_text.proofs.Moves.{AllFit}
 use Rattle.camac_text.proofs.Uses.{scope_of}
 use Rattle.camac_text.proofs.Acts.{both, below_le, RegistersFit}
 use Rattle.camac_text.proofs.ConditionsRead.{most_push}
-use Rattle.camac_text.proofs.Bodies.{and_then_some}
-use Rattle.camac_text.proofs.Declares.{each_append, VariableDeclaration, LamDeclaration, ServiceDeclaration, Declares, a_lam, some_variables, a_service, declaration_ok}
-
--- ---- lists
-
-at_place : {A : Type 0} (xs : List A) (x : A) (ys : List A) → slice_get ((xs ++ x ∷ []) ++ ys) (length xs) ≡ Some x
-at_place [] x ys = refl
-at_place (z ∷ xs) x ys = at_place xs x ys
-
-between : {A : Type 0} (xs ys zs : List A) → take (length ys) (drop (length xs) ((xs ++ ys) ++ zs)) ≡ ys
-between xs ys zs =
-    ap (λ (w : List _). take (length ys) (drop (length xs) w)) (append_assoc xs ys zs)
-    ∙ ap (take (length ys)) (drop-append_seam xs (ys ++ zs))
-    ∙ take-append_seam ys zs
-
-total_push : {A : Type 0} (f : A → ℕ) (xs : List A) (x : A) → total f (xs ++ x ∷ []) ≡ total f xs + f x
-total_push f [] x = omega arith
-total_push f (y ∷ ys) x = let rest : total f (ys ++ x ∷ []) ≡ total f ys + f x = total_push f ys x in omega arith
-
-same_number : (n : ℕ) → nat_eq n n ≡ true
-same_number n = grind arith
-
--- ---- names
-
--- new names among those of one list are new among those of another where each name is so
-new_same : (xs ys zs : List Text) → ((x : Text) → is_new x ys ≡ is_new x zs) → are_new xs ys ≡ are_new xs zs
-new_same [] ys zs same = refl
-new_same (x ∷ xs) ys zs same =
-    ap (λ (b : Bool). b && are_new xs (x ∷ ys)) (same x)
-    ∙ ap (λ (b : Bool). is_new x zs && b) (new_same xs (x ∷ ys) (x ∷ zs) (λ z. ap (λ (b : Bool). not (bytes_eq z x) && b) (same z)))
-
-declarable_same : (xs ys zs : List Text) → ((x : Text) → is_new x ys ≡ is_new x zs) → are_declarable xs ys ≡ are_declarable xs zs
-declarable_same xs ys zs same = ap (λ (b : Bool). each is_name xs && b) (new_same xs ys zs same)
-
--- names in front are as good as names behind
-front_or_behind : (names known : List Text) (xs : List Text) → ((x : Text) → is_new x known ≡ is_new x xs) → (x : Text) → is_new x (names ++ known) ≡ is_new x (xs ++ names)
-front_or_behind names known xs same x =
-    each_append _ names known ∙ ap (λ (b : Bool). is_new x names && b) (same x) ∙ and_comm (is_new x names) (is_new x xs) ∙ sym (each_append _ xs names)
+use Rattle.camac_text.proofs.Declares.{VariableDeclaration, LamDeclaration, ServiceDeclaration, Declares, a_lam, some_variables, a_service, declaration_ok}
+use Rattle.camac_text.proofs.Listed.{declared_push, at_place, between, total_push, same_number, declarable_same, front_or_behind}
 
 -- ---- declarations
-
-declared_push : (t : Script) (b : Before) (xs : List Item) (i : Item) (k m : Before) → all_declared t b xs ≡ Some k → declared t k i ≡ Some m → all_declared t b (xs ++ i ∷ []) ≡ Some m
-declared_push t b [] i k m e h = ap (option_and_then (λ (j : Before). Some j)) (ap (λ (j : Before). declared t j i) (some_before b k e) ∙ h) where
-  some_before : (b k : Before) → Some b ≡ Some k → b ≡ k
-  some_before b k e = cc
-declared_push t b (y ∷ ys) i k m e h =
-    let first = and_then_some (λ (j : Before). all_declared t j ys) (declared t b y) k e in
-    ap (option_and_then (λ (j : Before). all_declared t j (ys ++ i ∷ []))) first.1 ∙ declared_push t first.0 ys i k m first.2 h
 
 -- what stands before the next declaration, with these names
 abbrev before_of : List Text → State → Before

@@ -3,6 +3,7 @@ pub mod Reading
 pub mod Readers
 pub mod Expressions
 pub mod Conditions
+pub mod Keeps
 pub mod Statements
 pub mod Declarations
 pub mod Parser

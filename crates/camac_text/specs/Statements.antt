@@ -1,6 +1,6 @@
 -- What is read at each place of a statement.
 use Rattle.std.specs.Prelude.{ℕ, zero, suc, Bool, true, false, List, Option, Some, nat_lt, not, if◌then◌else◌}
-use Rattle.camac_lang.specs.Tree.{Move, no_data, into, from, Statement, assign, set_register, single, put, crate_call, lam_call, choose, choose_else, Condition}
+use Rattle.camac_lang.specs.Tree.{Move, no_data, into, from, Statement, assign, set_register, single, put, crate_call, lam_call, choose, choose_else, count, repeat, locked, Condition}
 use Rattle.camac_lang.specs.View.{block_of}
 use Rattle.camac_lang.specs.declared.word.WordSize.{WordSize}
 use Rattle.camac_lang.specs.declared.word.WordSize.TheVariants.{Full, Short}
@@ -14,15 +14,16 @@ use Rattle.camac_tokens.specs.declared.token.TokenKind.{TokenKind}
 use Rattle.camac_tokens.specs.declared.token.TokenKind.TheVariants as kind
 use Rattle.camac_tokens.specs.declared.fault.TextRule.TheVariants.{UnexpectedToken, LimitPassed}
 use Rattle.camac_text.specs.Reading.{Reader, ◌>>=◌, ◌>>◌, give, ask, change, peek, advance, line_here, fail, check, many}
-use Rattle.camac_text.specs.Readers.{is_sign, expect_sign, branch_number, function_number, set_name, used_register, used_variable, variable_here, used_lam}
+use Rattle.camac_text.specs.Readers.{is_sign, expect, expect_sign, any_number, branch_number, function_number, set_name, used_register, used_variable, variable_here, used_lam}
 use Rattle.camac_text.specs.Expressions.{expression_at}
 use Rattle.camac_text.specs.Conditions.{condition_at}
+use Rattle.camac_text.specs.Keeps.{keeps_at}
 
 -- the first token of a statement, which is counted
 unfoldable pub begin : Reader (Unit {0})
 begin = do
-  count ← ask (λ s. s.statements)
-  check (nat_lt count 4096) LimitPassed
+  so_far ← ask (λ s. s.statements)
+  check (nat_lt so_far 4096) LimitPassed
   change (λ s. record s { statements = suc s.statements })
   advance
 
@@ -129,6 +130,8 @@ crate_call_by room line k = lam_call_by line k
 
 -- ---- all statements
 
+-- ---- statements that hold blocks
+
 -- what stands behind a condition and its block
 abbrev pub else_by : Reader (List Statement) → ℕ → Condition → List Statement → Option TokenKind → Reader Statement
 else_by block line test body (Some (kind.Keyword word.Else)) = do
@@ -137,6 +140,7 @@ else_by block line test body (Some (kind.Keyword word.Else)) = do
   give (choose_else line test (block_of body) (block_of other))
 else_by block line test body _ = give (choose line test (block_of body))
 
+-- `if`
 unfoldable pub choice : ℕ → Reader (List Statement) → ℕ → Reader Statement
 choice room block line = do
   begin
@@ -145,6 +149,48 @@ choice room block line = do
   next ← peek
   else_by block line test body next
 
+-- `for`
+unfoldable pub counting : ℕ → Reader (List Statement) → ℕ → Reader Statement
+counting room block line = do
+  begin
+  own ← used_variable
+  expect_sign sign.Equals
+  first ← expression_at room
+  expect word.To
+  last ← expression_at room
+  keeps ← keeps_at own
+  body ← block
+  give (count line own first last keeps (block_of body))
+
+-- `while`
+unfoldable pub repetition : ℕ → Reader (List Statement) → ℕ → Reader Statement
+repetition room block line = do
+  begin
+  test ← condition_at room
+  expect word.Turns
+  turns ← any_number
+  expect word.By
+  measure ← used_variable
+  keeps ← keeps_at measure
+  body ← block
+  give (repeat line test turns measure keeps (block_of body))
+
+-- `lock`
+unfoldable pub locking : ℕ → Reader (List Statement) → ℕ → Reader Statement
+locking room block line = do
+  begin
+  crate_no ← expression_at room
+  body ← block
+  give (locked line crate_no (block_of body))
+
+-- a statement that holds blocks, which are read so
+abbrev pub nested_by : ℕ → Reader (List Statement) → ℕ → Option TokenKind → Reader Statement
+nested_by room block line (Some (kind.Keyword word.If)) = choice room block line
+nested_by room block line (Some (kind.Keyword word.For)) = counting room block line
+nested_by room block line (Some (kind.Keyword word.While)) = repetition room block line
+nested_by room block line (Some (kind.Keyword word.Lock)) = locking room block line
+nested_by room block line k = crate_call_by room line k
+
 -- a statement, where so many brackets and braces may be open at once and this is read as a block
 abbrev pub statement_by : ℕ → Reader (List Statement) → ℕ → Option TokenKind → Reader Statement
 statement_by room block line (Some (kind.Name x)) = assignment room line
@@ -152,8 +198,7 @@ statement_by room block line (Some (kind.Keyword word.Cdreg)) = register_setting
 statement_by room block line (Some (kind.Keyword word.Cfsa)) = single_action Full room line
 statement_by room block line (Some (kind.Keyword word.Cssa)) = single_action Short room line
 statement_by room block line (Some (kind.Keyword word.Put)) = put_action room line
-statement_by room block line (Some (kind.Keyword word.If)) = choice room block line
-statement_by room block line k = crate_call_by room line k
+statement_by room block line k = nested_by room block line k
 
 unfoldable pub statement_with : ℕ → Reader (List Statement) → Reader Statement
 statement_with room block = do

@@ -7,8 +7,10 @@ mod conditions;
 mod cursor;
 mod declarations;
 mod expressions;
+mod keeps;
 mod names;
 mod naming;
+mod nesting;
 mod reading;
 mod statements;
 

@@ -12,7 +12,7 @@ use camac_tokens::{TextFault, Token, last_line, tokens};
 use std::alloc::Global;
 
 /// The script that a text spells: `cdlam`, `var` and `service` with assignments, `cdreg`, `cfsa`, `cssa`, `put`, the crate calls, the
-/// LAM calls and `if`. Every other form is refused as an unexpected token (S2) so far.
+/// LAM calls, `if`, `for`, `while` and `lock`. Every other form is refused as an unexpected token (S2) so far.
 ///
 /// A text is refused by its first token fault (S1, S3, S6), else at its first token from left to right that the grammar or a
 /// rule of names, numbers or limits does not allow there (S2 to S7); the text's end counts as a token. Memory may be refused

@@ -3,7 +3,7 @@
 ghost use Rattle.std.specs.Prelude.{◌≡◌, map, suc};
 ghost use Rattle.camac_lang.specs.View.{statement_of};
 ghost use Rattle.camac_text.specs.Reading.{kind_of, many};
-ghost use Rattle.camac_text.specs.Statements.{begin, choice, statement_with, is_no_end, block_at};
+ghost use Rattle.camac_text.specs.Statements.{begin, statement_with, is_no_end, block_at};
 ghost use Rattle.camac_text.specs.Parser.{state, Gives};
 
 use crate::cursor::Parser;
@@ -77,31 +77,7 @@ impl Parser<'_> {
                 line,
             ),
             Some(TokenKind::Keyword(Keyword::Put)) => self.put_action(room, line),
-            Some(TokenKind::Keyword(Keyword::If)) => self.choice(room, line),
-            _ => self.crate_call(room, line),
-        }
-    }
-
-    #[cycle(statement)]
-    #[tactic(auto, unfolding(crate::specs::Statements::choice))]
-    fn choice(&mut self, room: u32, line: u32) -> Result<Stmt, TextFault>
-        ensures { Gives statement_of result self.new (choice room (block_at room) line (state self.old)) }
-    {
-        self.begin()?;
-        let test = self.condition(room)?;
-        let then = self.block(room)?;
-        match self.peek() {
-            Some(TokenKind::Keyword(Keyword::Else)) => {
-                self.advance();
-                let otherwise = self.block(room)?;
-                Ok(Stmt::IfElse {
-                    line,
-                    test,
-                    then,
-                    otherwise,
-                })
-            }
-            _ => Ok(Stmt::If { line, test, then }),
+            _ => self.nested(room, line),
         }
     }
 

@@ -257,3 +257,35 @@ fn choices(rt: HostRuntime) -> Result<(), Fail> {
     assert_eq!(rt; few_braces, Some((TextRule::UnexpectedToken, 18)));
     Ok(())
 }
+
+#[test]
+fn loops(rt: HostRuntime) {
+    assert!(rt;
+        parse(
+            rt.alloc(),
+            b"cdlam adc 1 1 5 12\nvar v k i t\nservice adc within 100 cycles event 100 words {\n  for i = 0 to k + 1 keep v in 0..3, k in 1..2 { lock 1 { put i } }\n  while k > 0 turns 5 by k { k = 0 }\n}\n"
+        )
+        .is_ok()
+    );
+    assert_eq!(rt;
+        fault(
+            &rt,
+            b"cdlam adc 1 1 5 12\nvar v k i t\nservice adc within 100 cycles event 100 words {\n  while k > 0 turns 5 by k keep k in 0..3 {}\n}\n"
+        ),
+        Some((TextRule::DeclaredTwice, 4))
+    );
+    assert_eq!(rt;
+        fault(
+            &rt,
+            b"cdlam adc 1 1 5 12\nvar v k i t\nservice adc within 100 cycles event 100 words {\n  for i = 0 to 3 keep i in 0..3 {}\n}\n"
+        ),
+        Some((TextRule::DeclaredTwice, 4))
+    );
+    assert_eq!(rt;
+        fault(
+            &rt,
+            b"cdlam adc 1 1 5 12\nvar v k i t\nservice adc within 100 cycles event 100 words {\n  for i = 0 to 3 keep v in 0..3, v in 0..3 {}\n}\n"
+        ),
+        Some((TextRule::DeclaredTwice, 4))
+    );
+}
