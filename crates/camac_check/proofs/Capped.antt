@@ -1,12 +1,13 @@
 -- Costs that are cut at 64 bits are judged as the costs themselves.
 use Rattle.std.proofs.Common.{◌≡◌, ℕ, ◌-◌, ◌^◌, ◌<◌, ◌≤◌, Bool, true, false, Option, Some, None, Result, Ok, Err, refl, sym, ap, ◌∙◌, ⊎_elim, lit<, arith}
-use Rattle.std.specs.Prelude.{◌&&◌, min, nat_lt, nat_le}
+use Rattle.std.specs.Prelude.{◌&&◌, min, nat_lt, nat_le, unwrap_or}
 use Rattle.std.proofs.lemmas.Bool.{leb-true, lt-leb, le-leb, cases_lt}
 use Rattle.camac_func.specs.Class.{class_of}
 use Rattle.camac_func.specs.declared.code.FunctionClass.TheVariants.{Read, Write, Control}
 use Rattle.camac_lang.specs.declared.word.WordSize.{WordSize}
 use Rattle.camac_lang.specs.Tree.{Move, no_data, into, from, Statement, assign, set_register, single, address_scan, q_stop, q_repeat, put, crate_call, lam_call, choose, choose_else, count, repeat, locked, call, Block, done, next, Service}
 use Rattle.camac_esone.specs.Calls.{lam_function}
+use Rattle.camac_branch.specs.Plan.{crate_waits}
 use Rattle.camac_model.specs.Fine.{Bounds}
 use Rattle.camac_model.specs.Meaning.{fits_size}
 use Rattle.camac_range.specs.Number.{greatest}
@@ -18,11 +19,11 @@ use Rattle.camac_rules.specs.Known.{region_at, Facts}
 use Rattle.camac_rules.specs.Joined.{join}
 use Rattle.camac_rules.specs.Expressions.{range_of}
 use Rattle.camac_rules.specs.Conditions.{split}
-use Rattle.camac_rules.specs.Costs.{costs, no_costs, plus, choice_costs, Verdict, verdict, unreached}
+use Rattle.camac_rules.specs.Costs.{costs, no_costs, plus, choice_costs, lock_costs, Verdict, verdict, unreached}
 use Rattle.camac_rules.specs.Capped.{capped}
 use Rattle.camac_rules.specs.Addresses.{command_widths}
-use Rattle.camac_rules.specs.Cycles.{Around, nothing_around, may_write, same_class, single_rule}
-use Rattle.camac_rules.specs.Calls.{is_crate, lam_region}
+use Rattle.camac_rules.specs.Cycles.{Around, nothing_around, with_locked, may_write, same_class, single_rule}
+use Rattle.camac_rules.specs.Calls.{is_crate, lam_region, lock_rule}
 use Rattle.camac_rules.specs.Statements.{greatest_word, accept_statement, accept_block}
 use Rattle.camac_rules.specs.Accept.{at_start, within, accept_service}
 use Rattle.camac_check.specs.declared.context.Context as code
@@ -60,6 +61,9 @@ plus_cut a b = same_costs _ _ _ _ _ _ (omega arith) (omega arith) (omega arith)
 
 choice_cut : (a b : Bounds) → capped (choice_costs (capped a) (capped b)) ≡ capped (choice_costs a b)
 choice_cut a b = same_costs _ _ _ _ _ _ (omega arith) (omega arith) (omega arith)
+
+lock_cut : (w : ℕ) (a : Bounds) → capped (lock_costs w (capped a)) ≡ capped (lock_costs w a)
+lock_cut w a = same_costs _ _ _ _ _ _ (omega arith) (omega arith) (omega arith)
 
 single_cut : (context : code.Context) (around : Around) (line : ℕ) (size : WordSize) (f r : ℕ) (m : Move) (k : Facts) → single_rule (by_code context) around line size f r m k ≡ cut_all (single_rule (by_rules context) around line size f r m k)
 single_cut context around line size f r no_data k =
@@ -110,7 +114,10 @@ mutual
       (λ second. ap (λ c. Ok (verdict (join first.after second.after) c)) (choice_cut first.costs second.costs))))
   statement_cut context around (count line x e1 e2 keeps body) k = refl
   statement_cut context around (repeat line test most m keeps body) k = refl
-  statement_cut context around (locked line e body) k = refl
+  statement_cut context around (locked line e body) k =
+      go_same (lock_rule (by_rules context) around line e k) _ _ (λ c.
+      go_cut (accept_block (by_code context) (with_locked c around) body k) (accept_block (by_rules context) (with_locked c around) body k) _ _ (block_cut context (with_locked c around) body k)
+      (λ inner. ap (λ d. Ok (verdict inner.after d)) (lock_cut (unwrap_or (crate_waits context.plan.now c) 0) inner.costs)))
   statement_cut context around (call line p es) k = refl
 
   block_cut : (context : code.Context) (around : Around) (b : Block) (k : Facts) → accept_block (by_code context) around b k ≡ cut_all (accept_block (by_rules context) around b k)

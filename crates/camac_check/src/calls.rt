@@ -1,9 +1,10 @@
-// The rules of crate calls and LAM calls.
+// The rules of crate calls and LAM calls, and of the crate that a lock takes.
 
-ghost use Rattle.std.specs.Prelude.{◌≡◌};
+ghost use Rattle.std.specs.Prelude.{◌≡◌, ◌&&◌, not};
 ghost use Rattle.camac_esone.specs.Calls.{lam_function};
 ghost use Rattle.camac_lang.specs.View.{expression_of};
-ghost use Rattle.camac_rules.specs.Calls.{crate_rule, lam_region, lam_rule};
+ghost use Rattle.camac_rules.specs.Addresses.{is_among};
+ghost use Rattle.camac_rules.specs.Calls.{is_crate, crate_rule, lam_region, lam_rule, lock_rule};
 ghost use Rattle.camac_rules.specs.Refusal.{given};
 ghost use Rattle.camac_check.specs.Gives.{Gives, by_code, verdict_of};
 
@@ -37,6 +38,33 @@ pub fn crate_call(
         known: Some(known.try_clone(alloc)?),
         costs: one_cycle(context, around, crates),
     })
+}
+
+/// The crate that a `lock` takes. E15 where it is not one crate of the plan, or locked around it.
+#[tactic(auto, unfolding(camac_rules::specs::Refusal::go_on))]
+pub fn lock_crate(
+    context: &Context,
+    around: &Around,
+    line: u32,
+    crate_no: &Expr,
+    known: &Facts,
+) -> Result<u32, CheckFault>
+    ensures { Gives (λ c. c) result (lock_rule (by_code context.now) around.now line (expression_of crate_no.now) known.now) }
+{
+    let crates = range_of(line, crate_no, known.ranges())?;
+    required(
+        is_free(context, around, crates),
+        CheckRule::CrateUnfit,
+        line,
+    )?;
+    Ok(crates.lo())
+}
+
+// Whether a range is one crate, which is not locked.
+fn is_free(context: &Context, around: &Around, crates: Range) -> bool
+    ensures { result ≡ (is_crate context.now.plan.now crates && not (is_among crates.lo around.now.locked)) }
+{
+    is_crate(context.plan, crates) && !around.is_locked(crates.lo())
 }
 
 /// Checks a LAM call.

@@ -7,10 +7,12 @@ ghost use Rattle.camac_rules.specs.Refusal.{if_reached};
 ghost use Rattle.camac_rules.specs.Statements.{assign_rule, register_rule, put_rule, accept_statement, accept_block};
 ghost use Rattle.camac_check.specs.Gives.{Gives, by_code, verdict_of};
 
-use crate::calls::{crate_call, lam_call};
+use crate::calls::{crate_call, lam_call, lock_crate};
 use crate::context::Context;
 use crate::cycle::single;
-use camac_known::{Around, CheckFault, Costs, Facts, Region, join, range_of, required, split};
+use camac_known::{
+    Around, CheckFault, Costs, Facts, Region, join, range_of, required, split, waits_of,
+};
 use camac_lang::{Expr, Stmt};
 use camac_rules::CheckRule;
 use std::alloc::Global;
@@ -127,10 +129,24 @@ fn accept_statement(
                 costs: first.costs.or(second.costs),
             })
         }
+        Stmt::Lock {
+            line,
+            crate_no,
+            body,
+        } => {
+            let c = lock_crate(context, around, *line, crate_no, known)?;
+            let inside = around.with_locked(alloc, c)?;
+            let entry = known.try_clone(alloc)?;
+            let inner = accept_block(alloc, context, &inside, body, Some(entry))?;
+            Ok(Findings {
+                known: inner.known,
+                costs: inner.costs.in_lock(waits_of(context.plan, c)),
+            })
+        }
         Stmt::Scan { line, .. } => not_served(*line),
         Stmt::QStop { line, .. } | Stmt::QRepeat { line, .. } => not_served(*line),
         Stmt::For { line, .. } | Stmt::While { line, .. } => not_served(*line),
-        Stmt::Lock { line, .. } | Stmt::Call { line, .. } => not_served(*line),
+        Stmt::Call { line, .. } => not_served(*line),
     }
 }
 

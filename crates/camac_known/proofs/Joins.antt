@@ -1,5 +1,5 @@
 -- What is known on two ways, joined place by place.
-use Rattle.std.proofs.Common.{◌≡◌, ℕ, ◌+◌, ◌<◌, ◌≤◌, List, [], ◌∷◌, ◌++◌, length, get_or, take, take_all, map, Option, Some, None, refl, sym, ap, ◌∙◌, arith}
+use Rattle.std.proofs.Common.{◌≡◌, ℕ, ◌+◌, ◌<◌, ◌≤◌, List, [], ◌∷◌, ◌++◌, length, get_or, take, take_all, map, Option, None, sym, ap, ◌∙◌, arith}
 use Rattle.std.specs.Prelude.{min, max}
 use Rattle.std.proofs.lemmas.List.{take_more, length-map}
 use Rattle.camac_range.specs.Interval.{Interval, only, hull}

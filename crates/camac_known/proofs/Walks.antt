@@ -1,16 +1,17 @@
--- Walks over ranges, a number at a time, and what there is not in crate 0.
-use Rattle.std.proofs.Common.{◌≡◌, ℕ, zero, suc, ◌+◌, ◌-◌, ◌<◌, ◌≤◌, Bool, true, false, List, ◌∷◌, map, Option, Some, None, Result, Ok, Err, refl, ap, ◌∙◌, subst, arith}
-use Rattle.std.specs.Prelude.{IfOk, ◌&&◌, min, max, nat_lt, option_map, if◌then◌else◌}
+-- Walks over ranges, a number at a time, and what there is not where no crate is.
+use Rattle.std.proofs.Common.{◌≡◌, ℕ, zero, suc, ◌+◌, ◌-◌, ◌<◌, ◌≤◌, Bool, true, false, ◌∷◌, length, map, Option, Some, None, Result, Ok, Err, refl, ap, ◌∙◌, subst, ⊎_elim, arith}
+use Rattle.std.specs.Prelude.{IfOk, ◌&&◌, min, max, nat_lt, option_map, unwrap_or, if◌then◌else◌}
 use Rattle.std.specs.List.{range_with_len}
-use Rattle.std.proofs.lemmas.Bool.{cond_both}
+use Rattle.std.proofs.lemmas.Bool.{cond_both, cases_lt}
+use Rattle.std.proofs.lemmas.List.{get_or_past}
 use Rattle.camac_range.specs.Interval.{Interval, interval}
 use Rattle.camac_module.specs.Commands.{extremes, least_and_greatest}
 use Rattle.camac_branch.specs.Address.{address}
 use Rattle.camac_branch.specs.Allowed.{allowed, widths, AllowsCommands}
-use Rattle.camac_branch.specs.Plan.{Layout}
+use Rattle.camac_branch.specs.Plan.{Layout, IsPlan, crate_waits}
 use Rattle.camac_rules.specs.Known.{Region}
 use Rattle.camac_rules.specs.Walks.{count_below, all_from, greatest_from, hull_with, hull_from}
-use Rattle.camac_rules.specs.Addresses.{crate_end, station_end, sub_address_end, in_plan, are_stations_in, station_widths, crate_widths, region_widths, is_among, waits_in}
+use Rattle.camac_rules.specs.Addresses.{crate_end, station_end, sub_address_end, in_plan, are_stations_in, station_widths, crate_widths, region_widths}
 use Rattle.camac_rules.specs.declared.rule.CheckRule.{CheckRule}
 use Rattle.camac_rules.specs.Refusal.{given}
 use Rattle.camac_known.specs.declared.fault.CheckFault.{CheckFault}
@@ -90,8 +91,15 @@ pub no_widths : (plan : Layout) (f : ℕ) (subs stations : Interval) (c : ℕ) �
 no_widths plan f subs stations c e =
     ap (crate_widths plan f subs stations) e ∙ no_hull (station_widths plan f subs 0) stations.lo (count_below station_end stations) (no_station plan f subs)
 
-pub no_waits : (plan : Layout) (locked : List ℕ) (c : ℕ) → c ≡ 0 → waits_in plan locked c ≡ 0
-no_waits plan locked c e = ap (waits_in plan locked) e ∙ cond_both (is_among 0 locked) 0 0 (λ n. n ≡ 0) (λ t. refl) (λ t. refl)
+-- There is no crate 0, and none above 7.
+pub none_outside : (plan : Layout) (c : ℕ) → IsPlan plan → ((1 ≤ c) × (c ≤ 7) → ⊥) → unwrap_or (crate_waits plan c) 0 ≡ 0
+none_outside plan zero is out = refl
+none_outside plan (suc i) is out =
+    ⊎_elim (λ lt. absurd (out (omega arith, omega arith)))
+    (λ ge. let long = is.crate_places in
+    let past : length plan.crates ≤ i = omega arith in
+    ap (λ o. unwrap_or (option_map (λ k. k.waits) o) 0) (get_or_past plan.crates i None past))
+    (cases_lt i 7)
 
 -- the least width is not above the greatest
 pub widths_ordered : (plan : Layout) (c n f first last least greatest : ℕ) → widths plan c n f first last ≡ Some (least, greatest) → first ≤ last → least ≤ greatest

@@ -1,7 +1,7 @@
 // Which addresses of a region are installed, and how wide a command is there.
 
-ghost use Rattle.std.specs.Prelude.{◌≡◌, ◌<◌, ◌≤◌, ◌-◌, ◌+◌, min, is_some, IfOk, IfSome};
-ghost use Rattle.camac_branch.specs.Plan.{IsPlan};
+ghost use Rattle.std.specs.Prelude.{◌≡◌, ◌<◌, ◌≤◌, ◌-◌, ◌+◌, min, is_some, unwrap_or, IfOk, IfSome};
+ghost use Rattle.camac_branch.specs.Plan.{IsPlan, crate_waits};
 ghost use Rattle.camac_rules.specs.Walks.{all_from, greatest_from, hull_from};
 ghost use Rattle.camac_rules.specs.Addresses.{crate_end, station_end, in_plan, is_station, all_in, are_stations_in, are_stations, station_widths, crate_widths, region_widths, command_widths, waits_in, cycle_cost};
 ghost use Rattle.camac_rules.specs.Calls.{is_crate};
@@ -233,14 +233,21 @@ fn waits_from(plan: &Plan, around: &Around, c: u32, end: u32) -> u8
 }
 
 // The auxiliary cycles that may come before one in a crate.
-#[tactic(auto, using(crate::proofs::Walks::no_waits))]
 fn waits_in(plan: &Plan, around: &Around, c: u32) -> u8
-    requires { c < 8 }
     ensures { result ≡ waits_in plan.now around.now.locked c }
 {
     if around.is_locked(c) {
         return 0;
     }
+    waits_of(plan, c)
+}
+
+/// The auxiliary cycles that a crate's lock, or a cycle there, may wait for; 0 where there is no such crate.
+#[tactic(auto, using(crate::proofs::Walks::none_outside))]
+pub fn waits_of(plan: &Plan, c: u32) -> u8
+    ensures { result ≡ unwrap_or (crate_waits plan.now c) 0 }
+{
+    plan.is_plan();
     match CrateNo::new(c) {
         Some(crate_no) => plan.waits(crate_no).unwrap_or(0),
         None => 0,

@@ -1,10 +1,10 @@
 // What stands around a statement.
 
-ghost use Rattle.std.specs.Prelude.{◌≡◌};
+ghost use Rattle.std.specs.Prelude.{◌≡◌, IfOk};
 ghost use Rattle.camac_rules.specs.Addresses.{is_among};
-ghost use Rattle.camac_rules.specs.Cycles.{nothing_around, may_write};
+ghost use Rattle.camac_rules.specs.Cycles.{nothing_around, with_locked, may_write};
 
-use std::alloc::Global;
+use std::alloc::{AllocError, Global};
 use std::marker::Model;
 
 /// The variables of the `for` loops around, and the crates that are locked there.
@@ -30,6 +30,18 @@ impl Around {
             fixed: Vec::new(alloc),
             locked: Vec::new(alloc),
         }
+    }
+
+    /// What stands around a block that locks one more crate.
+    pub fn with_locked(&self, alloc: Global, crate_no: u32) -> Result<Self, AllocError>
+        ensures { IfOk result (λ a. a ≡ with_locked crate_no self.now) }
+    {
+        let mut locked = Vec::from_slice(alloc, &self.locked)?;
+        locked.insert(0, crate_no)?;
+        Ok(Around {
+            fixed: Vec::from_slice(alloc, &self.fixed)?,
+            locked,
+        })
     }
 
     /// Whether a statement may write a variable.

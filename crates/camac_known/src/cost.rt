@@ -1,7 +1,7 @@
 // What statements can cost.
 
 ghost use Rattle.std.specs.Prelude.{◌≡◌};
-ghost use Rattle.camac_rules.specs.Costs.{costs, no_costs, plus, choice_costs};
+ghost use Rattle.camac_rules.specs.Costs.{costs, no_costs, plus, choice_costs, lock_costs};
 ghost use Rattle.camac_rules.specs.Capped.{capped};
 
 use std::marker::Model;
@@ -55,6 +55,17 @@ impl Costs {
             cycles: self.cycles.max(other.cycles),
             words: self.words.max(other.words),
             steps: self.steps.max(other.steps).saturating_add(1),
+        }
+    }
+
+    /// Those of a locked block with this body, where taking the lock waits for so many auxiliary cycles.
+    pub fn in_lock(self, waits: u8) -> Self
+        ensures { result ≡ capped (lock_costs waits self) }
+    {
+        Costs {
+            cycles: self.cycles.saturating_add(u64::from(waits)),
+            words: self.words,
+            steps: self.steps.saturating_add(2),
         }
     }
 

@@ -10,7 +10,7 @@ mod fault;
 mod joined;
 mod known;
 
-pub use address::{command_widths, cycle_cost, is_crate};
+pub use address::{command_widths, cycle_cost, is_crate, waits_of};
 pub use around::Around;
 pub use condition::{Branches, split};
 pub use cost::Costs;

@@ -1,13 +1,12 @@
--- Worked rows of conditions and arms, computed.
+-- Worked rows of statements with blocks, computed: conditions, arms, locks.
 use Rattle.std.proofs.Common.{◌≡◌, ℕ, List, [], ◌∷◌, Some, None, Ok, Err, refl}
-use Rattle.std.specs.Prelude.{codes}
-use Rattle.camac_range.specs.declared.comparison.Cmp.TheVariants.{Less, AtMost, More, Same, Differs}
+use Rattle.camac_range.specs.declared.comparison.Cmp.TheVariants.{Less, AtMost, More, Differs}
 use Rattle.camac_range.specs.Interval.{Interval, interval, only}
 use Rattle.camac_lang.specs.declared.word.WordSize.TheVariants.{Full}
-use Rattle.camac_lang.specs.Tree.{Text, subtract, group, number, variable, no_data, into, from, plain, negated, flag_q, compare, Condition, Statement, assign, single, put, choose, choose_else, Script}
+use Rattle.camac_lang.specs.Tree.{subtract, group, number, variable, no_data, into, from, plain, negated, flag_q, compare, Condition, Statement, single, put, choose, choose_else, locked, Script}
 use Rattle.camac_lang.specs.View.{block_of}
 use Rattle.camac_model.specs.Sample.{sample_plan, script, register, with_r, with_r_s, r, s, v, k}
-use Rattle.camac_rules.specs.declared.rule.CheckRule.TheVariants.{ValueOutOfRange, ValueTooWide, RegisterUnset, TooManyCycles}
+use Rattle.camac_rules.specs.declared.rule.CheckRule.TheVariants.{ValueOutOfRange, ValueTooWide, RegisterUnset, TooManyCycles, CrateUnfit}
 use Rattle.camac_rules.specs.Fault.{broken}
 use Rattle.camac_rules.specs.Refusal.{go_on, required, given, if_reached}
 use Rattle.camac_rules.specs.Known.{Facts, facts}
@@ -117,3 +116,35 @@ other_than_an_end :
     ≡ Ok (branches (Some (both (interval 1 9) (only 0))) (Some (both (only 0) (only 0))))
 unfolding go_on required given if_reached
 other_than_an_end = refl
+
+-- lockout: inside the lock a cycle costs 1
+abbrev read : ℕ → Statement
+read line = single line Full 0 r (into v)
+
+abbrev lockout : ℕ → List Statement → Script
+lockout cycles inside = script cycles 100 with_r (register r 5 0 ∷ locked 5 (number 1) (block_of inside) ∷ [])
+
+locked_reads : accept sample_plan (lockout 6 (read 6 ∷ read 7 ∷ read 8 ∷ read 9 ∷ [])) ≡ Ok (costs 6 0 7 ∷ [])
+unfolding go_on required given if_reached
+locked_reads = refl
+
+locked_cycles : accept sample_plan (lockout 5 (read 6 ∷ read 7 ∷ read 8 ∷ read 9 ∷ [])) ≡ Err (broken TooManyCycles 3)
+unfolding go_on required given if_reached
+locked_cycles = refl
+
+lock_inside : accept sample_plan (lockout 100 (locked 6 (number 1) (block_of []) ∷ [])) ≡ Err (broken CrateUnfit 6)
+unfolding go_on required given if_reached
+lock_inside = refl
+
+lock_again : accept sample_plan (script 100 100 [] (locked 4 (number 1) (block_of []) ∷ locked 5 (number 1) (block_of []) ∷ [])) ≡ Ok (costs 4 0 4 ∷ [])
+unfolding go_on required given if_reached
+lock_again = refl
+
+-- lock-empty
+lock_empty : accept sample_plan (script 2 0 [] (locked 4 (number 1) (block_of []) ∷ [])) ≡ Ok (costs 2 0 2 ∷ [])
+unfolding go_on required given if_reached
+lock_empty = refl
+
+lock_not_in_plan : accept sample_plan (script 100 100 [] (locked 4 (number 2) (block_of []) ∷ [])) ≡ Err (broken CrateUnfit 4)
+unfolding go_on required given if_reached
+lock_not_in_plan = refl

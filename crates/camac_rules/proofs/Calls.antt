@@ -1,5 +1,5 @@
 -- What the rules accept of crate calls and LAM calls runs safely.
-use Rattle.std.proofs.Common.{◌≡◌, ℕ, ◌<◌, Bool, true, Option, Some, None, refl, sym, ap, ◌∙◌, subst, arith}
+use Rattle.std.proofs.Common.{◌≡◌, ℕ, ◌<◌, true, Option, Some, None, refl, sym, ap, subst, arith}
 use Rattle.std.specs.Prelude.{◌&&◌, nat_eq, nat_lt, option_map, option_and_then, slice_get}
 use Rattle.std.specs.Option.{option_or}
 use Rattle.std.proofs.lemmas.Bool.{and_parts, eqb-true, ltb-true}
@@ -15,7 +15,7 @@ use Rattle.camac_branch.specs.Address.{Address}
 use Rattle.camac_branch.specs.Allowed.{controller_width}
 use Rattle.camac_branch.specs.Plan.{Layout, crate_waits, declared_width}
 use Rattle.camac_esone.specs.Calls.{crate_address, crate_function, lam_function}
-use Rattle.camac_model.specs.State.{State, stepped}
+use Rattle.camac_model.specs.State.{stepped}
 use Rattle.camac_model.specs.Behaviour.{ends}
 use Rattle.camac_model.specs.Value.{value}
 use Rattle.camac_model.specs.Meaning.{Context, act, effect}
@@ -70,12 +70,12 @@ first_or None p v e = (v, e)
 first_or (Some w) p v e = (w, refl)
 
 -- what is known of a crate that a call may go to
-record IsCrate (plan : Layout) (r : Interval) (c : ℕ) : Type 0 where
-  below : c < 8
-  waits : ℕ
-  in_plan : crate_waits plan c ≡ Some waits
+pub record IsCrate (plan : Layout) (r : Interval) (c : ℕ) : Type 0 where
+  pub below : c < 8
+  pub waits : ℕ
+  pub in_plan : crate_waits plan c ≡ Some waits
 
-crate_is : (plan : Layout) (r : Interval) (c : ℕ) → is_crate plan r ≡ true → IsWithin r c → IsCrate plan r c
+pub crate_is : (plan : Layout) (r : Interval) (c : ℕ) → is_crate plan r ≡ true → IsWithin r c → IsCrate plan r c
 crate_is plan r c e w =
     let p = and_parts (nat_eq r.lo r.hi) (nat_lt r.lo crate_end && in_plan plan r.lo) e in
     let q = and_parts (nat_lt r.lo crate_end) (in_plan plan r.lo) p.1 in

@@ -1,6 +1,6 @@
 -- What the rules say of conditions is true of them.
-use Rattle.std.proofs.Common.{◌≡◌, ℕ, ◌≤◌, Bool, true, false, cond, List, [], ◌∷◌, refl, sym, ap, ◌∙◌, subst, Option, Some, None}
-use Rattle.std.specs.Prelude.{not, nat_eq, nat_le, IfSome, option_map, option_and_then}
+use Rattle.std.proofs.Common.{◌≡◌, ℕ, ◌≤◌, Bool, true, false, cond, [], ◌∷◌, refl, sym, ap, ◌∙◌, subst, Option, Some, None}
+use Rattle.std.specs.Prelude.{not, nat_eq, IfSome, option_map, option_and_then}
 use Rattle.std.proofs.lemmas.Bool.{eqb-true, le-leb, cond_both}
 use Rattle.camac_lang.specs.Tree.{Expression, number, variable, group, add, subtract, multiply, divide, remainder, Test, flag_q, flag_x, compare, Part, plain, negated, Condition}
 use Rattle.camac_range.specs.declared.comparison.Cmp.{Cmp}
@@ -16,7 +16,7 @@ use Rattle.camac_rules.specs.Joined.{join}
 use Rattle.camac_rules.specs.Conditions.{Branches, branches, sole_variable, refine, assume, split_test, split_part, split}
 use Rattle.camac_rules.specs.Cycles.{Around}
 use Rattle.camac_rules.proofs.Allows.{Allows, allowed, then_allowed, for_each, if_reached_allowed}
-use Rattle.camac_rules.proofs.Stores.{VariablesInside, variables_write, Inside, Reaches}
+use Rattle.camac_rules.proofs.Stores.{variables_write, Inside, Reaches}
 use Rattle.camac_rules.proofs.Values.{Fits, Gives, range_holds}
 use Rattle.camac_rules.proofs.Joined.{join_left, join_right}
 

@@ -28,7 +28,7 @@ either : (b c : Bool) → (b || c) ≡ true → (b ≡ true) ⊎ (c ≡ true)
 either true c e = inl refl
 either false c e = inr e
 
-permitted_wait : (l : Bool) (waits wait : ℕ) → permitted l waits wait ≡ true → wait ≤ (if l then 0 else waits)
+pub permitted_wait : (l : Bool) (waits wait : ℕ) → permitted l waits wait ≡ true → wait ≤ (if l then 0 else waits)
 permitted_wait true waits wait e =
     ⊎_elim (λ z. let h : wait ≡ 0 = eqb-true wait 0 z in omega arith) (λ m. cc) (either (nat_eq wait 0) false e)
 permitted_wait false waits wait e =

@@ -10,6 +10,7 @@ pub mod Locks
 pub mod Cycles
 pub mod Actions
 pub mod Calls
+pub mod Held
 pub mod Statements
 pub mod Services
 pub mod Orders

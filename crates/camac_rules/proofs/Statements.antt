@@ -14,7 +14,7 @@ use Rattle.camac_rules.specs.Refusal.{if_reached}
 use Rattle.camac_rules.specs.Joined.{join}
 use Rattle.camac_rules.specs.Conditions.{Branches}
 use Rattle.camac_rules.specs.Costs.{costs, no_costs, choice_costs, Verdict, verdict, unreached}
-use Rattle.camac_rules.specs.Cycles.{Around}
+use Rattle.camac_rules.specs.Cycles.{Around, with_locked}
 use Rattle.camac_rules.specs.Statements.{greatest_word, assign_rule, register_rule, put_rule, accept_statement, accept_block}
 use Rattle.camac_rules.proofs.Allows.{Allows, allowed as allows, refused, then_allowed, required_allowed, if_reached_allowed}
 use Rattle.camac_rules.proofs.Stores.{InRegion, Reaches, registers_write}
@@ -24,6 +24,7 @@ use Rattle.camac_rules.proofs.Values.{range_each}
 use Rattle.camac_rules.proofs.Sound.{Sound, SoundFor, paid_nothing, sound_then, sound_begun}
 use Rattle.camac_rules.proofs.Actions.{HasWidths, seen, with_given, value_of, inside_written, written_other, single_sound}
 use Rattle.camac_rules.proofs.Calls.{crate_sound, lam_sound}
+use Rattle.camac_rules.proofs.Held.{lock_allowed, lock_sound}
 
 words_push : (ws : List ℕ) (v : ℕ) → v < 2 ^ 24 → AreWords ws → AreWords (ws ++ v ∷ [])
 words_push [] v h a = (h, tt)
@@ -125,6 +126,9 @@ mutual
             (λ t j. h.each n le t j)
             (λ t j. g.each n le t j);
       }))))
+  statement_sound c narrow around (locked line e body) k =
+      then_allowed (lock_allowed c around line e k) (λ crate_no can.
+      then_allowed (block_sound c narrow (with_locked crate_no around) body k) (λ inner h. allows (lock_sound c around line e body k crate_no inner can h)))
   statement_sound c narrow around (put line e) k = put_sound c around line e k
   statement_sound c narrow around (crate_call line which e) k = crate_sound c around line which e k
   statement_sound c narrow around (lam_call line which l) k = lam_sound c around line which l k
@@ -133,7 +137,6 @@ mutual
   statement_sound c narrow around (q_repeat line f r t max limit x) k = refused
   statement_sound c narrow around (count line x e1 e2 keeps body) k = refused
   statement_sound c narrow around (repeat line test most m keeps body) k = refused
-  statement_sound c narrow around (locked line e body) k = refused
   statement_sound c narrow around (call line p es) k = refused
 
   -- a block, from what is known at its begin, if that can be reached

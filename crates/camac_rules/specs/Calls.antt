@@ -1,5 +1,5 @@
--- The rules of crate calls and LAM calls.
-use Rattle.std.specs.Prelude.{ℕ, Bool, ◌&&◌, Option, Some, Result, Ok, nat_eq, nat_lt, option_map, slice_get}
+-- The rules of crate calls and LAM calls, and of the crate that a lock takes.
+use Rattle.std.specs.Prelude.{ℕ, Bool, not, ◌&&◌, Option, Some, Result, Ok, nat_eq, nat_lt, option_map, slice_get}
 use Rattle.camac_lang.specs.declared.word.LamCall.{LamCall}
 use Rattle.camac_lang.specs.Tree.{Expression}
 use Rattle.camac_range.specs.Interval.{Interval, only}
@@ -12,7 +12,7 @@ use Rattle.camac_rules.specs.Refusal.{◌>>=◌, ◌>>◌, required, given}
 use Rattle.camac_rules.specs.Known.{Region, region, Facts}
 use Rattle.camac_rules.specs.Expressions.{range_of}
 use Rattle.camac_rules.specs.Costs.{Verdict, verdict}
-use Rattle.camac_rules.specs.Addresses.{crate_end, in_plan, command_widths}
+use Rattle.camac_rules.specs.Addresses.{crate_end, in_plan, is_among, command_widths}
 use Rattle.camac_rules.specs.Cycles.{Context, Around, one_cycle}
 
 -- one number, which is that of a crate of the plan
@@ -38,3 +38,10 @@ lam_rule c around line which l k = do
   g ← given (lam_region c l) StationNotInstalled line
   widths ← command_widths c.plan line (lam_function which) g
   Ok (verdict (Some k) (one_cycle c around g.crates))
+
+-- the crate that a `lock` takes: in the plan, and not locked around it
+abbrev pub lock_rule : Context → Around → ℕ → Expression → Facts → Result ℕ Fault
+lock_rule c around line e k = do
+  r ← range_of line e k.ranges
+  required (is_crate c.plan r && not (is_among r.lo around.locked)) CrateUnfit line
+  Ok r.lo

@@ -17,6 +17,10 @@ plus a b = costs (a.cycles + b.cycles) (a.words + b.words) (a.steps + b.steps)
 abbrev pub choice_costs : Bounds → Bounds → Bounds
 choice_costs a b = costs (max a.cycles b.cycles) (max a.words b.words) (1 + max a.steps b.steps)
 
+-- taking the lock, the body, and a step for the release
+abbrev pub lock_costs : ℕ → Bounds → Bounds
+lock_costs waits body = costs (waits + body.cycles) body.words (2 + body.steps)
+
 -- what is known after a statement, and what it can cost
 pub record Verdict : Type 0 where
   pub after : Known

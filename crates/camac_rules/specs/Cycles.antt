@@ -1,5 +1,5 @@
 -- The rules of single actions. A rule's lines stand in the order of its tests.
-use Rattle.std.specs.Prelude.{ℕ, ◌-◌, ◌^◌, Bool, true, false, not, ◌&&◌, List, [], Some, Result, Ok, nat_lt}
+use Rattle.std.specs.Prelude.{ℕ, ◌-◌, ◌^◌, Bool, true, false, not, ◌&&◌, List, [], ◌∷◌, Some, Result, Ok, nat_lt}
 use Rattle.camac_lang.specs.declared.word.WordSize.{WordSize}
 use Rattle.camac_lang.specs.Tree.{Expression, Move, no_data, into, from}
 use Rattle.camac_range.specs.Interval.{Interval, interval}
@@ -32,6 +32,9 @@ pub record Around : Type 0 where
 
 abbrev pub nothing_around : Around
 nothing_around = record { fixed = []; locked = [] }
+
+abbrev pub with_locked : ℕ → Around → Around
+with_locked c around = record { fixed = around.fixed; locked = c ∷ around.locked }
 
 abbrev pub may_write : Around → ℕ → Bool
 may_write around x = not (is_among x around.fixed)

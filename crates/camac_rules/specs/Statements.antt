@@ -1,6 +1,7 @@
 -- The rules of all statements: what is known after each and what it can cost, or the first rule that it breaks.
-use Rattle.std.specs.Prelude.{ℕ, Some, Result, Ok, Err, nat_le}
+use Rattle.std.specs.Prelude.{ℕ, Some, Result, Ok, Err, nat_le, unwrap_or}
 use Rattle.camac_lang.specs.Tree.{Expression, Statement, assign, set_register, single, address_scan, q_stop, q_repeat, put, crate_call, lam_call, choose, choose_else, count, repeat, locked, call, Block, done, next}
+use Rattle.camac_branch.specs.Plan.{crate_waits}
 use Rattle.camac_rules.specs.declared.rule.CheckRule.TheVariants.{WordTooWide, LoopVariableAssigned}
 use Rattle.camac_rules.specs.Fault.{Fault, not_served}
 use Rattle.camac_rules.specs.Refusal.{◌>>=◌, ◌>>◌, required, if_reached}
@@ -8,9 +9,9 @@ use Rattle.camac_rules.specs.Known.{Facts, region, with_range, with_region}
 use Rattle.camac_rules.specs.Joined.{join}
 use Rattle.camac_rules.specs.Expressions.{range_of}
 use Rattle.camac_rules.specs.Conditions.{split}
-use Rattle.camac_rules.specs.Costs.{costs, no_costs, plus, choice_costs, Verdict, verdict, unreached}
-use Rattle.camac_rules.specs.Cycles.{Context, Around, may_write, single_rule}
-use Rattle.camac_rules.specs.Calls.{crate_rule, lam_rule}
+use Rattle.camac_rules.specs.Costs.{costs, no_costs, plus, choice_costs, lock_costs, Verdict, verdict, unreached}
+use Rattle.camac_rules.specs.Cycles.{Context, Around, with_locked, may_write, single_rule}
+use Rattle.camac_rules.specs.Calls.{crate_rule, lam_rule, lock_rule}
 
 -- the greatest word of 24 bits
 abbrev pub greatest_word : ℕ
@@ -49,6 +50,10 @@ abbrev mutual
     first ← if_reached unreached arms.holds (accept_block c around a)
     second ← if_reached unreached arms.fails (accept_block c around b)
     Ok (verdict (join first.after second.after) (c.limit (choice_costs first.costs second.costs)))
+  accept_statement c around (locked line e body) k = do
+    crate_no ← lock_rule c around line e k
+    inner ← accept_block c (with_locked crate_no around) body k
+    Ok (verdict inner.after (c.limit (lock_costs (unwrap_or (crate_waits c.plan crate_no) 0) inner.costs)))
   accept_statement c around (put line e) k = put_rule line e k
   accept_statement c around (crate_call line which e) k = crate_rule c around line e k
   accept_statement c around (lam_call line which l) k = lam_rule c around line which l k
@@ -57,7 +62,6 @@ abbrev mutual
   accept_statement c around (q_repeat line f r t max limit x) k = Err (not_served line)
   accept_statement c around (count line x e1 e2 keeps body) k = Err (not_served line)
   accept_statement c around (repeat line test most m keeps body) k = Err (not_served line)
-  accept_statement c around (locked line e body) k = Err (not_served line)
   accept_statement c around (call line p es) k = Err (not_served line)
 
   -- a list costs the sum
