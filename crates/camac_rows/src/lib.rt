@@ -4,6 +4,12 @@
 #[cfg(test)]
 mod check;
 #[cfg(test)]
+mod event_faults;
+#[cfg(test)]
+mod event_file;
+#[cfg(test)]
+mod events;
+#[cfg(test)]
 mod fakes;
 #[cfg(test)]
 mod faults;
