@@ -6,6 +6,12 @@ mod calls;
 #[cfg(test)]
 mod check;
 #[cfg(test)]
+mod event_faults;
+#[cfg(test)]
+mod event_file;
+#[cfg(test)]
+mod events;
+#[cfg(test)]
 mod fakes;
 #[cfg(test)]
 mod faults;
