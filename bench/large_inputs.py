@@ -78,11 +78,14 @@ def dotted_key(parts):
     return ".".join("a" * parts) + "=1"
 
 
-def nested_dotted(size):
-    """Inline tables of dotted keys in one another: what takes the TOML library most memory."""
-    depth = 60
-    inner = ".".join("a" * ((size // 2 - 4 * depth) // depth))
-    return "a=" + f"{{{inner}=" * depth + "1" + "}" * depth
+def dotted_keys(size):
+    """Keys of 79 parts, each of which makes a table: what takes the TOML library most memory."""
+    lines, number = [], 0
+    while size > 0:
+        lines.append(f"k{number}." + ".".join("a" * 78) + "=1\n")
+        size -= len(lines[-1])
+        number += 1
+    return "".join(lines[:-1])
 
 
 SCRIPTS = [
@@ -113,8 +116,8 @@ PLANS = [
     ("100,000 times [[crate]]", "[[crate]]\n" * 104_857),
     ("50,000 keys", "".join(f"a{i}=1\n" for i in range(50_000))),
     ("100,000 keys", "".join(f"a{i}=1\n" for i in range(100_000))),
-    ("nested dotted keys, half a megabyte", nested_dotted(524_288)),
-    ("nested dotted keys, one megabyte", nested_dotted(1_048_576)),
+    ("keys of 79 parts, half a megabyte", dotted_keys(524_288)),
+    ("keys of 79 parts, one megabyte", dotted_keys(1_048_576)),
     ("one byte too long", blanks(1_048_577)),
 ]
 

@@ -71,8 +71,16 @@ void *aligned_alloc(size_t align, size_t size) {
 STRAIGHT_LINE = open(os.path.join(TOP, "examples/straight_line.script"), "rb").read()
 SAMPLE_PLAN = open(os.path.join(TOP, "examples/sample_plan.toml"), "rb").read()
 
+# The event files of one event, of both versions.
+EVENTS_ONE = bytes.fromhex("43414d4143455631 ca4d 0003 00000001 0001 00000fff")
+EVENTS_TWO = bytes.fromhex("43414d4143455632 ca4d 0003 00000001 00000003 0000 0001 00000fff")
+
 JOBS = [
     ("check @sample @in", STRAIGHT_LINE),
+    ("plan @sample", b""),
+    ("plan @in", SAMPLE_PLAN),
+    ("events @in", EVENTS_ONE),
+    ("events @in", EVENTS_TWO),
 ]
 
 

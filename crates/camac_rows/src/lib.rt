@@ -22,6 +22,8 @@ mod plan_faults;
 #[cfg(test)]
 mod plans;
 #[cfg(test)]
+mod ranges;
+#[cfg(test)]
 mod scripts;
 #[cfg(test)]
 mod tree;
