@@ -18,6 +18,8 @@ mod faults;
 #[cfg(test)]
 mod listing;
 #[cfg(test)]
+mod locks;
+#[cfg(test)]
 mod plan_faults;
 #[cfg(test)]
 mod plans;
