@@ -1,0 +1,213 @@
+-- What a statement wants or changes, where it is fine to do it.
+use Rattle.std.proofs.Common.{◌≡◌, ℕ, ◌+◌, ◌^◌, ◌<◌, ◌≤◌, List, [], ◌∷◌, ◌++◌, length, set, Option, Some, None, Bool, true, refl, sym, ap, subst, ◌∙◌, arith}
+use Rattle.std.specs.Prelude.{IsSome, slice_get}
+use Rattle.camac_func.specs.declared.data.DataMove.{DataMove}
+use Rattle.camac_func.specs.declared.data.DataMove.TheVariants as moved
+use Rattle.camac_lang.specs.declared.word.CrateCall.{CrateCall}
+use Rattle.camac_lang.specs.declared.word.CrateCall.TheVariants as calls
+use Rattle.camac_lang.specs.declared.word.LamCall.{LamCall}
+use Rattle.camac_lang.specs.declared.word.WordSize.{WordSize}
+use Rattle.camac_lang.specs.declared.word.WordSize.TheVariants.{Full}
+use Rattle.camac_lang.specs.Tree.{Expression, Move, no_data, into, from, Statement, assign, set_register, single, address_scan, q_stop, q_repeat, put, crate_call, lam_call, choose, choose_else, count, repeat, locked, call}
+use Rattle.camac_branch.specs.Address.{Address, address}
+use Rattle.camac_branch.specs.Allowed.{width}
+use Rattle.camac_branch.specs.Branch.{Answer, Reply}
+use Rattle.camac_branch.specs.Plan.{Layout, crate_waits}
+use Rattle.camac_branch.specs.declared.answer.Command.{Command}
+use Rattle.camac_esone.specs.Calls.{command_at, crate_address, crate_function, lam_function}
+use Rattle.camac_model.specs.State.{State, stepped, set_at, with_variable, with_register, with_word}
+use Rattle.camac_model.specs.Behaviour.{ends, Action, then_do, given, unless_wrong}
+use Rattle.camac_model.specs.Cycle.{cycle, sized, kept}
+use Rattle.camac_model.specs.Fine.{IsWithin, most_turns}
+use Rattle.camac_model.specs.Meaning.{Context, act, effect, fits_size, lam_address}
+use Rattle.camac_model.specs.Safe.{IsSafe}
+use Rattle.camac_model.specs.Value.{value}
+use Rattle.camac_run.specs.declared.machine.Machine.{Machine}
+use Rattle.camac_run.specs.declared.machine.Wanting.{Wanting}
+use Rattle.camac_run.specs.declared.machine.Wanting.TheVariants.{Cycle, Read}
+use Rattle.camac_run.specs.Held.{context_in, state_of, bounds_of, left_in, IsFineHere, FineThen, Wants}
+use Rattle.camac_run.specs.Rest.{address_of, awaited}
+use Rattle.camac_run.specs.Store.{variables_in, registers_in}
+use Rattle.camac_run.specs.Within.{StatementFits}
+use Rattle.camac_run.proofs.Fine.{some_is, blank, fine_given, fine_unless, keeps_rest, fine_cycle, cycle_steps, fine_word}
+
+module _ {V D C : ℕ} (h : Machine V D C) where
+  abbrev plan : Layout
+  plan = h.checked.now.plan
+
+  keeps : (s : State) → IsFineHere h (left_in h s) → IsWithin (bounds_of h) s
+  keeps s fine = keeps_rest plan (bounds_of h) h.checked.now.script _ s fine
+
+  act_steps : (at : Address) (f : ℕ) (size : WordSize) (m : Move) (s : State) → s.answers ≡ blank ∷ [] → IsFineHere h (then_do (act plan at f size m s) (left_in h)) → s.steps ≤ (bounds_of h).steps
+  act_steps at f size no_data s e fine =
+      cycle_steps plan (bounds_of h) at f moved.None (λ r. ends) s (left_in h) (λ r t k. (keeps t k).steps)
+      (subst (λ l. IsFineHere h (then_do (cycle plan at f moved.None l (λ r. ends) s) (left_in h))) e fine)
+  act_steps at f size (into x) s e fine =
+      let go : Reply → Action = λ r t. ends (with_variable x (kept (sized size (width plan at f)) r) t) in
+      cycle_steps plan (bounds_of h) at f moved.In go s (left_in h) (λ r t k. (keeps (with_variable x (kept (sized size (width plan at f)) r) t) k).steps)
+      (subst (λ l. IsFineHere h (then_do (cycle plan at f moved.In l go s) (left_in h))) e fine)
+  act_steps at f size (from x) s e fine =
+      let send' : ℕ → Action = λ v t. cycle plan at f (moved.Out v) t.answers (λ r. ends) t in
+      let g = fine_given plan (bounds_of h) (value x s.variables) (λ v. unless_wrong (fits_size size v) (send' v)) s (left_in h) fine in
+      let u = fine_unless plan (bounds_of h) (fits_size size g.0) (send' g.0) s (left_in h) g.2 in
+      cycle_steps plan (bounds_of h) at f (moved.Out g.0) (λ r. ends) s (left_in h) (λ r t k. (keeps t k).steps)
+      (subst (λ l. IsFineHere h (then_do (cycle plan at f (moved.Out g.0) l (λ r. ends) s) (left_in h))) e u.1)
+
+  abbrev Does : Statement → Type 0
+  Does s = FineThen h (λ c. effect c most_turns s)
+
+  abbrev CanCycle : Address → ℕ → DataMove → Type 0
+  CanCycle at f d = IsSome (crate_waits h.checked.now.plan at.crate_no) × IsSafe h.checked.now.plan at f d
+
+  -- the value of an expression
+  pub has_value : (e : Expression) (go : ℕ → Action) → IsFineHere h (then_do (given (value e (variables_in h.variables)) go (state_of h [])) (left_in h)) → IsSome (value e (variables_in h.variables))
+  has_value e go fine =
+      let g = fine_given h.checked.now.plan (bounds_of h) (value e (variables_in h.variables)) go (state_of h []) (left_in h) fine in
+      some_is (value e (variables_in h.variables)) g.0 g.1
+
+  -- goes on with a value that is known
+  pub known : {A : Type 0} (o : Option A) (v : A) (go : A → Action) (answers : List Answer) → o ≡ Some v → IsFineHere h (then_do (given o go (state_of h answers)) (left_in h)) → IsFineHere h (then_do (go v (state_of h answers)) (left_in h))
+  known o v go answers e fine =
+      subst (λ p. IsFineHere h (then_do (given p go (state_of h answers)) (left_in h))) e fine
+
+  pub put_fits : (e : Expression) (v : ℕ) → value e (variables_in h.variables) ≡ Some v → Does (put 0 e) → (length h.words < (bounds_of h).words) × (v < 2 ^ 24)
+  put_fits e v is fine =
+      fine_word h.checked.now.plan (bounds_of h) h.checked.now.script _ v (state_of h [])
+      (known (value e (variables_in h.variables)) v (λ w t. ends (with_word w t)) [] is (fine []))
+
+  -- the register of a single action is set
+  pub address_set : (size : WordSize) (f r : ℕ) (m : Move) → Does (single 0 size f r m) → IsSome (registers_in h.registers r)
+  address_set size f r m fine =
+      let g = fine_given h.checked.now.plan (bounds_of h) (registers_in h.registers r) (λ at. act h.checked.now.plan at f size m) (state_of h []) (left_in h) (fine []) in
+      some_is (registers_in h.registers r) g.0 g.1
+
+  acts : (size : WordSize) (f r : ℕ) (m : Move) (at : Address) (answers : List Answer) → registers_in h.registers r ≡ Some at → Does (single 0 size f r m) → IsFineHere h (then_do (act h.checked.now.plan at f size m (state_of h answers)) (left_in h))
+  acts size f r m at answers is fine =
+      known (registers_in h.registers r) at (λ at. act h.checked.now.plan at f size m) answers is (fine answers)
+
+  pub control_can : (size : WordSize) (f r : ℕ) (at : Address) → registers_in h.registers r ≡ Some at → Does (single 0 size f r no_data) → CanCycle at f moved.None
+  control_can size f r at is fine =
+      fine_cycle h.checked.now.plan (bounds_of h) at f moved.None (λ r. ends) (state_of h (blank ∷ [])) (left_in h)
+      (acts size f r no_data at (blank ∷ []) is fine)
+
+  pub read_can : (size : WordSize) (f r x : ℕ) (at : Address) → registers_in h.registers r ≡ Some at → Does (single 0 size f r (into x)) → CanCycle at f moved.In
+  read_can size f r x at is fine =
+      fine_cycle h.checked.now.plan (bounds_of h) at f moved.In (λ r t. ends (with_variable x (kept (sized size (width h.checked.now.plan at f)) r) t)) (state_of h (blank ∷ [])) (left_in h)
+      (acts size f r (into x) at (blank ∷ []) is fine)
+
+  abbrev send : WordSize → ℕ → Address → ℕ → Action
+  send size f at v t = cycle h.checked.now.plan at f (moved.Out v) t.answers (λ r. ends) t
+
+  pub write_has : (size : WordSize) (f r : ℕ) (e : Expression) (at : Address) → registers_in h.registers r ≡ Some at → Does (single 0 size f r (from e)) → IsSome (value e (variables_in h.variables))
+  write_has size f r e at is fine = has_value e _ (acts size f r (from e) at [] is fine)
+
+  pub write_can : (size : WordSize) (f r : ℕ) (e : Expression) (at : Address) (v : ℕ) → registers_in h.registers r ≡ Some at → value e (variables_in h.variables) ≡ Some v → Does (single 0 size f r (from e)) → (fits_size size v ≡ true) × CanCycle at f (moved.Out v)
+  write_can size f r e at v is val fine =
+      let u = fine_unless h.checked.now.plan (bounds_of h) (fits_size size v) (send size f at v) (state_of h (blank ∷ [])) (left_in h)
+      (known (value e (variables_in h.variables)) v _ (blank ∷ []) val (acts size f r (from e) at (blank ∷ []) is fine)) in
+      (u.0, fine_cycle h.checked.now.plan (bounds_of h) at f (moved.Out v) (λ r. ends) (state_of h (blank ∷ [])) (left_in h) u.1)
+
+  pub control_wants : (size : WordSize) (f r : ℕ) (at : Address) (k : Command) → registers_in h.registers r ≡ Some at → k ≡ command_at at f moved.None → CanCycle at f moved.None → Wants h (λ c. effect c most_turns (single 0 size f r no_data)) (Cycle k)
+  unfolding awaited
+  control_wants size f r at k is e can = rw e (record { wants = (can.0, tt); goes = λ answers. rw is refl })
+
+  pub read_wants : (size : WordSize) (f r x : ℕ) (at : Address) (k : Command) (bits : ℕ) → registers_in h.registers r ≡ Some at → k ≡ command_at at f moved.In → bits ≡ sized size (width h.checked.now.plan (address_of k) k.f) → x < V → bits ≤ 24 → CanCycle at f moved.In → Wants h (λ c. effect c most_turns (single 0 size f r (into x))) (Read k x bits)
+  unfolding awaited
+  read_wants size f r x at k bits is e b below few can =
+      record { wants = (rw e can.0, (below, few)); goes = λ answers. rw (b, e, is) refl }
+
+  pub write_wants : (size : WordSize) (f r : ℕ) (e : Expression) (at : Address) (v : ℕ) (k : Command) → registers_in h.registers r ≡ Some at → value e (variables_in h.variables) ≡ Some v → k ≡ command_at at f (moved.Out v) → (fits_size size v ≡ true) × CanCycle at f (moved.Out v) → Wants h (λ c. effect c most_turns (single 0 size f r (from e))) (Cycle k)
+  unfolding awaited
+  write_wants size f r e at v k is val q can = rw q (record { wants = (can.1.0, tt); goes = λ answers. rw (is, val, can.0) refl })
+
+  -- a crate call
+  pub crate_has : (which : CrateCall) (e : Expression) → Does (crate_call 0 which e) → IsSome (value e (variables_in h.variables))
+  crate_has which e fine = has_value e _ (fine [])
+
+  pub crate_can : (which : CrateCall) (e : Expression) (v : ℕ) → value e (variables_in h.variables) ≡ Some v → Does (crate_call 0 which e) → CanCycle (crate_address which v) (crate_function which) moved.None
+  crate_can which e v val fine =
+      fine_cycle h.checked.now.plan (bounds_of h) (crate_address which v) (crate_function which) moved.None (λ r. ends) (state_of h (blank ∷ [])) (left_in h)
+      (known (value e (variables_in h.variables)) v (λ v. act h.checked.now.plan (crate_address which v) (crate_function which) Full no_data) (blank ∷ []) val (fine (blank ∷ [])))
+
+  pub crate_wants : (which : CrateCall) (e : Expression) (v : ℕ) (k : Command) → value e (variables_in h.variables) ≡ Some v → k ≡ command_at (crate_address which v) (crate_function which) moved.None → CanCycle (crate_address which v) (crate_function which) moved.None → Wants h (λ c. effect c most_turns (crate_call 0 which e)) (Cycle k)
+  unfolding awaited
+  crate_wants which e v k val q can = rw q (record { wants = (can.0, tt); goes = λ answers. rw val refl })
+
+  -- a LAM call
+  pub lam_can : (which : LamCall) (l : ℕ) (at : Address) → slice_get (context_in h.checked.now).lams l ≡ Some at → Does (lam_call 0 which l) → CanCycle at (lam_function which) moved.None
+  lam_can which l at is fine =
+      fine_cycle h.checked.now.plan (bounds_of h) at (lam_function which) moved.None (λ r. ends) (state_of h (blank ∷ [])) (left_in h)
+      (known (slice_get (context_in h.checked.now).lams l) at (λ at. act h.checked.now.plan at (lam_function which) Full no_data) (blank ∷ []) is (fine (blank ∷ [])))
+
+  pub lam_wants : (which : LamCall) (l : ℕ) (at : Address) (k : Command) → slice_get (context_in h.checked.now).lams l ≡ Some at → k ≡ command_at at (lam_function which) moved.None → CanCycle at (lam_function which) moved.None → Wants h (λ c. effect c most_turns (lam_call 0 which l)) (Cycle k)
+  unfolding awaited
+  lam_wants which l at k is q can = rw q (record { wants = (can.0, tt); goes = λ answers. rw is refl })
+
+  -- the crate of a crate call
+  pub crate_of : (which : CrateCall) (v : ℕ) → (crate_address which v).crate_no ≡ v
+  crate_of calls.Initialise v = refl
+  crate_of calls.Clear v = refl
+  crate_of calls.InhibitOn v = refl
+  crate_of calls.InhibitOff v = refl
+  crate_of calls.TestInhibit v = refl
+  crate_of calls.DemandOn v = refl
+  crate_of calls.DemandOff v = refl
+  crate_of calls.TestDemandOutput v = refl
+  crate_of calls.TestDemand v = refl
+
+  -- a variable, a register and a word in the store, and what is left
+  pub assign_goes : (x : ℕ) (e : Expression) (v : ℕ) → value e (variables_in h.variables) ≡ Some v → (vs : List ℕ) → variables_in vs ≡ set_at x v (variables_in h.variables) → (answers : List Answer) → left_in h (record (state_of h answers) { variables = variables_in vs }) ≡ then_do (effect (context_in h.checked.now) most_turns (assign 0 x e) (state_of h answers)) (left_in h)
+  assign_goes x e v is vs set answers =
+      let go : ℕ → Action = λ w t. ends (with_variable x w t) in
+      ap (λ g. left_in h (record (state_of h answers) { variables = g })) set
+      ∙ ap (λ o. then_do (given o go (state_of h answers)) (left_in h)) (sym is)
+
+  pub register_goes : (r : ℕ) (e1 e2 e3 : Expression) (x y z : ℕ) → value e1 (variables_in h.variables) ≡ Some x → value e2 (variables_in h.variables) ≡ Some y → value e3 (variables_in h.variables) ≡ Some z → (rs : List (Option Address)) → registers_in rs ≡ set_at r (Some (address x y z)) (registers_in h.registers) → (answers : List Answer) → left_in h (record (state_of h answers) { registers = registers_in rs }) ≡ then_do (effect (context_in h.checked.now) most_turns (set_register 0 r e1 e2 e3) (state_of h answers)) (left_in h)
+  register_goes r e1 e2 e3 x y z i1 i2 i3 rs set answers =
+      let s : State = state_of h answers in
+      let third : ℕ → ℕ → ℕ → Action = λ k' m' a' t. ends (with_register r (address k' m' a') t) in
+      let second : Option ℕ → ℕ → ℕ → Action = λ o k' m'. given o (third k' m') in
+      let first : Option ℕ → Option ℕ → ℕ → Action = λ p o k'. given p (second o k') in
+      ap (λ g. left_in h (record s { registers = g })) set
+      ∙ ap (λ o. then_do (given o (first (Some y) (Some z)) s) (left_in h)) (sym i1)
+      ∙ ap (λ o. then_do (given (value e1 (variables_in h.variables)) (first o (Some z)) s) (left_in h)) (sym i2)
+      ∙ ap (λ o. then_do (given (value e1 (variables_in h.variables)) (first (value e2 (variables_in h.variables)) o) s) (left_in h)) (sym i3)
+
+  -- a step has room
+  pub begun : (st : Statement) (v l : ℕ) → StatementFits v l st → ((answers : List Answer) → IsFineHere h (then_do (effect (context_in h.checked.now) most_turns st (stepped (state_of h answers))) (left_in h))) → h.steps + 1 ≤ (bounds_of h).steps
+  begun (assign line x e) v l fits fine =
+      let g = fine_given plan (bounds_of h) (value e (variables_in h.variables)) (λ w t. ends (with_variable x w t)) (stepped (state_of h [])) (left_in h) (fine []) in
+      (keeps (with_variable x g.0 (stepped (state_of h []))) g.2).steps
+  begun (set_register line r e1 e2 e3) v l fits fine =
+      let s : State = stepped (state_of h []) in
+      let third : ℕ → ℕ → ℕ → Action = λ k' m' a' t. ends (with_register r (address k' m' a') t) in
+      let second : ℕ → ℕ → Action = λ k' m'. given (value e3 (variables_in h.variables)) (third k' m') in
+      let first : ℕ → Action = λ k'. given (value e2 (variables_in h.variables)) (second k') in
+      let g1 = fine_given plan (bounds_of h) (value e1 (variables_in h.variables)) first s (left_in h) (fine []) in
+      let g2 = fine_given plan (bounds_of h) (value e2 (variables_in h.variables)) (second g1.0) s (left_in h) g1.2 in
+      let g3 = fine_given plan (bounds_of h) (value e3 (variables_in h.variables)) (third g1.0 g2.0) s (left_in h) g2.2 in
+      (keeps (with_register r (address g1.0 g2.0 g3.0) s) g3.2).steps
+  begun (single line size f r m) v l fits fine =
+      let s : State = stepped (state_of h (blank ∷ [])) in
+      let g = fine_given plan (bounds_of h) (registers_in h.registers r) (λ at. act plan at f size m) s (left_in h) (fine (blank ∷ [])) in
+      act_steps g.0 f size m s refl g.2
+  begun (put line e) v l fits fine =
+      let g = fine_given plan (bounds_of h) (value e (variables_in h.variables)) (λ w t. ends (with_word w t)) (stepped (state_of h [])) (left_in h) (fine []) in
+      (keeps (with_word g.0 (stepped (state_of h []))) g.2).steps
+  begun (crate_call line which e) v l fits fine =
+      let s : State = stepped (state_of h (blank ∷ [])) in
+      let g = fine_given plan (bounds_of h) (value e (variables_in h.variables)) (λ d. act plan (crate_address which d) (crate_function which) Full no_data) s (left_in h) (fine (blank ∷ [])) in
+      act_steps (crate_address which g.0) (crate_function which) Full no_data s refl g.2
+  begun (lam_call line which i) v l fits fine =
+      let s : State = stepped (state_of h (blank ∷ [])) in
+      let g = fine_given plan (bounds_of h) (slice_get (context_in h.checked.now).lams i) (λ at. act plan at (lam_function which) Full no_data) s (left_in h) (fine (blank ∷ [])) in
+      act_steps g.0 (lam_function which) Full no_data s refl g.2
+  begun (address_scan line f r1 r2 max x) v l fits fine = absurd fits
+  begun (q_stop line f r t max x) v l fits fine = absurd fits
+  begun (q_repeat line f r t max limit x) v l fits fine = absurd fits
+  begun (choose line test a) v l fits fine = absurd fits
+  begun (choose_else line test a b) v l fits fine = absurd fits
+  begun (count line x e1 e2 ks body) v l fits fine = absurd fits
+  begun (repeat line test m k ks body) v l fits fine = absurd fits
+  begun (locked line e body) v l fits fine = absurd fits
+  begun (call line p es) v l fits fine = absurd fits

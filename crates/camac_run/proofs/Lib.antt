@@ -1,0 +1,17 @@
+pub mod Fine
+pub mod Stores
+pub mod Blocks
+pub mod Commands
+pub mod Actions
+pub mod Frames
+pub mod Takes
+pub mod Lams
+pub mod Services
+pub mod Played
+pub mod Bounds
+pub mod Serving
+pub mod Told
+pub mod Trees
+pub mod Lists
+pub mod Starts
+pub mod Sizes

@@ -1,0 +1,193 @@
+-- What an answer does to a machine that wants it.
+use Rattle.std.proofs.Common.{◌≡◌, ℕ, ◌+◌, ◌^◌, ◌%◌, ◌<◌, ◌≤◌, List, [], ◌∷◌, length, set, Bool, true, false, Option, Some, None, Result, Ok, Err, refl, sym, ap, subst, ◌∙◌, arith}
+use Rattle.std.proofs.lemmas.Bool.{false≢true}
+use Rattle.std.proofs.lemmas.List.{length-set}
+use Rattle.std.specs.Prelude.{IsSome, IfOk, IfErr, unwrap_or}
+use Rattle.camac_func.specs.declared.data.DataMove.{DataMove}
+use Rattle.camac_branch.specs.Address.{Address}
+use Rattle.camac_branch.specs.Branch.{Answer, Reply, reply_to, branch_after}
+use Rattle.camac_branch.specs.Crates.{Crates, branch_of, is_permitted}
+use Rattle.camac_branch.specs.Plan.{Layout, crate_waits}
+use Rattle.camac_branch.specs.declared.answer.Command.{Command}
+use Rattle.camac_branch.specs.declared.answer.CycleDone.{CycleDone}
+use Rattle.camac_branch.specs.declared.answer.Overrun.{Overrun}
+use Rattle.camac_crate.specs.Lock.{permitted}
+use Rattle.camac_model.specs.State.{State, missed_with, with_variable}
+use Rattle.camac_model.specs.Behaviour.{Behaviour, does, ends, stops, short, overrun, cycled, Action, then_do, given}
+use Rattle.camac_model.specs.Cycle.{if_permitted, next_answer, make_cycle, after_cycle, cycle, kept}
+use Rattle.camac_model.specs.Laws.{NoneLocked}
+use Rattle.camac_model.specs.Value.{greatest}
+use Rattle.camac_model.proofs.Locks.{cycle_locks}
+use Rattle.camac_run.specs.declared.machine.Machine.{Machine}
+use Rattle.camac_run.specs.declared.machine.Wanting.{Wanting}
+use Rattle.camac_run.specs.declared.machine.Wanting.TheVariants.{Cycle, Read}
+use Rattle.camac_run.specs.Held.{context_in, command_of, made, state_of, bounds_of, left_in, stands, IsFineHere, HasRoom, IsWanting, Makes, IsRefused, Takes, Overruns}
+use Rattle.camac_run.specs.Rest.{address_of, awaited}
+use Rattle.camac_run.specs.Store.{variables_in}
+use Rattle.camac_run.proofs.Fine.{keeps_rest}
+use Rattle.camac_run.proofs.Stores.{set_is}
+
+pub same_done : (d : CycleDone) (k : Command) (r : Reply) (w : ℕ) → d.command ≡ k → d.reply ≡ r → d.wait ≡ w → d ≡ record { command = k; reply = r; wait = w }
+same_done d k r w e1 e2 e3 = rw (← e1, ← e2, ← e3) refl
+
+pub same_made : {V D C : ℕ} (h : Machine V D C) (b : Crates) (d e : CycleDone) (n m : ℕ) → e ≡ d → n ≡ e.wait → m ≡ missed_with e.reply.x h.missed
+    → ◌≡◌ {A = Machine V D C} (record h { branch = b; q = e.reply.q; x = e.reply.x; cycles = h.cycles + (1 + n); missed = m }) (record h { branch = b; q = d.reply.q; x = d.reply.x; cycles = h.cycles + (1 + d.wait); missed = missed_with d.reply.x h.missed })
+same_made h b d e n m s p q = rw (p, q, s) refl
+
+pub ok_mapped : {A B : Type 0} (r : Result A B) (P Q : A → Type 0) → IfOk r P → ((a : A) → P a → Q a) → IfOk r Q
+ok_mapped (Ok a) P Q h f = f a h
+ok_mapped (Err b) P Q h f = tt
+
+pub err_mapped : {A B : Type 0} (r : Result A B) (P Q : B → Type 0) → IfErr r P → ((b : B) → P b → Q b) → IfErr r Q
+err_mapped (Ok a) P Q h f = tt
+err_mapped (Err b) P Q h f = f b h
+
+few_missed : (x : Bool) (m c n : ℕ) → m ≤ 65535 → m ≤ c → (missed_with x m ≤ 65535) × (missed_with x m ≤ c + (1 + n))
+few_missed true m c n h k = (h, omega arith)
+few_missed false m c n h k = (omega arith, omega arith)
+
+module _ (plan : Layout) (at : Address) (f : ℕ) (d : DataMove) (go : Reply → Action) (s : State) (a : Answer) (answers : List Answer) (planned : IsSome (crate_waits plan at.crate_no)) where
+  goes : (o : Option ℕ) → IsSome o → permitted (s.branch at.crate_no).locked (unwrap_or o 0) a.wait ≡ true → given o (λ waits. next_answer at.crate_no waits (s.branch at.crate_no).locked (a ∷ answers) (make_cycle plan at f d go)) s ≡ make_cycle plan at f d go a answers s
+  goes None h p = absurd (false≢true h)
+  goes (Some w) h p = ap (λ t. if_permitted t at.crate_no a.wait (make_cycle plan at f d go a answers) s) p
+
+  halts : (o : Option ℕ) → IsSome o → permitted (s.branch at.crate_no).locked (unwrap_or o 0) a.wait ≡ false → given o (λ waits. next_answer at.crate_no waits (s.branch at.crate_no).locked (a ∷ answers) (make_cycle plan at f d go)) s ≡ stops (overrun at.crate_no a.wait) s
+  halts None h p = absurd (false≢true h)
+  halts (Some w) h p = ap (λ t. if_permitted t at.crate_no a.wait (make_cycle plan at f d go a answers) s) p
+
+  -- a cycle whose wait is permitted, and one whose wait is not
+  pub cycle_goes : is_permitted plan s.branch at.crate_no a.wait ≡ true → cycle plan at f d (a ∷ answers) go s ≡ make_cycle plan at f d go a answers s
+  cycle_goes p = goes (crate_waits plan at.crate_no) planned p
+
+  pub cycle_halts : is_permitted plan s.branch at.crate_no a.wait ≡ false → cycle plan at f d (a ∷ answers) go s ≡ stops (overrun at.crate_no a.wait) s
+  cycle_halts p = halts (crate_waits plan at.crate_no) planned p
+
+module _ {V D C : ℕ} (h : Machine V D C) (k : Command) (a : Answer) (planned : IsSome (crate_waits h.checked.now.plan k.c)) (F : Reply → State → State) where
+  abbrev action : List Answer → Behaviour State
+  action answers = cycle h.checked.now.plan (address_of k) k.f k.mv (a ∷ answers) (λ r t. ends (F r t)) (state_of h (a ∷ answers))
+
+  abbrev reply : Reply
+  reply = reply_to h.checked.now.plan (branch_of h.branch) (address_of k) k.f a
+
+  abbrev later : List Answer → State
+  later answers = F reply (after_cycle (address_of k) k.f reply a.wait answers (state_of h (a ∷ answers)))
+
+  taken : (answers : List Answer) → is_permitted h.checked.now.plan (branch_of h.branch) k.c a.wait ≡ true → then_do (action answers) (left_in h) ≡ does (cycled (address_of k) k.f k.mv reply a.wait) (left_in h (later answers))
+  taken answers p =
+      ap (λ b. then_do b (left_in h)) (cycle_goes h.checked.now.plan (address_of k) k.f k.mv (λ r t. ends (F r t)) (state_of h (a ∷ answers)) a answers planned p)
+
+  pub refused : (answers : List Answer) → is_permitted h.checked.now.plan (branch_of h.branch) k.c a.wait ≡ false → then_do (action answers) (left_in h) ≡ stops (overrun k.c a.wait) (state_of h (a ∷ answers))
+  refused answers p =
+      ap (λ b. then_do b (left_in h)) (cycle_halts h.checked.now.plan (address_of k) k.f k.mv (λ r t. ends (F r t)) (state_of h (a ∷ answers)) a answers planned p)
+
+  -- its cost has room
+  pub cost_fits : ((answers : List Answer) → IsFineHere h (then_do (action answers) (left_in h))) → ((t : State) → F reply t ≡ record (F reply t) { cycles = t.cycles }) → (bounds_of h).cycles ≤ greatest → is_permitted h.checked.now.plan (branch_of h.branch) k.c a.wait ≡ true → h.cycles + (1 + a.wait) < 2 ^ 32
+  cost_fits fine same most p =
+      let t : State = after_cycle (address_of k) k.f reply a.wait [] (state_of h (a ∷ [])) in
+      let ok = subst (λ b. IsFineHere h b) (taken [] p) (fine []) in
+      let within = keeps_rest h.checked.now.plan (bounds_of h) h.checked.now.script _ (F reply t) ok.1 in
+      let e : (F reply t).cycles ≡ h.cycles + (1 + a.wait) = ap (λ (u : State). u.cycles) (same t) in
+      let c = within.cycles in omega (arith, e, c, most)
+
+  pub goes_on : (d : CycleDone) (new : Machine V D C) (answers : List Answer) → is_permitted h.checked.now.plan (branch_of h.branch) k.c a.wait ≡ true → d ≡ record { command = k; reply = reply; wait = a.wait } → new.checked ≡ h.checked → new.frames ≡ h.frames → state_of new answers ≡ F d.reply (after_cycle (address_of k) k.f d.reply d.wait answers (state_of h (a ∷ answers))) → then_do (action answers) (left_in h) ≡ does (made d) (stands None new answers)
+  goes_on d new answers p e checked frames same =
+      taken answers p
+      ∙ ap (λ (x : CycleDone). does (made x) (left_in h (F x.reply (after_cycle (address_of k) k.f x.reply x.wait answers (state_of h (a ∷ answers)))))) (sym e)
+      ∙ ap (λ s. does (made d) (left_in h s)) (sym same)
+      ∙ ap (λ fs. does (made d) (left_in (record h { frames = fs }) (state_of new answers))) (sym frames)
+      ∙ ap (λ c. does (made d) (left_in (record h { frames = new.frames; checked = c }) (state_of new answers))) (sym checked)
+
+-- the room after a cycle
+room_after : {V D C : ℕ} (h : Machine V D C) (k : Command) (b : Crates) (q x : Bool) (w : ℕ) → branch_of b ≡ branch_after (address_of k) k.f (branch_of h.branch) → HasRoom h → HasRoom (record h { branch = b; q = q; x = x; cycles = h.cycles + (1 + w); missed = missed_with x h.missed })
+room_after h k b q x w e r =
+    let few = few_missed x h.missed h.cycles w r.few_missed r.missed in
+    record {
+      variables = r.variables;
+      registers = r.registers;
+      blocks = r.blocks;
+      words = r.words;
+      steps = r.steps;
+      cycles = r.cycles;
+      few_missed = few.0;
+      missed = few.1;
+      free = λ c. ap (λ (d : _). (d c).locked) e ∙ (cycle_locks (branch_of h.branch) (address_of k) k.f).at c ∙ r.free c;
+    }
+
+room_variables : {V D C : ℕ} (h : Machine V D C) (vs : List ℕ) → length vs ≡ V → HasRoom h → HasRoom (record h { variables = vs })
+room_variables h vs e r = record {
+  variables = e;
+  registers = r.registers;
+  blocks = r.blocks;
+  words = r.words;
+  steps = r.steps;
+  cycles = r.cycles;
+  few_missed = r.few_missed;
+  missed = r.missed;
+  free = r.free;
+}
+
+module _ {V D C : ℕ} (h new : Machine V D C) (k : Command) (a : Answer) (d : CycleDone) (room : HasRoom h) (planned : IsSome (crate_waits h.checked.now.plan k.c)) (m : Makes h k a d new) where
+  abbrev after : Machine V D C
+  after = record h { branch = new.branch; q = d.reply.q; x = d.reply.x; cycles = h.cycles + (1 + d.wait); missed = missed_with d.reply.x h.missed }
+
+  state_after : (answers : List Answer) → state_of after answers ≡ after_cycle (address_of k) k.f d.reply d.wait answers (state_of h (a ∷ answers))
+  state_after answers = ap (λ b. record (state_of after answers) { branch = b }) m.branch
+
+  pub takes_cycle : Takes h (Cycle k) a d new
+  unfolding awaited
+  takes_cycle =
+      subst (λ n. Takes h (Cycle k) a d n) (sym m.same) (record {
+        room = room_after h k new.branch d.reply.q d.reply.x d.wait m.branch room;
+        checked = refl;
+        service = refl;
+        goes = λ answers. goes_on h k a planned (λ r t. t) d after answers m.permitted m.done refl refl (state_after answers);
+      })
+
+  pub takes_read : (x bits : ℕ) (last : Machine V D C) → x < V → last ≡ record new { variables = set new.variables x (d.reply.word % 2 ^ bits) } → Takes h (Read k x bits) a d last
+  unfolding awaited
+  takes_read x bits last below e =
+      let v : ℕ = d.reply.word % 2 ^ bits in
+      let vs : List ℕ = set h.variables x v in
+      let n : Machine V D C = record after { variables = vs } in
+      let same : last ≡ n = e ∙ ap (λ (g : Machine V D C). record g { variables = set g.variables x v }) m.same in
+      subst (λ n. Takes h (Read k x bits) a d n) (sym same) (record {
+        room = room_variables after vs (length-set h.variables x v ∙ room.variables) (room_after h k new.branch d.reply.q d.reply.x d.wait m.branch room);
+        checked = refl;
+        service = refl;
+        goes = λ answers.
+            goes_on h k a planned (λ r t. with_variable x (kept bits r) t) d n answers m.permitted m.done refl refl
+            (ap (λ g. record (state_of after answers) { variables = g }) (set_is 0 h.variables x v (omega (arith, below, room.variables)))
+            ∙ ap (with_variable x v) (state_after answers));
+      })
+
+first_short : (plan : Layout) (at : Address) (f : ℕ) (d : DataMove) (go : Reply → Action) (s : State) (o : Option ℕ) → IsSome o → given o (λ waits. next_answer at.crate_no waits (s.branch at.crate_no).locked [] (make_cycle plan at f d go)) s ≡ stops short s
+first_short plan at f d go s None h = absurd (false≢true h)
+first_short plan at f d go s (Some w) h = refl
+
+-- what is wanted is short without an answer
+pub waits_first : {V D C : ℕ} (h : Machine V D C) (w : Wanting) → IsWanting h w → awaited h.checked.now.plan w (state_of h []) ≡ stops short (state_of h [])
+unfolding awaited
+waits_first h (Cycle k) p = first_short h.checked.now.plan (address_of k) k.f k.mv (λ r. ends) (state_of h []) (crate_waits h.checked.now.plan k.c) p.0
+waits_first h (Read k x bits) p =
+    first_short h.checked.now.plan (address_of k) k.f k.mv (λ r t. ends (with_variable x (kept bits r) t)) (state_of h []) (crate_waits h.checked.now.plan k.c) p.0
+
+module _ {V D C : ℕ} (h : Machine V D C) (k : Command) (a : Answer) where
+  pub cycle_cost : IsWanting h (Cycle k) → ((answers : List Answer) → IsFineHere h (stands (Some (Cycle k)) h answers)) → (bounds_of h).cycles ≤ greatest → is_permitted h.checked.now.plan (branch_of h.branch) k.c a.wait ≡ true → h.cycles + (1 + a.wait) < 2 ^ 32
+  unfolding awaited
+  cycle_cost p fine most = cost_fits h k a p.0 (λ r t. t) (λ answers. fine (a ∷ answers)) (λ t. refl) most
+
+  pub read_cost : (x bits : ℕ) → IsWanting h (Read k x bits) → ((answers : List Answer) → IsFineHere h (stands (Some (Read k x bits)) h answers)) → (bounds_of h).cycles ≤ greatest → is_permitted h.checked.now.plan (branch_of h.branch) k.c a.wait ≡ true → h.cycles + (1 + a.wait) < 2 ^ 32
+  unfolding awaited
+  read_cost x bits p fine most =
+      cost_fits h k a p.0 (λ r t. with_variable x (kept bits r) t) (λ answers. fine (a ∷ answers)) (λ t. refl) most
+
+  pub cycle_overruns : (o : Overrun) → IsWanting h (Cycle k) → IsRefused h k a o → Overruns h (Cycle k) a o
+  unfolding awaited
+  cycle_overruns o p r = λ answers.
+      refused h k a p.0 (λ r t. t) answers r.refused ∙ ap (λ (x : Overrun). stops (overrun x.c x.wait) (state_of h (a ∷ answers))) (sym r.overrun)
+
+  pub read_overruns : (x bits : ℕ) (o : Overrun) → IsWanting h (Read k x bits) → IsRefused h k a o → Overruns h (Read k x bits) a o
+  unfolding awaited
+  read_overruns x bits o p r = λ answers.
+      refused h k a p.0 (λ r t. with_variable x (kept bits r) t) answers r.refused
+      ∙ ap (λ (y : Overrun). stops (overrun y.c y.wait) (state_of h (a ∷ answers))) (sym r.overrun)

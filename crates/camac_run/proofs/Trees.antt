@@ -1,0 +1,30 @@
+-- Statements as definitions see them.
+use Rattle.std.proofs.Common.{◌≡◌, ℕ, sym, ap, ◌∙◌}
+use Rattle.camac_lang.specs.declared.tree.Expr.{Expr}
+use Rattle.camac_lang.specs.declared.tree.Move.{Move}
+use Rattle.camac_lang.specs.declared.tree.Stmt.TheVariants as rust
+use Rattle.camac_lang.specs.declared.tree.Stmt.TheFolds.{fold-roll-Stmt}
+use Rattle.camac_lang.specs.declared.tree.Stmt.TheOpen.{Stmt-F}
+use Rattle.camac_lang.specs.declared.word.CrateCall.{CrateCall}
+use Rattle.camac_lang.specs.declared.word.LamCall.{LamCall}
+use Rattle.camac_lang.specs.declared.word.WordSize.{WordSize}
+use Rattle.camac_lang.specs.Tree.{Statement, assign, set_register, single, put, crate_call, lam_call}
+use Rattle.camac_lang.specs.View.{expression_of, move_of, statement_of, statement_step}
+
+pub assign_is : (line x : ℕ) (e : Expr) → statement_of (rust.Assign line x e) ≡ assign line x (expression_of e)
+assign_is line x e = ap statement_of (sym (rust.rolls-Assign line x e)) ∙ fold-roll-Stmt Statement statement_step (Stmt-F.Assign line x e)
+
+pub register_is : (line r : ℕ) (c n a : Expr) → statement_of (rust.SetRegister line r c n a) ≡ set_register line r (expression_of c) (expression_of n) (expression_of a)
+register_is line r c n a = ap statement_of (sym (rust.rolls-SetRegister line r c n a)) ∙ fold-roll-Stmt Statement statement_step (Stmt-F.SetRegister line r c n a)
+
+pub single_is : (line : ℕ) (size : WordSize) (f r : ℕ) (m : Move) → statement_of (rust.Single line size f r m) ≡ single line size f r (move_of m)
+single_is line size f r m = ap statement_of (sym (rust.rolls-Single line size f r m)) ∙ fold-roll-Stmt Statement statement_step (Stmt-F.Single line size f r m)
+
+pub put_is : (line : ℕ) (e : Expr) → statement_of (rust.Put line e) ≡ put line (expression_of e)
+put_is line e = ap statement_of (sym (rust.rolls-Put line e)) ∙ fold-roll-Stmt Statement statement_step (Stmt-F.Put line e)
+
+pub crate_is : (line : ℕ) (which : CrateCall) (e : Expr) → statement_of (rust.CrateCall line which e) ≡ crate_call line which (expression_of e)
+crate_is line which e = ap statement_of (sym (rust.rolls-CrateCall line which e)) ∙ fold-roll-Stmt Statement statement_step (Stmt-F.CrateCall line which e)
+
+pub lam_is : (line : ℕ) (which : LamCall) (l : ℕ) → statement_of (rust.LamCall line which l) ≡ lam_call line which l
+lam_is line which l = ap statement_of (sym (rust.rolls-LamCall line which l)) ∙ fold-roll-Stmt Statement statement_step (Stmt-F.LamCall line which l)

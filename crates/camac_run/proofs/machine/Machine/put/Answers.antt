@@ -1,0 +1,20 @@
+use Rattle.std.proofs.Common.{◌<◌, ◌^◌, [], length, arith, rules}
+use Rattle.std.proofs.lemmas.Bool.{false≢true}
+use Rattle.camac_lang.specs.View.{expression_of}
+use Rattle.camac_run.specs.Held.{bounds_of}
+use Rattle.camac_run.proofs.Actions.{has_value, put_fits}
+use Rattle.camac_run.proofs.machine.Machine.put.Goals as goal
+
+pub value_of-requires-clause-has_value : goal.value_of-requires-clause-has_value
+value_of-requires-clause-has_value g c = has_value c.args.self.now (expression_of c.args.value.now) _ (c.requires.fine [])
+
+pub push-requires : goal.push-requires
+push-requires g c =
+    let fits = put_fits c.args.self.now (expression_of c.args.value.now) c.value_of.result c.value_of.ensures c.requires.fine in
+    let few : length c.args.self.now.words < (bounds_of c.args.self.now).words = fits.0 in
+    let room = c.requires.room.words in (search rules, omega (arith, few, room))
+
+pub unreachable-requires : goal.unreachable-requires
+unreachable-requires g c =
+    let fits = put_fits c.args.self.now (expression_of c.args.value.now) c.value_of.result c.value_of.ensures c.requires.fine in
+    absurd (false≢true (c.in-None.ensures.in_range.1 fits.1))
