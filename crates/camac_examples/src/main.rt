@@ -8,7 +8,12 @@ use std::rt::Runtime;
 use std::{fs, io};
 
 /// The files of the plans.
-const PLANS: [&str; 3] = ["sample_plan.toml", "test_bench.toml", "three_crates.toml"];
+const PLANS: [&str; 4] = [
+    "beam_line.toml",
+    "sample_plan.toml",
+    "test_bench.toml",
+    "three_crates.toml",
+];
 
 fn main(rt: HostRuntime) -> ExitCode {
     for name in PLANS {
