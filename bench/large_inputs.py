@@ -34,6 +34,20 @@ def service(statements, cycles):
     return f"{OPENING}service adc within {cycles} cycles event 4096 words {{\n{body}{lines}}}\n"
 
 
+def nested_loops(statements, depth):
+    """So many loops in one another, and in the innermost the rest of so many statements."""
+    variables = " ".join(f"i{n}" for n in range(depth))
+    heads = "".join(f"for i{n} = 0 to 1 {{\n" for n in range(depth))
+    body = "".join(f"v = i{n % depth}\n" for n in range(statements - depth))
+    return f"{OPENING}var {variables}\nservice adc within 0 cycles event 0 words {{\n{heads}{body}{'}' * depth}\n}}\n"
+
+
+def loops_in_turn(count):
+    """So many loops one after another, each with a statement in its body."""
+    loops = "for i = 0 to 65534 {\nv = i\n}\n" * count
+    return f"{OPENING}var i\nservice adc within 0 cycles event 0 words {{\n{loops}}}\n"
+
+
 def names(count):
     """So many variables with names of 32 bytes, and a put of each in turn."""
     word = lambda i: f"v{i:02}" + "y" * 29
@@ -95,6 +109,10 @@ SCRIPTS = [
     ("blanks, one megabyte", blanks(1_048_576)),
     ("2,048 statements", service(2048, 4_294_967_295)),
     ("4,096 statements", service(4096, 4_294_967_295)),
+    ("2,048 statements in 14 loops", nested_loops(2048, 14)),
+    ("4,096 statements in 14 loops", nested_loops(4096, 14)),
+    ("1,024 loops in turn", loops_in_turn(1024)),
+    ("2,048 loops in turn", loops_in_turn(2048)),
     ("32 variables, 4,000 puts", names(32)),
     ("64 variables, 4,000 puts", names(64)),
     ("32 registers, 4,000 cycles", registers(32)),

@@ -1,8 +1,8 @@
 // The answers of a reader's text.
 
-ghost use Rattle.std.specs.Prelude.{◌≡◌, ◌<◌, ◌≤◌, false, ℕ, List, [], Some, IsSome, IsOk, ◌||◌, ◌&&◌, IfOk};
+ghost use Rattle.std.specs.Prelude.{◌≡◌, ◌<◌, ◌≤◌, true, false, ℕ, List, [], Some, IsSome, IsOk, ◌||◌, ◌&&◌, IfOk};
 ghost use Rattle.camac_word.specs.Watched.{inner_of, has_failed};
-ghost use Rattle.camac_answer.specs.Answers.{stage_of, given_by, text_of, left_of, reader_failed, is_running, is_read_failure, Repeats, stage_after, Counts, FailsInOpenLine, Steps, StandsAt, StandsNext, AnswersAreFew, next_answer, window};
+ghost use Rattle.camac_answer.specs.Answers.{stage_of, given_by, text_of, left_of, reader_failed, is_running, is_read_failure, is_memory_failure, Repeats, stage_after, Counts, FailsInOpenLine, Steps, StandsAt, StandsNext, AnswersAreFew, next_answer, window};
 
 use crate::fault::{AnswerFault, AnswerRule};
 use crate::filling::{LINE, fill};
@@ -36,6 +36,7 @@ pub struct Answers<'a, R> {
 fn judge(given: u32, bytes: &[u8]) -> Result<Option<Answer>, AnswerFault>
     ensures value { result ≡ next_answer given bytes.now }
     ensures no_read { is_read_failure result ≡ false }
+    ensures memory { is_memory_failure result ≡ false }
     ensures few { IfOk result (λ a. IsSome a → given < 1000000) }
 {
     if bytes.is_empty() {
@@ -91,6 +92,7 @@ impl<'a, R: Read> Answers<'a, R> {
         ensures given { Counts (given_by self.old) result (given_by self.new) }
         ensures unread { FailsInOpenLine (stage_of self.old) result (given_by self.old) (text_of R.remaining self.old) (text_of R.remaining self.new) }
         ensures failed { reader_failed self.new ≡ (reader_failed self.old || (is_running (stage_of self.old) && is_read_failure result)) }
+        ensures memory { is_running (stage_of self.old) ≡ true → is_memory_failure result ≡ false }
         ensures stands { StandsNext R.remaining self.old result self.new }
     {
         self.advance()
@@ -105,6 +107,7 @@ impl<'a, R: Read> Answers<'a, R> {
         ensures given { Counts (given_by self.old) result (given_by self.new) }
         ensures unread { FailsInOpenLine (stage_of self.old) result (given_by self.old) (text_of R.remaining self.old) (text_of R.remaining self.new) }
         ensures failed { reader_failed self.new ≡ (reader_failed self.old || (is_running (stage_of self.old) && is_read_failure result)) }
+        ensures memory { is_running (stage_of self.old) ≡ true → is_memory_failure result ≡ false }
     {
         match self.stage {
             Stage::Running => self.read_on(),
@@ -122,6 +125,7 @@ impl<'a, R: Read> Answers<'a, R> {
         ensures given { Counts (given_by self.old) result (given_by self.new) }
         ensures unread { FailsInOpenLine (stage_of self.old) result (given_by self.old) (text_of R.remaining self.old) (text_of R.remaining self.new) }
         ensures failed { reader_failed self.new ≡ (reader_failed self.old || is_read_failure result) }
+        ensures memory { is_memory_failure result ≡ false }
     {
         let Ok(line) = fill(self.reader, judged_by(self.given)) else {
             self.stage = Stage::Faulted(AnswerFault::Read);

@@ -1,31 +1,36 @@
 -- Costs that are cut at 64 bits are judged as the costs themselves.
-use Rattle.std.proofs.Common.{◌≡◌, ℕ, ◌-◌, ◌^◌, ◌<◌, ◌≤◌, Bool, true, false, Option, Some, None, Result, Ok, Err, refl, sym, ap, ◌∙◌, ⊎_elim, lit<, arith}
-use Rattle.std.specs.Prelude.{◌&&◌, min, nat_lt, nat_le, unwrap_or}
+use Rattle.std.proofs.Common.{◌≡◌, ℕ, ◌+◌, ◌-◌, ◌*◌, ◌^◌, zero, suc, ◌<◌, ◌≤◌, Bool, true, false, Option, Some, None, Result, Ok, Err, refl, sym, ap, ◌∙◌, ⊎_elim, lit<, arith}
+use Rattle.std.specs.Prelude.{◌&&◌, min, nat_lt, nat_le, slice_get, unwrap_or}
+use Rattle.std.proofs.Math.Nat.{mul-le-mul_left}
 use Rattle.std.proofs.lemmas.Bool.{leb-true, lt-leb, le-leb, cases_lt}
 use Rattle.camac_func.specs.Class.{class_of}
 use Rattle.camac_func.specs.declared.code.FunctionClass.TheVariants.{Read, Write, Control}
 use Rattle.camac_lang.specs.declared.word.WordSize.{WordSize}
-use Rattle.camac_lang.specs.Tree.{Move, no_data, into, from, Statement, assign, set_register, single, address_scan, q_stop, q_repeat, put, crate_call, lam_call, choose, choose_else, count, repeat, locked, call, Block, done, next, Service}
+use Rattle.camac_lang.specs.Tree.{Expression, Move, no_data, into, from, Statement, assign, set_register, single, address_scan, q_stop, q_repeat, put, crate_call, lam_call, choose, choose_else, count, repeat, locked, call, Block, done, next, Procedure, Service}
 use Rattle.camac_esone.specs.Calls.{lam_function}
 use Rattle.camac_branch.specs.Plan.{crate_waits}
-use Rattle.camac_model.specs.Fine.{Bounds}
+use Rattle.camac_model.specs.Fine.{Bounds, annotated}
 use Rattle.camac_model.specs.Meaning.{fits_size}
 use Rattle.camac_range.specs.Number.{greatest}
 use Rattle.camac_rules.specs.declared.rule.CheckRule.{CheckRule}
-use Rattle.camac_rules.specs.declared.rule.CheckRule.TheVariants.{StationNotInstalled, WrongDirection, ValueTooWide, RegisterUnset, LoopVariableAssigned, CrateUnfit, WordTooWide, TooManyWords, TooManyCycles, TooManySteps}
+use Rattle.camac_rules.specs.declared.rule.CheckRule.TheVariants.{StationNotInstalled, CommandNotDeclared, ScanCratesDiffer, WrongDirection, ValueTooWide, RegisterUnset, LoopVariableAssigned, CrateUnfit, WordTooWide, KeepFailsAfterTurn, TooManyWords, TooManyCycles, TooManySteps, ArgumentOutOfRange}
 use Rattle.camac_rules.specs.Fault.{Fault}
 use Rattle.camac_rules.specs.Refusal.{go_on, required, given, if_reached}
 use Rattle.camac_rules.specs.Known.{region_at, Facts}
 use Rattle.camac_rules.specs.Joined.{join}
 use Rattle.camac_rules.specs.Expressions.{range_of}
 use Rattle.camac_rules.specs.Conditions.{split}
-use Rattle.camac_rules.specs.Costs.{costs, no_costs, plus, choice_costs, lock_costs, Verdict, verdict, unreached}
+use Rattle.camac_rules.specs.Costs.{costs, no_costs, plus, choice_costs, lock_costs, loop_costs, Verdict, verdict, unreached}
 use Rattle.camac_rules.specs.Capped.{capped}
 use Rattle.camac_rules.specs.Addresses.{command_widths}
 use Rattle.camac_rules.specs.Cycles.{Around, nothing_around, with_locked, may_write, same_class, single_rule}
+use Rattle.camac_rules.specs.Loops.{with_fixed, for_limits, for_head, for_after, keeps_hold_after, turns_between, while_head, turn_bound}
+use Rattle.camac_rules.specs.Procedures.{ranges_of, arguments_fit, at_entry}
+use Rattle.camac_rules.specs.Transfers.{is_one_crate, has_sub_addresses, scan_rule, block_region}
+use Rattle.camac_rules.specs.Windows.{window_of, is_installed, is_declared}
 use Rattle.camac_rules.specs.Calls.{is_crate, lam_region, lock_rule}
 use Rattle.camac_rules.specs.Statements.{greatest_word, accept_statement, accept_block}
-use Rattle.camac_rules.specs.Accept.{at_start, within, accept_service}
+use Rattle.camac_rules.specs.Accept.{at_start, within, accept_procedure, accept_service}
 use Rattle.camac_check.specs.declared.context.Context as code
 use Rattle.camac_check.specs.Gives.{by_code, by_rules}
 
@@ -65,6 +70,34 @@ choice_cut a b = same_costs _ _ _ _ _ _ (omega arith) (omega arith) (omega arith
 lock_cut : (w : ℕ) (a : Bounds) → capped (lock_costs w (capped a)) ≡ capped (lock_costs w a)
 lock_cut w a = same_costs _ _ _ _ _ _ (omega arith) (omega arith) (omega arith)
 
+scaled : (t n k : ℕ) → min (t * min n k) k ≡ min (t * n) k
+scaled zero n k = omega arith
+scaled (suc t) n k =
+    ⊎_elim
+    (λ above.
+    let all : k ≤ k + t * k = omega arith in
+    let more : t * k ≤ t * n = mul-le-mul_left t (omega arith) in
+    let cut' : min n k ≡ k = omega arith in
+    let left : suc t * min n k ≡ k + t * k = ap (λ m. suc t * m) cut' ∙ suc_times t k in
+    let right : suc t * n ≡ n + t * n = suc_times t n in
+    omega (arith, left, right))
+    (λ below. let same : min n k ≡ n = omega arith in ap (λ m. min (suc t * m) k) same)
+    (cases_lt k n)
+  where
+    suc_times : (t n : ℕ) → suc t * n ≡ n + t * n
+    suc_times t n = omega arith
+
+loop_cut : (t : ℕ) (a : Bounds) → capped (loop_costs t (capped a)) ≡ capped (loop_costs t a)
+loop_cut t a = same_costs _ _ _ _ _ _ (scaled t a.cycles (2 ^ 64 - 1)) (scaled t a.words (2 ^ 64 - 1)) (steps_scaled t a.steps (2 ^ 64 - 1))
+  where
+    steps_scaled : (t s k : ℕ) → min (1 + t * (1 + min s k)) k ≡ min (1 + t * (1 + s)) k
+    steps_scaled t s k =
+        let inner : min (1 + min s k) k ≡ min (1 + s) k = omega arith in
+        let a = scaled t (1 + min s k) k in
+        let b = scaled t (1 + s) k in
+        let c = ap (λ m. min (t * m) k) inner in
+        omega arith
+
 single_cut : (context : code.Context) (around : Around) (line : ℕ) (size : WordSize) (f r : ℕ) (m : Move) (k : Facts) → single_rule (by_code context) around line size f r m k ≡ cut_all (single_rule (by_rules context) around line size f r m k)
 single_cut context around line size f r no_data k =
     go_same (given (region_at k.registers r) RegisterUnset line) _ _ (λ g.
@@ -82,6 +115,17 @@ single_cut context around line size f r (from e) k =
     go_same (required (same_class Write (class_of f)) WrongDirection line) _ _ (λ _.
     go_same (required (nat_lt v.hi (2 ^ w.lo) && fits_size size v.hi) ValueTooWide line) _ _ (λ _. refl)))))
 
+scan_cut : (context : code.Context) (around : Around) (line f r1 r2 : ℕ) (e : Expression) (x : ℕ) (k : Facts) → scan_rule (by_code context) around line f r1 r2 e x k ≡ cut_all (scan_rule (by_rules context) around line f r1 r2 e x k)
+scan_cut context around line f r1 r2 e x k =
+    go_same (range_of line e k.ranges) _ _ (λ most.
+    go_same (required (may_write around x) LoopVariableAssigned line) _ _ (λ _.
+    go_same (given (region_at k.registers r1) RegisterUnset line) _ _ (λ g.
+    go_same (given (region_at k.registers r2) RegisterUnset line) _ _ (λ h.
+    go_same (required (is_one_crate g h) ScanCratesDiffer line) _ _ (λ _.
+    go_same (required (is_installed context.plan.now (window_of g h)) StationNotInstalled line) _ _ (λ _.
+    go_same (required (has_sub_addresses g && (has_sub_addresses h && is_declared context.plan.now f (window_of g h))) CommandNotDeclared line) _ _ (λ _.
+    go_same (required (same_class Read (class_of f)) WrongDirection line) _ _ (λ _. refl))))))))
+
 mutual
   statement_cut : (context : code.Context) (around : Around) (s : Statement) (k : Facts) → accept_statement (by_code context) around s k ≡ cut_all (accept_statement (by_rules context) around s k)
   statement_cut context around (assign line x e) k =
@@ -93,9 +137,12 @@ mutual
       go_same (range_of line e k.ranges) _ _ (λ r. go_same (required (nat_le r.hi greatest_word) WordTooWide line) _ _ (λ _. refl))
   statement_cut context around (crate_call line which e) k =
       go_same (range_of line e k.ranges) _ _ (λ r. go_same (required (is_crate context.plan.now r) CrateUnfit line) _ _ (λ _. refl))
-  statement_cut context around (address_scan line f r1 r2 max x) k = refl
-  statement_cut context around (q_stop line f r t max x) k = refl
-  statement_cut context around (q_repeat line f r t max limit x) k = refl
+  statement_cut context around (address_scan line f r1 r2 max x) k = scan_cut context around line f r1 r2 max x k
+  statement_cut context around (q_stop line f r t max x) k =
+      go_same (range_of line max k.ranges) _ _ (λ most. go_same (block_region (by_rules context) around line f r t most.hi x k) _ _ (λ g. refl))
+  statement_cut context around (q_repeat line f r t max limit x) k =
+      go_same (range_of line max k.ranges) _ _ (λ most.
+      go_same (range_of line limit k.ranges) _ _ (λ cycles. go_same (block_region (by_rules context) around line f r t most.hi x k) _ _ (λ g. refl)))
   statement_cut context around (lam_call line which l) k =
       go_same (given (lam_region (by_rules context) l) StationNotInstalled line) _ _ (λ g.
       go_same (command_widths context.plan.now line (lam_function which) g) _ _ (λ w. refl))
@@ -112,13 +159,29 @@ mutual
       go_cut (if_reached unreached ways.fails (accept_block (by_code context) around b)) (if_reached unreached ways.fails (accept_block (by_rules context) around b)) _ _
       (if_reached_cut ways.fails (accept_block (by_code context) around b) (accept_block (by_rules context) around b) (λ q. block_cut context around b q))
       (λ second. ap (λ c. Ok (verdict (join first.after second.after) c)) (choice_cut first.costs second.costs))))
-  statement_cut context around (count line x e1 e2 keeps body) k = refl
-  statement_cut context around (repeat line test most m keeps body) k = refl
+  statement_cut context around (count line x e1 e2 keeps body) k =
+      go_same (for_limits around line x e1 e2 keeps k) _ _ (λ l.
+      go_cut (if_reached unreached (for_head x l keeps body k) (accept_block (by_code context) (with_fixed x around) body)) (if_reached unreached (for_head x l keeps body k) (accept_block (by_rules context) (with_fixed x around) body)) _ _
+      (if_reached_cut (for_head x l keeps body k) (accept_block (by_code context) (with_fixed x around) body) (accept_block (by_rules context) (with_fixed x around) body) (λ q. block_cut context (with_fixed x around) body q))
+      (λ turn.
+      go_same (required (keeps_hold_after keeps turn.after) KeepFailsAfterTurn line) _ _ (λ _.
+      ap (λ c. Ok (verdict (for_after x l keeps body k) c)) (loop_cut (turns_between l) turn.costs))))
+  statement_cut context around (repeat line test most m keeps body) k =
+      go_same (while_head line most m keeps body k) _ _ (λ top.
+      go_same (split line test top) _ _ (λ arms.
+      go_cut (if_reached unreached arms.holds (accept_block (by_code context) around body)) (if_reached unreached arms.holds (accept_block (by_rules context) around body)) _ _
+      (if_reached_cut arms.holds (accept_block (by_code context) around body) (accept_block (by_rules context) around body) (λ q. block_cut context around body q))
+      (λ turn.
+      go_same (required (keeps_hold_after keeps turn.after) KeepFailsAfterTurn line) _ _ (λ _.
+      ap (λ c. Ok (verdict arms.fails c)) (loop_cut (turn_bound arms.holds most) turn.costs)))))
   statement_cut context around (locked line e body) k =
       go_same (lock_rule (by_rules context) around line e k) _ _ (λ c.
       go_cut (accept_block (by_code context) (with_locked c around) body k) (accept_block (by_rules context) (with_locked c around) body k) _ _ (block_cut context (with_locked c around) body k)
       (λ inner. ap (λ d. Ok (verdict inner.after d)) (lock_cut (unwrap_or (crate_waits context.plan.now c) 0) inner.costs)))
-  statement_cut context around (call line p es) k = refl
+  statement_cut context around (call line p es) k =
+      go_same (ranges_of line es k.ranges) _ _ (λ rs.
+      go_same (given (slice_get (by_rules context).procedures p) ArgumentOutOfRange line) _ _ (λ procedure.
+      go_same (required (arguments_fit rs procedure.parameters) ArgumentOutOfRange line) _ _ (λ _. refl)))
 
   block_cut : (context : code.Context) (around : Around) (b : Block) (k : Facts) → accept_block (by_code context) around b k ≡ cut_all (accept_block (by_rules context) around b k)
   block_cut context around done k = refl
@@ -160,3 +223,10 @@ pub service_cut : (context : code.Context) (v : Service) → v.cycles < 2 ^ 64 -
 service_cut context v hc hw =
     finish_all (costs v.cycles v.words greatest) v.line hc hw (lit< tt) (accept_block (by_code context) nothing_around v.body at_start) (accept_block (by_rules context) nothing_around v.body at_start)
     (block_cut context nothing_around v.body at_start)
+
+pub procedure_cut : (context : code.Context) (p : Procedure) → p.cycles < 2 ^ 64 - 1 → p.words < 2 ^ 64 - 1 → p.steps < 2 ^ 64 - 1 → accept_procedure (by_code context) p ≡ accept_procedure (by_rules context) p
+procedure_cut context p hc hw hs =
+    finish_all (annotated p) p.line hc hw hs
+    (if_reached unreached (at_entry p.parameters) (accept_block (by_code context) nothing_around p.body))
+    (if_reached unreached (at_entry p.parameters) (accept_block (by_rules context) nothing_around p.body))
+    (if_reached_cut (at_entry p.parameters) (accept_block (by_code context) nothing_around p.body) (accept_block (by_rules context) nothing_around p.body) (block_cut context nothing_around p.body))

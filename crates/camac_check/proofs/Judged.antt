@@ -13,7 +13,7 @@ use Rattle.camac_model.specs.Fine.{Bounds, AreFine}
 use Rattle.camac_model.proofs.Headline.{fine_services_run}
 use Rattle.camac_rules.specs.Accept.{accept}
 use Rattle.camac_rules.specs.Laws.{EventsFit}
-use Rattle.camac_rules.proofs.Accepted.{accepted_fine, accepted_within}
+use Rattle.camac_rules.proofs.Accepted.{accepted_fine, accepted_procedures_fine, accepted_within}
 use Rattle.camac_check.specs.Checked.{CheckedScript, IsChecked}
 
 -- as many bounds as services
@@ -57,6 +57,7 @@ is_checked c plan formed linked e =
     record {
       accepted = e;
       services = fine;
+      procedures = accepted_procedures_fine c.plan c.script c.bounds plan formed e;
       runs = fine_services_run c.plan c.script c.bounds fine;
       headings = accepted_within c.plan c.script c.bounds plan formed (linked_events c.plan c.script linked) e;
     }

@@ -3,3 +3,5 @@ pub mod Lams
 pub mod Capped
 pub mod Judged
 pub mod Blocks
+pub mod Depths
+pub mod Fitting

@@ -5,7 +5,7 @@ use Rattle.camac_lang.specs.Tree.{Script}
 use Rattle.camac_lang.specs.Code.{script_coded}
 use Rattle.camac_branch.specs.Plan.{Layout}
 use Rattle.camac_names.specs.Linked.{LinkedScript, layout_coded}
-use Rattle.camac_model.specs.Fine.{Bounds, AreFineServices}
+use Rattle.camac_model.specs.Fine.{Bounds, AreFineServices, AreFineProcedures}
 use Rattle.camac_model.specs.Headline.{RunsSafely, WithinHeadings}
 use Rattle.camac_rules.specs.Accept.{accept}
 use Rattle.camac_rules.specs.Fault.{broken, not_served}
@@ -24,11 +24,13 @@ linked_of c = record { plan = c.plan; script = c.script }
 
 -- what is true of each checked script, whatever the branch answers
 pub record IsChecked (c : CheckedScript) : Type 0 where
-  -- no rule is broken, so each statement is of a kind that is served
+  -- no rule is broken
   pub accepted : accept c.plan c.script ≡ Ok c.bounds
   -- each service by itself keeps to its bounds, and all its cycles are safe
   pub services : AreFineServices c.plan c.script c.bounds
-  -- so does every run
+  -- each procedure by itself keeps to its heading, on all arguments in range, whatever is locked
+  pub procedures : AreFineProcedures c.plan c.script
+  -- every run keeps to the bounds of its services
   pub runs : RunsSafely c.plan c.script c.bounds
   -- bounds are within headings, and events within the plan's buffer
   pub headings : WithinHeadings c.plan c.script c.bounds

@@ -1,6 +1,6 @@
 -- The rules as the checker's code follows them.
-use Rattle.std.specs.Prelude.{map}
-use Rattle.camac_lang.specs.View.{lam_of}
+use Rattle.std.specs.Prelude.{ℕ, map, take}
+use Rattle.camac_lang.specs.View.{lam_of, table_of, procedure_of}
 use Rattle.camac_model.specs.Meaning.{lam_address}
 use Rattle.camac_rules.specs.Capped.{capped}
 use Rattle.camac_rules.specs.Costs.{Verdict, verdict}
@@ -11,11 +11,15 @@ use Rattle.camac_check.specs.declared.statement.Findings.{Findings}
 
 -- the rules as code follows them, with costs in 64 bits
 abbrev pub by_code : code.Context → Context
-by_code c = record { plan = c.plan.now; lams = map lam_address (map lam_of c.lams.now); limit = capped }
+by_code c = record { plan = c.plan.now; tables = map (λ t. t.words) (map table_of c.tables.now); lams = map lam_address (map lam_of c.lams.now); procedures = map procedure_of c.procedures.now; limit = capped }
 
 abbrev pub verdict_of : Findings → Verdict
 verdict_of f = verdict f.known f.costs
 
 -- the rules themselves
 abbrev pub by_rules : code.Context → Context
-by_rules c = record { plan = c.plan.now; lams = map lam_address (map lam_of c.lams.now); limit = λ k. k }
+by_rules c = record { plan = c.plan.now; tables = map (λ t. t.words) (map table_of c.tables.now); lams = map lam_address (map lam_of c.lams.now); procedures = map procedure_of c.procedures.now; limit = λ k. k }
+
+-- after so many procedures
+abbrev pub rules_before : code.Context → ℕ → Context
+rules_before c n = record (by_rules c) { procedures = map procedure_of (take n c.procedures.now) }

@@ -1,2 +1,4 @@
 pub mod Gives
+pub mod Ends
 pub mod Checked
+pub mod Fits

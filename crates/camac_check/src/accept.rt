@@ -1,14 +1,13 @@
-// Acceptance of a whole script: services in text order, each within its heading.
+// Acceptance of a whole script: procedures and services in text order, each within its heading.
 
-ghost use Rattle.std.specs.Prelude.{◌≡◌, map};
+ghost use Rattle.std.specs.Prelude.{◌≡◌, ◌≤◌, drop, length, map};
 ghost use Rattle.camac_lang.specs.View.{item_of, procedure_of, service_of};
-ghost use Rattle.camac_range.specs.Number.{greatest};
-ghost use Rattle.camac_rules.specs.Accept.{within, accept_service, accept_items, accept};
-ghost use Rattle.camac_rules.specs.Costs.{costs};
-ghost use Rattle.camac_check.specs.Gives.{Gives, by_code, by_rules};
+ghost use Rattle.camac_rules.specs.Accept.{within, accept_procedure, accept_service, accept_items, accept};
+ghost use Rattle.camac_check.specs.Gives.{Gives, by_code, by_rules, rules_before};
 
 use crate::checked::Bounds;
 use crate::context::Context;
+use crate::procedure::at_entry;
 use crate::statement::accept_block;
 use camac_branch::Plan;
 use camac_known::{Around, CheckFault, Costs, Facts};
@@ -20,49 +19,106 @@ use std::alloc::Global;
 pub fn accept_script(alloc: Global, plan: &Plan, script: &Script) -> Result<Vec<Bounds>, CheckFault>
     ensures { Gives (λ v. v.items) result (accept plan.now script.now) }
 {
-    let context = Context {
+    let whole = Context {
         plan,
+        tables: script.tables(),
         lams: script.lams(),
+        procedures: script.procedures(),
     };
-    accept_items(
-        alloc,
-        &context,
-        script.order(),
-        script.procedures(),
-        script.services(),
-    )
+    accept_items(alloc, &whole, script.order(), 0, script.services())
 }
 
-// What these services can cost, in the order of these items.
+// What these services can cost, in the order of these items, after so many procedures.
 #[tactic(auto, unfolding(camac_rules::specs::Refusal::go_on))]
 fn accept_items(
     alloc: Global,
-    context: &Context,
+    whole: &Context,
     items: &[Item],
-    procedures: &[Procedure],
+    done: usize,
     services: &[Service],
 ) -> Result<Vec<Bounds>, CheckFault>
-    ensures { Gives (λ v. v.items) result (accept_items (by_rules context.now) (map item_of items.now) (map procedure_of procedures.now) (map service_of services.now)) }
+    requires { done ≤ length whole.now.procedures.now }
+    ensures { Gives (λ v. v.items) result (accept_items (rules_before whole.now done) (map item_of items.now) (map procedure_of (drop done whole.now.procedures.now)) (map service_of services.now)) }
 {
     match items {
         [] => Ok(Vec::new(alloc)),
-        [Item::Procedure, rest @ ..] => match procedures {
-            [] => accept_items(alloc, context, rest, procedures, services),
-            [procedure, ..] => Err(CheckFault::NotServed {
-                line: procedure.line,
-            }),
+        [Item::Procedure, rest @ ..] => match whole.procedures.get(done) {
+            None => accept_items(alloc, whole, rest, done, services),
+            Some(procedure) => {
+                let here = before(whole, done);
+                let _found = accept_procedure(alloc, &here, procedure)?;
+                accept_items(alloc, whole, rest, done + 1, services)
+            }
         },
         [Item::Service, rest @ ..] => match services {
-            [] => accept_items(alloc, context, rest, procedures, services),
+            [] => accept_items(alloc, whole, rest, done, services),
             [service, others @ ..] => {
-                let first = accept_service(alloc, context, service)?;
-                let mut all = accept_items(alloc, context, rest, procedures, others)?;
+                let here = before(whole, done);
+                let first = accept_service(alloc, &here, service)?;
+                let mut all = accept_items(alloc, whole, rest, done, others)?;
                 all.insert(0, first)?;
                 Ok(all)
             }
         },
-        [_, rest @ ..] => accept_items(alloc, context, rest, procedures, services),
+        [_, rest @ ..] => accept_items(alloc, whole, rest, done, services),
     }
+}
+
+// What may be referred to after so many procedures.
+fn before<'a>(whole: &Context<'a>, done: usize) -> Context<'a>
+    requires { done ≤ length whole.now.procedures.now }
+    ensures { by_rules result ≡ rules_before whole.now done }
+{
+    Context {
+        plan: whole.plan,
+        tables: whole.tables,
+        lams: whole.lams,
+        procedures: &whole.procedures[..done],
+    }
+}
+
+// What a procedure can cost.
+fn accept_procedure(
+    alloc: Global,
+    context: &Context,
+    procedure: &Procedure,
+) -> Result<Bounds, CheckFault>
+    ensures { Gives (λ b. b) result (accept_procedure (by_rules context.now) (procedure_of procedure.now)) }
+{
+    procedure_capped(
+        alloc,
+        context,
+        procedure,
+        procedure.cycles,
+        procedure.words,
+        procedure.steps,
+    )
+}
+
+// The same with costs in 64 bits.
+#[tactic(auto, unfolding(camac_rules::specs::Refusal::go_on, camac_rules::specs::Refusal::if_reached))]
+fn procedure_capped(
+    alloc: Global,
+    context: &Context,
+    procedure: &Procedure,
+    cycles: u32,
+    words: u32,
+    steps: u32,
+) -> Result<Bounds, CheckFault>
+    requires cycles { cycles ≡ procedure.now.cycles }
+    requires words { words ≡ procedure.now.words }
+    requires steps { steps ≡ procedure.now.steps }
+    ensures { Gives (λ b. b) result (accept_procedure (by_code context.now) (procedure_of procedure.now)) }
+{
+    let around = Around::nothing(alloc);
+    let known = at_entry(alloc, &procedure.parameters)?;
+    let found = accept_block(alloc, context, &around, &procedure.body, known)?;
+    let most = Bounds {
+        cycles,
+        words,
+        steps,
+    };
+    within(most, found.costs, procedure.line)
 }
 
 // What a service can cost.
@@ -88,21 +144,26 @@ fn accept_capped(
     let around = Around::nothing(alloc);
     let known = Facts::at_start(alloc);
     let found = accept_block(alloc, context, &around, &service.body, Some(known))?;
-    within(cycles, words, found.costs, service.line)
+    let most = Bounds {
+        cycles,
+        words,
+        steps: u32::MAX,
+    };
+    within(most, found.costs, service.line)
 }
 
 // The costs of a body within the numbers of its heading, on this line.
 #[tactic(auto, using(camac_known::proofs::Steps::steps), unfolding(camac_rules::specs::Refusal::go_on, camac_rules::specs::Refusal::required))]
-fn within(cycles: u32, words: u32, found: Costs, line: u32) -> Result<Bounds, CheckFault>
-    ensures { Gives (λ b. b) result (within (costs cycles words greatest) found line) }
+fn within(most: Bounds, found: Costs, line: u32) -> Result<Bounds, CheckFault>
+    ensures { Gives (λ b. b) result (within most found line) }
 {
-    if found.words() > u64::from(words) {
+    if found.words() > u64::from(most.words) {
         return Err(broken(CheckRule::TooManyWords, line));
     }
-    if found.cycles() > u64::from(cycles) {
+    if found.cycles() > u64::from(most.cycles) {
         return Err(broken(CheckRule::TooManyCycles, line));
     }
-    if found.steps() > u64::from(u32::MAX) {
+    if found.steps() > u64::from(most.steps) {
         return Err(broken(CheckRule::TooManySteps, line));
     }
     Ok(Bounds {

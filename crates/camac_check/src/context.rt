@@ -1,11 +1,13 @@
 // What statements may refer to.
 
 use camac_branch::Plan;
-use camac_lang::Lam;
+use camac_lang::{Lam, Procedure, Table};
 
-/// The plan, and the LAMs of the script, which statements name by their numbers.
+/// The plan, and the tables, the LAMs and the procedures before of the script, which statements name by their numbers.
 #[derive(Clone, Copy)]
 pub struct Context<'a> {
     pub plan: &'a Plan,
+    pub tables: &'a [Table],
     pub lams: &'a [Lam],
+    pub procedures: &'a [Procedure],
 }

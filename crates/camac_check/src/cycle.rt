@@ -127,9 +127,9 @@ fn write(
     })
 }
 
-// The addresses of a register. E6 where it may be unset.
+/// The addresses of a register. E6 where it may be unset.
 #[tactic(auto, unfolding(camac_rules::specs::Refusal::given))]
-fn addresses_of(known: &Facts, register: usize, line: u32) -> Result<Region, CheckFault>
+pub fn addresses_of(known: &Facts, register: usize, line: u32) -> Result<Region, CheckFault>
     ensures { Gives (λ g. g) result (given (region_at known.now.registers register) CheckRule.RegisterUnset line) }
 {
     match known.register(register) {
@@ -148,7 +148,7 @@ pub fn one_cycle(context: &Context, around: &Around, crates: Range) -> Costs
     Costs::new(cycle_cost(context.plan, around, crates), 0, 1)
 }
 
-fn is_read(f: Function) -> bool
+pub fn is_read(f: Function) -> bool
     ensures { result ≡ same_class class.Read (class_of f) }
 {
     match class(f) {
@@ -158,7 +158,7 @@ fn is_read(f: Function) -> bool
     }
 }
 
-fn is_write(f: Function) -> bool
+pub fn is_write(f: Function) -> bool
     ensures { result ≡ same_class class.Write (class_of f) }
 {
     match class(f) {

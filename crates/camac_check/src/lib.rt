@@ -6,8 +6,12 @@ mod calls;
 mod checked;
 mod context;
 mod cycle;
+mod depth;
+mod fits;
 mod judge;
+mod procedure;
 mod statement;
+mod transfer;
 
 pub use camac_known::CheckFault;
 pub use checked::{Bounds, Checked};

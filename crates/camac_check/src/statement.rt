@@ -1,19 +1,24 @@
 // The rules of all statements, and of blocks of them.
 
-ghost use Rattle.std.specs.Prelude.{◌≡◌};
-ghost use Rattle.camac_lang.specs.View.{expression_of, statement_of, statements_of};
+ghost use Rattle.std.specs.Prelude.{◌≡◌, IsTrue, map};
+ghost use Rattle.camac_lang.specs.View.{expression_of, keep_of, statement_of, statements_of};
 ghost use Rattle.camac_rules.specs.Costs.{unreached};
 ghost use Rattle.camac_rules.specs.Refusal.{if_reached};
 ghost use Rattle.camac_rules.specs.Statements.{assign_rule, register_rule, put_rule, accept_statement, accept_block};
+ghost use Rattle.camac_loops.specs.Ordered.{are_ordered};
+ghost use Rattle.camac_check.specs.Ends.{for_end, while_end};
 ghost use Rattle.camac_check.specs.Gives.{Gives, by_code, verdict_of};
 
 use crate::calls::{crate_call, lam_call, lock_crate};
 use crate::context::Context;
 use crate::cycle::single;
+use crate::procedure::call;
+use crate::transfer::{q_repeat, q_stop, scan};
 use camac_known::{
     Around, CheckFault, Costs, Facts, Region, join, range_of, required, split, waits_of,
 };
-use camac_lang::{Expr, Stmt};
+use camac_lang::{Expr, Keep, Stmt};
+use camac_loops::{Limits, for_limits, keeps_after, turn_bound, while_head};
 use camac_rules::CheckRule;
 use std::alloc::Global;
 
@@ -143,17 +148,111 @@ fn accept_statement(
                 costs: inner.costs.in_lock(waits_of(context.plan, c)),
             })
         }
-        Stmt::Scan { line, .. } => not_served(*line),
-        Stmt::QStop { line, .. } | Stmt::QRepeat { line, .. } => not_served(*line),
-        Stmt::For { line, .. } | Stmt::While { line, .. } => not_served(*line),
-        Stmt::Call { line, .. } => not_served(*line),
+        Stmt::Scan {
+            line,
+            function,
+            first,
+            last,
+            max,
+            tally,
+        } => scan(
+            alloc, context, around, *line, *function, *first, *last, max, *tally, known,
+        ),
+        Stmt::QStop {
+            line,
+            function,
+            register,
+            table,
+            max,
+            tally,
+        } => q_stop(
+            alloc, context, around, *line, *function, *register, *table, max, *tally, known,
+        ),
+        Stmt::QRepeat {
+            line,
+            function,
+            register,
+            table,
+            max,
+            limit,
+            tally,
+        } => q_repeat(
+            alloc, context, around, *line, *function, *register, *table, max, limit, *tally, known,
+        ),
+        Stmt::For {
+            line,
+            variable,
+            from,
+            to,
+            keeps,
+            body,
+        } => {
+            let limits = for_limits(around, *line, *variable, from, to, keeps, known)?;
+            let inside = around.with_fixed(alloc, *variable)?;
+            let top = limits.head(alloc, *variable, keeps, body, known)?;
+            let turn = accept_block(alloc, context, &inside, body, top)?;
+            counted(alloc, *line, *variable, limits, keeps, body, known, turn)
+        }
+        Stmt::While {
+            line,
+            test,
+            turns,
+            measure,
+            keeps,
+            body,
+        } => {
+            let top = while_head(alloc, *line, *turns, *measure, keeps, body, known)?;
+            let ways = split(alloc, *line, &test.parts, &top)?;
+            let most = turn_bound(&ways.holds, *turns);
+            let turn = accept_block(alloc, context, around, body, ways.holds)?;
+            repeated(*line, keeps, ways.fails, most, turn)
+        }
+        Stmt::Call {
+            line,
+            procedure,
+            arguments,
+        } => call(alloc, context, *line, *procedure, arguments, known),
     }
 }
 
-fn not_served(line: u32) -> Result<Findings, CheckFault>
-    ensures { result ≡ Err (CheckFault.NotServed line) }
+// What a `for` leaves and costs, where this was found of a turn.
+#[tactic(auto, unfolding(camac_rules::specs::Refusal::go_on))]
+fn counted(
+    alloc: Global,
+    line: u32,
+    variable: usize,
+    limits: Limits,
+    keeps: &[Keep],
+    body: &[Stmt],
+    known: &Facts,
+    turn: Findings,
+) -> Result<Findings, CheckFault>
+    requires { IsTrue (are_ordered (map keep_of keeps.now)) }
+    ensures { Gives verdict_of result (for_end line variable limits (map keep_of keeps.now) (statements_of body.now) known.now (verdict_of turn)) }
 {
-    Err(CheckFault::NotServed { line })
+    keeps_after(keeps, &turn.known, line)?;
+    Ok(Findings {
+        known: Some(limits.after(alloc, variable, keeps, body, known)?),
+        costs: turn.costs.in_loop(limits.turns()),
+    })
+}
+
+// What a `while` of at most so many turns leaves and costs, where this was found of a turn.
+#[tactic(auto, unfolding(camac_rules::specs::Refusal::go_on))]
+fn repeated(
+    line: u32,
+    keeps: &[Keep],
+    fails: Option<Facts>,
+    most: u32,
+    turn: Findings,
+) -> Result<Findings, CheckFault>
+    ensures { Gives verdict_of result (while_end line (map keep_of keeps.now) fails most (verdict_of turn)) }
+{
+    keeps_after(keeps, &turn.known, line)?;
+    Ok(Findings {
+        known: fails,
+        costs: turn.costs.in_loop(u64::from(most)),
+    })
 }
 
 // A variable and its value.

@@ -9,9 +9,9 @@ use Rattle.camac_esone.specs.Lists.{Cycle, replies}
 use Rattle.camac_esone.specs.Laws.{IsDriven}
 use Rattle.camac_esone.specs.Bounds.{place, addresses, StopIsBounded, RepeatIsBounded, ScanIsBounded, ScanIsWithinAddresses}
 use Rattle.camac_esone.proofs.Parts.{replies-append, length-replies, tally-append, tally_most}
-use Rattle.camac_esone.proofs.Stop as stop
-use Rattle.camac_esone.proofs.Repeat as repeat
-use Rattle.camac_esone.proofs.Scan as scan
+use Rattle.camac_esone.proofs.StopLists as stop
+use Rattle.camac_esone.proofs.RepeatLists as repeat
+use Rattle.camac_esone.proofs.ScanLists as scan
 
 -- a number falls with each reply that was wanted
 abbrev pub FallsAlways : Wanted → (List Bool → ℕ) → Type 0

@@ -1,6 +1,7 @@
 pub mod Parts
 pub mod Drives
-pub mod Stop
-pub mod Repeat
-pub mod Scan
+pub mod StopLists
+pub mod RepeatLists
+pub mod ScanLists
 pub mod Bounds
+pub mod Standing

@@ -2,4 +2,6 @@ pub mod Transfers
 pub mod Lists
 pub mod Laws
 pub mod Bounds
+pub mod Progress
+pub mod Held
 pub mod Calls

@@ -73,7 +73,7 @@ no_crate plan c e = ap (in_plan plan) e
 pub not_there : (plan : Layout) (stations : Interval) (c : ℕ) → c ≡ 0 → are_stations_in plan stations c ≡ false
 not_there plan stations c e = ap (are_stations_in plan stations) e
 
-no_least : (w : ℕ → Option ℕ) (m k : ℕ) → ((a : ℕ) → w a ≡ None) → least_and_greatest (map w (range_with_len k m)) ≡ None
+pub no_least : (w : ℕ → Option ℕ) (m k : ℕ) → ((a : ℕ) → w a ≡ None) → least_and_greatest (map w (range_with_len k m)) ≡ None
 no_least w zero k h = refl
 no_least w (suc m) k h = ap (λ o. least_and_greatest (o ∷ map w (range_with_len (k + 1) m))) (h k)
 

@@ -121,8 +121,8 @@ fn stations_from(plan: &Plan, c: CrateNo, n: u32, end: u32) -> bool
     is_station(plan, c, n) && stations_from(plan, c, n + 1, end)
 }
 
-// Whether a station has a module, or the controller answers for it.
-fn is_station(plan: &Plan, c: CrateNo, n: u32) -> bool
+/// Whether a station has a module, or the controller answers for it.
+pub fn is_station(plan: &Plan, c: CrateNo, n: u32) -> bool
     requires { n < 32 }
     ensures { result ≡ is_station plan.now c n }
 {
@@ -198,9 +198,9 @@ fn station_widths_from(
     Some(first.hull(rest))
 }
 
-// The widths at a station.
+/// The least and the greatest width of a command at the sub-addresses of a range, if a station declares it at all of them.
 #[tactic(auto, using(crate::proofs::Walks::widths_ordered))]
-fn station_widths(
+pub fn station_widths(
     plan: &Plan,
     f: Function,
     sub_addresses: Range,

@@ -3,6 +3,7 @@
 ghost use Rattle.std.specs.Prelude.{◌≡◌, IfOk};
 ghost use Rattle.camac_rules.specs.Addresses.{is_among};
 ghost use Rattle.camac_rules.specs.Cycles.{nothing_around, with_locked, may_write};
+ghost use Rattle.camac_rules.specs.Loops.{with_fixed};
 
 use std::alloc::{AllocError, Global};
 use std::marker::Model;
@@ -41,6 +42,18 @@ impl Around {
         Ok(Around {
             fixed: Vec::from_slice(alloc, &self.fixed)?,
             locked,
+        })
+    }
+
+    /// What stands around the body of a `for` with this variable.
+    pub fn with_fixed(&self, alloc: Global, variable: usize) -> Result<Self, AllocError>
+        ensures { IfOk result (λ a. a ≡ with_fixed variable self.now) }
+    {
+        let mut fixed = Vec::from_slice(alloc, &self.fixed)?;
+        fixed.insert(0, variable)?;
+        Ok(Around {
+            fixed,
+            locked: Vec::from_slice(alloc, &self.locked)?,
         })
     }
 

@@ -147,8 +147,8 @@ fn refine(
     }
 }
 
-// The variable that an expression is, brackets aside.
-fn sole_variable(e: &Expr) -> Option<usize>
+/// The variable that an expression is, brackets aside.
+pub fn sole_variable(e: &Expr) -> Option<usize>
     ensures { result ≡ sole_variable (expression_of e.now) }
 {
     match e {

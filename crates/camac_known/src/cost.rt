@@ -1,7 +1,7 @@
 // What statements can cost.
 
 ghost use Rattle.std.specs.Prelude.{◌≡◌};
-ghost use Rattle.camac_rules.specs.Costs.{costs, no_costs, plus, choice_costs, lock_costs};
+ghost use Rattle.camac_rules.specs.Costs.{costs, no_costs, plus, choice_costs, lock_costs, loop_costs, transfer_costs, call_costs};
 ghost use Rattle.camac_rules.specs.Capped.{capped};
 
 use std::marker::Model;
@@ -66,6 +66,43 @@ impl Costs {
             cycles: self.cycles.saturating_add(u64::from(waits)),
             words: self.words,
             steps: self.steps.saturating_add(2),
+        }
+    }
+
+    /// Those of a loop of at most so many turns with this body: a step, and a step more for each turn.
+    pub fn in_loop(self, turns: u64) -> Self
+        ensures { result ≡ capped (loop_costs turns self) }
+    {
+        Costs {
+            cycles: self.cycles.saturating_mul(turns),
+            words: self.words.saturating_mul(turns),
+            steps: self
+                .steps
+                .saturating_add(1)
+                .saturating_mul(turns)
+                .saturating_add(1),
+        }
+    }
+
+    /// Those of a transfer of so many cycles, each at this cost: a step, and a step more for each cycle.
+    pub fn of_transfer(cycles: u64, each: u64, words: u64) -> Self
+        ensures { result ≡ capped (transfer_costs cycles each words) }
+    {
+        Costs {
+            cycles: cycles.saturating_mul(each),
+            words,
+            steps: cycles.saturating_add(1),
+        }
+    }
+
+    /// Those of a call of a procedure that is annotated with these.
+    pub fn of_call(cycles: u32, words: u32, steps: u32) -> Self
+        ensures { result ≡ capped (call_costs (costs cycles words steps)) }
+    {
+        Costs {
+            cycles: u64::from(cycles),
+            words: u64::from(words),
+            steps: u64::from(steps) + 1,
         }
     }
 

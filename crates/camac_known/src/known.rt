@@ -1,9 +1,10 @@
 // What the checker knows where a statement begins.
 
-ghost use Rattle.std.specs.Prelude.{◌≡◌, IfOk, OnOk, Some, None};
-ghost use Rattle.camac_range.specs.Interval.{only};
+ghost use Rattle.std.specs.Prelude.{◌≡◌, ◌≤◌, IfOk, OnOk, None};
+ghost use Rattle.camac_range.specs.Interval.{interval, only};
 ghost use Rattle.camac_rules.specs.Joined.{join_region, join_facts};
 ghost use Rattle.camac_rules.specs.Known.{write, region, facts, range_at, region_at, with_range, with_region};
+ghost use Rattle.camac_rules.specs.Writes.{forget_variable, forget_register};
 
 use crate::joined::{hulls, join_registers};
 use camac_range::Range;
@@ -97,6 +98,16 @@ impl Facts {
         }
     }
 
+    /// Where the body of a procedure starts: parameters in these ranges, registers unset.
+    pub fn at_call(alloc: Global, ranges: Vec<Range>) -> Self
+        ensures { result ≡ facts ranges.items [] }
+    {
+        Facts {
+            ranges,
+            registers: Vec::new(alloc),
+        }
+    }
+
     pub fn try_clone(&self, alloc: Global) -> Result<Self, AllocError>
         ensures { IfOk result (λ k. k ≡ self.now) }
     {
@@ -157,11 +168,36 @@ impl Facts {
         ensures { IfOk result (λ k. k ≡ with_region register region self.now) }
     {
         let mut registers = Vec::from_slice(alloc, &self.registers)?;
-        set_register(&mut registers, register, region)?;
+        set_register(&mut registers, register, Some(region))?;
         Ok(Facts {
             ranges: Vec::from_slice(alloc, &self.ranges)?,
             registers,
         })
+    }
+
+    /// The same, but for the range of a variable.
+    pub fn put_range(self, variable: usize, range: Range) -> Result<Self, AllocError>
+        ensures { IfOk result (λ k. k ≡ with_range variable range self) }
+    {
+        let mut facts = self;
+        set_range(&mut facts.ranges, variable, range)?;
+        Ok(facts)
+    }
+
+    /// The same with any number in a variable.
+    pub fn forget_variable(self, variable: usize) -> Result<Self, AllocError>
+        ensures { IfOk result (λ k. k ≡ forget_variable variable self) }
+    {
+        self.put_range(variable, between(0, u32::MAX))
+    }
+
+    /// The same, but that a register may be unset.
+    pub fn forget_register(self, register: usize) -> Result<Self, AllocError>
+        ensures { IfOk result (λ k. k ≡ forget_register register self) }
+    {
+        let mut facts = self;
+        set_register(&mut facts.registers, register, None)?;
+        Ok(facts)
     }
 }
 
@@ -198,13 +234,24 @@ fn set_range(ranges: &mut Vec<Range>, variable: usize, range: Range) -> Result<(
 fn set_register(
     registers: &mut Vec<Option<Region>>,
     register: usize,
-    region: Region,
+    region: Option<Region>,
 ) -> Result<(), AllocError>
-    ensures ok { OnOk result (registers.new.items ≡ write None registers.old.items register (Some region)) }
+    ensures ok { OnOk result (registers.new.items ≡ write None registers.old.items register region) }
 {
     'places: while registers.len() <= register {
         registers.push(None)?;
     }
-    registers[register] = Some(region);
+    registers[register] = region;
     Ok(())
+}
+
+/// The numbers between two, both included.
+pub fn between(lo: u32, hi: u32) -> Range
+    requires { lo ≤ hi }
+    ensures { result ≡ interval lo hi }
+{
+    match Range::new(lo, hi) {
+        Some(range) => range,
+        None => unreachable!(),
+    }
 }

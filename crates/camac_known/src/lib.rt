@@ -10,11 +10,11 @@ mod fault;
 mod joined;
 mod known;
 
-pub use address::{command_widths, cycle_cost, is_crate, waits_of};
+pub use address::{command_widths, cycle_cost, is_crate, is_station, station_widths, waits_of};
 pub use around::Around;
-pub use condition::{Branches, split};
+pub use condition::{Branches, sole_variable, split};
 pub use cost::Costs;
 pub use expression::range_of;
-pub use fault::{CheckFault, required};
+pub use fault::{CheckFault, given, required};
 pub use joined::join;
-pub use known::{Facts, Region};
+pub use known::{Facts, Region, between, range_in};

@@ -13,9 +13,9 @@ use Rattle.camac_esone.specs.Lists.{Cycle, replies, IsStopList, IsRepeatList, Is
 use Rattle.camac_esone.specs.Laws.{IsDriven, IsDrivenToEnd, IsDrivenSoFar, GivesExactly}
 use Rattle.camac_esone.proofs.Parts.{replies-append, each_more, each_none}
 use Rattle.camac_esone.proofs.Drives.{is_some}
-use Rattle.camac_esone.proofs.Stop.{stop_gives}
-use Rattle.camac_esone.proofs.Repeat.{repeat_gives}
-use Rattle.camac_esone.proofs.Scan.{scan_gives}
+use Rattle.camac_esone.proofs.StopLists.{stop_gives}
+use Rattle.camac_esone.proofs.RepeatLists.{repeat_gives}
+use Rattle.camac_esone.proofs.ScanLists.{scan_gives}
 use Rattle.camac_model.specs.State.{State, stepped, with_variable, with_word, set_at}
 use Rattle.camac_model.specs.Behaviour.{Piece, cycled, Behaviour, does, ends, stops, Stop, Action, pieces, reached, stop_of}
 use Rattle.camac_model.specs.Cycle.{after_cycle, kept}

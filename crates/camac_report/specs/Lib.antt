@@ -1,7 +1,6 @@
 pub mod Codes
 pub mod Digits
 pub mod Events
-pub mod Items
 pub mod Plan
 pub mod Refusal
 pub mod Verdict

@@ -4,7 +4,6 @@
 mod code;
 mod digits;
 mod events;
-mod item;
 mod line;
 mod plan;
 mod refusal;
@@ -12,7 +11,7 @@ mod verdict;
 
 pub use code::{AnswerCode, CheckCode, CodeText, EventCode, LinkCode, PlanCode, TextCode};
 pub use events::write_events;
-pub use item::write_cycle;
+pub use line::{LONGEST_LINE, Line};
 pub use plan::write_plan;
 pub use refusal::{Refusal, write_refusal};
-pub use verdict::write_verdict;
+pub use verdict::{lam_name, write_verdict};

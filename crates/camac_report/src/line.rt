@@ -10,12 +10,12 @@ use itoa::{Buffer, Integer};
 use std::marker::Model;
 
 /// The greatest length of a line, in bytes.
-pub const LONGEST: usize = 192;
+pub const LONGEST_LINE: usize = 256;
 
-/// A line of at most `LONGEST` bytes.
+/// A line of at most `LONGEST_LINE` bytes.
 #[derive(Drop)]
 pub struct Line {
-    bytes: ArrayVec<u8, LONGEST>,
+    bytes: ArrayVec<u8, LONGEST_LINE>,
 }
 
 impl Model for Line {
@@ -38,7 +38,7 @@ impl Line {
 
     /// The line with the text at its end.
     pub fn with(self, text: &str) -> Line
-        requires { length self + length text.now ≤ LONGEST }
+        requires { length self + length text.now ≤ LONGEST_LINE }
         ensures bytes { result ≡ self ++ text.now }
         ensures len { length result ≡ length self + length text.now }
     {
@@ -47,7 +47,7 @@ impl Line {
 
     /// The line with the bytes at its end.
     pub fn with_bytes(mut self, bytes: &[u8]) -> Line
-        requires { length self + length bytes.now ≤ LONGEST }
+        requires { length self + length bytes.now ≤ LONGEST_LINE }
         ensures bytes { result ≡ self ++ bytes.now }
         ensures len { length result ≡ length self + length bytes.now }
     {
@@ -57,7 +57,7 @@ impl Line {
 
     /// The line with the number at its end, in decimal.
     pub fn with_number<N: Integer>(self, number: N) -> Line
-        requires room { length self + N.MAX_STR_LEN ≤ LONGEST }
+        requires room { length self + N.MAX_STR_LEN ≤ LONGEST_LINE }
         ensures bytes { result ≡ self ++ N.text number }
         ensures len { length result ≤ length self + N.MAX_STR_LEN }
     {
@@ -67,7 +67,7 @@ impl Line {
 
     /// The line with the word at its end, in six hexadecimal digits.
     pub fn with_word(self, word: Word24) -> Line
-        requires room { length self + 6 ≤ LONGEST }
+        requires room { length self + 6 ≤ LONGEST_LINE }
         ensures bytes { result ≡ self ++ hex_word word }
         ensures len { length result ≡ length self + 6 }
     {

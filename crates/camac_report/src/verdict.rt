@@ -37,12 +37,12 @@ fn line_of_service(checked: &Checked, i: usize) -> Line
 {
     let script = checked.script();
     let service = &script.services()[i];
-    let name = name_of(script.lams(), service.lam);
+    let name = lam_name(script.lams(), service.lam);
     laid_out(name, checked.gl(i), service, checked.bounds(i))
 }
 
-// The name of a LAM.
-fn name_of(lams: &[Lam], lam: usize) -> &[u8]
+/// The name of a LAM by its number, nothing where there is none.
+pub fn lam_name(lams: &[Lam], lam: usize) -> &[u8]
     ensures name { result.now ≡ lam_name (map lam_of lams.now) lam }
     ensures short { length result.now ≤ 32 }
 {

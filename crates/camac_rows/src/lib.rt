@@ -16,16 +16,34 @@ mod fakes;
 #[cfg(test)]
 mod faults;
 #[cfg(test)]
+mod fits;
+#[cfg(test)]
 mod listing;
 #[cfg(test)]
 mod locks;
+#[cfg(test)]
+mod loops;
 #[cfg(test)]
 mod plan_faults;
 #[cfg(test)]
 mod plans;
 #[cfg(test)]
+mod procedures;
+#[cfg(test)]
 mod ranges;
 #[cfg(test)]
+mod run;
+#[cfg(test)]
+mod run_cycles;
+#[cfg(test)]
+mod run_faults;
+#[cfg(test)]
+mod run_locks;
+#[cfg(test)]
+mod run_loops;
+#[cfg(test)]
 mod scripts;
+#[cfg(test)]
+mod transfers;
 #[cfg(test)]
 mod tree;

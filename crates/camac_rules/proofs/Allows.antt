@@ -35,6 +35,11 @@ pub for_each : {A S : Type 0} (H : S → Type 0) {r : Result A Fault} (P : S →
 for_each H {r = Ok x} P h = record { holds = λ s k. (h s k).holds }
 for_each H {r = Err e} P h = record { holds = tt }
 
+-- what follows from what holds
+pub allowed_more : {A : Type 0} {r : Result A Fault} {P Q : A → Type 0} → Allows r P → ((x : A) → P x → Q x) → Allows r Q
+allowed_more {r = Ok x} h k = record { holds = k x h.holds }
+allowed_more {r = Err e} h k = record { holds = tt }
+
 -- what is not reached is not checked
 pub if_reached_allowed : {A S : Type 0} (nothing : A) (o : Option S) (check : S → Result A Fault) (P : Option S → A → Type 0) → P None nothing → ((s : S) → Allows (check s) (P (Some s))) → Allows (if_reached nothing o check) (P o)
 unfolding if_reached

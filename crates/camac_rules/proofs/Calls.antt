@@ -18,18 +18,17 @@ use Rattle.camac_esone.specs.Calls.{crate_address, crate_function, lam_function}
 use Rattle.camac_model.specs.State.{stepped}
 use Rattle.camac_model.specs.Behaviour.{ends}
 use Rattle.camac_model.specs.Value.{value}
-use Rattle.camac_model.specs.Meaning.{Context, act, effect}
+use Rattle.camac_model.specs.Meaning.{act, effect}
 use Rattle.camac_rules.specs.Known.{Region, Facts}
 use Rattle.camac_rules.specs.Costs.{costs}
 use Rattle.camac_rules.specs.Addresses.{crate_end, in_plan, cycle_cost}
-use Rattle.camac_rules.specs.Cycles.{Around}
 use Rattle.camac_rules.specs.Calls.{is_crate, crate_rule, single_region, lam_rule}
 use Rattle.camac_rules.proofs.Allows.{Allows, allowed as allows, then_allowed, required_allowed, given_allowed}
-use Rattle.camac_rules.proofs.Stores.{InRegion}
+use Rattle.camac_rules.proofs.Stores.{Place, around_of, InRegion}
 use Rattle.camac_rules.proofs.Values.{range_each, only_within}
 use Rattle.camac_rules.proofs.Regions.{IsAllowed, some_of, command_allowed}
 use Rattle.camac_rules.proofs.Sound.{SoundFor}
-use Rattle.camac_rules.proofs.Actions.{seen, with_given, value_of, allowed_sound, cycle_ends}
+use Rattle.camac_rules.proofs.Actions.{Setting, of, seen, with_given, value_of, allowed_sound, cycle_ends}
 
 -- the command of a crate call goes to its crate, moves no data, and is the controller's
 goes_to : (which : CrateCall) (c : ℕ) → (crate_address which c).crate_no ≡ c
@@ -109,7 +108,7 @@ can_call plan which r c is =
       };
     }
 
-pub crate_sound : (c : Context) (around : Around) (line : ℕ) (which : CrateCall) (e : Expression) (k : Facts) → Allows (crate_rule (seen c) around line e k) (SoundFor c.plan around (Some k) (λ n s. effect c n (crate_call line which e) (stepped s)))
+pub crate_sound : (c : Setting) (around : Place) (line : ℕ) (which : CrateCall) (e : Expression) (k : Facts) → Allows (crate_rule (seen c) (around_of around) line e k) (SoundFor c.plan around (Some k) (λ n s. effect (of c) n (crate_call line which e) (stepped s)))
 crate_sound c around line which e k =
     then_allowed (range_each line e k.ranges) (λ r gives.
     required_allowed _ line (λ unfit. allows (record {
@@ -123,7 +122,7 @@ crate_sound c around line which e k =
           (allowed_sound c.plan around (Some k) k s r (only call.width) at f moved.None (λ reply. ends) call.allowed
           (subst (IsWithin r) (sym (goes_to which v.number)) v.fits.within) i
           (record { width = call.allowed.width; is_allowed = call.allowed.allowed; is_of_class = moves_none which; fits_width = tt })
-          (λ reply wait rest lt. cycle_ends c.plan around k s at f u reply wait rest i lt));
+          (λ reply wait rest one lt. cycle_ends c.plan around k s at f u reply wait rest i one lt));
     })))
 
 lam_moves_none : (which : lam_word.LamCall) → fits (class_of (lam_function which)) moved.None ≡ true
@@ -145,7 +144,7 @@ lam_of (Some at) g e =
     let same : single_region at ≡ g = cc in
     record { at = at; is = refl; inside = subst (λ h. InRegion h at) same alone }
 
-pub lam_sound : (c : Context) (around : Around) (line : ℕ) (which : lam_word.LamCall) (l : ℕ) (k : Facts) → Allows (lam_rule (seen c) around line which l k) (SoundFor c.plan around (Some k) (λ n s. effect c n (lam_call line which l) (stepped s)))
+pub lam_sound : (c : Setting) (around : Place) (line : ℕ) (which : lam_word.LamCall) (l : ℕ) (k : Facts) → Allows (lam_rule (seen c) (around_of around) line which l k) (SoundFor c.plan around (Some k) (λ n s. effect (of c) n (lam_call line which l) (stepped s)))
 lam_sound c around line which l k =
     then_allowed (given_allowed (option_map single_region (slice_get c.lams l)) _ line) (λ g there.
     then_allowed (command_allowed c.plan line (lam_function which) g) (λ w every. allows (record {
@@ -157,5 +156,5 @@ lam_sound c around line which l k =
           with_given c.plan around (Some k) (costs u 0 1) s (stepped s) (slice_get c.lams l) (λ at. act c.plan at f Full no_data) lam.at lam.is
           (allowed_sound c.plan around (Some k) k s g.crates w lam.at f moved.None (λ reply. ends) a lam.inside.crate_no i
           (record { width = a.width; is_allowed = a.allowed; is_of_class = lam_moves_none which; fits_width = tt })
-          (λ reply wait rest lt. cycle_ends c.plan around k s lam.at f u reply wait rest i lt));
+          (λ reply wait rest one lt. cycle_ends c.plan around k s lam.at f u reply wait rest i one lt));
     })))

@@ -6,8 +6,7 @@ use Rattle.camac_branch.specs.Address.{Address}
 use Rattle.camac_model.specs.State.{State}
 use Rattle.camac_rules.specs.Known.{Region, range_at, region_at, Facts, Known}
 use Rattle.camac_rules.specs.Joined.{hulls, join_set, join_registers, join_facts, join}
-use Rattle.camac_rules.specs.Cycles.{Around}
-use Rattle.camac_rules.proofs.Stores.{IsSetInside, Inside, Reaches}
+use Rattle.camac_rules.proofs.Stores.{Place, IsSetInside, Inside, Reaches}
 
 zero_hulls : (ss : List Interval) (x : ℕ) → range_at (map (hull (only 0)) ss) x ≡ hull (only 0) (range_at ss x)
 zero_hulls [] x = refl
@@ -52,7 +51,7 @@ set_right (Some g) (Some h) (Some at) i = record {
   sub_address = hull_right g.sub_addresses h.sub_addresses at.sub_address i.sub_address;
 }
 
-facts_left : (around : Around) (k l : Facts) (s : State) → Inside around k s → Inside around (join_facts k l) s
+facts_left : (around : Place) (k l : Facts) (s : State) → Inside around k s → Inside around (join_facts k l) s
 facts_left around k l s i = record {
   variables = record {
     each = λ x. subst (λ r. IsWithin r (s.variables x)) (sym (range_at-hulls k.ranges l.ranges x))
@@ -64,7 +63,7 @@ facts_left around k l s i = record {
   locks = i.locks;
 }
 
-facts_right : (around : Around) (k l : Facts) (s : State) → Inside around l s → Inside around (join_facts k l) s
+facts_right : (around : Place) (k l : Facts) (s : State) → Inside around l s → Inside around (join_facts k l) s
 facts_right around k l s i = record {
   variables = record {
     each = λ x. subst (λ r. IsWithin r (s.variables x)) (sym (range_at-hulls k.ranges l.ranges x))
@@ -76,12 +75,12 @@ facts_right around k l s i = record {
   locks = i.locks;
 }
 
-pub join_left : (around : Around) (a b : Known) (s : State) → Reaches around a s → Reaches around (join a b) s
+pub join_left : (around : Place) (a b : Known) (s : State) → Reaches around a s → Reaches around (join a b) s
 join_left around None b s h = absurd h
 join_left around (Some k) None s h = h
 join_left around (Some k) (Some l) s h = facts_left around k l s h
 
-pub join_right : (around : Around) (a b : Known) (s : State) → Reaches around b s → Reaches around (join a b) s
+pub join_right : (around : Place) (a b : Known) (s : State) → Reaches around b s → Reaches around (join a b) s
 join_right around None b s h = h
 join_right around (Some k) None s h = absurd h
 join_right around (Some k) (Some l) s h = facts_right around k l s h

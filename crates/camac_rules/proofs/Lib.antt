@@ -12,8 +12,25 @@ pub mod Actions
 pub mod Calls
 pub mod Held
 pub mod Statements
+pub mod Settings
+pub mod Frame
+pub mod Heads
+pub mod Turns
+pub mod Counted
+pub mod Falls
+pub mod Repeated
+pub mod Driven
+pub mod Blocks
+pub mod Windows
+pub mod Scans
+pub mod Lockless
+pub mod Routines
 pub mod Services
 pub mod Orders
+pub mod ProcedureOrders
 pub mod Accepted
 mod Rows
 mod Arms
+mod TransferRows
+mod LoopRows
+mod ProcedureRows

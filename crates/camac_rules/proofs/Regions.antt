@@ -36,7 +36,7 @@ under_test : {A : Type 0} (b : Bool) (o : Option A) (x : A) → (if b then o els
 under_test true o x e = (refl, e)
 under_test false o x e = cc
 
-widths_at : (plan : Layout) (f : ℕ) (subs : Interval) (c n a : ℕ) (w : Interval) → station_widths plan f subs c n ≡ Some w → IsWithin subs a → IsWidth (allowed plan (address c n a) f) w.lo w.hi
+pub widths_at : (plan : Layout) (f : ℕ) (subs : Interval) (c n a : ℕ) (w : Interval) → station_widths plan f subs c n ≡ Some w → IsWithin subs a → IsWidth (allowed plan (address c n a) f) w.lo w.hi
 widths_at plan f subs c n a w e i =
     let p = under_test (nat_lt subs.hi sub_address_end) (option_map (λ x. interval x.0 x.1) (widths plan c n f subs.lo subs.hi)) w e in
     least_and_greatest_at (λ b. allowed plan (address c n b) f) subs.lo (subs.hi + 1 - subs.lo) a (w.lo, w.hi)

@@ -4,10 +4,10 @@ use Rattle.std.specs.Prelude.{codes}
 use Rattle.camac_lang.specs.declared.word.CrateCall.TheVariants.{Initialise, Clear, InhibitOn, TestInhibit, DemandOn, DemandOff, TestDemandOutput, TestDemand}
 use Rattle.camac_lang.specs.declared.word.LamCall as lam_word
 use Rattle.camac_lang.specs.declared.word.WordSize.TheVariants.{Full, Short}
-use Rattle.camac_lang.specs.Tree.{Text, Expression, add, subtract, multiply, divide, remainder, group, number, variable, no_data, into, from, Statement, assign, set_register, single, put, crate_call, lam_call, call, Script}
+use Rattle.camac_lang.specs.Tree.{Text, Expression, add, subtract, multiply, divide, remainder, group, number, variable, no_data, into, from, Statement, assign, set_register, single, put, crate_call, lam_call, Script}
 use Rattle.camac_model.specs.Sample.{sample_plan, adc_lam, script, script_of, v, k}
 use Rattle.camac_rules.specs.declared.rule.CheckRule.TheVariants.{StationNotInstalled, CommandNotDeclared, WrongDirection, ValueOutOfRange, ValueTooWide, RegisterUnset, TooManyWords, TooManyCycles, CrateUnfit, WordTooWide}
-use Rattle.camac_rules.specs.Fault.{broken, not_served}
+use Rattle.camac_rules.specs.Fault.{broken}
 use Rattle.camac_rules.specs.Refusal.{go_on, required, given, if_reached}
 use Rattle.camac_rules.specs.Costs.{costs}
 use Rattle.camac_rules.specs.Accept.{accept}
@@ -261,8 +261,3 @@ call_of_range = refl
 call_below_0 : accept sample_plan (body (crate_call 4 DemandOn (subtract (number 1) (number 2)) ∷ [])) ≡ Err (broken ValueOutOfRange 4)
 unfolding go_on required given if_reached
 call_below_0 = refl
-
--- what is not accepted yet
-procedure_call : accept sample_plan (body (put 4 (number 1) ∷ call 5 0 [] ∷ [])) ≡ Err (not_served 5)
-unfolding go_on required given if_reached
-procedure_call = refl

@@ -1,33 +1,41 @@
--- Services that are accepted are fine by their costs, and within their headings.
-use Rattle.std.proofs.Common.{◌≡◌, ℕ, ◌+◌, ◌≤◌, List, [], ◌∷◌, length, Result, Ok, Err, refl, arith}
+-- Services that are accepted are fine by their costs, and within their headings; so are procedures.
+use Rattle.std.proofs.Common.{◌≡◌, ℕ, ◌+◌, ◌≤◌, false, List, [], ◌∷◌, ◌++◌, length, Some, refl, sym, ◌∙◌, subst, append_assoc, arith}
 use Rattle.std.specs.Prelude.{min}
-use Rattle.camac_rules.specs.Fault.{Fault}
-use Rattle.camac_model.specs.Headline.{AreWithinHeadings}
-use Rattle.std.proofs.lemmas.Bool.{leb-true}
+use Rattle.std.proofs.lemmas.Bool.{leb-true, false≢true}
+use Rattle.std.proofs.lemmas.List.{append-nil}
 use Rattle.camac_lang.specs.Tree.{Procedure, Service, Item, next_table, next_lam, next_variables, next_procedure, next_service, Script}
 use Rattle.camac_range.specs.Number.{greatest}
 use Rattle.camac_range.specs.Interval.{only, IsWithin}
 use Rattle.camac_branch.specs.Branch.{Branch, Answer}
 use Rattle.camac_branch.specs.Plan.{Layout}
 use Rattle.camac_model.specs.State.{State, fresh}
-use Rattle.camac_model.specs.Behaviour.{Behaviour, does, ends, stops}
-use Rattle.camac_model.specs.Meaning.{context, block_meaning}
+use Rattle.camac_model.specs.Behaviour.{Behaviour, does, ends, stops, Action}
+use Rattle.camac_model.specs.Headline.{AreWithinHeadings}
+use Rattle.camac_model.specs.Meaning.{context, routines_with, block_meaning}
 use Rattle.camac_model.specs.Fine.{Bounds, IsWithin as IsWithinBounds, IsFine, IsFineService, AreFine}
 use Rattle.camac_rules.specs.Known.{Known}
-use Rattle.camac_rules.specs.Cycles.{Around, nothing_around}
+use Rattle.camac_rules.specs.Cycles.{nothing_around}
 use Rattle.camac_rules.specs.Laws.{EventsFit}
-use Rattle.camac_rules.specs.Accept.{at_start, accept_service, accept_items}
-use Rattle.camac_rules.proofs.Allows.{Allows, allowed, refused, then_allowed, required_allowed}
-use Rattle.camac_rules.proofs.Stores.{Inside}
-use Rattle.camac_rules.proofs.Sound.{Paid, Sound}
-use Rattle.camac_rules.proofs.Actions.{HasWidths, seen}
+use Rattle.camac_rules.specs.Statements.{accept_block}
+use Rattle.camac_rules.specs.Accept.{at_start, accept_procedure, accept_service, accept_items}
+use Rattle.camac_rules.proofs.Allows.{Allows, allowed, then_allowed, required_allowed, for_each, allowed_more}
+use Rattle.camac_rules.proofs.Stores.{Place, Inside}
+use Rattle.camac_rules.proofs.Sound.{Paid, Sound, SoundFor}
+use Rattle.camac_rules.proofs.Actions.{HasWidths, Setting, of, seen}
+use Rattle.camac_rules.proofs.Lockless.{block_has_lock}
+use Rattle.camac_rules.proofs.Routines.{called, RoutineSound, Serves, routine_sound}
 use Rattle.camac_rules.proofs.Statements.{block_sound}
+use Rattle.camac_rules.proofs.Settings.{bare_with, setting, Matched, matched_push, serves_own, serves_all, AreLockless}
 
 zero_within : IsWithin (only 0) 0
 zero_within = record { low = omega arith; high = omega arith }
 
+-- where a service runs
+abbrev outermost : Place
+outermost = called (λ c. false)
+
 -- a service starts inside what is known there
-start_inside : (b : Branch) (answers : List Answer) → Inside nothing_around at_start (fresh b answers)
+start_inside : (b : Branch) (answers : List Answer) → Inside outermost at_start (fresh b answers)
 start_inside b answers = record {
   variables = record { each = λ x. zero_within; small = λ x. omega arith };
   registers = λ r. tt;
@@ -42,7 +50,7 @@ paid_within k b answers t p = record {
   are_words = p.are_words tt;
 }
 
-sound_fine : (plan : Layout) (around : Around) (after : Known) (k : Bounds) (b : Branch) (answers : List Answer) (o : Behaviour State) → Sound plan around after k (fresh b answers) o → IsFine plan k o
+sound_fine : (plan : Layout) (around : Place) (after : Known) (k : Bounds) (b : Branch) (answers : List Answer) (o : Behaviour State) → Sound plan around after k (fresh b answers) o → IsFine plan k o
 sound_fine plan around after k b answers (does p o) h = (h.0, sound_fine plan around after k b answers o h.1)
 sound_fine plan around after k b answers (ends t) h = paid_within k b answers t h.paid
 sound_fine plan around after k b answers (stops w t) h = (h.of_answers, paid_within k b answers t h.paid)
@@ -57,13 +65,13 @@ pub record IsAccepted (plan : Layout) (script : Script) (v : Service) (k : Bound
   pub fine : IsFineService plan script k v
   pub costs : AreCosts k v
 
-service_accepted : (plan : Layout) (script : Script) → HasWidths plan → (v : Service) → Allows (accept_service (seen (context plan script)) v) (IsAccepted plan script v)
-service_accepted plan script narrow v =
-    then_allowed (block_sound (context plan script) narrow nothing_around v.body at_start) (λ found h.
+service_accepted : (plan : Layout) (script : Script) → HasWidths plan → (done : List Procedure) → Serves (setting plan script (context plan script).routines done) → (v : Service) → Allows (accept_service (seen (setting plan script (context plan script).routines done)) v) (IsAccepted plan script v)
+service_accepted plan script narrow done serves v =
+    then_allowed (block_sound (setting plan script (context plan script).routines done) narrow serves outermost v.body (λ e c. refl) at_start) (λ found h.
     required_allowed _ v.line (λ words.
     required_allowed _ v.line (λ cycles.
     required_allowed _ v.line (λ steps. allowed (record {
-      fine = λ n le b answers. sound_fine plan nothing_around found.after found.costs b answers (block_meaning (context plan script) n v.body (fresh b answers)) (h.each n le (fresh b answers) (start_inside b answers));
+      fine = λ n le b answers. sound_fine plan outermost found.after found.costs b answers (block_meaning (context plan script) n v.body (fresh b answers)) (h.each n le (fresh b answers) (start_inside b answers));
       costs = record { cycles = leb-true found.costs.cycles v.cycles cycles; words = leb-true found.costs.words v.words words; steps = leb-true found.costs.steps greatest steps };
     })))))
 
@@ -82,27 +90,61 @@ services_in (next_variables line n ∷ rest) = services_in rest
 services_in (next_procedure ∷ rest) = services_in rest
 services_in (next_service ∷ rest) = services_in rest + 1
 
-pub record AreFirst (plan : Layout) (script : Script) (n : ℕ) (vs : List Service) (ks : List Bounds) : Type 0 where
+-- how many procedures these items name
+abbrev pub procedures_in : List Item → ℕ
+procedures_in [] = 0
+procedures_in (next_table ∷ rest) = procedures_in rest
+procedures_in (next_lam ∷ rest) = procedures_in rest
+procedures_in (next_variables line n ∷ rest) = procedures_in rest
+procedures_in (next_procedure ∷ rest) = procedures_in rest + 1
+procedures_in (next_service ∷ rest) = procedures_in rest
+
+-- these procedures, of which so many are named, stand behind those that are done
+pub record AreSound (plan : Layout) (script : Script) (n : ℕ) (done ps : List Procedure) : Type 0 where
+  pub all : n ≡ length ps → Matched plan (context plan script).routines (done ++ ps)
+
+pub record AreFirst (plan : Layout) (script : Script) (n m : ℕ) (done ps : List Procedure) (vs : List Service) (ks : List Bounds) : Type 0 where
   pub accepted : AreAccepted plan script ks vs
   pub count : length ks ≡ min n (length vs)
+  pub procedures : AreSound plan script m done ps
 
-pub items_accepted : (plan : Layout) (script : Script) → HasWidths plan → (items : List Item) (ps : List Procedure) (vs : List Service) → Allows (accept_items (seen (context plan script)) items ps vs) (AreFirst plan script (services_in items) vs)
-items_accepted plan script narrow [] ps vs = allowed (record { accepted = tt; count = omega arith })
-items_accepted plan script narrow (next_table ∷ rest) ps vs = items_accepted plan script narrow rest ps vs
-items_accepted plan script narrow (next_lam ∷ rest) ps vs = items_accepted plan script narrow rest ps vs
-items_accepted plan script narrow (next_variables line n ∷ rest) ps vs = items_accepted plan script narrow rest ps vs
-items_accepted plan script narrow (next_procedure ∷ rest) [] vs = items_accepted plan script narrow rest [] vs
-items_accepted plan script narrow (next_procedure ∷ rest) (p ∷ ps) vs = refused
-items_accepted plan script narrow (next_service ∷ rest) ps [] =
-    then_again (items_accepted plan script narrow rest ps [])
-  where
-    then_again : {r : Result (List Bounds) Fault} → Allows r (AreFirst plan script (services_in rest) []) → Allows r (AreFirst plan script (services_in rest + 1) [])
-    then_again {r = Ok ks} h = record { holds = record { accepted = h.holds.accepted; count = let c = h.holds.count in omega arith } }
-    then_again {r = Err e} h = record { holds = tt }
-items_accepted plan script narrow (next_service ∷ rest) ps (v ∷ vs) =
-    then_allowed (service_accepted plan script narrow v) (λ k first.
-    then_allowed (items_accepted plan script narrow rest ps vs) (λ ks others.
-    allowed (record { accepted = (first, others.accepted); count = let c = others.count in omega arith })))
+procedure_accepted : (plan : Layout) (script : Script) → HasWidths plan → (rs : List (ℕ → Action)) (done : List Procedure) → Matched plan rs done → (p : Procedure) → block_has_lock p.body ≡ false → Allows (accept_procedure (seen (setting plan script rs done)) p) (λ found. RoutineSound plan p (λ n. block_meaning (of (setting plan script rs done)) n p.body))
+procedure_accepted plan script narrow rs done m p free =
+    let c : Setting = setting plan script rs done in
+    let run : ℕ → Action = λ n. block_meaning (of c) n p.body in
+    routine_sound plan p run (accept_block (seen c) nothing_around p.body) (λ k.
+    for_each (λ outside. Unit {0}) (λ outside v. SoundFor plan (called outside) (Some k) run v) (λ outside u.
+    block_sound c narrow (serves_own plan script rs done m) (called outside) p.body (λ e. absurd (false≢true (sym free ∙ e))) k))
+
+none_left : (plan : Layout) (script : Script) (rs : List (ℕ → Action)) (done ps : List Procedure) → Matched plan rs done → routines_with (bare_with plan script rs) ps ≡ (context plan script).routines → 0 ≡ length ps → Matched plan (context plan script).routines (done ++ ps)
+none_left plan script rs done [] m e n = subst (λ l. Matched plan (context plan script).routines l) (sym (append-nil done)) (subst (λ l. Matched plan l done) e m)
+none_left plan script rs done (p ∷ ps) m e n = absurd (omega arith)
+
+module _ (plan : Layout) (script : Script) (narrow : HasWidths plan) where
+  pub items_accepted : (items : List Item) (rs : List (ℕ → Action)) (done ps : List Procedure) (vs : List Service) → Matched plan rs done → routines_with (bare_with plan script rs) ps ≡ (context plan script).routines → AreLockless ps → Allows (accept_items (seen (setting plan script rs done)) items ps vs) (AreFirst plan script (services_in items) (procedures_in items) done ps vs)
+  items_accepted [] rs done ps vs m e free = allowed (record { accepted = tt; count = omega arith; procedures = record { all = λ n. none_left plan script rs done ps m e n } })
+  items_accepted (next_table ∷ rest) rs done ps vs m e free = items_accepted rest rs done ps vs m e free
+  items_accepted (next_lam ∷ rest) rs done ps vs m e free = items_accepted rest rs done ps vs m e free
+  items_accepted (next_variables line n ∷ rest) rs done ps vs m e free = items_accepted rest rs done ps vs m e free
+  items_accepted (next_procedure ∷ rest) rs done [] vs m e free =
+      allowed_more (items_accepted rest rs done [] vs m e free) (λ ks h.
+      record { accepted = h.accepted; count = h.count; procedures = record { all = λ n. absurd (omega arith) } })
+  items_accepted (next_procedure ∷ rest) rs done (p ∷ ps) vs m e free =
+      then_allowed (procedure_accepted plan script narrow rs done m p free.0) (λ found sound.
+      let body : ℕ → Action = λ n. block_meaning (of (setting plan script rs done)) n p.body in
+      allowed_more (items_accepted rest (rs ++ body ∷ []) (done ++ p ∷ []) ps vs (matched_push plan rs done body p m sound) e free.1) (λ ks h.
+      record {
+        accepted = h.accepted;
+        count = h.count;
+        procedures = record { all = λ n. subst (λ l. Matched plan (context plan script).routines l) (append_assoc done (p ∷ []) ps) (h.procedures.all (omega arith)) };
+      }))
+  items_accepted (next_service ∷ rest) rs done ps [] m e free =
+      allowed_more (items_accepted rest rs done ps [] m e free) (λ ks h.
+      record { accepted = h.accepted; count = let c = h.count in omega arith; procedures = h.procedures })
+  items_accepted (next_service ∷ rest) rs done ps (v ∷ vs) m e free =
+      then_allowed (service_accepted plan script narrow done (serves_all plan script rs done ps m e) v) (λ k first.
+      then_allowed (items_accepted rest rs done ps vs m e free) (λ ks others.
+      allowed (record { accepted = (first, others.accepted); count = let c = others.count in omega arith; procedures = others.procedures })))
 
 pub all_fine : (plan : Layout) (script : Script) (ks : List Bounds) (vs : List Service) → AreAccepted plan script ks vs → length ks ≡ length vs → AreFine plan script ks vs
 all_fine plan script [] [] h e = tt

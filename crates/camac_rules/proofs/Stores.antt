@@ -1,6 +1,6 @@
 -- States that are inside what the checker knows.
-use Rattle.std.proofs.Common.{◌≡◌, ℕ, zero, suc, ◌≤◌, List, [], ◌∷◌, Option, Some, None, get_or, refl, sym, ap, subst}
-use Rattle.std.specs.Prelude.{nat_eq}
+use Rattle.std.proofs.Common.{◌≡◌, ℕ, zero, suc, ◌≤◌, Bool, List, [], ◌∷◌, Option, Some, None, get_or, refl, sym, ap, subst}
+use Rattle.std.specs.Prelude.{◌||◌, nat_eq}
 use Rattle.std.proofs.lemmas.Bool.{cond_both, eqb-true, eqb-false}
 use Rattle.camac_range.specs.Number.{greatest}
 use Rattle.camac_range.specs.Interval.{Interval, only, IsWithin}
@@ -53,17 +53,33 @@ IsSetInside (Some g) (Some at) = InRegion g at
 abbrev pub RegistersInside : List (Option Region) → Registers → Type 0
 RegistersInside gs registers = (r : ℕ) → IsSetInside (region_at gs r) (registers r)
 
--- just these crates are locked
-abbrev pub AreLocked : List ℕ → Branch → Type 0
-AreLocked locked b = (c : ℕ) → (b c).locked ≡ is_among c locked
+-- what stands around a statement where it runs: besides what the rules see, which crates are locked around a call of its procedure
+pub record Place : Type 0 where
+  pub fixed : List ℕ
+  pub locked : List ℕ
+  pub outside : ℕ → Bool
 
-pub record Inside (around : Around) (k : Facts) (s : State) : Type 0 where
+-- what the rules see of it
+abbrev pub around_of : Place → Around
+around_of p = record { fixed = p.fixed; locked = p.locked }
+
+abbrev pub holding : ℕ → Place → Place
+holding c p = record { fixed = p.fixed; locked = c ∷ p.locked; outside = p.outside }
+
+abbrev pub fixing : ℕ → Place → Place
+fixing x p = record { fixed = x ∷ p.fixed; locked = p.locked; outside = p.outside }
+
+-- just these crates are locked
+abbrev pub AreLocked : Place → Branch → Type 0
+AreLocked p b = (c : ℕ) → (b c).locked ≡ (is_among c p.locked || p.outside c)
+
+pub record Inside (around : Place) (k : Facts) (s : State) : Type 0 where
   pub variables : VariablesInside k.ranges s.variables
   pub registers : RegistersInside k.registers s.registers
-  pub locks : AreLocked around.locked s.branch
+  pub locks : AreLocked around s.branch
 
 -- A state that can't be reached is no state.
-abbrev pub Reaches : Around → Known → State → Type 0
+abbrev pub Reaches : Place → Known → State → Type 0
 Reaches around None s = ⊥
 Reaches around (Some k) s = Inside around k s
 

@@ -23,7 +23,7 @@ abbrev pub Gives : Option ℕ → Interval → Type 0
 Gives None r = ⊥
 Gives (Some v) r = Fits r v
 
-some_if : {A : Type 0} (b : Bool) (x y : A) → cond b (Some x) None ≡ Some y → (b ≡ true) × (x ≡ y)
+pub some_if : {A : Type 0} (b : Bool) (x y : A) → cond b (Some x) None ≡ Some y → (b ≡ true) × (x ≡ y)
 some_if true x y e = (refl, cc)
 some_if false x y e = cc
 

@@ -1,7 +1,7 @@
 -- The rules of single actions. A rule's lines stand in the order of its tests.
 use Rattle.std.specs.Prelude.{ℕ, ◌-◌, ◌^◌, Bool, true, false, not, ◌&&◌, List, [], ◌∷◌, Some, Result, Ok, nat_lt}
 use Rattle.camac_lang.specs.declared.word.WordSize.{WordSize}
-use Rattle.camac_lang.specs.Tree.{Expression, Move, no_data, into, from}
+use Rattle.camac_lang.specs.Tree.{Expression, Procedure, Move, no_data, into, from}
 use Rattle.camac_range.specs.Interval.{Interval, interval}
 use Rattle.camac_func.specs.declared.code.FunctionClass.{FunctionClass}
 use Rattle.camac_func.specs.declared.code.FunctionClass.TheVariants.{Read, Write, Control}
@@ -22,7 +22,10 @@ use Rattle.camac_rules.specs.Addresses.{is_among, command_widths, cycle_cost}
 -- What a statement may refer to by its number, and what becomes of each cost: by the rules it stays, in code it is cut at a greatest number.
 pub record Context : Type 0 where
   pub plan : Layout
+  pub tables : List (List ℕ)
   pub lams : List Address
+  -- those before
+  pub procedures : List Procedure
   pub limit : Bounds → Bounds
 
 -- what stands around a statement: the variables of the `for` loops, and the crates that are locked

@@ -9,6 +9,11 @@ pub mod Walks
 pub mod Addresses
 pub mod Cycles
 pub mod Calls
+pub mod Writes
+pub mod Loops
+pub mod Windows
+pub mod Transfers
+pub mod Procedures
 pub mod Statements
 pub mod Accept
 pub mod Capped

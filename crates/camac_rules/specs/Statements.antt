@@ -1,9 +1,9 @@
 -- The rules of all statements: what is known after each and what it can cost, or the first rule that it breaks.
-use Rattle.std.specs.Prelude.{ℕ, Some, Result, Ok, Err, nat_le, unwrap_or}
+use Rattle.std.specs.Prelude.{ℕ, Some, Result, Ok, nat_le, unwrap_or}
 use Rattle.camac_lang.specs.Tree.{Expression, Statement, assign, set_register, single, address_scan, q_stop, q_repeat, put, crate_call, lam_call, choose, choose_else, count, repeat, locked, call, Block, done, next}
 use Rattle.camac_branch.specs.Plan.{crate_waits}
 use Rattle.camac_rules.specs.declared.rule.CheckRule.TheVariants.{WordTooWide, LoopVariableAssigned}
-use Rattle.camac_rules.specs.Fault.{Fault, not_served}
+use Rattle.camac_rules.specs.Fault.{Fault}
 use Rattle.camac_rules.specs.Refusal.{◌>>=◌, ◌>>◌, required, if_reached}
 use Rattle.camac_rules.specs.Known.{Facts, region, with_range, with_region}
 use Rattle.camac_rules.specs.Joined.{join}
@@ -12,6 +12,9 @@ use Rattle.camac_rules.specs.Conditions.{split}
 use Rattle.camac_rules.specs.Costs.{costs, no_costs, plus, choice_costs, lock_costs, Verdict, verdict, unreached}
 use Rattle.camac_rules.specs.Cycles.{Context, Around, with_locked, may_write, single_rule}
 use Rattle.camac_rules.specs.Calls.{crate_rule, lam_rule, lock_rule}
+use Rattle.camac_rules.specs.Loops.{with_fixed, for_rule, while_rule}
+use Rattle.camac_rules.specs.Transfers.{scan_rule, q_stop_rule, q_repeat_rule}
+use Rattle.camac_rules.specs.Procedures.{call_rule}
 
 -- the greatest word of 24 bits
 abbrev pub greatest_word : ℕ
@@ -41,6 +44,9 @@ abbrev mutual
   accept_statement c around (assign line x e) k = assign_rule around line x e k
   accept_statement c around (set_register line r e1 e2 e3) k = register_rule line r e1 e2 e3 k
   accept_statement c around (single line size f r move) k = single_rule c around line size f r move k
+  accept_statement c around (address_scan line f r1 r2 max x) k = scan_rule c around line f r1 r2 max x k
+  accept_statement c around (q_stop line f r t max x) k = q_stop_rule c around line f r t max x k
+  accept_statement c around (q_repeat line f r t max limit x) k = q_repeat_rule c around line f r t max limit x k
   accept_statement c around (choose line test a) k = do
     arms ← split line test k
     first ← if_reached unreached arms.holds (accept_block c around a)
@@ -57,12 +63,10 @@ abbrev mutual
   accept_statement c around (put line e) k = put_rule line e k
   accept_statement c around (crate_call line which e) k = crate_rule c around line e k
   accept_statement c around (lam_call line which l) k = lam_rule c around line which l k
-  accept_statement c around (address_scan line f r1 r2 max x) k = Err (not_served line)
-  accept_statement c around (q_stop line f r t max x) k = Err (not_served line)
-  accept_statement c around (q_repeat line f r t max limit x) k = Err (not_served line)
-  accept_statement c around (count line x e1 e2 keeps body) k = Err (not_served line)
-  accept_statement c around (repeat line test most m keeps body) k = Err (not_served line)
-  accept_statement c around (call line p es) k = Err (not_served line)
+  accept_statement c around (count line x e1 e2 keeps body) k =
+      for_rule c around line x e1 e2 keeps body (accept_block c (with_fixed x around) body) k
+  accept_statement c around (repeat line test most m keeps body) k = while_rule c line test most m keeps body (accept_block c around body) k
+  accept_statement c around (call line p es) k = call_rule c line p es k
 
   -- a list costs the sum
   pub accept_block : Context → Around → Block → Facts → Result Verdict Fault

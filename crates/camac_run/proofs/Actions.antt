@@ -1,5 +1,6 @@
 -- What a statement wants or changes, where it is fine to do it.
-use Rattle.std.proofs.Common.{◌≡◌, ℕ, ◌+◌, ◌^◌, ◌<◌, ◌≤◌, List, [], ◌∷◌, ◌++◌, length, set, Option, Some, None, Bool, true, refl, sym, ap, subst, ◌∙◌, arith}
+use Rattle.std.proofs.Common.{◌≡◌, ℕ, ◌+◌, ◌^◌, ◌<◌, ◌≤◌, List, [], ◌∷◌, ◌++◌, length, set, Option, Some, None, Bool, true, false, refl, sym, ap, subst, ◌∙◌, zero, suc, ◌-◌}
+use Rattle.std.specs.Borrow.{Bor}
 use Rattle.std.specs.Prelude.{IsSome, slice_get}
 use Rattle.camac_func.specs.declared.data.DataMove.{DataMove}
 use Rattle.camac_func.specs.declared.data.DataMove.TheVariants as moved
@@ -8,28 +9,30 @@ use Rattle.camac_lang.specs.declared.word.CrateCall.TheVariants as calls
 use Rattle.camac_lang.specs.declared.word.LamCall.{LamCall}
 use Rattle.camac_lang.specs.declared.word.WordSize.{WordSize}
 use Rattle.camac_lang.specs.declared.word.WordSize.TheVariants.{Full}
-use Rattle.camac_lang.specs.Tree.{Expression, Move, no_data, into, from, Statement, assign, set_register, single, address_scan, q_stop, q_repeat, put, crate_call, lam_call, choose, choose_else, count, repeat, locked, call}
+use Rattle.camac_lang.specs.declared.tree.Stmt.{Stmt}
+use Rattle.camac_lang.specs.View.{statements_of}
+use Rattle.camac_lang.specs.Tree.{Expression, Condition, Block, done, Move, no_data, into, from, Statement, assign, set_register, single, address_scan, q_stop, q_repeat, put, crate_call, lam_call, choose, choose_else, count, repeat, locked, call}
 use Rattle.camac_branch.specs.Address.{Address, address}
 use Rattle.camac_branch.specs.Allowed.{width}
 use Rattle.camac_branch.specs.Branch.{Answer, Reply}
+use Rattle.camac_branch.specs.Crates.{branch_of}
 use Rattle.camac_branch.specs.Plan.{Layout, crate_waits}
 use Rattle.camac_branch.specs.declared.answer.Command.{Command}
 use Rattle.camac_esone.specs.Calls.{command_at, crate_address, crate_function, lam_function}
 use Rattle.camac_model.specs.State.{State, stepped, set_at, with_variable, with_register, with_word}
-use Rattle.camac_model.specs.Behaviour.{ends, Action, then_do, given, unless_wrong}
-use Rattle.camac_model.specs.Cycle.{cycle, sized, kept}
+use Rattle.camac_model.specs.Behaviour.{ends, Action, then_do, given, decide, unless_wrong}
+use Rattle.camac_model.specs.Cycle.{cycle, sized, kept, take_lock, release}
 use Rattle.camac_model.specs.Fine.{IsWithin, most_turns}
-use Rattle.camac_model.specs.Meaning.{Context, act, effect, fits_size, lam_address}
+use Rattle.camac_model.specs.Meaning.{act, effect, block_meaning, fits_size, count_turns, count_from, turns}
 use Rattle.camac_model.specs.Safe.{IsSafe}
-use Rattle.camac_model.specs.Value.{value}
+use Rattle.camac_model.specs.Value.{value, truth}
 use Rattle.camac_run.specs.declared.machine.Machine.{Machine}
-use Rattle.camac_run.specs.declared.machine.Wanting.{Wanting}
-use Rattle.camac_run.specs.declared.machine.Wanting.TheVariants.{Cycle, Read}
-use Rattle.camac_run.specs.Held.{context_in, state_of, bounds_of, left_in, IsFineHere, FineThen, Wants}
+use Rattle.camac_run.specs.declared.machine.Wanting.TheVariants.{Cycle, Read, Lock}
+use Rattle.camac_run.specs.Held.{context_in, state_of, bounds_of, left_in, free, IsFineHere, FineThen, Wants}
 use Rattle.camac_run.specs.Rest.{address_of, awaited}
 use Rattle.camac_run.specs.Store.{variables_in, registers_in}
-use Rattle.camac_run.specs.Within.{StatementFits}
-use Rattle.camac_run.proofs.Fine.{some_is, blank, fine_given, fine_unless, keeps_rest, fine_cycle, cycle_steps, fine_word}
+use Rattle.camac_run.specs.Within.{StatementFits, Opens}
+use Rattle.camac_run.proofs.Fine.{some_is, blank, fine_given, fine_unless, fine_decide, fine_lock, lock_within, fine_first, keeps_block, keeps_rest, fine_cycle, cycle_steps, fine_word, keeps_counts, keeps_turns}
 
 module _ {V D C : ℕ} (h : Machine V D C) where
   abbrev plan : Layout
@@ -162,6 +165,12 @@ module _ {V D C : ℕ} (h : Machine V D C) where
       ap (λ g. left_in h (record (state_of h answers) { variables = g })) set
       ∙ ap (λ o. then_do (given o go (state_of h answers)) (left_in h)) (sym is)
 
+  pub put_goes : (e : Expression) (v : ℕ) → value e (variables_in h.variables) ≡ Some v → (ws : List ℕ) → ws ≡ h.words ++ v ∷ [] → (answers : List Answer) → left_in h (record (state_of h answers) { words = ws }) ≡ then_do (effect (context_in h.checked.now) most_turns (put 0 e) (state_of h answers)) (left_in h)
+  put_goes e v is ws added answers =
+      let go : ℕ → Action = λ w t. ends (with_word w t) in
+      ap (λ l. left_in h (record (state_of h answers) { words = l })) added
+      ∙ ap (λ o. then_do (given o go (state_of h answers)) (left_in h)) (sym is)
+
   pub register_goes : (r : ℕ) (e1 e2 e3 : Expression) (x y z : ℕ) → value e1 (variables_in h.variables) ≡ Some x → value e2 (variables_in h.variables) ≡ Some y → value e3 (variables_in h.variables) ≡ Some z → (rs : List (Option Address)) → registers_in rs ≡ set_at r (Some (address x y z)) (registers_in h.registers) → (answers : List Answer) → left_in h (record (state_of h answers) { registers = registers_in rs }) ≡ then_do (effect (context_in h.checked.now) most_turns (set_register 0 r e1 e2 e3) (state_of h answers)) (left_in h)
   register_goes r e1 e2 e3 x y z i1 i2 i3 rs set answers =
       let s : State = state_of h answers in
@@ -173,12 +182,64 @@ module _ {V D C : ℕ} (h : Machine V D C) where
       ∙ ap (λ o. then_do (given (value e1 (variables_in h.variables)) (first o (Some z)) s) (left_in h)) (sym i2)
       ∙ ap (λ o. then_do (given (value e1 (variables_in h.variables)) (first (value e2 (variables_in h.variables)) o) s) (left_in h)) (sym i3)
 
+  keeps_block_then : (b : Block) (s : State) → IsFineHere h (then_do (block_meaning (context_in h.checked.now) most_turns b s) (left_in h)) → IsWithin (bounds_of h) s
+  keeps_block_then b s fine =
+      keeps_block plan (bounds_of h) h.checked.now.script most_turns b s
+      (fine_first plan (bounds_of h) (block_meaning (context_in h.checked.now) most_turns b s) (left_in h) (λ t f. keeps t f) fine)
+
+  choose_steps : (test : Condition) (a b : Block) (s : State) → IsFineHere h (then_do (decide (truth test s.variables s.q s.x) (block_meaning (context_in h.checked.now) most_turns a) (block_meaning (context_in h.checked.now) most_turns b) s) (left_in h)) → s.steps ≤ (bounds_of h).steps
+  choose_steps test a b s fine = go (truth test s.variables s.q s.x) fine
+    where
+      go : (o : Option Bool) → IsFineHere h (then_do (decide o (block_meaning (context_in h.checked.now) most_turns a) (block_meaning (context_in h.checked.now) most_turns b) s) (left_in h)) → s.steps ≤ (bounds_of h).steps
+      go None f = absurd f.0
+      go (Some true) f = (keeps_block_then a s f).steps
+      go (Some false) f = (keeps_block_then b s f).steps
+
+  -- a condition has a value
+  pub test_has : (test : Condition) (a b : Block) → Does (choose_else 0 test a b) → IsSome (truth test (variables_in h.variables) h.q h.x)
+  test_has test a b fine =
+      fine_decide plan (bounds_of h) (truth test (variables_in h.variables) h.q h.x) (block_meaning (context_in h.checked.now) most_turns a) (block_meaning (context_in h.checked.now) most_turns b) (state_of h []) (left_in h) (fine [])
+
+  pub choose_goes : (test : Condition) (a b : Block) (answers : List Answer) → truth test (variables_in h.variables) h.q h.x ≡ Some true → block_meaning (context_in h.checked.now) most_turns a (state_of h answers) ≡ effect (context_in h.checked.now) most_turns (choose_else 0 test a b) (state_of h answers)
+  choose_goes test a b answers e =
+      ap (λ o. decide o (block_meaning (context_in h.checked.now) most_turns a) (block_meaning (context_in h.checked.now) most_turns b) (state_of h answers)) (sym e)
+
+  pub choose_other : (test : Condition) (a b : Block) (answers : List Answer) → truth test (variables_in h.variables) h.q h.x ≡ Some false → block_meaning (context_in h.checked.now) most_turns b (state_of h answers) ≡ effect (context_in h.checked.now) most_turns (choose_else 0 test a b) (state_of h answers)
+  choose_other test a b answers e =
+      ap (λ o. decide o (block_meaning (context_in h.checked.now) most_turns a) (block_meaning (context_in h.checked.now) most_turns b) (state_of h answers)) (sym e)
+
+  -- a lock
+  abbrev inside : ℕ → Block → Action
+  inside k body u = then_do (block_meaning (context_in h.checked.now) most_turns body u) (release k)
+
+  abbrev lock_of : ℕ → Block → Action
+  lock_of k body = given (crate_waits plan k) (λ waits t. take_lock k waits (t.branch k).locked (inside k body) t)
+
+  pub lock_has : (e : Expression) (body : Block) → Does (locked 0 e body) → IsSome (value e (variables_in h.variables))
+  lock_has e body fine = has_value e _ (fine [])
+
+  pub lock_can : (e : Expression) (body : Block) (k : ℕ) → value e (variables_in h.variables) ≡ Some k → Does (locked 0 e body) → IsSome (crate_waits plan k) × ((branch_of h.branch k).locked ≡ false)
+  lock_can e body k is fine =
+      fine_lock plan (bounds_of h) k (inside k body) (state_of h []) (left_in h)
+      (known (value e (variables_in h.variables)) k (λ n. lock_of n body) [] is (fine []))
+
+  pub lock_wants : (e : Expression) (body : Bor (List Stmt)) (k : ℕ) → value e (variables_in h.variables) ≡ Some k → (1 ≤ k) × (k ≤ 7) → Opens V (length h.checked.now.script.lams) (free h) (statements_of body.now) → IsSome (crate_waits plan k) × ((branch_of h.branch k).locked ≡ false) → Wants h (λ c. effect c most_turns (locked 0 e (statements_of body.now))) (Lock k body)
+  unfolding awaited
+  lock_wants e body k is range opens can =
+      record { wants = (can.0, (can.1, range.0, range.1, opens)); goes = λ answers. rw is refl }
+
+  count_steps : (j x v w : ℕ) (b : Block) (s : State) → IsFineHere h (then_do (count_from j most_turns x v w (block_meaning (context_in h.checked.now) most_turns b) s) (left_in h)) → IsWithin (bounds_of h) s
+  count_steps zero x v w b s fine = keeps s fine
+  count_steps (suc j) x v w b s fine =
+      keeps_counts plan (bounds_of h) h.checked.now.script b (suc j) most_turns x v w s
+      (fine_first plan (bounds_of h) (count_turns (suc j) most_turns x v w (block_meaning (context_in h.checked.now) most_turns b) s) (left_in h) (λ t f. keeps t f) fine)
+
   -- a step has room
-  pub begun : (st : Statement) (v l : ℕ) → StatementFits v l st → ((answers : List Answer) → IsFineHere h (then_do (effect (context_in h.checked.now) most_turns st (stepped (state_of h answers))) (left_in h))) → h.steps + 1 ≤ (bounds_of h).steps
-  begun (assign line x e) v l fits fine =
+  pub begun : (st : Statement) (v l d : ℕ) → StatementFits v l d st → ((answers : List Answer) → IsFineHere h (then_do (effect (context_in h.checked.now) most_turns st (stepped (state_of h answers))) (left_in h))) → h.steps + 1 ≤ (bounds_of h).steps
+  begun (assign line x e) v l d fits fine =
       let g = fine_given plan (bounds_of h) (value e (variables_in h.variables)) (λ w t. ends (with_variable x w t)) (stepped (state_of h [])) (left_in h) (fine []) in
       (keeps (with_variable x g.0 (stepped (state_of h []))) g.2).steps
-  begun (set_register line r e1 e2 e3) v l fits fine =
+  begun (set_register line r e1 e2 e3) v l d fits fine =
       let s : State = stepped (state_of h []) in
       let third : ℕ → ℕ → ℕ → Action = λ k' m' a' t. ends (with_register r (address k' m' a') t) in
       let second : ℕ → ℕ → Action = λ k' m'. given (value e3 (variables_in h.variables)) (third k' m') in
@@ -187,27 +248,40 @@ module _ {V D C : ℕ} (h : Machine V D C) where
       let g2 = fine_given plan (bounds_of h) (value e2 (variables_in h.variables)) (second g1.0) s (left_in h) g1.2 in
       let g3 = fine_given plan (bounds_of h) (value e3 (variables_in h.variables)) (third g1.0 g2.0) s (left_in h) g2.2 in
       (keeps (with_register r (address g1.0 g2.0 g3.0) s) g3.2).steps
-  begun (single line size f r m) v l fits fine =
+  begun (single line size f r m) v l d fits fine =
       let s : State = stepped (state_of h (blank ∷ [])) in
       let g = fine_given plan (bounds_of h) (registers_in h.registers r) (λ at. act plan at f size m) s (left_in h) (fine (blank ∷ [])) in
       act_steps g.0 f size m s refl g.2
-  begun (put line e) v l fits fine =
+  begun (put line e) v l d fits fine =
       let g = fine_given plan (bounds_of h) (value e (variables_in h.variables)) (λ w t. ends (with_word w t)) (stepped (state_of h [])) (left_in h) (fine []) in
       (keeps (with_word g.0 (stepped (state_of h []))) g.2).steps
-  begun (crate_call line which e) v l fits fine =
+  begun (crate_call line which e) v l d fits fine =
       let s : State = stepped (state_of h (blank ∷ [])) in
       let g = fine_given plan (bounds_of h) (value e (variables_in h.variables)) (λ d. act plan (crate_address which d) (crate_function which) Full no_data) s (left_in h) (fine (blank ∷ [])) in
       act_steps (crate_address which g.0) (crate_function which) Full no_data s refl g.2
-  begun (lam_call line which i) v l fits fine =
+  begun (lam_call line which i) v l d fits fine =
       let s : State = stepped (state_of h (blank ∷ [])) in
       let g = fine_given plan (bounds_of h) (slice_get (context_in h.checked.now).lams i) (λ at. act plan at (lam_function which) Full no_data) s (left_in h) (fine (blank ∷ [])) in
       act_steps g.0 (lam_function which) Full no_data s refl g.2
-  begun (address_scan line f r1 r2 max x) v l fits fine = absurd fits
-  begun (q_stop line f r t max x) v l fits fine = absurd fits
-  begun (q_repeat line f r t max limit x) v l fits fine = absurd fits
-  begun (choose line test a) v l fits fine = absurd fits
-  begun (choose_else line test a b) v l fits fine = absurd fits
-  begun (count line x e1 e2 ks body) v l fits fine = absurd fits
-  begun (repeat line test m k ks body) v l fits fine = absurd fits
-  begun (locked line e body) v l fits fine = absurd fits
-  begun (call line p es) v l fits fine = absurd fits
+  begun (address_scan line f r1 r2 max x) v l d fits fine = absurd fits
+  begun (q_stop line f r t max x) v l d fits fine = absurd fits
+  begun (q_repeat line f r t max limit x) v l d fits fine = absurd fits
+  begun (choose line test a) v l d fits fine = choose_steps test a done (stepped (state_of h [])) (fine [])
+  begun (choose_else line test a b) v l d fits fine = choose_steps test a b (stepped (state_of h [])) (fine [])
+  begun (count line x e1 e2 ks body) v l d fits fine =
+      let s : State = stepped (state_of h []) in
+      let b : Action = block_meaning (context_in h.checked.now) most_turns body in
+      let to : ℕ → Action = λ w. given (value e2 (variables_in h.variables)) (λ u. count_from (u + 1 - w) most_turns x w u b) in
+      let g1 = fine_given plan (bounds_of h) (value e1 (variables_in h.variables)) to s (left_in h) (fine []) in
+      let g2 = fine_given plan (bounds_of h) (value e2 (variables_in h.variables)) (λ u. count_from (u + 1 - g1.0) most_turns x g1.0 u b) s (left_in h) g1.2 in
+      (count_steps (g2.0 + 1 - g1.0) x g1.0 g2.0 body s g2.2).steps
+  begun (repeat line test m k ks body) v l d fits fine =
+      let s : State = stepped (state_of h []) in
+      let b : Action = block_meaning (context_in h.checked.now) most_turns body in
+      (keeps_turns plan (bounds_of h) h.checked.now.script body test most_turns s
+      (fine_first plan (bounds_of h) (turns most_turns test b s) (left_in h) (λ t f. keeps t f) (fine []))).steps
+  begun (locked line e body) v l d fits fine =
+      let s : State = stepped (state_of h []) in
+      let g = fine_given plan (bounds_of h) (value e (variables_in h.variables)) (λ k. lock_of k body) s (left_in h) (fine []) in
+      (lock_within plan (bounds_of h) g.0 (inside g.0 body) s (left_in h) refl g.2).steps
+  begun (call line p es) v l d fits fine = absurd fits

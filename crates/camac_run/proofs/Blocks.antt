@@ -1,13 +1,11 @@
 -- The open blocks: with one block more, and one less.
-use Rattle.std.proofs.Common.{◌≡◌, ℕ, zero, suc, ◌+◌, ◌*◌, ◌-◌, ◌<◌, ◌≤◌, List, [], ◌∷◌, ◌++◌, length, refl, sym, ap, ◌∙◌, arith}
-use Rattle.camac_lang.specs.Tree.{Block}
+use Rattle.std.proofs.Common.{◌≡◌, ℕ, suc, ◌+◌, ◌*◌, ◌-◌, ◌<◌, ◌≤◌, List, [], ◌∷◌, ◌++◌, length, refl, sym, ap, subst, ◌∙◌, arith}
 use Rattle.camac_model.specs.State.{State}
-use Rattle.camac_model.specs.Behaviour.{Behaviour, does, ends, stops, Action, then_do}
-use Rattle.camac_model.specs.Fine.{most_turns}
-use Rattle.camac_model.specs.Meaning.{Context, block_meaning}
+use Rattle.camac_model.specs.Behaviour.{Behaviour, does, ends, stops, then_do, lock_released}
+use Rattle.camac_model.specs.Meaning.{Context}
 use Rattle.camac_model.proofs.Runs.{then_assoc}
-use Rattle.camac_run.specs.Rest.{rest_in}
-use Rattle.camac_run.specs.Within.{AllFit, BlocksFit}
+use Rattle.camac_run.specs.Rest.{Open, left_of, rest_in, says}
+use Rattle.camac_run.specs.Within.{Opens, OwnerFits, OpenFit}
 
 pub then_ends : {A : Type 0} (b : Behaviour A) → then_do b (λ a. ends a) ≡ b
 then_ends (does p b) = ap (does p) (then_ends b)
@@ -15,26 +13,55 @@ then_ends (ends a) = refl
 then_ends (stops w s) = refl
 
 -- with one block more, that block comes first
-pub rest_push : (c : Context) (bs : List Block) (b : Block) (s : State) → rest_in c (bs ++ b ∷ []) s ≡ then_do (block_meaning c most_turns b s) (rest_in c bs)
+pub rest_push : (c : Context) (os : List Open) (o : Open) (s : State) → rest_in c (os ++ o ∷ []) s ≡ then_do (left_of c o s) (rest_in c os)
 unfolding rest_in
-rest_push c [] b s = sym (then_ends (block_meaning c most_turns b s))
-rest_push c (d ∷ bs) b s =
-    ap (λ r. then_do r (block_meaning c most_turns d)) (rest_push c bs b s)
-    ∙ then_assoc (block_meaning c most_turns b s) (rest_in c bs) (block_meaning c most_turns d)
+rest_push c [] o s = sym (then_ends (left_of c o s))
+rest_push c (d ∷ os) o s =
+    ap (λ r. then_do r (left_of c d)) (rest_push c os o s) ∙ then_assoc (left_of c o s) (rest_in c os) (left_of c d)
 
 pub rest_empty : (c : Context) (s : State) → rest_in c [] s ≡ ends s
 unfolding rest_in
 rest_empty c s = refl
 
-pub blocks_push : (v l d : ℕ) (bs : List Block) (b : Block) → BlocksFit v l d bs → length bs < d → AllFit v l b → BlocksFit v l d (bs ++ b ∷ [])
-blocks_push v l d [] b h lt f = (omega arith, f, tt)
-blocks_push v l d (c ∷ bs) b h lt f = (h.0, h.1, blocks_push v l (d - 1) bs b h.2 (omega arith) f)
+pub opens_push : (v l d : ℕ) (os : List Open) (o : Open) → OpenFit v l d os → Opens v l (d - length os) o.block → OwnerFits v l (d - length os) o.owner → OpenFit v l d (os ++ o ∷ [])
+opens_push v l d [] o h b w =
+    let e : d - 0 ≡ d = omega arith in
+    (subst (λ n. Opens v l n o.block) e b, subst (λ n. OwnerFits v l n o.owner) e w, tt)
+opens_push v l d (p ∷ os) o h b w =
+    let e : d - suc (length os) ≡ d - 1 - length os = omega arith in
+    (h.0, h.1, opens_push v l (d - 1) os o h.2 (subst (λ n. Opens v l n o.block) e b) (subst (λ n. OwnerFits v l n o.owner) e w))
 
-pub blocks_pop : (v l d : ℕ) (bs : List Block) (b : Block) → BlocksFit v l d (bs ++ b ∷ []) → BlocksFit v l d bs × AllFit v l b × (length bs < d)
-blocks_pop v l d [] b h = (tt, h.1, omega (arith, h.0))
-blocks_pop v l d (c ∷ bs) b h =
-    let k = blocks_pop v l (d - 1) bs b h.2 in
-    let lt = k.2 in ((h.0, h.1, k.0), k.1, omega (arith, lt))
+-- what the last one has
+pub record LastFits (v l d : ℕ) (os : List Open) (o : Open) : Type 0 where
+  pub others : OpenFit v l d os
+  pub block : Opens v l (d - length os) o.block
+  pub owner : OwnerFits v l (d - length os) o.owner
+  pub depth : length os < d
+
+pub opens_pop : (v l d : ℕ) (os : List Open) (o : Open) → OpenFit v l d (os ++ o ∷ []) → LastFits v l d os o
+opens_pop v l d [] o h =
+    let e : d ≡ d - 0 = omega arith in
+    let some = h.0.0 in
+    record { others = tt; block = subst (λ n. Opens v l n o.block) e h.0; owner = subst (λ n. OwnerFits v l n o.owner) e h.1; depth = omega (arith, some) }
+opens_pop v l d (p ∷ os) o h =
+    let k = opens_pop v l (d - 1) os o h.2 in
+    let e : d - 1 - length os ≡ d - suc (length os) = omega arith in
+    let lt = k.depth in
+    record {
+      others = (h.0, h.1, k.others);
+      block = subst (λ n. Opens v l n o.block) e k.block;
+      owner = subst (λ n. OwnerFits v l n o.owner) e k.owner;
+      depth = omega (arith, lt);
+    }
+
+-- releases, and then more of them
+pub says_more : {A : Type 0} (ks ls : List ℕ) (b : Behaviour A) → says (ks ++ ls) b ≡ says ks (says ls b)
+says_more [] ls b = refl
+says_more (k ∷ ks) ls b = ap (does (lock_released k)) (says_more ks ls b)
+
+pub says_then : {A B : Type 0} (ks : List ℕ) (b : Behaviour A) (go : A → Behaviour B) → then_do (says ks b) go ≡ says ks (then_do b go)
+says_then [] b go = refl
+says_then (k ∷ ks) b go = ap (does (lock_released k)) (says_then ks b go)
 
 -- the measure falls where a block is taken, and each block more costs a step
 pub measure_falls : (b s s' n n' p : ℕ) → s' ≤ b → n' + 2 * s ≤ 2 * s' + p → n ≡ p + 1 → 2 * (b - s') + n' < 2 * (b - s) + n

@@ -1,6 +1,6 @@
 -- The bounds of a service fit a store that is large enough.
-use Rattle.std.proofs.Common.{◌≡◌, ℕ, zero, suc, ◌+◌, ◌<◌, ◌≤◌, List, [], ◌∷◌, length, map, Option, Some, None, Bool, true, refl, sym, ap, subst, ◌∙◌, arith}
-use Rattle.std.specs.Prelude.{◌&&◌, IsTrue, max, slice_get, slice_index_or, nat_le}
+use Rattle.std.proofs.Common.{◌≡◌, ℕ, zero, suc, ◌+◌, ◌-◌, ◌≤◌, List, [], ◌∷◌, length, Some, Bool, true, refl, subst, arith}
+use Rattle.std.specs.Prelude.{◌&&◌, IsTrue, slice_get, slice_index_or, nat_le}
 use Rattle.std.proofs.lemmas.Bool.{and_parts, leb-true}
 use Rattle.camac_lang.specs.Depth.{inner_depth, callables_after, script_depth}
 use Rattle.camac_lang.specs.Laws.{whole, ServiceStands}
@@ -13,13 +13,11 @@ use Rattle.camac_branch.specs.Plan.{Layout}
 use Rattle.camac_check.specs.Checked.{CheckedScript, IsChecked}
 use Rattle.camac_run.specs.Fits.{fits}
 use Rattle.camac_run.specs.Plays.{are_played, plays}
-use Rattle.camac_check.proofs.Judged.{fine_count}
 use Rattle.camac_model.specs.Fine.{Bounds, IsFineService, AreFine}
 use Rattle.camac_model.specs.Headline.{IsWithinHeading, AreWithinHeadings}
-use Rattle.camac_model.specs.Meaning.{lam_address}
 use Rattle.camac_model.specs.Value.{greatest}
 use Rattle.camac_run.specs.Held.{bounds_at}
-use Rattle.camac_run.specs.Within.{AllFit}
+use Rattle.camac_run.specs.Within.{Opens}
 use Rattle.camac_run.proofs.Played.{played_fits}
 
 -- what a store has room for
@@ -83,7 +81,7 @@ module _ (c : CheckedScript) (checked : IsChecked c) (formed : IsTrue (is_well_f
       checked.headings
 
   -- the body of a service fits
-  pub body_fits : (i : ℕ) (s : Service) → slice_get c.script.services i ≡ Some s → (0 < d) × AllFit v (length c.script.lams) s.body
+  pub body_fits : (i : ℕ) (s : Service) → slice_get c.script.services i ≡ Some s → Opens v (length c.script.lams) d s.body
   body_fits i s e =
       let st = stands i s e in
       let deep : suc (inner_depth (whole c.script).callables s.body) ≤ most (λ q. suc (inner_depth (callables_after [] c.script.procedures) q.body)) c.script.services =
@@ -92,8 +90,8 @@ module _ (c : CheckedScript) (checked : IsChecked c) (formed : IsTrue (is_well_f
       let few : length s.registers ≤ most (λ q. length q.registers) c.script.services = most_at (λ q. length q.registers) c.script.services i s e in
       let registers = store.registers in (
         omega (arith, deep, depth),
-        played_fits (whole c.script) v (length c.script.lams) c.script.services i (length s.registers) s
-            store.played e st.body (omega (arith, few, registers)) store.variables (omega arith),
+        played_fits (whole c.script) v (length c.script.lams) c.script.services i (length s.registers) (d - 1) s
+            store.played e st.body (omega (arith, few, registers)) store.variables (omega arith) (omega (arith, deep, depth)),
       )
 
 -- a service is fine by the bounds of its number

@@ -1,12 +1,14 @@
 -- Commands of safe cycles.
-use Rattle.std.proofs.Common.{◌≡◌, ℕ, ◌^◌, ◌<◌, ◌≤◌, arith, inl, inr, subst, sym, ap, ◌⊎◌}
-use Rattle.std.proofs.lemmas.Bool.{cases_lt}
+use Rattle.std.proofs.Common.{◌≡◌, ℕ, zero, suc, ◌^◌, ◌<◌, ◌≤◌, Option, None, arith, inl, inr, subst, ◌⊎◌}
+use Rattle.std.proofs.lemmas.Bool.{cases_lt, false≢true}
+use Rattle.std.proofs.lemmas.List.{get_or_past}
 use Rattle.std.proofs.lemmas.Nat.{pow_below}
 use Rattle.camac_func.specs.declared.data.DataMove.{DataMove}
 use Rattle.camac_func.specs.declared.data.DataMove.TheVariants as moved
 use Rattle.camac_branch.specs.Address.{Address}
 use Rattle.camac_branch.specs.Allowed.{AllowsCommands, IsCommand}
-use Rattle.camac_branch.specs.Plan.{Layout}
+use Rattle.std.specs.Prelude.{IsSome, option_map}
+use Rattle.camac_branch.specs.Plan.{Layout, IsPlan, crate_at, crate_waits}
 use Rattle.camac_esone.specs.Calls.{IsOnBranch}
 use Rattle.camac_model.specs.Safe.{IsSafe}
 
@@ -30,3 +32,15 @@ module _ (plan : Layout) (all : AllowsCommands plan) (at : Address) (f : ℕ) wh
       go (inr more) =
           let most = (is_command (moved.Out v) h).width_to_24 in
           let same : h.width ≡ 24 = omega (arith, most, more) in subst (λ w. v < 2 ^ w) same low
+
+option_none : {A B : Type 0} (f : A → B) (o : Option A) → o ≡ None → IsSome (option_map f o) → ⊥
+option_none f o e h = false≢true (subst (λ p. IsSome (option_map f p)) e h)
+
+-- a crate of the plan has one of the numbers
+pub crate_in_range : (plan : Layout) (c : ℕ) → IsPlan plan → IsSome (crate_waits plan c) → (1 ≤ c) × (c ≤ 7)
+crate_in_range plan zero p h = absurd (false≢true h)
+crate_in_range plan (suc c) p h =
+    elim (cases_lt c 7) [
+      | inl less ↦ (omega arith, omega (arith, less))
+      | inr past ↦ absurd (option_none (λ k. k.waits) (crate_at plan (suc c)) (get_or_past plan.crates c None (rw p.crate_places past)) h)
+    ]

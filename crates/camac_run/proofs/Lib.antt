@@ -1,10 +1,14 @@
 pub mod Fine
 pub mod Stores
 pub mod Blocks
+pub mod Locks
 pub mod Commands
 pub mod Actions
 pub mod Frames
+pub mod Loops
+pub mod Leaves
 pub mod Takes
+pub mod Taken
 pub mod Lams
 pub mod Services
 pub mod Played

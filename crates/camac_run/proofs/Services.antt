@@ -1,5 +1,5 @@
 -- The services of a script by their numbers, and their bits.
-use Rattle.std.proofs.Common.{◌≡◌, ◌≢◌, ℕ, zero, suc, ◌+◌, ◌-◌, ◌<◌, ◌≤◌, List, [], ◌∷◌, length, drop, Option, Some, None, Bool, true, false, map, refl, sym, ap, subst, ◌∙◌, arith, eq-eqb}
+use Rattle.std.proofs.Common.{◌≡◌, ◌≢◌, ℕ, zero, suc, ◌+◌, ◌<◌, List, [], ◌∷◌, length, drop, Option, Some, None, refl, sym, ap, subst, ◌∙◌, arith, eq-eqb}
 use Rattle.std.proofs.lemmas.Bool.{ne_eqb}
 use Rattle.std.proofs.lemmas.Option.{slice_get-map}
 use Rattle.std.specs.Prelude.{slice_get, option_map, option_and_then, nat_eq, if◌then◌else◌}
@@ -7,11 +7,10 @@ use Rattle.camac_lang.specs.Tree.{Lam, Service}
 use Rattle.camac_branch.specs.Plan.{Layout, gl}
 use Rattle.camac_check.specs.Checked.{CheckedScript, linked_of}
 use Rattle.camac_model.specs.Meaning.{context, lam_address}
-use Rattle.camac_model.specs.Run.{Chosen, service_bit, is_bit, has_bit, with_bit, or_next, first_service}
+use Rattle.camac_model.specs.Run.{service_bit, is_bit, with_bit}
 use Rattle.camac_names.specs.Link.{lam_bit, service_bit as link_bit}
 use Rattle.camac_names.specs.Linked.{bit_of_service}
 use Rattle.camac_run.specs.Called.{chosen_of}
-use Rattle.camac_run.specs.declared.service.Called.{Called}
 
 same_bit : (plan : Layout) (o : Option Lam) → option_and_then (λ at. gl plan at.crate_no at.station) (option_map lam_address o) ≡ option_and_then (lam_bit plan) o
 same_bit plan None = refl

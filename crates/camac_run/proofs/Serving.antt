@@ -1,21 +1,19 @@
 -- From one answer of a runner to the next.
-use Rattle.std.proofs.Common.{◌≡◌, ℕ, zero, suc, ◌+◌, ◌<◌, ◌≤◌, List, [], ◌∷◌, length, drop, Option, Some, None, Bool, true, false, refl, sym, ap, subst, ◌∙◌, arith}
-use Rattle.std.specs.Prelude.{option_map, option_and_then, slice_get, IfSome, IfNone, OnSome, IsSome}
-use Rattle.std.specs.Borrow.{Bor}
+use Rattle.std.proofs.Common.{◌≡◌, ℕ, ◌≤◌, List, [], ◌∷◌, length, Option, Some, None, refl, sym, ap, subst, ◌∙◌}
+use Rattle.std.specs.Prelude.{option_map}
 use Rattle.camac_lang.specs.Tree.{Service, Script}
 use Rattle.camac_branch.specs.Branch.{Branch, Answer, pattern_of}
 use Rattle.camac_branch.specs.Plan.{Layout}
-use Rattle.camac_check.specs.Checked.{CheckedScript}
-use Rattle.camac_model.specs.State.{State, fresh}
-use Rattle.camac_model.specs.Behaviour.{Behaviour, does, ends, stops, Stop, Piece, Action, then_do, demanded, event_left, pieces, uses, reached}
+use Rattle.camac_model.specs.State.{State}
+use Rattle.camac_model.specs.Behaviour.{Behaviour, does, ends, stops, Stop, Piece, then_do, demanded, lock_released, event_left, pieces, uses, reached}
 use Rattle.camac_model.specs.Fine.{most_turns}
 use Rattle.camac_model.specs.Laws.{EndsWith}
 use Rattle.camac_model.specs.Meaning.{Context, context}
-use Rattle.camac_model.specs.Run.{Chosen, service_for, service_meaning, event_of, serve, rounds, run, the_run}
+use Rattle.camac_model.specs.Run.{Chosen, service_for, service_meaning, event_of, serve, rounds}
 use Rattle.camac_model.proofs.AnswersUsed.{rounds_suffice}
 use Rattle.camac_model.proofs.Counts.{services_count}
-use Rattle.camac_model.proofs.Runs.{then_assoc, where_reached, drop_length}
-use Rattle.camac_run.specs.Rest.{onward, served}
+use Rattle.camac_model.proofs.Runs.{where_reached, drop_length}
+use Rattle.camac_run.specs.Rest.{says, onward, served}
 
 -- what goes on in the same way at each end of a kind
 then_same : {A : Type 0} (Q : State → Type 0) (b : Behaviour State) (f g : State → Behaviour A) → EndsWith Q b → ((s : State) → Q s → f s ≡ g s) → then_do b f ≡ then_do b g
@@ -70,6 +68,10 @@ module _ (c : Context) (vs : List Service) (bit : ℕ) where
   pub served_stops : (w : Stop) (s : State) → served c vs bit (stops w s) ≡ stops w s
   unfolding served
   served_stops w s = refl
+
+  pub served_says : (ks : List ℕ) (b : Behaviour State) → served c vs bit (says ks b) ≡ says ks (served c vs bit b)
+  served_says [] b = refl
+  served_says (k ∷ ks) b = served_does (lock_released k) (says ks b) ∙ ap (does (lock_released k)) (served_says ks b)
 
   pub served_ends : (s : State) → served c vs bit (ends s) ≡ does (event_left (event_of bit s)) (onward c vs s.branch s.answers)
   unfolding served

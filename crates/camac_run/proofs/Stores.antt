@@ -1,9 +1,9 @@
 -- A list as a function of its places.
-use Rattle.std.proofs.Common.{◌≡◌, ℕ, zero, suc, ◌<◌, ◌≤◌, List, length, set, get_or, get_or-set_same, get_or-set_other, replicate, Option, Some, None, Bool, false, refl, sym, ap, arith, inl, inr, eq-eqb}
+use Rattle.std.proofs.Common.{◌≡◌, ℕ, ◌<◌, List, length, set, get_or, get_or-set_same, get_or-set_other, replicate, false, refl, sym, ap, inl, inr, eq-eqb}
 use Rattle.std.proofs.lemmas.Bool.{cases_eq, ne_eqb, cases_lt}
 use Rattle.std.proofs.lemmas.List.{get_or-replicate, get_or_past, length-replicate}
 use Rattle.std.proofs.Math.Path.{fun_ext}
-use Rattle.camac_branch.specs.Branch.{Branch, branch_after}
+use Rattle.camac_branch.specs.Branch.{Branch}
 use Rattle.camac_model.specs.State.{set_at, unlocked}
 
 set_here : {A : Type 0} (d : A) (xs : List A) (k : ℕ) (v : A) → k < length xs → (i : ℕ) → get_or (set xs k v) i d ≡ set_at k v (λ j. get_or xs j d) i

@@ -3,9 +3,10 @@ use Rattle.std.proofs.Common.{◌≡◌, ℕ, ◌+◌, ◌^◌, ◌%◌, ◌<◌
 use Rattle.std.proofs.lemmas.Bool.{false≢true}
 use Rattle.std.proofs.lemmas.List.{length-set}
 use Rattle.std.specs.Prelude.{IsSome, IfOk, IfErr, unwrap_or}
+use Rattle.camac_lang.specs.View.{statements_of}
 use Rattle.camac_func.specs.declared.data.DataMove.{DataMove}
 use Rattle.camac_branch.specs.Address.{Address}
-use Rattle.camac_branch.specs.Branch.{Answer, Reply, reply_to, branch_after}
+use Rattle.camac_branch.specs.Branch.{Branch, Answer, Reply, reply_to, branch_after}
 use Rattle.camac_branch.specs.Crates.{Crates, branch_of, is_permitted}
 use Rattle.camac_branch.specs.Plan.{Layout, crate_waits}
 use Rattle.camac_branch.specs.declared.answer.Command.{Command}
@@ -13,18 +14,20 @@ use Rattle.camac_branch.specs.declared.answer.CycleDone.{CycleDone}
 use Rattle.camac_branch.specs.declared.answer.Overrun.{Overrun}
 use Rattle.camac_crate.specs.Lock.{permitted}
 use Rattle.camac_model.specs.State.{State, missed_with, with_variable}
-use Rattle.camac_model.specs.Behaviour.{Behaviour, does, ends, stops, short, overrun, cycled, Action, then_do, given}
-use Rattle.camac_model.specs.Cycle.{if_permitted, next_answer, make_cycle, after_cycle, cycle, kept}
-use Rattle.camac_model.specs.Laws.{NoneLocked}
+use Rattle.camac_model.specs.Behaviour.{Behaviour, does, ends, stops, short, overrun, cycled, lock_taken, Action, then_do, given}
+use Rattle.camac_model.specs.Cycle.{if_permitted, next_answer, make_cycle, after_cycle, cycle, kept, take_lock, after_lock, release}
+use Rattle.camac_model.specs.Fine.{most_turns}
+use Rattle.camac_model.specs.Meaning.{block_meaning}
 use Rattle.camac_model.specs.Value.{greatest}
 use Rattle.camac_model.proofs.Locks.{cycle_locks}
 use Rattle.camac_run.specs.declared.machine.Machine.{Machine}
 use Rattle.camac_run.specs.declared.machine.Wanting.{Wanting}
-use Rattle.camac_run.specs.declared.machine.Wanting.TheVariants.{Cycle, Read}
-use Rattle.camac_run.specs.Held.{context_in, command_of, made, state_of, bounds_of, left_in, stands, IsFineHere, HasRoom, IsWanting, Makes, IsRefused, Takes, Overruns}
+use Rattle.camac_run.specs.declared.item.Item.TheVariants as item
+use Rattle.camac_run.specs.declared.machine.Wanting.TheVariants.{Cycle, Read, Lock}
+use Rattle.camac_run.specs.Held.{context_in, opens_of, want_of, made, state_of, bounds_of, left_in, stands, IsFineHere, HasRoom, IsWanting, Makes, IsRefused, Takes, Overruns}
 use Rattle.camac_run.specs.Rest.{address_of, awaited}
-use Rattle.camac_run.specs.Store.{variables_in}
 use Rattle.camac_run.proofs.Fine.{keeps_rest}
+use Rattle.camac_run.proofs.Locks.{held_along, among_along}
 use Rattle.camac_run.proofs.Stores.{set_is}
 
 pub same_done : (d : CycleDone) (k : Command) (r : Reply) (w : ℕ) → d.command ≡ k → d.reply ≡ r → d.wait ≡ w → d ≡ record { command = k; reply = r; wait = w }
@@ -101,6 +104,9 @@ module _ {V D C : ℕ} (h : Machine V D C) (k : Command) (a : Answer) (planned :
 room_after : {V D C : ℕ} (h : Machine V D C) (k : Command) (b : Crates) (q x : Bool) (w : ℕ) → branch_of b ≡ branch_after (address_of k) k.f (branch_of h.branch) → HasRoom h → HasRoom (record h { branch = b; q = q; x = x; cycles = h.cycles + (1 + w); missed = missed_with x h.missed })
 room_after h k b q x w e r =
     let few = few_missed x h.missed h.cycles w r.few_missed r.missed in
+    let same : (c : ℕ) → (branch_of b c).locked ≡ (branch_of h.branch c).locked = λ c. ap (λ (d : Branch). (d c).locked) e ∙ (cycle_locks (branch_of h.branch) (address_of k) k.f).at c in
+    let among = among_along (branch_of h.branch) (branch_of b) 7 same in
+    let room = r.unlocks in
     record {
       variables = r.variables;
       registers = r.registers;
@@ -110,10 +116,11 @@ room_after h k b q x w e r =
       cycles = r.cycles;
       few_missed = few.0;
       missed = few.1;
-      free = λ c. ap (λ (d : _). (d c).locked) e ∙ (cycle_locks (branch_of h.branch) (address_of k) k.f).at c ∙ r.free c;
+      locks = held_along (branch_of h.branch) (branch_of b) (opens_of h.frames.items) same r.locks;
+      unlocks = omega (arith, room, among);
     }
 
-room_variables : {V D C : ℕ} (h : Machine V D C) (vs : List ℕ) → length vs ≡ V → HasRoom h → HasRoom (record h { variables = vs })
+pub room_variables : {V D C : ℕ} (h : Machine V D C) (vs : List ℕ) → length vs ≡ V → HasRoom h → HasRoom (record h { variables = vs })
 room_variables h vs e r = record {
   variables = e;
   registers = r.registers;
@@ -123,7 +130,8 @@ room_variables h vs e r = record {
   cycles = r.cycles;
   few_missed = r.few_missed;
   missed = r.missed;
-  free = r.free;
+  locks = r.locks;
+  unlocks = r.unlocks;
 }
 
 module _ {V D C : ℕ} (h new : Machine V D C) (k : Command) (a : Answer) (d : CycleDone) (room : HasRoom h) (planned : IsSome (crate_waits h.checked.now.plan k.c)) (m : Makes h k a d new) where
@@ -133,27 +141,29 @@ module _ {V D C : ℕ} (h new : Machine V D C) (k : Command) (a : Answer) (d : C
   state_after : (answers : List Answer) → state_of after answers ≡ after_cycle (address_of k) k.f d.reply d.wait answers (state_of h (a ∷ answers))
   state_after answers = ap (λ b. record (state_of after answers) { branch = b }) m.branch
 
-  pub takes_cycle : Takes h (Cycle k) a d new
+  pub takes_cycle : Takes h (Cycle k) a (item.Cycle d) new
   unfolding awaited
   takes_cycle =
-      subst (λ n. Takes h (Cycle k) a d n) (sym m.same) (record {
+      subst (λ n. Takes h (Cycle k) a (item.Cycle d) n) (sym m.same) (record {
         room = room_after h k new.branch d.reply.q d.reply.x d.wait m.branch room;
         checked = refl;
         service = refl;
+        unlocks = refl;
         goes = λ answers. goes_on h k a planned (λ r t. t) d after answers m.permitted m.done refl refl (state_after answers);
       })
 
-  pub takes_read : (x bits : ℕ) (last : Machine V D C) → x < V → last ≡ record new { variables = set new.variables x (d.reply.word % 2 ^ bits) } → Takes h (Read k x bits) a d last
+  pub takes_read : (x bits : ℕ) (last : Machine V D C) → x < V → last ≡ record new { variables = set new.variables x (d.reply.word % 2 ^ bits) } → Takes h (Read k x bits) a (item.Cycle d) last
   unfolding awaited
   takes_read x bits last below e =
       let v : ℕ = d.reply.word % 2 ^ bits in
       let vs : List ℕ = set h.variables x v in
       let n : Machine V D C = record after { variables = vs } in
       let same : last ≡ n = e ∙ ap (λ (g : Machine V D C). record g { variables = set g.variables x v }) m.same in
-      subst (λ n. Takes h (Read k x bits) a d n) (sym same) (record {
+      subst (λ n. Takes h (Read k x bits) a (item.Cycle d) n) (sym same) (record {
         room = room_variables after vs (length-set h.variables x v ∙ room.variables) (room_after h k new.branch d.reply.q d.reply.x d.wait m.branch room);
         checked = refl;
         service = refl;
+        unlocks = refl;
         goes = λ answers.
             goes_on h k a planned (λ r t. with_variable x (kept bits r) t) d n answers m.permitted m.done refl refl
             (ap (λ g. record (state_of after answers) { variables = g }) (set_is 0 h.variables x v (omega (arith, below, room.variables)))
@@ -164,12 +174,20 @@ first_short : (plan : Layout) (at : Address) (f : ℕ) (d : DataMove) (go : Repl
 first_short plan at f d go s None h = absurd (false≢true h)
 first_short plan at f d go s (Some w) h = refl
 
+lock_short : (k : ℕ) (body : Action) (s : State) (o : Option ℕ) → s.answers ≡ [] → (s.branch k).locked ≡ false → IsSome o → given o (λ waits t. take_lock k waits (t.branch k).locked body t) s ≡ stops short s
+lock_short k body s None e f h = absurd (false≢true h)
+lock_short k body s (Some w) e f h =
+    ap (λ l. take_lock k w l body s) f
+    ∙ ap (λ rest. next_answer k w false rest (λ a rest t. does (lock_taken k a.wait) (body (after_lock k a.wait rest t))) s) e
+
 -- what is wanted is short without an answer
-pub waits_first : {V D C : ℕ} (h : Machine V D C) (w : Wanting) → IsWanting h w → awaited h.checked.now.plan w (state_of h []) ≡ stops short (state_of h [])
+pub waits_first : {V D C : ℕ} (h : Machine V D C) (w : Wanting) → IsWanting h w → awaited (context_in h.checked.now) (want_of w) (state_of h []) ≡ stops short (state_of h [])
 unfolding awaited
 waits_first h (Cycle k) p = first_short h.checked.now.plan (address_of k) k.f k.mv (λ r. ends) (state_of h []) (crate_waits h.checked.now.plan k.c) p.0
 waits_first h (Read k x bits) p =
     first_short h.checked.now.plan (address_of k) k.f k.mv (λ r t. ends (with_variable x (kept bits r) t)) (state_of h []) (crate_waits h.checked.now.plan k.c) p.0
+waits_first h (Lock k body) p =
+    lock_short k (λ u. then_do (block_meaning (context_in h.checked.now) most_turns (statements_of body.now) u) (release k)) (state_of h []) (crate_waits h.checked.now.plan k) refl p.1.0 p.0
 
 module _ {V D C : ℕ} (h : Machine V D C) (k : Command) (a : Answer) where
   pub cycle_cost : IsWanting h (Cycle k) → ((answers : List Answer) → IsFineHere h (stands (Some (Cycle k)) h answers)) → (bounds_of h).cycles ≤ greatest → is_permitted h.checked.now.plan (branch_of h.branch) k.c a.wait ≡ true → h.cycles + (1 + a.wait) < 2 ^ 32
@@ -181,12 +199,12 @@ module _ {V D C : ℕ} (h : Machine V D C) (k : Command) (a : Answer) where
   read_cost x bits p fine most =
       cost_fits h k a p.0 (λ r t. with_variable x (kept bits r) t) (λ answers. fine (a ∷ answers)) (λ t. refl) most
 
-  pub cycle_overruns : (o : Overrun) → IsWanting h (Cycle k) → IsRefused h k a o → Overruns h (Cycle k) a o
+  pub cycle_overruns : (o : Overrun) → IsWanting h (Cycle k) → IsRefused h k.c a o → Overruns h (Cycle k) a o
   unfolding awaited
   cycle_overruns o p r = λ answers.
       refused h k a p.0 (λ r t. t) answers r.refused ∙ ap (λ (x : Overrun). stops (overrun x.c x.wait) (state_of h (a ∷ answers))) (sym r.overrun)
 
-  pub read_overruns : (x bits : ℕ) (o : Overrun) → IsWanting h (Read k x bits) → IsRefused h k a o → Overruns h (Read k x bits) a o
+  pub read_overruns : (x bits : ℕ) (o : Overrun) → IsWanting h (Read k x bits) → IsRefused h k.c a o → Overruns h (Read k x bits) a o
   unfolding awaited
   read_overruns x bits o p r = λ answers.
       refused h k a p.0 (λ r t. with_variable x (kept bits r) t) answers r.refused

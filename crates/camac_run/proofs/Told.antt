@@ -1,29 +1,32 @@
 -- What an answer told of a runner, and what is left.
 use Rattle.std.proofs.Common.{◌≡◌, ℕ, ◌+◌, ◌<◌, ◌≤◌, List, [], ◌∷◌, length, Option, Some, None, Bool, true, false, refl, sym, ap, subst, ◌∙◌, arith}
-use Rattle.std.specs.Prelude.{slice_get, IfSome, IfNone, OnSome, IsTrue}
+use Rattle.std.specs.Prelude.{slice_get, option_map, IfSome, IfNone, OnSome, IsTrue}
 use Rattle.std.specs.Borrow.{Bor}
 use Rattle.camac_lang.specs.Scope.{is_well_formed}
 use Rattle.camac_lang.specs.Tree.{Service}
 use Rattle.camac_branch.specs.Crates.{branch_of}
 use Rattle.camac_branch.specs.Branch.{Answer}
-use Rattle.camac_branch.specs.declared.answer.CycleDone.{CycleDone}
+use Rattle.arrayvec.specs.ArrayVec.{ArrayVec}
 use Rattle.camac_branch.specs.declared.answer.Overrun.{Overrun}
 use Rattle.camac_check.specs.Checked.{CheckedScript, IsChecked}
 use Rattle.camac_run.specs.Plays.{plays}
 use Rattle.camac_model.specs.State.{State}
-use Rattle.camac_model.specs.Behaviour.{Behaviour, does, ends, stops, short, then_do}
+use Rattle.camac_model.specs.Behaviour.{Behaviour, ends, stops, short, then_do}
 use Rattle.camac_model.specs.Fine.{IsFine, most_turns}
 use Rattle.camac_model.specs.Run.{service_meaning}
+use Rattle.camac_run.specs.declared.item.Item.{Item}
 use Rattle.camac_run.specs.declared.machine.Machine.{Machine}
 use Rattle.camac_run.specs.declared.machine.Wanting.{Wanting}
-use Rattle.camac_run.specs.declared.machine.Wanting.TheVariants.{Cycle, Read}
-use Rattle.camac_run.specs.Held.{bounds_at, blocks_of, context_in, made, state_of, stands, IsFineHere, HasRoom, IsWanting, Takes, Settles, Serves}
-use Rattle.camac_run.specs.Rest.{rest_in, served, awaited}
-use Rattle.camac_run.specs.Runner.{Held, Left, bit_at, rest, last_words_in, with_event, state_in}
+use Rattle.camac_run.specs.declared.machine.Wanting.TheVariants.{Cycle, Read, Lock}
+use Rattle.camac_run.specs.Held.{bounds_at, bounds_of, opens_of, locked_among, context_in, state_of, stands, IsFineHere, HasRoom, IsWanting, Takes, Settles, Serves}
+use Rattle.camac_run.specs.Rest.{rest_in, says, served}
+use Rattle.camac_run.specs.Runner.{Left, bit_at, rest, last_words_in, with_event}
 use Rattle.camac_run.specs.Sound.{held, event_here, IsSound}
 use Rattle.camac_run.proofs.Bounds.{fine_at}
+use Rattle.camac_run.proofs.Fine.{fine_says}
 use Rattle.camac_run.proofs.Frames.{fine_along}
-use Rattle.camac_run.proofs.Serving.{served_stops, onward_over}
+use Rattle.camac_run.proofs.Locks.{among_few}
+use Rattle.camac_run.proofs.Serving.{served_says, served_stops, onward_over}
 use Rattle.camac_run.proofs.Takes.{waits_first}
 
 module _ {V D C : ℕ} where
@@ -51,15 +54,34 @@ module _ {V D C : ℕ} where
       go None = silent
       go (Some e) = tt
 
-  pub sound_after : (old new : Machine V D C) (before next' : Option Wanting) (fed count count' i : ℕ) → IsSound old before fed count
+  -- a machine whose releases are told
+  pub room_told : (h : Machine V D C) (none : ArrayVec ℕ) → none.items ≡ [] → HasRoom h → HasRoom (record h { unlocks = none })
+  room_told h none e r =
+      let few : locked_among (branch_of h.branch) 7 ≤ 7 = among_few (branch_of h.branch) 7 in
+      let n : length none.items ≡ 0 = ap length e in
+      record {
+        variables = r.variables;
+        registers = r.registers;
+        blocks = r.blocks;
+        words = r.words;
+        steps = r.steps;
+        cycles = r.cycles;
+        few_missed = r.few_missed;
+        missed = r.missed;
+        locks = r.locks;
+        unlocks = omega (arith, few, n);
+      }
+
+  pub sound_after : (old new : Machine V D C) (none : ArrayVec ℕ) (before next' : Option Wanting) (fed count count' i : ℕ) → none.items ≡ [] → IsSound old before fed count
       → HasRoom new → new.checked ≡ old.checked → new.service ≡ i → i < length old.checked.now.script.services → IfSome next' (IsWanting new) → IfNone next' (new.frames.items ≡ [])
-      → ((answers : List Answer) → IsFineHere new (stands next' new answers)) → count' ≤ fed + 1 → IsSound new next' (fed + 1) count'
-  sound_after old new before next' fed count count' i s room e service below wants over fine few = record {
-    room = room;
+      → ((answers : List Answer) → IsFineHere new (stands next' new answers)) → count' ≤ fed + 1 → IsSound (record new { unlocks = none }) next' (fed + 1) count'
+  sound_after old new none before next' fed count count' i quiet s room e service below wants over fine few = record {
+    room = room_told new none quiet room;
+    quiet = quiet;
     checked = subst (λ (b : Bor CheckedScript). IsChecked b.now) (sym e) s.checked;
     formed = subst (λ (b : Bor CheckedScript). IsTrue (is_well_formed b.now.script)) (sym e) s.formed;
     fits = subst (λ (b : Bor CheckedScript). plays b.now.script V D C ≡ true) (sym e) s.fits;
-    wants = wants;
+    wants = ready next' wants;
     idle = over;
     service = there next';
     fine = is_fine next' fine;
@@ -72,20 +94,37 @@ module _ {V D C : ℕ} where
           subst (λ (b : Bor CheckedScript). new.service < length b.now.script.services) (sym e)
           (subst (λ j. j < length old.checked.now.script.services) (sym service) below)
 
-      is_fine : (o : Option Wanting) → ((answers : List Answer) → IsFineHere new (stands o new answers)) → IfSome o (λ w. (answers : List Answer) → IsFineHere new (stands (Some w) new answers))
+      ready : (o : Option Wanting) → IfSome o (IsWanting new) → IfSome o (IsWanting (record new { unlocks = none }))
+      ready None f = tt
+      ready (Some (Cycle k)) f = f
+      ready (Some (Read k x bits)) f = f
+      ready (Some (Lock k body)) f = f
+
+      is_fine : (o : Option Wanting) → ((answers : List Answer) → IsFineHere new (stands o new answers)) → IfSome o (λ w. (answers : List Answer) → IsFineHere (record new { unlocks = none }) (stands (Some w) (record new { unlocks = none }) answers))
       is_fine None f = tt
       is_fine (Some w) f = f
+
+  along_told : (new : Machine V D C) (ck : Bor CheckedScript) (i bit : ℕ) (next' : Option Wanting) (event : Option Left) (fed n' : ℕ) (has : Bool) (o : Option Overrun) (answers : List Answer)
+      → new.checked ≡ ck → new.service ≡ i → bit_at ck.now i ≡ bit
+      → IfNone next' (new.frames.items ≡ []) → IfNone next' (event ≡ Some (event_here new n')) → OnSome next' (event ≡ None) → IfNone next' (has ≡ true)
+      → served (context_in ck.now) ck.now.script.services bit (stands next' new answers) ≡ with_event event (last_words_in (held new next' fed n' has o)) (rest (held new next' fed n' has o) answers)
+  along_told new ck i bit next' event fed n' has o answers e1 e2 e3 f a b t =
+      ap (λ k. served (context_in ck.now) ck.now.script.services k (stands next' new answers)) (sym e3)
+      ∙ ap (λ j. served (context_in ck.now) ck.now.script.services (bit_at ck.now j) (stands next' new answers)) (sym e2)
+      ∙ ap (λ (z : Bor CheckedScript). served (context_in z.now) z.now.script.services (bit_at z.now new.service) (stands next' new answers)) (sym e1)
+      ∙ told new next' event fed n' has o answers f a b t
 
   -- the same along what an answer leaves as it was
   pub told_along : (new : Machine V D C) (ck : Bor CheckedScript) (i bit : ℕ) (next' : Option Wanting) (event : Option Left) (fed n' : ℕ) (has : Bool) (o : Option Overrun) (answers : List Answer)
       → new.checked ≡ ck → new.service ≡ i → bit_at ck.now i ≡ bit
       → IfNone next' (new.frames.items ≡ []) → IfNone next' (event ≡ Some (event_here new n')) → OnSome next' (event ≡ None) → IfNone next' (has ≡ true)
-      → served (context_in ck.now) ck.now.script.services bit (stands next' new answers) ≡ with_event event (last_words_in (held new next' fed n' has o)) (rest (held new next' fed n' has o) answers)
-  told_along new ck i bit next' event fed n' has o answers e1 e2 e3 f a b t =
-      ap (λ k. served (context_in ck.now) ck.now.script.services k (stands next' new answers)) (sym e3)
-      ∙ ap (λ j. served (context_in ck.now) ck.now.script.services (bit_at ck.now j) (stands next' new answers)) (sym e2)
-      ∙ ap (λ (z : Bor CheckedScript). served (context_in z.now) z.now.script.services (bit_at z.now new.service) (stands next' new answers)) (sym e1)
-      ∙ told new next' event fed n' has o answers f a b t
+      → (us : List ℕ) → served (context_in ck.now) ck.now.script.services bit (says us (stands next' new answers)) ≡ says us (with_event event (last_words_in (held new next' fed n' has o)) (rest (held new next' fed n' has o) answers))
+  told_along new ck i bit next' event fed n' has o answers e1 e2 e3 f a b t us =
+      served_says (context_in ck.now) ck.now.script.services bit us (stands next' new answers)
+      ∙ ap (says us) (along_told new ck i bit next' event fed n' has o answers e1 e2 e3 f a b t)
+
+  fine_told : (new : Machine V D C) (b : Behaviour State) → IsFineHere new (says new.unlocks.items b) → IsFineHere new b
+  fine_told new b f = fine_says new.checked.now.plan (bounds_of new) new.unlocks.items b f
 
   -- a service that is called is fine
   pub serve_fine : (old new : Machine V D C) (i : ℕ) (v : Service) (next' : Option Wanting) → IsChecked old.checked.now → slice_get old.checked.now.script.services i ≡ Some v → Serves old i v next' new → (answers : List Answer) → IsFineHere new (stands next' new answers)
@@ -93,10 +132,11 @@ module _ {V D C : ℕ} where
       let k = old.checked.now in
       let meaning = service_meaning (context_in k) most_turns v (branch_of old.branch) answers in
       let fine : IsFine k.plan (bounds_at k i) meaning = fine_at k k.bounds k.script.services i v (record { cycles = 0; words = 0; steps = 0 }) checked.services there most_turns (omega arith) (branch_of old.branch) answers in
-      fine_along new (record old { service = i }) s.checked s.service (stands next' new answers) meaning (s.goes answers) fine
+      fine_told new (stands next' new answers)
+      (fine_along new (record old { service = i }) s.checked s.service (says new.unlocks.items (stands next' new answers)) meaning (s.goes answers) fine)
 
   -- what is left after an answer that was taken is fine
-  pub take_fine : (old mid : Machine V D C) (w : Wanting) (a : Answer) (d : CycleDone) → ((answers : List Answer) → IsFineHere old (stands (Some w) old answers)) → Takes old w a d mid → (answers : List Answer) → IsFineHere mid (stands None mid answers)
+  pub take_fine : (old mid : Machine V D C) (w : Wanting) (a : Answer) (d : Item) → ((answers : List Answer) → IsFineHere old (stands (Some w) old answers)) → Takes old w a d mid → (answers : List Answer) → IsFineHere mid (stands None mid answers)
   take_fine old mid w a d fine t answers =
       let b = stands None mid answers in
       let all = subst (λ x. IsFineHere old x) (t.goes answers) (fine (a ∷ answers)) in
@@ -104,14 +144,15 @@ module _ {V D C : ℕ} where
 
   pub settle_fine : (mid new : Machine V D C) (next' : Option Wanting) → ((answers : List Answer) → IsFineHere mid (stands None mid answers)) → Settles mid next' new → (answers : List Answer) → IsFineHere new (stands next' new answers)
   settle_fine mid new next' fine s answers =
-      fine_along new mid s.checked s.service (stands next' new answers) (stands None mid answers) (s.goes answers) (fine answers)
+      fine_told new (stands next' new answers)
+      (fine_along new mid s.checked s.service (says new.unlocks.items (stands next' new answers)) (stands None mid answers) (s.goes answers) (fine answers))
 
   -- with no answer, a run is short in the service in progress, or over
   pub rest_short : (h : Machine V D C) (wanting : Option Wanting) (w : Wanting) (fed n : ℕ) (has : Bool) (o : Option Overrun) → wanting ≡ Some w → IfSome wanting (IsWanting h) → rest (held h wanting fed n has o) [] ≡ stops short (state_of h [])
   rest_short h wanting w fed n has o e p =
       let q : IsWanting h w = rw e at p in
       let c = context_in h.checked.now in
-      rw e (ap (λ b. served c h.checked.now.script.services (bit_at h.checked.now h.service) (then_do b (rest_in c (blocks_of h.frames.items)))) (waits_first h w q)
+      rw e (ap (λ b. served c h.checked.now.script.services (bit_at h.checked.now h.service) (then_do b (rest_in c (opens_of h.frames.items)))) (waits_first h w q)
       ∙ served_stops c h.checked.now.script.services (bit_at h.checked.now h.service) short (state_of h []))
 
   pub rest_over : (h : Machine V D C) (wanting : Option Wanting) (fed n : ℕ) (has : Bool) (o : Option Overrun) → wanting ≡ None → rest (held h wanting fed n has o) [] ≡ ends tt
@@ -132,3 +173,12 @@ few_events (Some x) n n' a b = omega (arith, b)
 pub below_along : {V D C : ℕ} (new : Machine V D C) (ck : Bor CheckedScript) (i : ℕ) → new.checked ≡ ck → new.service ≡ i → i < length ck.now.script.services → new.service < length new.checked.now.script.services
 below_along new ck i e1 e2 h =
     subst (λ (z : Bor CheckedScript). new.service < length z.now.script.services) (sym e1) (subst (λ j. j < length ck.now.script.services) (sym e2) h)
+
+pub none_wanted : {A B : Type 0} (f : A → B) (o : Option A) → option_map f o ≡ None → o ≡ None
+none_wanted f None e = refl
+none_wanted f (Some a) e = absurd (cc)
+
+-- a service in progress is within its bounds
+pub steps_within : {V D C : ℕ} (h : Machine V D C) (w : Wanting) → IsWanting h w → ((answers : List Answer) → IsFineHere h (stands (Some w) h answers)) → h.steps ≤ (bounds_of h).steps
+steps_within h w p fine =
+    let f = subst (λ b. IsFineHere h (then_do b (rest_in (context_in h.checked.now) (opens_of h.frames.items)))) (waits_first h w p) (fine []) in f.1.steps

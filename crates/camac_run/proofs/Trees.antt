@@ -1,15 +1,20 @@
 -- Statements as definitions see them.
-use Rattle.std.proofs.Common.{◌≡◌, ℕ, sym, ap, ◌∙◌}
+use Rattle.std.proofs.Common.{◌≡◌, ℕ, Vec, map, sym, ap, ◌∙◌}
+use Rattle.std.specs.declared.alloc.Global.{Global}
+use Rattle.camac_lang.specs.declared.tree.Cond.{Cond}
 use Rattle.camac_lang.specs.declared.tree.Expr.{Expr}
+use Rattle.camac_lang.specs.declared.tree.Keep.{Keep}
 use Rattle.camac_lang.specs.declared.tree.Move.{Move}
+use Rattle.camac_lang.specs.declared.tree.Stmt.{Stmt}
 use Rattle.camac_lang.specs.declared.tree.Stmt.TheVariants as rust
 use Rattle.camac_lang.specs.declared.tree.Stmt.TheFolds.{fold-roll-Stmt}
+use Rattle.camac_lang.specs.declared.tree.Stmt.TheOpen as layer
 use Rattle.camac_lang.specs.declared.tree.Stmt.TheOpen.{Stmt-F}
 use Rattle.camac_lang.specs.declared.word.CrateCall.{CrateCall}
 use Rattle.camac_lang.specs.declared.word.LamCall.{LamCall}
 use Rattle.camac_lang.specs.declared.word.WordSize.{WordSize}
-use Rattle.camac_lang.specs.Tree.{Statement, assign, set_register, single, put, crate_call, lam_call}
-use Rattle.camac_lang.specs.View.{expression_of, move_of, statement_of, statement_step}
+use Rattle.camac_lang.specs.Tree.{Statement, assign, set_register, single, put, crate_call, lam_call, choose, choose_else, count, repeat, locked}
+use Rattle.camac_lang.specs.View.{condition_of, keep_of, expression_of, move_of, statement_of, statements_of, statement_step}
 
 pub assign_is : (line x : ℕ) (e : Expr) → statement_of (rust.Assign line x e) ≡ assign line x (expression_of e)
 assign_is line x e = ap statement_of (sym (rust.rolls-Assign line x e)) ∙ fold-roll-Stmt Statement statement_step (Stmt-F.Assign line x e)
@@ -28,3 +33,18 @@ crate_is line which e = ap statement_of (sym (rust.rolls-CrateCall line which e)
 
 pub lam_is : (line : ℕ) (which : LamCall) (l : ℕ) → statement_of (rust.LamCall line which l) ≡ lam_call line which l
 lam_is line which l = ap statement_of (sym (rust.rolls-LamCall line which l)) ∙ fold-roll-Stmt Statement statement_step (Stmt-F.LamCall line which l)
+
+pub choose_is : (line : ℕ) (c : Cond) (a : Vec Stmt Global) → statement_of (rust.If line c a) ≡ choose line (condition_of c) (statements_of a.items)
+choose_is line c a = ap statement_of (sym (rust.rolls-If line c a)) ∙ fold-roll-Stmt Statement statement_step (layer.If line c a)
+
+pub choose_else_is : (line : ℕ) (c : Cond) (a b : Vec Stmt Global) → statement_of (rust.IfElse line c a b) ≡ choose_else line (condition_of c) (statements_of a.items) (statements_of b.items)
+choose_else_is line c a b = ap statement_of (sym (rust.rolls-IfElse line c a b)) ∙ fold-roll-Stmt Statement statement_step (layer.IfElse line c a b)
+
+pub lock_is : (line : ℕ) (e : Expr) (a : Vec Stmt Global) → statement_of (rust.Lock line e a) ≡ locked line (expression_of e) (statements_of a.items)
+lock_is line e a = ap statement_of (sym (rust.rolls-Lock line e a)) ∙ fold-roll-Stmt Statement statement_step (layer.Lock line e a)
+
+pub count_is : (line x : ℕ) (e f : Expr) (keeps : Vec Keep Global) (a : Vec Stmt Global) → statement_of (rust.For line x e f keeps a) ≡ count line x (expression_of e) (expression_of f) (map keep_of keeps.items) (statements_of a.items)
+count_is line x e f keeps a = ap statement_of (sym (rust.rolls-For line x e f keeps a)) ∙ fold-roll-Stmt Statement statement_step (layer.For line x e f keeps a)
+
+pub repeat_is : (line : ℕ) (t : Cond) (most measure : ℕ) (keeps : Vec Keep Global) (a : Vec Stmt Global) → statement_of (rust.While line t most measure keeps a) ≡ repeat line (condition_of t) most measure (map keep_of keeps.items) (statements_of a.items)
+repeat_is line t most measure keeps a = ap statement_of (sym (rust.rolls-While line t most measure keeps a)) ∙ fold-roll-Stmt Statement statement_step (layer.While line t most measure keeps a)

@@ -1,8 +1,8 @@
 -- What a machine holds, as the definitions see it.
-use Rattle.std.specs.Prelude.{◌≡◌, ℕ, ◌+◌, ◌*◌, ◌<◌, ◌≤◌, List, [], ◌∷◌, length, map, Option, Some, None, IsSome, IfSome, IfNone, true, false, slice_index_or}
-use Rattle.camac_lang.specs.Tree.{Block, Service}
-use Rattle.camac_lang.specs.View.{statements_of}
-use Rattle.camac_branch.specs.Branch.{Answer, reply_to, branch_after}
+use Rattle.std.specs.Prelude.{◌≡◌, ℕ, zero, suc, ◌+◌, ◌*◌, ◌-◌, ◌<◌, ◌≤◌, List, [], ◌∷◌, ◌++◌, length, map, Option, Some, None, IsSome, IfSome, IfNone, true, false, nat_eq, if◌then◌else◌, slice_index_or}
+use Rattle.camac_lang.specs.Tree.{Service}
+use Rattle.camac_lang.specs.View.{part_of, statements_of}
+use Rattle.camac_branch.specs.Branch.{Branch, Answer, reply_to, branch_after, with_lock}
 use Rattle.camac_branch.specs.Crates.{branch_of, is_permitted}
 use Rattle.camac_branch.specs.Plan.{crate_waits}
 use Rattle.camac_branch.specs.declared.answer.CycleDone.{CycleDone}
@@ -10,19 +10,21 @@ use Rattle.camac_branch.specs.declared.answer.Overrun.{Overrun}
 use Rattle.camac_branch.specs.declared.answer.Command.{Command}
 use Rattle.camac_check.specs.Checked.{CheckedScript}
 use Rattle.camac_model.specs.State.{State, missed_with}
-use Rattle.camac_model.specs.Behaviour.{Behaviour, does, stops, Piece, cycled, overrun, Action, then_do}
+use Rattle.camac_model.specs.Behaviour.{Behaviour, does, stops, Piece, demanded, cycled, lock_taken, lock_released, overrun, Action, then_do}
 use Rattle.camac_model.specs.Fine.{Bounds, IsFine, most_turns}
-use Rattle.camac_model.specs.Laws.{NoneLocked}
 use Rattle.camac_model.specs.Meaning.{Context, context}
 use Rattle.camac_model.specs.Run.{service_meaning}
 use Rattle.camac_model.specs.Value.{greatest}
 use Rattle.camac_run.specs.Store.{variables_in, registers_in}
-use Rattle.camac_run.specs.Rest.{address_of, awaited, rest_in}
-use Rattle.camac_run.specs.Within.{BlocksFit}
+use Rattle.camac_run.specs.Rest.{address_of, Want, makes, reads, locks, awaited, Owner, nothing, releases, counts, repeats, Open, rest_in, says}
+use Rattle.camac_run.specs.Within.{Opens, OpenFit}
+use Rattle.camac_run.specs.declared.item.Item.{Item}
+use Rattle.camac_run.specs.declared.item.Item.TheVariants as item
 use Rattle.camac_run.specs.declared.machine.Frame.{Frame}
 use Rattle.camac_run.specs.declared.machine.Machine.{Machine}
+use Rattle.camac_run.specs.declared.machine.Owner as rust
 use Rattle.camac_run.specs.declared.machine.Wanting.{Wanting}
-use Rattle.camac_run.specs.declared.machine.Wanting.TheVariants.{Cycle, Read}
+use Rattle.camac_run.specs.declared.machine.Wanting.TheVariants.{Cycle, Read, Lock}
 
 -- the bounds of the service of this number
 abbrev pub bounds_at : CheckedScript → ℕ → Bounds
@@ -31,16 +33,58 @@ bounds_at c i = slice_index_or c.bounds i (record { cycles = 0; words = 0; steps
 abbrev pub context_in : CheckedScript → Context
 context_in c = context c.plan c.script
 
-abbrev pub blocks_of : List Frame → List Block
-blocks_of fs = map (λ f. statements_of f.rest.now) fs
+abbrev pub owner_of : rust.Owner → Owner
+owner_of rust.TheVariants.Plain = nothing
+owner_of (rust.TheVariants.Locked k) = releases k
+owner_of (rust.TheVariants.For x v last n body) = counts x v last n (statements_of body.now)
+owner_of (rust.TheVariants.While test n body) = repeats (map part_of test.now) n (statements_of body.now)
 
-abbrev pub command_of : Wanting → Command
-command_of (Cycle k) = k
-command_of (Read k x bits) = k
+abbrev pub open_of : Frame → Open
+open_of f = record { block = statements_of f.rest.now; owner = owner_of f.owner }
+
+abbrev pub opens_of : List Frame → List Open
+opens_of fs = map open_of fs
+
+abbrev pub want_of : Wanting → Want
+want_of (Cycle k) = makes k
+want_of (Read k x bits) = reads k x bits
+want_of (Lock k body) = locks k (statements_of body.now)
+
+-- the crate in which the answer is to be used
+abbrev pub crate_of : Wanting → ℕ
+crate_of (Cycle k) = k.c
+crate_of (Read k x bits) = k.c
+crate_of (Lock k body) = k
 
 -- the piece of a cycle that was made
 abbrev pub made : CycleDone → Piece
 made d = cycled (address_of d.command) d.command.f d.command.mv d.reply d.wait
+
+abbrev pub piece_of : Item → Piece
+piece_of (item.Cycle d) = made d
+piece_of (item.Lock c w) = lock_taken c w
+piece_of (item.Unlock c) = lock_released c
+piece_of (item.Demand p v) = demanded p v
+
+-- how many of the open blocks hold the lock of crate c
+abbrev pub holds : ℕ → Owner → ℕ
+holds c nothing = 0
+holds c (releases k) = if nat_eq c k then 1 else 0
+holds c (counts x v last n body) = 0
+holds c (repeats test n body) = 0
+
+abbrev pub times_held : ℕ → List Open → ℕ
+times_held c [] = 0
+times_held c (o ∷ os) = holds c o.owner + times_held c os
+
+-- each crate is locked exactly where one open block holds its lock
+abbrev pub AreHeld : Branch → List Open → Type 0
+AreHeld b os = (c : ℕ) → times_held c os ≡ (if (b c).locked then 1 else 0)
+
+-- how many of the crates 1 to n are locked
+abbrev pub locked_among : Branch → ℕ → ℕ
+locked_among b zero = 0
+locked_among b (suc n) = locked_among b n + (if (b (suc n)).locked then 1 else 0)
 
 module _ {V D C : ℕ} where
   -- with the answers that are to come
@@ -63,20 +107,26 @@ module _ {V D C : ℕ} where
 
   -- what is left of the open blocks
   abbrev pub left_in : Machine V D C → Action
-  left_in h = rest_in (context_in h.checked.now) (blocks_of h.frames.items)
+  left_in h = rest_in (context_in h.checked.now) (opens_of h.frames.items)
 
   -- what is left of the service: where it wants an answer, from that on
   abbrev pub stands : Option Wanting → Machine V D C → List Answer → Behaviour State
   stands None h answers = left_in h (state_of h answers)
-  stands (Some w) h answers = then_do (awaited h.checked.now.plan w (state_of h answers)) (left_in h)
+  stands (Some w) h answers = then_do (awaited (context_in h.checked.now) (want_of w) (state_of h answers)) (left_in h)
 
-  -- a cycle in the plan, and a variable for a read
-  abbrev pub TakesWord : Machine V D C → Wanting → Type 0
-  TakesWord h (Cycle k) = Unit {0}
-  TakesWord h (Read k x bits) = (x < V) × (bits ≤ 24)
+  -- how many blocks more can be opened
+  abbrev pub free : Machine V D C → ℕ
+  free h = D - length h.frames.items
+
+  -- a crate in the plan; for a read a variable, for a lock a free crate and room for the block
+  abbrev pub IsReady : Machine V D C → Wanting → Type 0
+  IsReady h (Cycle k) = Unit {0}
+  IsReady h (Read k x bits) = (x < V) × (bits ≤ 24)
+  IsReady h (Lock k body) =
+      ((branch_of h.branch k).locked ≡ false) × (1 ≤ k) × (k ≤ 7) × Opens V (length h.checked.now.script.lams) (free h) (statements_of body.now)
 
   abbrev pub IsWanting : Machine V D C → Wanting → Type 0
-  IsWanting h w = IsSome (crate_waits h.checked.now.plan (command_of w).c) × TakesWord h w
+  IsWanting h w = IsSome (crate_waits h.checked.now.plan (crate_of w)) × IsReady h w
 
   abbrev pub IsFineHere : Machine V D C → Behaviour State → Type 0
   IsFineHere h b = IsFine h.checked.now.plan (bounds_of h) b
@@ -86,17 +136,22 @@ module _ {V D C : ℕ} where
   FineThen h go =
       (answers : List Answer) → IsFineHere h (then_do (go (context_in h.checked.now) (state_of h answers)) (left_in h))
 
-  -- the stores are as large as they are said to be and large enough, and no crate is locked
-  pub record HasRoom (h : Machine V D C) : Type 0 where
+  -- with these blocks open, the stores are as large as they are said to be and large enough, each lock is held by one of the blocks, and
+  -- there is room to tell its release
+  pub record HasRoomFor (h : Machine V D C) (os : List Open) : Type 0 where
     pub variables : length h.variables ≡ V
     pub registers : length h.registers ≡ V
-    pub blocks : BlocksFit V (length h.checked.now.script.lams) D (blocks_of h.frames.items)
+    pub blocks : OpenFit V (length h.checked.now.script.lams) D os
     pub words : (bounds_of h).words ≤ C
     pub steps : (bounds_of h).steps ≤ greatest
     pub cycles : (bounds_of h).cycles ≤ greatest
     pub few_missed : h.missed ≤ 65535
     pub missed : h.missed ≤ h.cycles
-    pub free : NoneLocked (state_of h [])
+    pub locks : AreHeld (branch_of h.branch) os
+    pub unlocks : length h.unlocks.items + locked_among (branch_of h.branch) 7 ≤ 7
+
+  abbrev pub HasRoom : Machine V D C → Type 0
+  HasRoom h = HasRoomFor h (opens_of h.frames.items)
 
   -- what the new machine has left is to do this, and then what the old one had left
   pub record Advances (old : Machine V D C) (go : Context → Action) (wanting : Option Wanting) (new : Machine V D C) : Type 0 where
@@ -106,16 +161,19 @@ module _ {V D C : ℕ} where
     pub wants : IfSome wanting (IsWanting new)
     -- a block more costs a step
     pub pace : length new.frames.items + 2 * old.steps ≤ 2 * new.steps + length old.frames.items
+    -- the locks that it releases
+    pub told : List ℕ
+    pub unlocks : new.unlocks.items ≡ old.unlocks.items ++ told
     pub goes :
         (answers : List Answer)
-        → stands wanting new answers ≡ then_do (go (context_in old.checked.now) (state_of old answers)) (left_in old)
+        → says told (stands wanting new answers) ≡ then_do (go (context_in old.checked.now) (state_of old answers)) (left_in old)
 
   -- this wants an answer first
   pub record Wants (h : Machine V D C) (go : Context → Action) (wanting : Wanting) : Type 0 where
     pub wants : IsWanting h wanting
     pub goes :
         (answers : List Answer)
-        → awaited h.checked.now.plan wanting (state_of h answers) ≡ go (context_in h.checked.now) (state_of h answers)
+        → awaited (context_in h.checked.now) (want_of wanting) (state_of h answers) ≡ go (context_in h.checked.now) (state_of h answers)
 
   -- the cycle was made with this answer; all else stays
   pub record Makes (old : Machine V D C) (k : Command) (answer : Answer) (done' : CycleDone) (new : Machine V D C) : Type 0 where
@@ -133,9 +191,16 @@ module _ {V D C : ℕ} where
         }
 
   -- the wait is not permitted
-  pub record IsRefused (h : Machine V D C) (k : Command) (answer : Answer) (o : Overrun) : Type 0 where
-    pub refused : is_permitted h.checked.now.plan (branch_of h.branch) k.c answer.wait ≡ false
-    pub overrun : o ≡ record { c = k.c; wait = answer.wait }
+  pub record IsRefused (h : Machine V D C) (crate_no : ℕ) (answer : Answer) (o : Overrun) : Type 0 where
+    pub refused : is_permitted h.checked.now.plan (branch_of h.branch) crate_no answer.wait ≡ false
+    pub overrun : o ≡ record { c = crate_no; wait = answer.wait }
+
+  -- the lock was taken with this answer; all else stays
+  pub record TakesLock (old : Machine V D C) (crate_no : ℕ) (answer : Answer) (cost : ℕ) (new : Machine V D C) : Type 0 where
+    pub permitted : is_permitted old.checked.now.plan (branch_of old.branch) crate_no answer.wait ≡ true
+    pub waited : cost ≡ answer.wait
+    pub branch : branch_of new.branch ≡ with_lock crate_no true (branch_of old.branch)
+    pub same : new ≡ record old { branch = new.branch; cycles = old.cycles + cost }
 
   -- what is left stays the same, up to where an answer is wanted or no block is left
   pub record Settles (old : Machine V D C) (wanting : Option Wanting) (new : Machine V D C) : Type 0 where
@@ -144,16 +209,17 @@ module _ {V D C : ℕ} where
     pub service : new.service ≡ old.service
     pub wants : IfSome wanting (IsWanting new)
     pub over : IfNone wanting (new.frames.items ≡ [])
-    pub goes : (answers : List Answer) → stands wanting new answers ≡ stands None old answers
+    pub goes : (answers : List Answer) → says new.unlocks.items (stands wanting new answers) ≡ stands None old answers
 
-  -- the answer made this cycle, and then what is left is what the new machine has left
-  pub record Takes (old : Machine V D C) (wanting : Wanting) (answer : Answer) (done' : CycleDone) (new : Machine V D C) : Type 0 where
+  -- the answer was used for this, and then what is left is what the new machine has left
+  pub record Takes (old : Machine V D C) (wanting : Wanting) (answer : Answer) (used : Item) (new : Machine V D C) : Type 0 where
     pub room : HasRoom new
     pub checked : new.checked ≡ old.checked
     pub service : new.service ≡ old.service
+    pub unlocks : new.unlocks ≡ old.unlocks
     pub goes :
         (answers : List Answer)
-        → stands (Some wanting) old (answer ∷ answers) ≡ does (made done') (stands None new answers)
+        → stands (Some wanting) old (answer ∷ answers) ≡ does (piece_of used) (stands None new answers)
 
   -- the answer's wait is not permitted
   abbrev pub Overruns : Machine V D C → Wanting → Answer → Overrun → Type 0
@@ -170,5 +236,5 @@ module _ {V D C : ℕ} where
     pub over : IfNone wanting (new.frames.items ≡ [])
     pub goes :
         (answers : List Answer)
-        → stands wanting new answers
+        → says new.unlocks.items (stands wanting new answers)
         ≡ service_meaning (context_in old.checked.now) most_turns v (branch_of old.branch) answers

@@ -1,6 +1,7 @@
 pub mod Store
 pub mod Called
 pub mod Rest
+pub mod Codes
 pub mod Fits
 pub mod Within
 pub mod Plays

@@ -1,32 +1,65 @@
 -- What is left to run of a service, and of the run.
-use Rattle.std.specs.Prelude.{ℕ, List, [], ◌∷◌, length}
-use Rattle.camac_lang.specs.Tree.{Block, Service}
+use Rattle.std.specs.Prelude.{ℕ, ◌+◌, ◌-◌, List, [], ◌∷◌, length}
+use Rattle.camac_lang.specs.Tree.{Condition, Block, Service}
 use Rattle.camac_branch.specs.Address.{Address, address}
 use Rattle.camac_branch.specs.Branch.{Branch, Answer}
-use Rattle.camac_branch.specs.Plan.{Layout}
+use Rattle.camac_branch.specs.Plan.{crate_waits}
 use Rattle.camac_branch.specs.declared.answer.Command.{Command}
 use Rattle.camac_model.specs.State.{State, with_variable}
-use Rattle.camac_model.specs.Behaviour.{Behaviour, does, ends, Action, then_do, event_left}
-use Rattle.camac_model.specs.Cycle.{cycle, kept}
+use Rattle.camac_model.specs.Behaviour.{Behaviour, does, ends, Action, then_do, given, event_left, lock_released}
+use Rattle.camac_model.specs.Cycle.{cycle, kept, take_lock, release}
 use Rattle.camac_model.specs.Fine.{most_turns}
-use Rattle.camac_model.specs.Meaning.{Context, block_meaning}
+use Rattle.camac_model.specs.Meaning.{Context, count_turns, turns, block_meaning}
 use Rattle.camac_model.specs.Run.{event_of, rounds}
-use Rattle.camac_run.specs.declared.machine.Wanting.{Wanting}
-use Rattle.camac_run.specs.declared.machine.Wanting.TheVariants.{Cycle, Read}
 
 abbrev pub address_of : Command → Address
 address_of k = address k.c k.n k.a
 
--- what wants an answer: a cycle, and with a read the variable that keeps so many bits of the word
-unfoldable pub awaited : Layout → Wanting → Action
-awaited plan (Cycle k) s = cycle plan (address_of k) k.f k.mv s.answers (λ r. ends) s
-awaited plan (Read k x bits) s =
-    cycle plan (address_of k) k.f k.mv s.answers (λ r t. ends (with_variable x (kept bits r) t)) s
+-- what an answer is wanted for: a cycle, with a read the variable that keeps so many bits of the word; the lock of a crate over a block
+pub data Want : Type 0 where
+  makes : Command → Want
+  reads : Command → (variable bits : ℕ) → Want
+  locks : (crate_no : ℕ) → Block → Want
+
+unfoldable pub awaited : Context → Want → Action
+awaited c (makes k) s = cycle c.plan (address_of k) k.f k.mv s.answers (λ r. ends) s
+awaited c (reads k x bits) s =
+    cycle c.plan (address_of k) k.f k.mv s.answers (λ r t. ends (with_variable x (kept bits r) t)) s
+awaited c (locks k body) s =
+    given (crate_waits c.plan k) (λ waits t.
+    take_lock k waits (t.branch k).locked (λ u. then_do (block_meaning c most_turns body u) (release k)) t) s
+
+-- what goes on after a block: nothing but the block around it, or the release of a lock; or a `for` after the turn with this value of its
+-- variable, or a `while`, each with the turns that it may still make
+pub data Owner : Type 0 where
+  nothing : Owner
+  releases : (crate_no : ℕ) → Owner
+  counts : (variable current last left : ℕ) → Block → Owner
+  repeats : Condition → (left : ℕ) → Block → Owner
+
+-- an open block, by what is left of it
+pub record Open : Type 0 where
+  pub block : Block
+  pub owner : Owner
+
+unfoldable pub owed : Context → Owner → Action
+owed c nothing s = ends s
+owed c (releases k) s = release k s
+owed c (counts x v last n body) s = count_turns (last - v) n x (v + 1) last (block_meaning c most_turns body) s
+owed c (repeats test n body) s = turns n test (block_meaning c most_turns body) s
+
+abbrev pub left_of : Context → Open → Action
+left_of c o s = then_do (block_meaning c most_turns o.block s) (owed c o.owner)
 
 -- what is left of the open blocks, from the last to the first
-unfoldable pub rest_in : Context → List Block → Action
+unfoldable pub rest_in : Context → List Open → Action
 rest_in c [] s = ends s
-rest_in c (b ∷ bs) s = then_do (rest_in c bs s) (block_meaning c most_turns b)
+rest_in c (o ∷ os) s = then_do (rest_in c os s) (left_of c o)
+
+-- locks that are released without an answer, and then the rest
+abbrev pub says : {A : Type 0} → List ℕ → Behaviour A → Behaviour A
+says [] b = b
+says (k ∷ ks) b = does (lock_released k) (says ks b)
 
 -- graded-L operations and services from here on
 unfoldable pub onward : Context → List Service → Branch → List Answer → Behaviour (Unit {0})

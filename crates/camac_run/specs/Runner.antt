@@ -1,23 +1,19 @@
 -- What a runner holds, and what it has left to run.
-use Rattle.std.specs.Prelude.{◌≡◌, ℕ, ◌+◌, ◌≤◌, List, [], ◌∷◌, Option, Some, None, Bool, IfSome, IfNone, length, unwrap_or, if◌then◌else◌}
-use Rattle.camac_lang.specs.Tree.{Block}
+use Rattle.std.specs.Prelude.{◌≡◌, ℕ, ◌+◌, ◌≤◌, List, [], ◌∷◌, Option, Some, None, Bool, IfSome, IfNone, unwrap_or, if◌then◌else◌}
 use Rattle.camac_branch.specs.Address.{Address}
 use Rattle.camac_branch.specs.Branch.{Answer}
 use Rattle.camac_branch.specs.Crates.{Crates, branch_of}
-use Rattle.camac_branch.specs.declared.answer.CycleDone.{CycleDone}
 use Rattle.camac_branch.specs.declared.answer.Overrun.{Overrun}
 use Rattle.camac_check.specs.Checked.{CheckedScript, linked_of}
 use Rattle.camac_event.specs.declared.event.Usage.{Usage}
 use Rattle.camac_model.specs.State.{State}
-use Rattle.camac_model.specs.Behaviour.{Behaviour, does, ends, stops, Piece, demanded, cycled, lock_taken, lock_released, event_left, overrun as overruns, then_do}
+use Rattle.camac_model.specs.Behaviour.{Behaviour, does, ends, stops, event_left, overrun as overruns, then_do}
 use Rattle.camac_names.specs.Linked.{bit_of_service}
 use Rattle.camac_run.specs.declared.item.Item.{Item}
-use Rattle.camac_run.specs.declared.item.Item.TheVariants as item
 use Rattle.camac_run.specs.declared.item.Progress.{Progress}
 use Rattle.camac_run.specs.declared.item.Progress.TheVariants as progress
-use Rattle.camac_run.specs.declared.machine.Wanting.{Wanting}
-use Rattle.camac_run.specs.Held.{context_in, made}
-use Rattle.camac_run.specs.Rest.{awaited, rest_in, onward, served}
+use Rattle.camac_run.specs.Held.{context_in, piece_of}
+use Rattle.camac_run.specs.Rest.{Want, awaited, Open, rest_in, says, onward, served}
 use Rattle.camac_run.specs.Store.{variables_in, registers_in}
 
 pub record Held : Type 0 where
@@ -25,8 +21,8 @@ pub record Held : Type 0 where
   -- the number of the service in progress, or of the last one
   pub service : ℕ
   -- what is left of its open blocks, and what it wants an answer for, where it is in progress
-  pub blocks : List Block
-  pub wanting : Option Wanting
+  pub blocks : List Open
+  pub wanting : Option Want
   pub crates : Crates
   pub variables : List ℕ
   pub registers : List (Option Address)
@@ -63,11 +59,11 @@ abbrev pub bit_at : CheckedScript → ℕ → ℕ
 bit_at c i = unwrap_or (bit_of_service (linked_of c) i) 0
 
 -- the run from what a runner holds
-abbrev pub rest_from : Option Wanting → Held → List Answer → Behaviour (Unit {0})
+abbrev pub rest_from : Option Want → Held → List Answer → Behaviour (Unit {0})
 rest_from None h answers = onward (context_in h.checked) h.checked.script.services (branch_of h.crates) answers
 rest_from (Some w) h answers =
     served (context_in h.checked) h.checked.script.services (bit_at h.checked h.service)
-    (then_do (awaited h.checked.plan w (state_in h answers)) (rest_in (context_in h.checked) h.blocks))
+    (then_do (awaited (context_in h.checked) w (state_in h answers)) (rest_in (context_in h.checked) h.blocks))
 
 abbrev pub rest : Held → List Answer → Behaviour (Unit {0})
 rest h answers = rest_from h.wanting h answers
@@ -75,12 +71,6 @@ rest h answers = rest_from h.wanting h answers
 -- the words of the event that the last answer left, if it left one
 abbrev pub last_words_in : Held → List ℕ
 last_words_in h = if h.has_event then h.words else []
-
-abbrev pub piece_of : Item → Piece
-piece_of (item.Cycle d) = made d
-piece_of (item.Lock c w) = lock_taken c w
-piece_of (item.Unlock c) = lock_released c
-piece_of (item.Demand p v) = demanded p v
 
 -- an event's number, its bit and its usage
 abbrev pub Left : Type 0
@@ -92,12 +82,12 @@ with_event None words b = b
 with_event (Some e) words b =
     does (event_left (record { bit = e.1; cycles = e.2.cycles; missed = e.2.missed; words = words })) b
 
--- the answer was used for this item
-pub record GoesOn (old : Held) (answer : Answer) (told : Item) (event : Option Left) (new : Held) : Type 0 where
+-- the answer was used for this item, and then these locks were released
+pub record GoesOn (old : Held) (answer : Answer) (told : Item) (unlocks : List ℕ) (event : Option Left) (new : Held) : Type 0 where
   pub first : old.overrun ≡ None
   pub goes :
       (answers : List Answer)
-      → rest old (answer ∷ answers) ≡ does (piece_of told) (with_event event (last_words_in new) (rest new answers))
+      → rest old (answer ∷ answers) ≡ does (piece_of told) (says unlocks (with_event event (last_words_in new) (rest new answers)))
   pub fed : new.fed ≡ old.fed + 1
   pub same : IfNone event (new.events ≡ old.events)
   pub next : IfSome event (λ e. (e.0 ≡ old.events + 1) × (new.events ≡ e.0) × (e.2.missed ≤ e.2.cycles))
@@ -115,7 +105,7 @@ pub record Stops (old : Held) (answer : Answer) (o : Overrun) (new : Held) : Typ
   pub same : new ≡ record old { overrun = Some o }
 
 abbrev pub Progresses : Held → Answer → Progress → Held → Type 0
-Progresses old answer (progress.Went told event) new = GoesOn old answer told event new
+Progresses old answer (progress.Went told unlocks event) new = GoesOn old answer told unlocks.items event new
 Progresses old answer (progress.Overrun o) new = Stops old answer o new
 
 -- the steps, and the words, of the service that a run stops in

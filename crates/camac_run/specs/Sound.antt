@@ -1,5 +1,5 @@
 -- What is true of every runner.
-use Rattle.std.specs.Prelude.{◌≡◌, ℕ, ◌<◌, ◌≤◌, List, [], length, Bool, true, Option, Some, IfSome, IfNone, IsTrue}
+use Rattle.std.specs.Prelude.{◌≡◌, ℕ, ◌<◌, ◌≤◌, List, [], length, Bool, true, Option, Some, IfSome, IfNone, IsTrue, option_map}
 use Rattle.camac_lang.specs.Scope.{is_well_formed}
 use Rattle.camac_branch.specs.Branch.{Answer}
 use Rattle.camac_branch.specs.declared.answer.Overrun.{Overrun}
@@ -7,7 +7,7 @@ use Rattle.camac_check.specs.Checked.{IsChecked}
 use Rattle.camac_run.specs.Plays.{plays}
 use Rattle.camac_run.specs.declared.machine.Machine.{Machine}
 use Rattle.camac_run.specs.declared.machine.Wanting.{Wanting}
-use Rattle.camac_run.specs.Held.{blocks_of, stands, IsFineHere, HasRoom, IsWanting}
+use Rattle.camac_run.specs.Held.{opens_of, want_of, stands, IsFineHere, HasRoom, IsWanting}
 use Rattle.camac_run.specs.Runner.{Held, Left, bit_at}
 
 module _ {V D C : ℕ} where
@@ -15,8 +15,8 @@ module _ {V D C : ℕ} where
   held h wanting fed events has_event overrun = record {
     checked = h.checked.now;
     service = h.service;
-    blocks = blocks_of h.frames.items;
-    wanting = wanting;
+    blocks = opens_of h.frames.items;
+    wanting = option_map want_of wanting;
     crates = h.branch;
     variables = h.variables;
     registers = h.registers;
@@ -38,6 +38,7 @@ module _ {V D C : ℕ} where
 
   pub record IsSound (h : Machine V D C) (wanting : Option Wanting) (fed count : ℕ) : Type 0 where
     pub room : HasRoom h
+    pub quiet : h.unlocks.items ≡ []
     pub checked : IsChecked h.checked.now
     pub formed : IsTrue (is_well_formed h.checked.now.script)
     pub fits : plays h.checked.now.script V D C ≡ true

@@ -1,5 +1,6 @@
 // What a run tells: its items, its end, and how far each answer brings it.
 
+use arrayvec::ArrayVec;
 use camac_branch::{CycleDone, Overrun};
 use camac_event::Usage;
 use camac_word::{CrateNo, GlBit, Word24};
@@ -29,11 +30,13 @@ pub enum End {
 }
 
 /// How far an answer brought a run (own).
-#[derive(Clone, Copy, Debug, PartialEq, Eq)]
+#[derive(Debug, PartialEq, Eq, Drop)]
 pub enum Progress {
-    /// It was used: for what, and the event that a service left then, with the number of the event, its bit and its usage.
+    /// It was used: for what, the crates into which auxiliary controllers were let again after it, and the event that a service left
+    /// then, with the number of the event, its bit and its usage.
     Went {
         item: Item,
+        unlocks: ArrayVec<CrateNo, 7>,
         event: Option<(u32, GlBit, Usage)>,
     },
     /// Its wait is not permitted, or an earlier one was not, and the run stays where it was.

@@ -1,52 +1,84 @@
 // What a service in progress holds: the open blocks, innermost last, and its store.
 
-ghost use Rattle.std.specs.Prelude.{◌≡◌, ◌+◌, ◌*◌, ◌-◌, ◌<◌, ◌≤◌, ◌∷◌, ◌++◌, [], List, length, map, true, None, Some, IsSome, IfOk, IfErr, OnErr, slice_get, slice_set, ◌^◌, ◌%◌};
+ghost use Rattle.std.specs.Prelude.{◌≡◌, ℕ, suc, ◌+◌, ◌*◌, ◌-◌, ◌<◌, ◌≤◌, ◌∷◌, ◌++◌, [], List, length, map, true, false, None, Some, IsSome, IfOk, IfErr, OnErr, slice_get, slice_set, ◌^◌, ◌%◌};
 ghost use Rattle.camac_branch.specs.Address.{Address};
 ghost use Rattle.camac_branch.specs.Allowed.{AllowsCommands, width};
 ghost use Rattle.camac_branch.specs.Branch.{Answer, start};
 ghost use Rattle.camac_check.specs.Checked.{IsChecked};
 ghost use Rattle.camac_esone.specs.Calls.{IsOnBranch, command_at};
-ghost use Rattle.camac_lang.specs.View.{expression_of, move_of, statement_of, statements_of};
+ghost use Rattle.camac_lang.specs.View.{condition_of, expression_of, move_of, part_of, statement_of, statements_of};
 ghost use Rattle.camac_branch.specs.Crates.{branch_of, is_permitted};
 ghost use Rattle.camac_branch.specs.Plan.{crate_waits};
-ghost use Rattle.camac_lang.specs.Tree.{Service, assign, set_register, single, put, crate_call, lam_call};
+ghost use Rattle.camac_lang.specs.Tree.{Service, done, assign, set_register, single, put, crate_call, lam_call, choose_else, count, locked};
 ghost use Rattle.camac_model.specs.Behaviour.{does};
 ghost use Rattle.camac_model.specs.Cycle.{after_cycle, sized};
 ghost use Rattle.camac_model.specs.Fine.{most_turns};
-ghost use Rattle.camac_model.specs.Meaning.{effect, block_meaning};
+ghost use Rattle.camac_model.specs.Meaning.{effect, block_meaning, count_turns, turns as while_turns};
 ghost use Rattle.camac_model.specs.State.{stepped, missed_with};
-ghost use Rattle.camac_run.specs.Held.{state_of, blocks_of, command_of, made, bounds_at, stands, IsFineHere, FineThen, HasRoom, Advances, Wants, IsWanting, Makes, IsRefused, Settles, Takes, Overruns, Serves};
+ghost use Rattle.camac_run.specs.Held.{context_in, state_of, owner_of, open_of, opens_of, holds, locked_among, made, bounds_at, stands, free, IsFineHere, FineThen, HasRoomFor, HasRoom, Advances, Wants, IsWanting, Makes, TakesLock, IsRefused, Settles, Takes, Overruns, Serves};
 ghost use Rattle.camac_run.specs.Plays.{plays};
-ghost use Rattle.camac_run.specs.Rest.{address_of};
+ghost use Rattle.camac_run.specs.Rest.{address_of, releases, owed, left_of};
 ghost use Rattle.camac_run.specs.Sound.{event_here};
 ghost use Rattle.camac_run.specs.Store.{registers_in};
-ghost use Rattle.camac_run.specs.Within.{Refers, MoveFits, StatementFits, AllFit};
+ghost use Rattle.camac_run.specs.Within.{Refers, PartsRefer, MoveFits, StatementFits, BlockFits, Opens, OwnerFits};
 
+use crate::condition::holds;
+use crate::item::Item;
 use crate::value::value_of;
 use arrayvec::ArrayVec;
-use camac_branch::{Answer, Branch, Command, CycleDone, Overrun, Plan, cycle};
+use camac_branch::{Answer, Branch, Command, CycleDone, Overrun, Plan, cycle, lock, unlock};
 use camac_check::Checked;
 use camac_esone::{Address, crate_call, lam_call};
 use camac_event::{EventBuffer, Usage};
 use camac_func::DataMove;
-use camac_lang::{CrateCall, Expr, LamCall, Move, Stmt, WordSize};
+use camac_lang::{CrateCall, Expr, LamCall, Move, Part, Stmt, WordSize};
 use camac_word::{CrateNo, Function, GlBit, Station, SubAddress, Word24};
+
+/// The most turns that a loop makes.
+const MOST_TURNS: u32 = 65_535;
+
+/// What goes on after a block.
+#[derive(Clone, Copy)]
+pub enum Owner<'a> {
+    /// The block around it.
+    Plain,
+    /// The lock of a crate is released first. It is by number, since a checked number is not copied out of a variant beside borrowed ones.
+    Locked(u32),
+    /// A `for` after the turn with this value of its variable, up to the last one, with the turns that it may still make.
+    For {
+        variable: usize,
+        current: u32,
+        last: u32,
+        turns: u32,
+        body: &'a [Stmt],
+    },
+    /// A `while` with the turns that it may still make.
+    While {
+        test: &'a [Part],
+        turns: u32,
+        body: &'a [Stmt],
+    },
+}
 
 /// The statements that are left of an open block.
 #[derive(Clone, Copy)]
 pub struct Frame<'a> {
     pub rest: &'a [Stmt],
+    pub owner: Owner<'a>,
 }
 
 impl<'a> Default for Frame<'a> {
     fn default() -> Frame<'a> {
-        Frame { rest: &[] }
+        Frame {
+            rest: &[],
+            owner: Owner::Plain,
+        }
     }
 }
 
 /// What a service in progress wants an answer for.
 #[derive(Clone, Copy)]
-pub enum Wanting {
+pub enum Wanting<'a> {
     /// A cycle that keeps no word.
     Cycle(Command),
     /// A cycle of which a variable keeps so many bits of the word, 24 at most.
@@ -54,6 +86,11 @@ pub enum Wanting {
         command: Command,
         variable: usize,
         bits: u32,
+    },
+    /// The lock of a crate over a block.
+    Lock {
+        crate_no: CrateNo,
+        body: &'a [Stmt],
     },
 }
 
@@ -72,6 +109,8 @@ pub struct Machine<'a, const V: usize, const DEPTH: usize, const CAP: usize> {
     pub cycles: u32,
     pub missed: u16,
     pub branch: Branch,
+    // the crates whose locks were released since the last answer
+    pub unlocks: ArrayVec<CrateNo, 7>,
 }
 
 // A command that moves this at an address.
@@ -169,6 +208,7 @@ impl<'a, const V: usize, const DEPTH: usize, const CAP: usize> Machine<'a, V, DE
         ensures room { HasRoom result }
         ensures checked { result.checked ≡ checked.entry }
         ensures idle { result.frames.items ≡ [] }
+        ensures quiet { result.unlocks.items ≡ [] }
         ensures branch { branch_of result.branch ≡ start }
     {
         checked.is_checked();
@@ -186,6 +226,7 @@ impl<'a, const V: usize, const DEPTH: usize, const CAP: usize> Machine<'a, V, DE
             cycles: 0,
             missed: 0,
             branch: Branch::start(),
+            unlocks: ArrayVec::new(),
         }
     }
 
@@ -222,7 +263,7 @@ impl<'a, const V: usize, const DEPTH: usize, const CAP: usize> Machine<'a, V, DE
     }
 
     // `cfsa`, `cssa`.
-    fn single(&self, size: WordSize, f: Function, register: usize, moved: &Move) -> Wanting
+    fn single(&self, size: WordSize, f: Function, register: usize, moved: &Move) -> Wanting<'a>
         requires room { HasRoom self.now }
         requires register { register < V }
         requires moved { MoveFits V (move_of moved.now) }
@@ -251,7 +292,7 @@ impl<'a, const V: usize, const DEPTH: usize, const CAP: usize> Machine<'a, V, DE
     }
 
     // A call of a crate's controller.
-    fn call_crate(&self, call: CrateCall, crate_no: &Expr) -> Wanting
+    fn call_crate(&self, call: CrateCall, crate_no: &Expr) -> Wanting<'a>
         requires room { HasRoom self.now }
         requires declared { Refers V (expression_of crate_no.now) }
         requires fine { FineThen self.now (λ c. effect c most_turns (crate_call 0 call (expression_of crate_no.now))) }
@@ -266,7 +307,7 @@ impl<'a, const V: usize, const DEPTH: usize, const CAP: usize> Machine<'a, V, DE
     }
 
     // A call at a LAM's address.
-    fn call_lam(&self, call: LamCall, lam: usize) -> Wanting
+    fn call_lam(&self, call: LamCall, lam: usize) -> Wanting<'a>
         requires lam { lam < length self.now.checked.now.script.lams }
         requires fine { FineThen self.now (λ c. effect c most_turns (lam_call 0 call lam)) }
         ensures { Wants self.now (λ c. effect c most_turns (lam_call 0 call lam)) result }
@@ -282,10 +323,124 @@ impl<'a, const V: usize, const DEPTH: usize, const CAP: usize> Machine<'a, V, DE
         Wanting::Cycle(lam_call(call, at))
     }
 
-    // Begins a statement.
-    fn begin(&mut self, statement: &'a Stmt) -> Option<Wanting>
+    // The block of an `if` that is to be done.
+    fn chosen(&self, test: &[Part], then: &'a [Stmt], otherwise: &'a [Stmt]) -> &'a [Stmt]
+        requires room { HasRoom self.now }
+        requires declared { PartsRefer V (map part_of test.now) }
+        requires then { Opens V (length self.now.checked.now.script.lams) (free self.now) (statements_of then.now) }
+        requires otherwise { Opens V (length self.now.checked.now.script.lams) (free self.now) (statements_of otherwise.now) }
+        requires fine { FineThen self.now (λ c. effect c most_turns (choose_else 0 (map part_of test.now) (statements_of then.now) (statements_of otherwise.now))) }
+        ensures opens { Opens V (length self.now.checked.now.script.lams) (free self.now) (statements_of result.now) }
+        ensures goes { (answers : List Answer) → block_meaning (context_in self.now.checked.now) most_turns (statements_of result.now) (state_of self.now answers) ≡ effect (context_in self.now.checked.now) most_turns (choose_else 0 (map part_of test.now) (statements_of then.now) (statements_of otherwise.now)) (state_of self.now answers) }
+    {
+        if holds(test, &self.variables, self.q, self.x) {
+            then
+        } else {
+            otherwise
+        }
+    }
+
+    // Opens a block inside the open ones, where nothing is released after it.
+    fn open(&mut self, body: &'a [Stmt], owner: Owner<'a>)
         requires room { HasRoom self.old }
-        requires fits { StatementFits V (length self.old.checked.now.script.lams) (statement_of statement.now) }
+        requires body { Opens V (length self.old.checked.now.script.lams) (free self.old) (statements_of body.now) }
+        requires owner { OwnerFits V (length self.old.checked.now.script.lams) (free self.old) (owner_of owner) }
+        requires holds_none { (c : ℕ) → holds c (owner_of owner) ≡ 0 }
+        ensures room { HasRoom self.new }
+        ensures frames { self.new.frames.items ≡ self.old.frames.items ++ record { rest = body.entry; owner = owner.entry } ∷ [] }
+        ensures same { self.new ≡ record self.old { frames = self.new.frames } }
+    {
+        self.frames.push(Frame { rest: body, owner });
+    }
+
+    // Sets a variable.
+    fn set_variable(&mut self, variable: usize, value: u32)
+        requires { variable < V }
+        ensures { self.new ≡ record self.old { variables = slice_set self.old.variables variable value } }
+    {
+        self.variables[variable] = value;
+    }
+
+    // Begins a turn of a `for`.
+    fn turn(&mut self, variable: usize, value: u32, last: u32, turns: u32, body: &'a [Stmt])
+        requires room { HasRoom self.old }
+        requires variable { variable < V }
+        requires body { Opens V (length self.old.checked.now.script.lams) (free self.old) (statements_of body.now) }
+        requires fine { FineThen self.old (λ c. count_turns (suc (last - value)) turns variable value last (block_meaning c most_turns (statements_of body.now))) }
+        ensures { Advances self.old (λ c. count_turns (suc (last - value)) turns variable value last (block_meaning c most_turns (statements_of body.now))) None self.new }
+    {
+        self.variables[variable] = value;
+        self.steps += 1;
+        self.open(
+            body,
+            Owner::For {
+                variable,
+                current: value,
+                last,
+                turns: turns - 1,
+                body,
+            },
+        );
+    }
+
+    // `for`.
+    fn count(&mut self, variable: usize, from: &Expr, to: &Expr, body: &'a [Stmt])
+        requires room { HasRoom self.old }
+        requires variable { variable < V }
+        requires from { Refers V (expression_of from.now) }
+        requires to { Refers V (expression_of to.now) }
+        requires body { Opens V (length self.old.checked.now.script.lams) (free self.old) (statements_of body.now) }
+        requires fine { FineThen self.old (λ c. effect c most_turns (count 0 variable (expression_of from.now) (expression_of to.now) [] (statements_of body.now))) }
+        ensures { Advances self.old (λ c. effect c most_turns (count 0 variable (expression_of from.now) (expression_of to.now) [] (statements_of body.now))) None self.new }
+    {
+        let first = value_of(from, &self.variables);
+        let last = value_of(to, &self.variables);
+        if first <= last {
+            self.turn(variable, first, last, MOST_TURNS, body);
+        }
+    }
+
+    // Tests a `while`, and begins a turn where it holds.
+    fn again(&mut self, test: &'a [Part], turns: u32, body: &'a [Stmt])
+        requires room { HasRoom self.old }
+        requires declared { PartsRefer V (map part_of test.now) }
+        requires body { Opens V (length self.old.checked.now.script.lams) (free self.old) (statements_of body.now) }
+        requires fine { FineThen self.old (λ c. while_turns turns (map part_of test.now) (block_meaning c most_turns (statements_of body.now))) }
+        ensures { Advances self.old (λ c. while_turns turns (map part_of test.now) (block_meaning c most_turns (statements_of body.now))) None self.new }
+    {
+        if holds(test, &self.variables, self.q, self.x) {
+            self.steps += 1;
+            self.open(
+                body,
+                Owner::While {
+                    test,
+                    turns: turns - 1,
+                    body,
+                },
+            );
+        }
+    }
+
+    // `lock`.
+    fn want_lock(&self, crate_no: &Expr, body: &'a [Stmt]) -> Wanting<'a>
+        requires room { HasRoom self.now }
+        requires declared { Refers V (expression_of crate_no.now) }
+        requires body { Opens V (length self.now.checked.now.script.lams) (free self.now) (statements_of body.now) }
+        requires fine { FineThen self.now (λ c. effect c most_turns (locked 0 (expression_of crate_no.now) (statements_of body.now))) }
+        ensures { Wants self.now (λ c. effect c most_turns (locked 0 (expression_of crate_no.now) (statements_of body.now))) result }
+    {
+        let plan = self.checked.plan();
+        plan.is_plan();
+        match CrateNo::new(value_of(crate_no, &self.variables)) {
+            Some(crate_no) => Wanting::Lock { crate_no, body },
+            None => unreachable!(),
+        }
+    }
+
+    // Begins a statement.
+    fn begin(&mut self, statement: &'a Stmt) -> Option<Wanting<'a>>
+        requires room { HasRoom self.old }
+        requires fits { StatementFits V (length self.old.checked.now.script.lams) (free self.old) (statement_of statement.now) }
         requires fine { FineThen self.old (λ c s. effect c most_turns (statement_of statement.now) (stepped s)) }
         ensures advances { Advances self.old (λ c s. effect c most_turns (statement_of statement.now) (stepped s)) result self.new }
         ensures pace { length self.new.frames.items + 2 * self.old.steps < 2 * self.new.steps + length self.old.frames.items }
@@ -323,30 +478,109 @@ impl<'a, const V: usize, const DEPTH: usize, const CAP: usize> Machine<'a, V, DE
             } => Some(self.single(*size, *function, *register, data)),
             Stmt::CrateCall { call, crate_no, .. } => Some(self.call_crate(*call, crate_no)),
             Stmt::LamCall { call, lam, .. } => Some(self.call_lam(*call, *lam)),
+            Stmt::If { test, then, .. } => {
+                let body = self.chosen(&test.parts, then, &[]);
+                self.open(body, Owner::Plain);
+                None
+            }
+            Stmt::IfElse {
+                test,
+                then,
+                otherwise,
+                ..
+            } => {
+                let body = self.chosen(&test.parts, then, otherwise);
+                self.open(body, Owner::Plain);
+                None
+            }
+            Stmt::Lock { crate_no, body, .. } => Some(self.want_lock(crate_no, body)),
+            Stmt::For {
+                variable,
+                from,
+                to,
+                body,
+                ..
+            } => {
+                self.count(*variable, from, to, body);
+                None
+            }
+            Stmt::While { test, body, .. } => {
+                self.again(&test.parts, MOST_TURNS, body);
+                None
+            }
             _ => unreachable!(),
         }
     }
 
-    // Begins the next statement of a block that was the innermost, or is done with it.
-    fn go_on(&mut self, frame: Frame<'a>) -> Option<Wanting>
-        requires room { HasRoom self.old }
-        requires depth { length self.old.frames.items < DEPTH }
-        requires fits { AllFit V (length self.old.checked.now.script.lams) (statements_of frame.rest.now) }
-        requires fine { FineThen self.old (λ c. block_meaning c most_turns (statements_of frame.rest.now)) }
-        ensures { Advances self.old (λ c. block_meaning c most_turns (statements_of frame.entry.rest.now)) result self.new }
+    // Releases the lock of a crate.
+    fn release(&mut self, crate_no: u32)
+        requires room { HasRoomFor self.old (opens_of self.old.frames.items ++ record { block = done; owner = releases crate_no } ∷ []) }
+        requires fine { FineThen self.old (λ c. owed c (releases crate_no)) }
+        ensures { Advances self.old (λ c. owed c (releases crate_no)) None self.new }
+    {
+        match CrateNo::new(crate_no) {
+            Some(crate_no) => {
+                unlock(&mut self.branch, crate_no);
+                self.steps += 1;
+                self.unlocks.push(crate_no);
+            }
+            None => unreachable!(),
+        }
+    }
+
+    // Goes on after a block that is over.
+    fn leave(&mut self, owner: &Owner<'a>)
+        requires room { HasRoomFor self.old (opens_of self.old.frames.items ++ record { block = done; owner = owner_of owner.now } ∷ []) }
+        requires fine { FineThen self.old (λ c. owed c (owner_of owner.now)) }
+        ensures { Advances self.old (λ c. owed c (owner_of owner.now)) None self.new }
+    {
+        match owner {
+            Owner::Plain => {}
+            Owner::Locked(crate_no) => {
+                self.release(*crate_no);
+            }
+            Owner::For {
+                variable,
+                current,
+                last,
+                turns,
+                body,
+            } => {
+                if *current < *last {
+                    self.turn(*variable, *current + 1, *last, *turns, body);
+                } else {
+                    self.set_variable(*variable, *last);
+                }
+            }
+            Owner::While { test, turns, body } => self.again(test, *turns, body),
+        }
+    }
+
+    // Begins the next statement of a block that was the innermost, or leaves it.
+    fn go_on(&mut self, frame: Frame<'a>) -> Option<Wanting<'a>>
+        requires room { HasRoomFor self.old (opens_of self.old.frames.items ++ open_of frame ∷ []) }
+        requires fine { FineThen self.old (λ c. left_of c (open_of frame)) }
+        ensures { Advances self.old (λ c. left_of c (open_of frame.entry)) result self.new }
     {
         match frame.rest {
-            [] => None,
+            [] => {
+                self.leave(&frame.owner);
+                None
+            }
             [first, rest @ ..] => {
-                self.frames.push(Frame { rest });
+                self.frames.push(Frame {
+                    rest,
+                    owner: frame.owner,
+                });
                 self.begin(first)
             }
         }
     }
 
     // Goes on until an answer is wanted, or the service is over.
-    pub fn settle(&mut self) -> Option<Wanting>
+    pub fn settle(&mut self) -> Option<Wanting<'a>>
         requires room { HasRoom self.old }
+        requires quiet { self.old.unlocks.items ≡ [] }
         requires fine { (answers : List Answer) → IsFineHere self.old (stands None self.old answers) }
         ensures { Settles self.old result self.new }
     {
@@ -364,7 +598,7 @@ impl<'a, const V: usize, const DEPTH: usize, const CAP: usize> Machine<'a, V, DE
         requires in_plan { IsSome (crate_waits self.old.checked.now.plan command.c) }
         requires few { is_permitted self.old.checked.now.plan (branch_of self.old.branch) command.c answer.wait ≡ true → self.old.cycles + (1 + answer.wait) < 2 ^ 32 }
         ensures made { IfOk result (λ d. Makes self.old command answer d self.new) }
-        ensures overrun { IfErr result (λ o. IsRefused self.old command answer o) }
+        ensures overrun { IfErr result (λ o. IsRefused self.old command.c answer o) }
         ensures same { OnErr result (self.new ≡ self.old) }
     {
         let done = cycle(&mut self.branch, self.checked.plan(), command, answer)?;
@@ -375,34 +609,101 @@ impl<'a, const V: usize, const DEPTH: usize, const CAP: usize> Machine<'a, V, DE
         Ok(done)
     }
 
-    // Takes the answer that is wanted; or tells a wait that is not permitted.
-    pub fn take(&mut self, wanting: Wanting, answer: Answer) -> Result<CycleDone, Overrun>
+    // Locks auxiliary controllers out of a crate with this answer, and counts its wait.
+    fn lock(&mut self, crate_no: CrateNo, answer: Answer) -> Result<u8, Overrun>
+        requires in_plan { IsSome (crate_waits self.old.checked.now.plan crate_no) }
+        requires is_free { (branch_of self.old.branch crate_no).locked ≡ false }
+        requires few { is_permitted self.old.checked.now.plan (branch_of self.old.branch) crate_no answer.wait ≡ true → self.old.cycles + answer.wait < 2 ^ 32 }
+        ensures took { IfOk result (λ w. TakesLock self.old crate_no answer w self.new) }
+        ensures overrun { IfErr result (λ o. IsRefused self.old crate_no answer o) }
+        ensures same { OnErr result (self.new ≡ self.old) }
+    {
+        let wait = lock(&mut self.branch, self.checked.plan(), crate_no, answer)?;
+        self.cycles += u32::from(wait);
+        Ok(wait)
+    }
+
+    // Makes a cycle that keeps no word.
+    fn take_cycle(&mut self, command: Command, answer: Answer) -> Result<Item, Overrun>
         requires room { HasRoom self.old }
-        requires wanting { IsWanting self.old wanting }
-        requires fine { (answers : List Answer) → IsFineHere self.old (stands (Some wanting) self.old answers) }
-        ensures took { IfOk result (λ d. Takes self.old wanting answer d self.new) }
-        ensures overrun { IfErr result (λ o. Overruns self.old wanting answer o) }
+        requires wanting { IsWanting self.old (Wanting.Cycle command) }
+        requires fine { (answers : List Answer) → IsFineHere self.old (stands (Some (Wanting.Cycle command)) self.old answers) }
+        ensures took { IfOk result (λ used. Takes self.old (Wanting.Cycle command) answer used self.new) }
+        ensures overrun { IfErr result (λ o. Overruns self.old (Wanting.Cycle command) answer o) }
+        ensures same { OnErr result (self.new ≡ self.old) }
+    {
+        let done = self.make(command, answer)?;
+        Ok(Item::Cycle(done))
+    }
+
+    // Makes a cycle of which a variable keeps so many bits of the word.
+    fn take_read(
+        &mut self,
+        command: Command,
+        variable: usize,
+        bits: u32,
+        answer: Answer,
+    ) -> Result<Item, Overrun>
+        requires room { HasRoom self.old }
+        requires wanting { IsWanting self.old (Wanting.Read command variable bits) }
+        requires fine { (answers : List Answer) → IsFineHere self.old (stands (Some (Wanting.Read command variable bits)) self.old answers) }
+        ensures took { IfOk result (λ used. Takes self.old (Wanting.Read command variable bits) answer used self.new) }
+        ensures overrun { IfErr result (λ o. Overruns self.old (Wanting.Read command variable bits) answer o) }
+        ensures same { OnErr result (self.new ≡ self.old) }
+    {
+        let done = self.make(command, answer)?;
+        keep(&mut self.variables, variable, bits, word_of(&done));
+        Ok(Item::Cycle(done))
+    }
+
+    // Takes the lock of a crate, and opens its block.
+    fn take_lock(
+        &mut self,
+        crate_no: CrateNo,
+        body: &'a [Stmt],
+        answer: Answer,
+    ) -> Result<Item, Overrun>
+        requires room { HasRoom self.old }
+        requires quiet { self.old.unlocks.items ≡ [] }
+        requires wanting { IsWanting self.old (Wanting.Lock crate_no body) }
+        requires fine { (answers : List Answer) → IsFineHere self.old (stands (Some (Wanting.Lock crate_no body)) self.old answers) }
+        ensures took { IfOk result (λ used. Takes self.old (Wanting.Lock crate_no body.entry) answer used self.new) }
+        ensures overrun { IfErr result (λ o. Overruns self.old (Wanting.Lock crate_no body.entry) answer o) }
+        ensures same { OnErr result (self.new ≡ self.old) }
+    {
+        let wait = self.lock(crate_no, answer)?;
+        self.frames.push(Frame {
+            rest: body,
+            owner: Owner::Locked(crate_no.get()),
+        });
+        Ok(Item::Lock(crate_no, wait))
+    }
+
+    // Takes the answer that is wanted; or tells a wait that is not permitted.
+    pub fn take(&mut self, wanting: &Wanting<'a>, answer: Answer) -> Result<Item, Overrun>
+        requires room { HasRoom self.old }
+        requires quiet { self.old.unlocks.items ≡ [] }
+        requires wanting { IsWanting self.old wanting.now }
+        requires fine { (answers : List Answer) → IsFineHere self.old (stands (Some wanting.now) self.old answers) }
+        ensures took { IfOk result (λ used. Takes self.old wanting.now answer used self.new) }
+        ensures overrun { IfErr result (λ o. Overruns self.old wanting.now answer o) }
         ensures same { OnErr result (self.new ≡ self.old) }
     {
         match wanting {
-            Wanting::Cycle(command) => self.make(command, answer),
+            Wanting::Cycle(command) => self.take_cycle(*command, answer),
             Wanting::Read {
                 command,
                 variable,
                 bits,
-            } => match self.make(command, answer) {
-                Ok(done) => {
-                    keep(&mut self.variables, variable, bits, word_of(&done));
-                    Ok(done)
-                }
-                Err(overrun) => Err(overrun),
-            },
+            } => self.take_read(*command, *variable, *bits, answer),
+            Wanting::Lock { crate_no, body } => self.take_lock(*crate_no, body, answer),
         }
     }
 
     // Begins a service, and goes on.
-    pub fn serve(&mut self, number: usize) -> Option<Wanting>
+    pub fn serve(&mut self, number: usize) -> Option<Wanting<'a>>
         requires room { HasRoom self.old }
+        requires quiet { self.old.unlocks.items ≡ [] }
         requires idle { self.old.frames.items ≡ [] }
         requires fits { plays self.old.checked.now.script V DEPTH CAP ≡ true }
         requires number { number < length self.old.checked.now.script.services }
@@ -424,6 +725,7 @@ impl<'a, const V: usize, const DEPTH: usize, const CAP: usize> Machine<'a, V, DE
         self.missed = 0;
         self.frames.push(Frame {
             rest: checked.script().services()[number].body.as_slice(),
+            owner: Owner::Plain,
         });
         self.settle()
     }

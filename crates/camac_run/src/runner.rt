@@ -1,7 +1,8 @@
 // A run that is fed an answer at a time, and takes no memory.
 
-ghost use Rattle.std.specs.Prelude.{◌≡◌, ◌+◌, ◌<◌, ◌≤◌, ◌^◌, List, [], length, true, Some, None, false, IfNone, OnSome, if◌then◌else◌};
+ghost use Rattle.std.specs.Prelude.{◌≡◌, ◌+◌, ◌<◌, ◌≤◌, ◌^◌, List, [], length, true, Some, None, false, IsSome, IfNone, OnSome, if◌then◌else◌};
 ghost use Rattle.camac_branch.specs.Branch.{Answer};
+ghost use Rattle.camac_run.specs.Held.{bounds_at};
 ghost use Rattle.camac_run.specs.Plays.{plays};
 ghost use Rattle.camac_model.specs.Behaviour.{stops, short, ends};
 ghost use Rattle.camac_model.specs.Run.{the_run};
@@ -10,6 +11,7 @@ ghost use Rattle.camac_run.specs.Runner.{state_in, rest, last_words_in, Progress
 use crate::item::{Item, Progress};
 use crate::machine::{Machine, Wanting};
 use crate::service::service_for;
+use arrayvec::ArrayVec;
 use camac_branch::{Answer, Overrun, demand};
 use camac_check::Checked;
 use camac_event::Usage;
@@ -22,7 +24,7 @@ use std::marker::Model;
 pub struct Runner<'a, const V: usize, const DEPTH: usize, const CAP: usize> {
     machine: Machine<'a, V, DEPTH, CAP>,
     // what the service in progress wants, where one is
-    wanting: Option<Wanting>,
+    wanting: Option<Wanting<'a>>,
     fed: u32,
     events: u32,
     // whether the last answer left an event
@@ -34,13 +36,13 @@ pub struct Runner<'a, const V: usize, const DEPTH: usize, const CAP: usize> {
 impl<'a, const V: usize, const DEPTH: usize, const CAP: usize> Model for Runner<'a, V, DEPTH, CAP> {
     ghost use Rattle.std.specs.Coded.{codes};
     ghost use Rattle.camac_check.specs.Checked.{checked_coded};
-    ghost use Rattle.camac_lang.specs.Code.{block_coded};
+    ghost use Rattle.camac_run.specs.Codes.{want_coded, open_coded};
     ghost use Rattle.camac_run.specs.Runner.{Held};
     ghost use Rattle.camac_run.specs.Sound.{held, IsSound};
 
     ghost Value = { Held };
 
-    ghost coded = { Prim.hlevel (codes, checked_coded, block_coded) };
+    ghost coded = { Prim.hlevel (codes, checked_coded, want_coded, open_coded) };
 
     ghost view = { λ r. held r.machine r.wanting r.fed r.events r.has_event r.overrun };
 
@@ -49,7 +51,7 @@ impl<'a, const V: usize, const DEPTH: usize, const CAP: usize> Model for Runner<
 
 impl<'a, const V: usize, const DEPTH: usize, const CAP: usize> Runner<'a, V, DEPTH, CAP> {
     /// Stands before the first graded-L operation. It takes no memory. The script fits the sizes, and has no statements but those that are
-    /// played today: no blocks, transfers and calls of procedures.
+    /// played today: no transfers and calls of procedures.
     pub fn start(checked: &'a Checked) -> Self
         requires { plays checked.now.script V DEPTH CAP ≡ true }
         ensures rest { (answers : List Answer) → rest result answers ≡ the_run checked.now.plan checked.now.script answers }
@@ -80,7 +82,7 @@ impl<'a, const V: usize, const DEPTH: usize, const CAP: usize> Runner<'a, V, DEP
         }
         match self.wanting {
             None => self.demand(answer),
-            Some(wanting) => self.resume(wanting, answer),
+            Some(_) => self.resume(answer),
         }
     }
 
@@ -99,6 +101,7 @@ impl<'a, const V: usize, const DEPTH: usize, const CAP: usize> Runner<'a, V, DEP
                 self.has_event = false;
                 Progress::Went {
                     item: Item::Demand(pattern, None),
+                    unlocks: ArrayVec::new(),
                     event: None,
                 }
             }
@@ -107,11 +110,13 @@ impl<'a, const V: usize, const DEPTH: usize, const CAP: usize> Runner<'a, V, DEP
                 let over = is_over(&next);
                 let events = events_after(over, self.events);
                 let event = self.machine.event(events);
+                let unlocks = self.machine.unlocks.take();
                 self.wanting = next;
                 self.has_event = over;
                 self.events = events;
                 Progress::Went {
                     item: Item::Demand(pattern, Some(called.number)),
+                    unlocks,
                     event: if_over(over, event),
                 }
             }
@@ -119,32 +124,39 @@ impl<'a, const V: usize, const DEPTH: usize, const CAP: usize> Runner<'a, V, DEP
     }
 
     // The answer that the service in progress wants.
-    fn resume(&mut self, wanting: Wanting, answer: Answer) -> Progress
+    fn resume(&mut self, answer: Answer) -> Progress
         requires fed { self.old.fed < 1000000 }
         requires first { self.old.overrun ≡ None }
-        requires wanting { self.old.wanting ≡ Some wanting }
+        requires wanting { IsSome self.old.wanting }
         ensures { Progresses self.old answer result self.new }
     {
-        match self.machine.take(wanting, answer) {
-            Ok(done) => {
-                let next = self.machine.settle();
-                let over = is_over(&next);
-                let events = events_after(over, self.events);
-                let event = self.machine.event(events);
-                self.fed += 1;
-                self.wanting = next;
-                self.has_event = over;
-                self.events = events;
-                Progress::Went {
-                    item: Item::Cycle(done),
-                    event: if_over(over, event),
+        let waited = self.wanting.take();
+        match waited {
+            None => unreachable!(),
+            Some(wanting) => match self.machine.take(&wanting, answer) {
+                Ok(item) => {
+                    let next = self.machine.settle();
+                    let over = is_over(&next);
+                    let events = events_after(over, self.events);
+                    let event = self.machine.event(events);
+                    let unlocks = self.machine.unlocks.take();
+                    self.fed += 1;
+                    self.wanting = next;
+                    self.has_event = over;
+                    self.events = events;
+                    Progress::Went {
+                        item,
+                        unlocks,
+                        event: if_over(over, event),
+                    }
                 }
-            }
-            Err(overrun) => {
-                let progress = stopped(&overrun);
-                self.overrun = Some(overrun);
-                progress
-            }
+                Err(overrun) => {
+                    let progress = stopped(&overrun);
+                    self.wanting = Some(wanting);
+                    self.overrun = Some(overrun);
+                    progress
+                }
+            },
         }
     }
 
@@ -177,7 +189,8 @@ impl<'a, const V: usize, const DEPTH: usize, const CAP: usize> Runner<'a, V, DEP
 
     /// How many steps the service in progress has made, 0 where none is.
     pub fn steps(&self) -> u32
-        ensures { result ≡ steps_of (rest self.now []) }
+        ensures steps { result ≡ steps_of (rest self.now []) }
+        ensures within { result ≤ (bounds_at self.now.checked self.now.service).steps }
     {
         match self.wanting {
             Some(_) => self.machine.steps,

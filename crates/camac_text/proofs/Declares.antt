@@ -1,115 +1,25 @@
 -- What a declaration that is read leaves.
-use Rattle.std.proofs.Common.{◌≡◌, ℕ, ◌+◌, ◌≤◌, ◌<◌, true, ◌&&◌, nat_lt, List, [], ◌∷◌, ◌++◌, length, Option, Some, Ok, refl, sym, ap, subst, ◌∙◌, append_assoc, length-append, arith}
+use Rattle.std.proofs.Common.{◌≡◌, ℕ, ◌+◌, ◌≤◌, ◌<◌, true, nat_lt, List, length, Option, Some, Ok, refl, sym, ap, subst, arith}
 use Rattle.std.proofs.lemmas.Bool.{ltb-true}
-use Rattle.std.proofs.lemmas.List.{append-nil}
-use Rattle.camac_lang.specs.Scope.{are_declarable}
 use Rattle.camac_lang.specs.Tests.{is_name, is_new, is_number, is_sub_address}
-use Rattle.camac_lang.specs.Tree.{Text, Statement, Lam}
+use Rattle.camac_lang.specs.Tree.{Statement, Lam}
 use Rattle.camac_tokens.specs.declared.fault.TextRule.TheVariants.{LimitPassed}
 use Rattle.camac_tokens.specs.declared.token.Keyword.TheVariants as word
 use Rattle.camac_tokens.specs.declared.token.TokenKind.{TokenKind}
 use Rattle.camac_tokens.specs.declared.token.TokenKind.TheVariants as kind
-use Rattle.camac_text.specs.Reading.{State, Reader, then_read, ◌>>◌, give, change, advance, check, kind_of, line_of, behind, while_next}
-use Rattle.camac_text.specs.Readers.{new_name, with_variable, new_variable, is_name as next_is_name, expect, any_number, branch_number, sub_address_number, used_lam}
-use Rattle.camac_text.specs.Statements.{block_at}
+use Rattle.camac_cursor.specs.Reading.{State, give, change, kind_of, line_of, behind, while_next}
+use Rattle.camac_cursor.specs.Readers.{new_name, new_variable, is_name as next_is_name, expect, any_number, branch_number, sub_address_number, used_lam}
+use Rattle.camac_statements.specs.Statements.{block_at}
 use Rattle.camac_text.specs.Declarations.{with_lam, lam_declaration, one_more_variable, with_variables_of, variable_declaration, with_service, service_declaration, declaration_by, declaration_at, is_token}
-use Rattle.camac_text.proofs.Steps.{then_ok, ok_is, err_no_ok, Progresses, while_keeps}
-use Rattle.camac_text.proofs.Moves.{AllFit, Moves, kind_fit, behind_less, stays, moved, then_moves, one_moves, check_ok, any_number_ok, branch_ok, sub_address_ok, expect_ok, new_name_ok}
-use Rattle.camac_text.proofs.Uses.{used_lam_ok}
-use Rattle.camac_text.proofs.Acts.{below_le, declarable_push, first_of_both, second_of_both}
-use Rattle.camac_text.proofs.Blocks.{Body, behind_moves}
-use Rattle.camac_text.proofs.Bodies.{block_ok}
-use Rattle.camac_text.proofs.Listed.{each_append}
-
--- ---- variables
-
--- one variable is declared
-pub record DeclaresOne (s : State) (x : Text) (s' : State) : Type 0 where
-  pub next : kind_of s.rest ≡ Some (kind.Name x)
-  pub free : is_new x s.declared ≡ true
-  pub room : length s.variables < 64
-  pub left : s' ≡ with_variable x (record s { rest = behind s.rest })
-
-pub new_variable_ok : (s : State) (y : Unit {0} × State) → new_variable s ≡ Ok y → (x : Text) × DeclaresOne s x y.1
-unfolding new_variable
-new_variable_ok s y e =
-    let m = then_ok (new_name s) _ y e in
-    let h = new_name_ok s m.0 m.1 in
-    let rest : Reader (Unit {0}) = λ u. then_read (check (nat_lt (length u.variables) 64) LimitPassed u) (λ _. advance >> change (with_variable m.0.0)) in
-    let at : rest s ≡ Ok y = subst (λ (u : State). rest u ≡ Ok y) h.left m.2 in
-    let c = check_ok (nat_lt (length s.variables) 64) LimitPassed (advance >> change (with_variable m.0.0)) s y at in (
-      m.0.0,
-      record {
-        next = h.next;
-        free = h.free;
-        room = ltb-true (length s.variables) 64 c.0;
-        left = sym (ap (λ (p : Unit {0} × State). p.1) (ok_is (tt, with_variable m.0.0 (record s { rest = behind s.rest })) y c.1));
-      },
-    )
-
-pub one_variable_less : (s : State) (x : Text) (s' : State) → DeclaresOne s x s' → length s'.rest < length s.rest
-one_variable_less s x s' d = subst (λ (u : State). length u.rest < length s.rest) (sym d.left) (behind_less s.rest (kind.Name x) d.next)
-
-pub variables_progress : Progresses next_is_name one_more_variable
-variables_progress count s y s' on took =
-    let m = then_ok (new_variable s) (λ _. give (count + 1)) (y, s') took in
-    let d = new_variable_ok s m.0 m.1 in
-    subst (λ (p : ℕ × State). length p.1.rest < length s.rest) (ok_is (count + 1, m.0.1) (y, s') m.2) (one_variable_less s d.0 m.0.1 d.1)
-
--- so many variables are declared
-pub record DeclaresVariables (s : State) (count : ℕ) (s' : State) : Type 0 where
-  pub names : List Text
-  pub counted : length names ≡ count
-  pub same : s' ≡ record s { rest = s'.rest; variables = s.variables ++ names; declared = s.declared ++ names }
-  pub fit : AllFit s.rest → AllFit s'.rest
-  pub shorter : length s'.rest ≤ length s.rest
-  pub few : length s.variables ≤ 64 → length s'.variables ≤ 64
-  pub new : AllFit s.rest → are_declarable names s.declared ≡ true
-
-no_variables : (s : State) → DeclaresVariables s 0 s
-no_variables s = record {
-  names = [];
-  counted = refl;
-  same = ap (λ (xs : List Text). record s { variables = xs }) (sym (append-nil s.variables)) ∙ ap (λ (xs : List Text). record s { variables = s.variables ++ []; declared = xs }) (sym (append-nil s.declared));
-  fit = λ h. h;
-  shorter = omega arith;
-  few = λ h. h;
-  new = λ h. refl;
-}
-
-one_variable_more : (s : State) (n : ℕ) (u : State) (x : Text) (t : State) → DeclaresVariables s n u → DeclaresOne u x t → DeclaresVariables s (n + 1) t
-one_variable_more s n u x t d one =
-    let declared : u.declared ≡ s.declared ++ d.names = ap (λ (w : State). w.declared) d.same in
-    let free : is_new x (s.declared ++ d.names) ≡ true = subst (λ (known : List Text). is_new x known ≡ true) declared one.free in
-    let parts : (is_new x s.declared && is_new x d.names) ≡ true = sym (each_append _ s.declared d.names) ∙ free in
-    let next_state : State = with_variable x (record u { rest = behind u.rest }) in
-    let longer : length (d.names ++ x ∷ []) ≡ length d.names + 1 = length-append d.names (x ∷ []) in
-    let counted : length d.names ≡ n = d.counted in
-    let t_rest : t.rest ≡ behind u.rest = ap (λ (w : State). w.rest) one.left in
-    let less : length t.rest < length u.rest = one_variable_less u x t one in
-    let shorter : length u.rest ≤ length s.rest = d.shorter in
-    let room : length u.variables < 64 = one.room in
-    let t_variables : t.variables ≡ u.variables ++ x ∷ [] = ap (λ (w : State). w.variables) one.left in
-    let t_length : length t.variables ≡ length u.variables + 1 = ap (λ (xs : List Text). length xs) t_variables ∙ length-append u.variables (x ∷ []) in
-    record {
-      names = d.names ++ x ∷ [];
-      counted = omega arith;
-      same = one.left
-          ∙ ap (λ (w : State). with_variable x (record w { rest = behind u.rest })) d.same
-          ∙ ap (λ (ts : _). record s { rest = ts; variables = (s.variables ++ d.names) ++ x ∷ []; declared = (s.declared ++ d.names) ++ x ∷ [] }) (sym t_rest)
-          ∙ ap (λ (xs : List Text). record s { rest = t.rest; variables = xs; declared = (s.declared ++ d.names) ++ x ∷ [] }) (append_assoc s.variables d.names (x ∷ []))
-          ∙ ap (λ (xs : List Text). record s { rest = t.rest; variables = s.variables ++ (d.names ++ x ∷ []); declared = xs }) (append_assoc s.declared d.names (x ∷ []));
-      fit = λ h. subst (λ (w : State). AllFit w.rest) (sym one.left) ((moved u).fit (d.fit h));
-      shorter = omega arith;
-      few = λ h. omega arith;
-      new = λ h. declarable_push d.names x s.declared (d.new h) (kind_fit u.rest (kind.Name x) one.next (d.fit h)) (first_of_both _ _ parts) (second_of_both _ _ parts);
-    }
-
-variables_turn : (s : State) (n : ℕ) (u : State) (m : ℕ) (t : State) → DeclaresVariables s n u → one_more_variable n u ≡ Ok (m, t) → DeclaresVariables s m t
-variables_turn s n u m t d e =
-    let a = then_ok (new_variable u) (λ _. give (n + 1)) (m, t) e in
-    let one = new_variable_ok u a.0 a.1 in
-    subst (λ (p : ℕ × State). DeclaresVariables s p.0 p.1) (ok_is (n + 1, a.0.1) (m, t) a.2) (one_variable_more s n u one.0 a.0.1 d one.1)
+use Rattle.camac_cursor.proofs.Steps.{then_ok, ok_is, err_no_ok, Progresses, while_keeps}
+use Rattle.camac_cursor.proofs.Moves.{AllFit, Moves, kind_fit, behind_less, stays, moved, then_moves, one_moves, check_ok, any_number_ok, branch_ok, sub_address_ok, expect_ok, new_name_ok}
+use Rattle.camac_cursor.proofs.Uses.{used_lam_ok}
+use Rattle.camac_cursor.proofs.Registers.{below_le}
+use Rattle.camac_statements.proofs.Blocks.{Body, behind_moves}
+use Rattle.camac_statements.proofs.Bodies.{block_ok}
+use Rattle.camac_text.proofs.Variables.{DeclaresVariables, new_variable_ok, no_variables, one_variable_more, variables_turn}
+use Rattle.camac_text.proofs.ProceduresRead.{ProcedureDeclaration, procedure_is}
+use Rattle.camac_text.proofs.TablesRead.{TableDeclaration, table_is}
 
 -- ---- declarations
 
@@ -141,7 +51,7 @@ variables_is s k line y next e =
     let d = all.0 in
     let left : y.1 ≡ with_variables_of line b.0.0 b.0.1 = sym (ap (λ (p : Unit {0} × State). p.1) (ok_is (tt, with_variables_of line b.0.0 b.0.1) y b.2)) in
     let less : length (behind s.rest) < length s.rest = behind_less s.rest k next in
-    let shorter : length b.0.1.rest ≤ length (behind s.rest) = d.shorter in
+    let shorter : length b.0.1.rest ≤ length (behind s.rest) = d.declares.shorter in
     record {
       line = line;
       count = b.0.0;
@@ -149,11 +59,13 @@ variables_is s k line y next e =
       variables = record {
         names = d.names;
         counted = d.counted;
-        same = d.same;
-        fit = λ h. d.fit ((moved s).fit h);
-        shorter = omega arith;
-        few = d.few;
-        new = λ h. d.new ((moved s).fit h);
+        declares = record {
+          same = d.declares.same;
+          fit = λ h. d.declares.fit ((moved s).fit h);
+          shorter = omega arith;
+          few = d.declares.few;
+          new = λ h. d.declares.new ((moved s).fit h);
+        };
       };
       some = all.1;
       left = left;
@@ -273,11 +185,15 @@ service_is s k line y next e =
     }
 
 pub data Declares (s s' : State) : Type 0 where
+  a_procedure : ProcedureDeclaration s s' → Declares s s'
+  a_table : TableDeclaration s s' → Declares s s'
   a_lam : LamDeclaration s s' → Declares s s'
   some_variables : VariableDeclaration s s' → Declares s s'
   a_service : ServiceDeclaration s s' → Declares s s'
 
 declaration_is : (s : State) (line : ℕ) (k : Option TokenKind) (y : Unit {0} × State) → kind_of s.rest ≡ k → declaration_by line k s ≡ Ok y → Declares s y.1
+declaration_is s line (Some (kind.Keyword word.Table)) y next e = a_table (table_is s (kind.Keyword word.Table) line y next e)
+declaration_is s line (Some (kind.Keyword word.Proc)) y next e = a_procedure (procedure_is s (kind.Keyword word.Proc) line y next e)
 declaration_is s line (Some (kind.Keyword word.Cdlam)) y next e = a_lam (lam_is s (kind.Keyword word.Cdlam) line y next e)
 declaration_is s line (Some (kind.Keyword word.Var)) y next e = some_variables (variables_is s (kind.Keyword word.Var) line y next e)
 declaration_is s line (Some (kind.Keyword word.Service)) y next e = a_service (service_is s (kind.Keyword word.Service) line y next e)
@@ -288,6 +204,8 @@ unfolding declaration_at
 declaration_ok s y e = declaration_is s (line_of s.rest s.end_line) (kind_of s.rest) y refl e
 
 declares_less : (s s' : State) → Declares s s' → length s'.rest < length s.rest
+declares_less s s' (a_procedure d) = d.less
+declares_less s s' (a_table d) = d.less
 declares_less s s' (a_lam d) = d.less
 declares_less s s' (some_variables d) = d.less
 declares_less s s' (a_service d) = d.less

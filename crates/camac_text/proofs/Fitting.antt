@@ -14,8 +14,8 @@ use Rattle.camac_tokens.specs.Fault.{Fault}
 use Rattle.camac_tokens.specs.Words.{keyword}
 use Rattle.camac_tokens.specs.Scanning.{is_name_byte, is_blank, decimal_value, keyword_or, pair_at, single_at, pair_or_single, front_of, line_number, line_after, with_first, tokens_by, tokens_from, tokens_of}
 use Rattle.camac_tokens.proofs.Scans.{run_some, name_begins}
-use Rattle.camac_text.proofs.Moves.{kind_fits, AllFit}
-use Rattle.camac_text.proofs.Acts.{both, below_le}
+use Rattle.camac_cursor.proofs.Moves.{kind_fits, AllFit}
+use Rattle.camac_cursor.proofs.Registers.{both, below_le}
 
 abbrev FrontFits : Front → Type 0
 FrontFits (front.Found k n) = kind_fits k ≡ true

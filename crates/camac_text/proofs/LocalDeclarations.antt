@@ -5,14 +5,17 @@ use Rattle.camac_tokens.specs.declared.fault.TextRule.TheVariants.{UnexpectedTok
 use Rattle.camac_tokens.specs.declared.token.Keyword.TheVariants as word
 use Rattle.camac_tokens.specs.declared.token.TokenKind.{TokenKind}
 use Rattle.camac_tokens.specs.declared.token.TokenKind.TheVariants as kind
-use Rattle.camac_text.specs.Reading.{State, Reader, ◌>>=◌, ◌>>◌, give, change, peek, advance, check, kind_of, line_of, while_next}
-use Rattle.camac_text.specs.Readers.{is_name, expect, any_number, branch_number, sub_address_number, new_name, new_variable, used_lam}
-use Rattle.camac_text.specs.Statements.{block_at}
+use Rattle.camac_cursor.specs.Reading.{State, Reader, ◌>>=◌, ◌>>◌, give, change, peek, advance, check, kind_of, line_of, while_next}
+use Rattle.camac_cursor.specs.Readers.{is_name, expect, any_number, branch_number, sub_address_number, new_name, new_variable, used_lam}
+use Rattle.camac_statements.specs.Statements.{block_at}
 use Rattle.camac_text.specs.Declarations.{with_lam, lam_declaration, one_more_variable, with_variables_of, variable_declaration, with_service, service_declaration, declaration_by, declaration_at, is_token, declarations_at}
-use Rattle.camac_text.proofs.Declares.{variables_progress, declarations_progress}
-use Rattle.camac_text.proofs.Places.{IsLocal, local_then, local_peek, local_line, local_ask, local_change, local_give, local_fail, local_advance, local_check, local_while}
-use Rattle.camac_text.proofs.Local.{local_expect, local_any_number, local_branch, local_sub_address, local_new_name, local_new_variable, local_used_lam}
-use Rattle.camac_text.proofs.LocalStatements.{local_block}
+use Rattle.camac_text.proofs.Declares.{declarations_progress}
+use Rattle.camac_text.proofs.Variables.{variables_progress}
+use Rattle.camac_text.proofs.LocalProcedures.{local_procedure}
+use Rattle.camac_text.proofs.LocalTables.{local_table}
+use Rattle.camac_cursor.proofs.Places.{IsLocal, local_then, local_peek, local_line, local_ask, local_change, local_give, local_fail, local_advance, local_check, local_while}
+use Rattle.camac_cursor.proofs.Local.{local_expect, local_any_number, local_branch, local_sub_address, local_new_name, local_new_variable, local_used_lam}
+use Rattle.camac_statements.proofs.LocalStatements.{local_block}
 
 abbrev made : ℕ → Text → ℕ → ℕ → ℕ → Lam
 made line x c n a = record { line = line; name = x; crate_no = c; station = n; sub_address = a }
@@ -65,6 +68,8 @@ local_service line s =
     local_then (block_at 16) (λ body. change (with_service line l c w body)) u (local_block 16 u) (λ body u _. local_change (with_service line l c w body) (λ v ts n. refl) (λ v. refl) u)))))))))))
 
 local_declaration_by : (line : ℕ) (k : Option TokenKind) (s : State) → IsLocal (declaration_by line k) s
+local_declaration_by line (Some (kind.Keyword word.Table)) s = local_table line s
+local_declaration_by line (Some (kind.Keyword word.Proc)) s = local_procedure line s
 local_declaration_by line (Some (kind.Keyword word.Cdlam)) s = local_lam line s
 local_declaration_by line (Some (kind.Keyword word.Var)) s = local_variables line s
 local_declaration_by line (Some (kind.Keyword word.Service)) s = local_service line s

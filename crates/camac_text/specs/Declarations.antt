@@ -6,9 +6,11 @@ use Rattle.camac_tokens.specs.declared.token.Keyword.TheVariants as word
 use Rattle.camac_tokens.specs.declared.token.TokenKind.{TokenKind}
 use Rattle.camac_tokens.specs.declared.token.TokenKind.TheVariants as kind
 use Rattle.camac_tokens.specs.declared.fault.TextRule.TheVariants.{UnexpectedToken, LimitPassed}
-use Rattle.camac_text.specs.Reading.{State, Reader, ◌>>=◌, ◌>>◌, give, ask, change, peek, advance, line_here, fail, check, while_next}
-use Rattle.camac_text.specs.Readers.{is_name, expect, any_number, branch_number, sub_address_number, new_name, new_variable, used_lam}
-use Rattle.camac_text.specs.Statements.{block_at}
+use Rattle.camac_cursor.specs.Reading.{State, Reader, ◌>>=◌, ◌>>◌, give, ask, change, peek, advance, line_here, fail, check, while_next}
+use Rattle.camac_cursor.specs.Readers.{is_name, expect, any_number, branch_number, sub_address_number, new_name, new_variable, used_lam}
+use Rattle.camac_statements.specs.Statements.{block_at}
+use Rattle.camac_text.specs.Tables.{table_declaration}
+use Rattle.camac_text.specs.Procedures.{procedure_declaration}
 
 abbrev pub with_lam : Lam → State → State
 with_lam l s = record s { lams = s.lams ++ l ∷ []; declared = s.declared ++ l.name ∷ []; order = s.order ++ next_lam ∷ [] }
@@ -64,8 +66,10 @@ service_declaration line = do
   change (with_service line lam cycles words body)
 
 abbrev pub declaration_by : ℕ → Option TokenKind → Reader (Unit {0})
+declaration_by line (Some (kind.Keyword word.Table)) = table_declaration line
 declaration_by line (Some (kind.Keyword word.Cdlam)) = lam_declaration line
 declaration_by line (Some (kind.Keyword word.Var)) = variable_declaration line
+declaration_by line (Some (kind.Keyword word.Proc)) = procedure_declaration line
 declaration_by line (Some (kind.Keyword word.Service)) = service_declaration line
 declaration_by line _ = fail UnexpectedToken
 

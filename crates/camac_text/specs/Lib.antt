@@ -1,10 +1,6 @@
-pub mod Names
-pub mod Reading
-pub mod Readers
-pub mod Expressions
-pub mod Conditions
-pub mod Keeps
-pub mod Statements
+pub mod Procedures
+pub mod Headings
+pub mod Tables
 pub mod Declarations
 pub mod Parser
 pub mod Places

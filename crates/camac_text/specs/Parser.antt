@@ -1,39 +1,11 @@
--- What the parser's functions return, beside the readers.
-use Rattle.std.specs.Prelude.{◌≡◌, ℕ, List, [], map, Result, Ok, Err}
+-- From the tokens of a text to its tree.
+use Rattle.std.specs.Prelude.{ℕ, false, List, [], Result, Ok, Err}
 use Rattle.camac_lang.specs.Tree.{Script}
-use Rattle.camac_lang.specs.View.{expression_of, item_of, table_of, lam_of, procedure_of, service_of}
 use Rattle.camac_tokens.specs.declared.token.Token.{Token}
-use Rattle.camac_tokens.specs.declared.fault.TextFault.{TextFault}
-use Rattle.camac_text.specs.declared.cursor.Parser.{Parser}
-use Rattle.camac_text.specs.declared.expressions.Counted as rust_counted
-use Rattle.camac_tokens.specs.Fault.{Fault, Fails}
+use Rattle.camac_tokens.specs.Fault.{Fault}
 use Rattle.camac_tokens.specs.Scanning.{tokens_of, last_line}
-use Rattle.camac_text.specs.Reading.{State}
-use Rattle.camac_text.specs.Expressions.{Counted, counted}
+use Rattle.camac_cursor.specs.Reading.{State}
 use Rattle.camac_text.specs.Declarations.{declarations_at}
-
-abbrev pub state : Parser → State
-state p = record {
-  rest = p.rest.now;
-  end_line = p.end_line;
-  order = map item_of p.order.items;
-  tables = map table_of p.tables.items;
-  lams = map lam_of p.lams.items;
-  variables = p.variables.items;
-  procedures = map procedure_of p.procedures.items;
-  services = map service_of p.services.items;
-  declared = p.declared.items;
-  registers = p.registers.items;
-  statements = p.statements;
-}
-
-abbrev pub counted_of : rust_counted.Counted → Counted
-counted_of c = counted (expression_of c.value) c.operators
-
--- What a function returned, seen by view, and what it left are what is read, unless memory was refused.
-abbrev pub Gives : {X Y : Type 0} → (X → Y) → Result X TextFault → Parser → Result (Y × State) Fault → Type 0
-Gives view (Ok x) after read = read ≡ Ok (view x, state after)
-Gives view (Err e) after read = Fails e read
 
 -- the state in which a script begins
 abbrev pub start : List Token → ℕ → State
@@ -46,6 +18,9 @@ start tokens end_line = record {
   variables = [];
   procedures = [];
   services = [];
+  callables = [];
+  in_procedure = false;
+  variable_count = 0;
   declared = [];
   registers = [];
   statements = 0;

@@ -1,27 +1,13 @@
 -- Where a fault of the parser is.
-use Rattle.std.specs.Prelude.{◌≡◌, ℕ, List, ◌∷◌, ◌++◌, Option, Some, Result, Ok, Err}
-use Rattle.camac_lang.specs.Tree.{Text}
+use Rattle.std.specs.Prelude.{◌≡◌, ℕ, List, ◌∷◌, ◌++◌, Result, Ok, Err}
 use Rattle.camac_tokens.specs.declared.token.Token.{Token}
-use Rattle.camac_tokens.specs.declared.token.TokenKind.{TokenKind}
-use Rattle.camac_tokens.specs.declared.token.TokenKind.TheVariants as kind
-use Rattle.camac_tokens.specs.declared.fault.TextRule.{TextRule}
-use Rattle.camac_tokens.specs.declared.fault.TextRule.TheVariants.{BadByte, UnexpectedToken, NumberTooLarge, DeclaredTwice, NotDeclared, LimitPassed, BranchNotOne}
 use Rattle.camac_tokens.specs.declared.fault.TextFault.{TextFault}
 use Rattle.camac_tokens.specs.declared.fault.TextFault.TheVariants as text_fault
 use Rattle.camac_tokens.specs.Fault.{Fault}
 use Rattle.camac_tokens.specs.Scanning.{tokens_of, last_line}
-use Rattle.camac_text.specs.Reading.{kind_of, line_of}
+use Rattle.camac_cursor.specs.Places.{RuleFits}
+use Rattle.camac_cursor.specs.Reading.{kind_of, line_of}
 use Rattle.camac_text.specs.Parser.{tree_of_tokens}
-
--- at which token a rule can be broken: S3 and S7 at a NUM, S4 and S5 at a NAME
-abbrev pub RuleFits : TextRule → Option TokenKind → Type 0
-RuleFits BadByte at = ⊥
-RuleFits UnexpectedToken at = Unit {0}
-RuleFits NumberTooLarge at = (n : ℕ) × (at ≡ Some (kind.Number n))
-RuleFits DeclaredTwice at = (x : Text) × (at ≡ Some (kind.Name x))
-RuleFits NotDeclared at = (x : Text) × (at ≡ Some (kind.Name x))
-RuleFits LimitPassed at = Unit {0}
-RuleFits BranchNotOne at = (n : ℕ) × (at ≡ Some (kind.Number n))
 
 -- The fault is that of a token, or of the text's end, and whatever follows that token, to whatever last line, it stays the
 -- same fault.

@@ -1,122 +1,125 @@
 // Declarations.
 
 ghost use Rattle.std.specs.Prelude.{◌≡◌, suc};
-ghost use Rattle.camac_text.specs.Reading.{kind_of, while_next};
-ghost use Rattle.camac_text.specs.Readers.{is_name};
+ghost use Rattle.camac_cursor.specs.Reading.{kind_of, while_next};
+ghost use Rattle.camac_cursor.specs.Readers.{is_name};
 ghost use Rattle.camac_text.specs.Declarations.{lam_declaration, one_more_variable, variable_declaration, service_declaration, declaration_at, is_token, declarations_at};
-ghost use Rattle.camac_text.specs.Parser.{state, Gives};
+ghost use Rattle.camac_cursor.specs.Parser.{state, Gives};
 
-use crate::cursor::Parser;
+use crate::procedures::procedure_declaration;
+use crate::tables::table_declaration;
+use camac_cursor::Parser;
 use camac_lang::{Item, Lam, Service};
+use camac_statements::block;
 use camac_tokens::{Keyword, TextFault, TextRule, TokenKind};
 use std::mem;
 
-impl Parser<'_> {
-    /// All declarations to the text's end.
-    #[tactic(auto, unfolding(crate::specs::Declarations::declarations_at))]
-    pub fn declarations(&mut self) -> Result<(), TextFault>
-        ensures { Gives (λ _. tt) result self.new (declarations_at (state self.old)) }
-    {
-        while self.has_token() {
-            self.declaration()?;
-        }
-        Ok(())
+/// All declarations to the text's end.
+#[tactic(auto, unfolding(crate::specs::Declarations::declarations_at))]
+pub fn declarations(parser: &mut Parser<'_>) -> Result<(), TextFault>
+    ensures { Gives (λ _. tt) result parser.new (declarations_at (state parser.old)) }
+{
+    while has_token(parser) {
+        declaration(parser)?;
     }
+    Ok(())
+}
 
-    fn has_token(&self) -> bool
-        ensures { result ≡ is_token (kind_of self.now.rest.now) }
-    {
-        self.peek().is_some()
-    }
+fn has_token(parser: &Parser<'_>) -> bool
+    ensures { result ≡ is_token (kind_of parser.now.rest.now) }
+{
+    parser.peek().is_some()
+}
 
-    #[tactic(auto, unfolding(crate::specs::Declarations::declaration_at))]
-    fn declaration(&mut self) -> Result<(), TextFault>
-        ensures { Gives (λ _. tt) result self.new (declaration_at (state self.old)) }
-    {
-        let line = self.line_here();
-        match self.peek() {
-            Some(TokenKind::Keyword(Keyword::Cdlam)) => self.lam_declaration(line),
-            Some(TokenKind::Keyword(Keyword::Var)) => self.variable_declaration(line),
-            Some(TokenKind::Keyword(Keyword::Service)) => self.service_declaration(line),
-            _ => Err(self.fault(TextRule::UnexpectedToken)),
-        }
+#[tactic(auto, unfolding(crate::specs::Declarations::declaration_at))]
+fn declaration(parser: &mut Parser<'_>) -> Result<(), TextFault>
+    ensures { Gives (λ _. tt) result parser.new (declaration_at (state parser.old)) }
+{
+    let line = parser.line_here();
+    match parser.peek() {
+        Some(TokenKind::Keyword(Keyword::Table)) => table_declaration(parser, line),
+        Some(TokenKind::Keyword(Keyword::Cdlam)) => lam_declaration(parser, line),
+        Some(TokenKind::Keyword(Keyword::Var)) => variable_declaration(parser, line),
+        Some(TokenKind::Keyword(Keyword::Proc)) => procedure_declaration(parser, line),
+        Some(TokenKind::Keyword(Keyword::Service)) => service_declaration(parser, line),
+        _ => Err(parser.fault(TextRule::UnexpectedToken)),
     }
+}
 
-    #[tactic(auto, unfolding(crate::specs::Declarations::lam_declaration))]
-    fn lam_declaration(&mut self, line: u32) -> Result<(), TextFault>
-        ensures { Gives (λ _. tt) result self.new (lam_declaration line (state self.old)) }
-    {
-        if self.lams.len() >= 64 {
-            return Err(self.fault(TextRule::LimitPassed));
-        }
-        self.advance();
-        let name = self.new_name()?;
-        self.advance();
-        self.branch_number()?;
-        let crate_no = self.any_number()?;
-        let station = self.any_number()?;
-        let sub_address = self.sub_address_number()?;
-        self.declared.push(name.duplicate())?;
-        self.lams.push(Lam {
-            line,
-            name,
-            crate_no,
-            station,
-            sub_address,
-        })?;
-        self.order.push(Item::Lam)?;
-        Ok(())
+#[tactic(auto, unfolding(crate::specs::Declarations::lam_declaration))]
+fn lam_declaration(parser: &mut Parser<'_>, line: u32) -> Result<(), TextFault>
+    ensures { Gives (λ _. tt) result parser.new (lam_declaration line (state parser.old)) }
+{
+    if parser.lams.len() >= 64 {
+        return Err(parser.fault(TextRule::LimitPassed));
     }
+    parser.advance();
+    let name = parser.new_name()?;
+    parser.advance();
+    parser.branch_number()?;
+    let crate_no = parser.any_number()?;
+    let station = parser.any_number()?;
+    let sub_address = parser.sub_address_number()?;
+    parser.declared.push(name.duplicate())?;
+    parser.lams.push(Lam {
+        line,
+        name,
+        crate_no,
+        station,
+        sub_address,
+    })?;
+    parser.order.push(Item::Lam)?;
+    Ok(())
+}
 
-    #[tactic(auto, unfolding(crate::specs::Declarations::variable_declaration))]
-    fn variable_declaration(&mut self, line: u32) -> Result<(), TextFault>
-        ensures { Gives (λ _. tt) result self.new (variable_declaration line (state self.old)) }
-    {
-        self.advance();
-        self.new_variable()?;
-        let count = self.more_variables()?;
-        self.order.push(Item::Variables { line, count })?;
-        Ok(())
-    }
+#[tactic(auto, unfolding(crate::specs::Declarations::variable_declaration))]
+fn variable_declaration(parser: &mut Parser<'_>, line: u32) -> Result<(), TextFault>
+    ensures { Gives (λ _. tt) result parser.new (variable_declaration line (state parser.old)) }
+{
+    parser.advance();
+    parser.new_variable()?;
+    let count = more_variables(parser)?;
+    parser.order.push(Item::Variables { line, count })?;
+    Ok(())
+}
 
-    /// The number of variables of a declaration, of which one is read.
-    fn more_variables(&mut self) -> Result<usize, TextFault>
-        ensures { Gives (λ n. n) result self.new (while_next is_name one_more_variable 1 (state self.old)) }
-    {
-        let mut count = 1;
-        while self.next_is_name() {
-            self.new_variable()?;
-            count += 1;
-        }
-        Ok(count)
+/// The number of variables of a declaration, of which one is read.
+fn more_variables(parser: &mut Parser<'_>) -> Result<usize, TextFault>
+    ensures { Gives (λ n. n) result parser.new (while_next is_name one_more_variable 1 (state parser.old)) }
+{
+    let mut count = 1;
+    while parser.next_is_name() {
+        parser.new_variable()?;
+        count += 1;
     }
+    Ok(count)
+}
 
-    #[tactic(auto, unfolding(crate::specs::Declarations::service_declaration))]
-    fn service_declaration(&mut self, line: u32) -> Result<(), TextFault>
-        ensures { Gives (λ _. tt) result self.new (service_declaration line (state self.old)) }
-    {
-        if self.services.len() >= 24 {
-            return Err(self.fault(TextRule::LimitPassed));
-        }
-        self.advance();
-        let lam = self.used_lam()?;
-        self.expect(Keyword::Within)?;
-        let cycles = self.any_number()?;
-        self.expect(Keyword::Cycles)?;
-        self.expect(Keyword::Event)?;
-        let words = self.any_number()?;
-        self.expect(Keyword::Words)?;
-        let body = self.block(16)?;
-        let registers = mem::replace(&mut self.registers, Vec::new(self.alloc));
-        self.services.push(Service {
-            line,
-            lam,
-            cycles,
-            words,
-            registers,
-            body,
-        })?;
-        self.order.push(Item::Service)?;
-        Ok(())
+#[tactic(auto, unfolding(crate::specs::Declarations::service_declaration))]
+fn service_declaration(parser: &mut Parser<'_>, line: u32) -> Result<(), TextFault>
+    ensures { Gives (λ _. tt) result parser.new (service_declaration line (state parser.old)) }
+{
+    if parser.services.len() >= 24 {
+        return Err(parser.fault(TextRule::LimitPassed));
     }
+    parser.advance();
+    let lam = parser.used_lam()?;
+    parser.expect(Keyword::Within)?;
+    let cycles = parser.any_number()?;
+    parser.expect(Keyword::Cycles)?;
+    parser.expect(Keyword::Event)?;
+    let words = parser.any_number()?;
+    parser.expect(Keyword::Words)?;
+    let body = block(parser, 16)?;
+    let registers = mem::replace(&mut parser.registers, Vec::new(parser.alloc));
+    parser.services.push(Service {
+        line,
+        lam,
+        cycles,
+        words,
+        registers,
+        body,
+    })?;
+    parser.order.push(Item::Service)?;
+    Ok(())
 }

@@ -1,18 +1,11 @@
 //! Reads the text of a script: tokens first, then the tree that they spell.
 #![tactic(auto)]
 
-mod actions;
-mod calls;
-mod conditions;
-mod cursor;
 mod declarations;
-mod expressions;
-mod keeps;
-mod names;
-mod naming;
-mod nesting;
+mod depth;
+mod procedures;
 mod reading;
-mod statements;
+mod tables;
 
 pub use camac_tokens::{Keyword, Sign, TextFault, TextRule, Token, TokenKind, tokens};
 pub use reading::parse;

@@ -4,15 +4,16 @@ ghost use Rattle.std.specs.Prelude.{◌≡◌, IsTrue};
 ghost use Rattle.camac_lang.specs.Scope.{is_well_formed};
 ghost use Rattle.camac_tokens.specs.Fault.{Answers};
 ghost use Rattle.camac_text.specs.Places.{HasFault, FaultIs};
-ghost use Rattle.camac_text.specs.Parser.{state, start, tree_so_far, script_of};
+ghost use Rattle.camac_cursor.specs.Parser.{state};
+ghost use Rattle.camac_text.specs.Parser.{start, tree_so_far, script_of};
 
-use crate::cursor::Parser;
+use crate::declarations::declarations;
+use camac_cursor::Parser;
 use camac_lang::Script;
 use camac_tokens::{TextFault, Token, last_line, tokens};
 use std::alloc::Global;
 
-/// The script that a text spells: `cdlam`, `var` and `service` with assignments, `cdreg`, `cfsa`, `cssa`, `put`, the crate calls, the
-/// LAM calls, `if`, `for`, `while` and `lock`. Every other form is refused as an unexpected token (S2) so far.
+/// The script that a text spells.
 ///
 /// A text is refused by its first token fault (S1, S3, S6), else at its first token from left to right that the grammar or a
 /// rule of names, numbers or limits does not allow there (S2 to S7); the text's end counts as a token. Memory may be refused
@@ -32,7 +33,7 @@ fn read(alloc: Global, text: &[u8]) -> Result<Script, TextFault>
 {
     let tokens = tokens(alloc, text)?;
     let mut parser = parser_of(alloc, &tokens, last_line(text));
-    parser.declarations()?;
+    declarations(&mut parser)?;
     Ok(script_in(parser))
 }
 
@@ -49,6 +50,9 @@ fn parser_of(alloc: Global, tokens: &[Token], end_line: u32) -> Parser<'_>
         variables: Vec::new(alloc),
         procedures: Vec::new(alloc),
         services: Vec::new(alloc),
+        callables: Vec::new(alloc),
+        in_procedure: false,
+        variable_count: 0,
         declared: Vec::new(alloc),
         registers: Vec::new(alloc),
         statements: 0,

@@ -89,7 +89,7 @@ fn script_faults_of_names(rt: HostRuntime) {
 #[test]
 fn parse_faults(rt: HostRuntime) {
     assert_eq!(rt;
-        fault(&rt, b"table g =\n"),
+        fault(&rt, b"table g ="),
         Some((TextRule::UnexpectedToken, 1))
     );
     assert_eq!(rt;
@@ -288,4 +288,203 @@ fn loops(rt: HostRuntime) {
         ),
         Some((TextRule::DeclaredTwice, 4))
     );
+}
+
+#[test]
+fn tables(rt: HostRuntime) -> Result<(), Fail> {
+    let script = parse(rt.alloc(), b"table g = 1 2 16777215\ntable h = 0\n")
+        .ok()
+        .ok_or("tables are read")?;
+    assert_eq!(rt; script.tables().len(), 2);
+    assert_eq!(rt;
+        fault(&rt, b"table g = 16777216\n"),
+        Some((TextRule::NumberTooLarge, 1))
+    );
+    assert_eq!(rt;
+        fault(&rt, b"table g = 1\nvar g\n"),
+        Some((TextRule::DeclaredTwice, 2))
+    );
+    let words = fault_of_many(&rt, b"table g =", b" 1", 1025)?;
+    assert_eq!(rt; words, Some((TextRule::LimitPassed, 1)));
+    let few_words = fault_of_many(&rt, b"table g =", b" 1", 1024)?;
+    assert_eq!(rt; few_words, None);
+    assert_eq!(rt;
+        fault(
+            &rt,
+            b"table a = 1 table b = 1 table c = 1 table d = 1 table e = 1 table f = 1 table g = 1 table h = 1\ntable i = 1 table j = 1 table k = 1 table l = 1 table m = 1 table n = 1 table o = 1 table p = 1\ntable r = 1\n"
+        ),
+        Some((TextRule::LimitPassed, 3))
+    );
+    Ok(())
+}
+
+#[test]
+fn transfers(rt: HostRuntime) {
+    assert!(rt;
+        parse(
+            rt.alloc(),
+            b"table g = 1 2\ncdlam adc 1 1 5 12\nvar t\nservice adc within 100 cycles event 100 words {\n  cdreg r 1 1 5 0 cdreg z 1 1 6 3\n  cfmad 0 r z max 32 tally t\n  cfubc 0 r max 2 * t tally t cfubc 16 r table g max 2 tally t\n  cfubr 0 r max 8 limit 20 tally t cfubr 16 r table g max 2 limit t + 1 tally t\n}\n"
+        )
+        .is_ok()
+    );
+    assert_eq!(rt;
+        fault(
+            &rt,
+            b"cdlam adc 1 1 5 12\nvar t\nservice adc within 100 cycles event 100 words {\n  cdreg r 1 1 5 0\n  cfubc 16 r table g max 2 tally t\n}\n"
+        ),
+        Some((TextRule::NotDeclared, 5))
+    );
+    assert_eq!(rt;
+        fault(
+            &rt,
+            b"cdlam adc 1 1 5 12\nvar t\nservice adc within 100 cycles event 100 words {\n  cdreg r 1 1 5 0\n  cfubr 0 r max 2 tally t\n}\n"
+        ),
+        Some((TextRule::UnexpectedToken, 5))
+    );
+    assert_eq!(rt;
+        fault(
+            &rt,
+            b"cdlam adc 1 1 5 12\nvar t\nservice adc within 100 cycles event 100 words {\n  cdreg r 1 1 5 0\n  cfmad 32 r r max 2 tally t\n}\n"
+        ),
+        Some((TextRule::NumberTooLarge, 5))
+    );
+}
+
+/// Where the kinds of rows for single statements stand: behind the standard opening, on line 4.
+fn fault_of_statement(
+    rt: &HostRuntime,
+    statement: &[u8],
+) -> Result<Option<(TextRule, u32)>, AllocError> {
+    let mut text = Vec::new(rt.alloc());
+    text.extend_from_slice(
+        b"cdlam adc 1 1 5 12\nvar v k i t\nservice adc within 100 cycles event 100 words {\n",
+    )?;
+    text.extend_from_slice(statement)?;
+    text.extend_from_slice(b"\n}\n")?;
+    Ok(fault(rt, &text))
+}
+
+#[test]
+fn parse_faults_of_divisors(rt: HostRuntime) -> Result<(), Fail> {
+    let zero = fault_of_statement(&rt, b"v = 1 / 0")?;
+    assert_eq!(rt; zero, Some((TextRule::UnexpectedToken, 4)));
+    let variable = fault_of_statement(&rt, b"v = 5 % v")?;
+    assert_eq!(rt; variable, Some((TextRule::UnexpectedToken, 4)));
+    let pairs = fault_of_statement(&rt, b"v = (((((((((((((((1)))))))))))))))")?;
+    assert_eq!(rt; pairs, None);
+    let one_more = fault_of_statement(&rt, b"v = ((((((((((((((((1))))))))))))))))")?;
+    assert_eq!(rt; one_more, Some((TextRule::LimitPassed, 4)));
+    Ok(())
+}
+
+#[test]
+fn comments_end_with_their_line(rt: HostRuntime) -> Result<(), Fail> {
+    let eaten = fault_of_statement(&rt, b"put v # put w\nput w")?;
+    assert_eq!(rt; eaten, Some((TextRule::NotDeclared, 5)));
+    Ok(())
+}
+
+#[test]
+fn calls_of_no_procedure(rt: HostRuntime) -> Result<(), Fail> {
+    let call = fault_of_statement(&rt, b"call got(0)")?;
+    assert_eq!(rt; call, Some((TextRule::NotDeclared, 4)));
+    Ok(())
+}
+
+/// The rule and the line of the fault of a script with one procedure, before the standard opening's LAM.
+fn fault_with_procedure(
+    rt: &HostRuntime,
+    heading: &[u8],
+    body: &[u8],
+    call: &[u8],
+) -> Result<Option<(TextRule, u32)>, AllocError> {
+    let mut text = Vec::new(rt.alloc());
+    text.extend_from_slice(b"cdlam adc 1 1 5 12\nvar v\nproc get(")?;
+    text.extend_from_slice(heading)?;
+    text.extend_from_slice(b") within 4 cycles event 1 words steps 9 {\n")?;
+    text.extend_from_slice(body)?;
+    text.extend_from_slice(b"\n}\nservice adc within 100 cycles event 100 words {\n")?;
+    text.extend_from_slice(call)?;
+    text.extend_from_slice(b"\n}\n")?;
+    Ok(fault(rt, &text))
+}
+
+#[test]
+fn procedures(rt: HostRuntime) -> Result<(), Fail> {
+    let script = parse(
+        rt.alloc(),
+        b"cdlam adc 1 1 5 12\nvar v\nproc get(a in 0..15, v2 in 1..2) within 4 cycles event 1 words steps 9 {\n  cdreg r 1 1 5 a\n  cfsa 0 r -> a\n  put a + v2\n}\nproc both() within 8 cycles event 2 words steps 30 { call get(1, 2) call get((2), 1) }\nservice adc within 100 cycles event 100 words { cdreg a 1 1 5 0 call both() call get(v, 1) }\n",
+    )
+    .ok()
+    .ok_or("procedures are read")?;
+    assert_eq!(rt; script.procedures().len(), 2);
+    assert_eq!(rt; script.order().len(), 5);
+    Ok(())
+}
+
+#[test]
+fn procedure_faults_of_calls(rt: HostRuntime) -> Result<(), Fail> {
+    let few = fault_with_procedure(&rt, b"a in 0..15", b"put a", b"call get()")?;
+    assert_eq!(rt; few, Some((TextRule::UnexpectedToken, 7)));
+    let many = fault_with_procedure(&rt, b"a in 0..15", b"put a", b"call get(1\n, 2)")?;
+    assert_eq!(rt; many, Some((TextRule::UnexpectedToken, 8)));
+    let none = fault_with_procedure(&rt, b"", b"put 1", b"call get(\n1)")?;
+    assert_eq!(rt; none, Some((TextRule::UnexpectedToken, 8)));
+    let other = fault_with_procedure(&rt, b"a in 0..15", b"put a", b"call got(0)")?;
+    assert_eq!(rt; other, Some((TextRule::NotDeclared, 7)));
+    let itself = fault_with_procedure(&rt, b"", b"call get()", b"call get()")?;
+    assert_eq!(rt; itself, Some((TextRule::NotDeclared, 4)));
+    Ok(())
+}
+
+#[test]
+fn procedure_faults_of_names(rt: HostRuntime) -> Result<(), Fail> {
+    let variable = fault_with_procedure(&rt, b"a in 0..15", b"put v", b"put v")?;
+    assert_eq!(rt; variable, Some((TextRule::NotDeclared, 4)));
+    let parameter = fault_with_procedure(&rt, b"a in 0..15", b"put a", b"put a")?;
+    assert_eq!(rt; parameter, Some((TextRule::NotDeclared, 7)));
+    let twice = fault_with_procedure(&rt, b"a in 0..15,\na in 0..1", b"put a", b"put v")?;
+    assert_eq!(rt; twice, Some((TextRule::DeclaredTwice, 4)));
+    let taken = fault_with_procedure(&rt, b"v in 0..15", b"put v", b"put v")?;
+    assert_eq!(rt; taken, Some((TextRule::DeclaredTwice, 3)));
+    let own_name = fault_with_procedure(&rt, b"get in 0..15", b"put 1", b"put v")?;
+    assert_eq!(rt; own_name, Some((TextRule::DeclaredTwice, 3)));
+    let register = fault_with_procedure(&rt, b"a in 0..15", b"cdreg a 1 1 5 0", b"put v")?;
+    assert_eq!(rt; register, Some((TextRule::DeclaredTwice, 4)));
+    let lock = fault_with_procedure(&rt, b"", b"lock 1 {}", b"put v")?;
+    assert_eq!(rt; lock, Some((TextRule::UnexpectedToken, 4)));
+    Ok(())
+}
+
+#[test]
+fn procedure_faults_of_limits(rt: HostRuntime) -> Result<(), Fail> {
+    let eight = fault_with_procedure(
+        &rt,
+        b"a in 0..1, b in 0..1, c in 0..1, d in 0..1, e in 0..1, f in 0..1, g in 0..1, h in 0..1",
+        b"put a",
+        b"put v",
+    )?;
+    assert_eq!(rt; eight, None);
+    let nine = fault_with_procedure(
+        &rt,
+        b"a in 0..1, b in 0..1, c in 0..1, d in 0..1, e in 0..1, f in 0..1, g in 0..1, h in 0..1,\ni in 0..1",
+        b"put a",
+        b"put v",
+    )?;
+    assert_eq!(rt; nine, Some((TextRule::LimitPassed, 4)));
+    let deep = fault_with_procedure(
+        &rt,
+        b"",
+        b"put ((((((((((((((1))))))))))))))",
+        b"if q {\ncall get() }",
+    )?;
+    assert_eq!(rt; deep, Some((TextRule::LimitPassed, 8)));
+    let less_deep = fault_with_procedure(
+        &rt,
+        b"",
+        b"put (((((((((((((1)))))))))))))",
+        b"if q {\ncall get() }",
+    )?;
+    assert_eq!(rt; less_deep, None);
+    Ok(())
 }

@@ -4,5 +4,6 @@ pub mod Report
 pub mod Reading
 pub mod Plan
 pub mod Engine
-pub mod Words
+pub mod Accepted
+pub mod Run
 pub mod Input

@@ -88,7 +88,7 @@ fn show<W: Write>(out: &mut Watched<W>, judged: &Judged) -> Result<Outcome, Tool
     }
 }
 
-fn refuse<W: Write>(out: &mut Watched<W>, refusal: Refusal) -> Result<Outcome, ToolFault>
+pub fn refuse<W: Write>(out: &mut Watched<W>, refusal: Refusal) -> Result<Outcome, ToolFault>
     ensures shows { Shows (refused refusal) (W.contents (inner_of out.old)) (W.contents (inner_of out.new)) result }
     ensures failed { has_failed out.new ≡ (has_failed out.old || is_write_fault result) }
 {

@@ -3,6 +3,7 @@
 ghost use Rattle.std.specs.Prelude.{◌≡◌, IfOk, IfErr};
 ghost use Rattle.camac_names.specs.Link.{link_fault};
 ghost use Rattle.camac_rules.specs.Accept.{accept};
+ghost use Rattle.camac_tool.specs.Accepted.{Accepts, accepted, accepted_linked, accepted_checked};
 ghost use Rattle.camac_tool.specs.Engine.{Judges};
 ghost use Rattle.camac_tool.specs.Report.{report, report_linked, report_accepted};
 
@@ -25,7 +26,8 @@ pub enum Judged {
 
 /// Judges the text of a script for a plan.
 pub fn judge(alloc: Global, plan: &Plan, text: &[u8]) -> Result<Judged, ToolFault>
-    ensures { Judges result (report plan.now text.now) }
+    ensures report { Judges result (report plan.now text.now) }
+    ensures script { Accepts result plan.now (accepted plan.now text.now) }
 {
     match parse(alloc, text) {
         Ok(script) => judge_script(alloc, plan, script),
@@ -38,7 +40,8 @@ pub fn judge(alloc: Global, plan: &Plan, text: &[u8]) -> Result<Judged, ToolFaul
 }
 
 fn judge_script(alloc: Global, plan: &Plan, script: Script) -> Result<Judged, ToolFault>
-    ensures { Judges result (report_linked plan.now script (link_fault plan.now script)) }
+    ensures report { Judges result (report_linked plan.now script (link_fault plan.now script)) }
+    ensures script { Accepts result plan.now (accepted_linked plan.now script (link_fault plan.now script)) }
 {
     match resolve(alloc, script, plan) {
         Ok(linked) => judge_linked(alloc, linked),
@@ -51,7 +54,8 @@ fn judge_script(alloc: Global, plan: &Plan, script: Script) -> Result<Judged, To
 }
 
 fn judge_linked(alloc: Global, linked: Linked) -> Result<Judged, ToolFault>
-    ensures { Judges result (report_accepted linked.plan linked.script (accept linked.plan linked.script)) }
+    ensures report { Judges result (report_accepted linked.plan linked.script (accept linked.plan linked.script)) }
+    ensures script { Accepts result linked.plan (accepted_checked linked.script (accept linked.plan linked.script)) }
 {
     match check(alloc, linked) {
         Ok(checked) => Ok(Judged::Accepted(checked)),

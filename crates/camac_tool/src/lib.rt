@@ -2,7 +2,6 @@
 #![tactic(auto)]
 
 mod codes;
-mod command;
 mod engine;
 mod fault;
 mod input;
@@ -11,13 +10,14 @@ mod outcome;
 mod plan;
 mod program;
 mod reading;
+mod running;
 mod sample;
-mod words;
 
+pub use camac_words::{Job, JobFault, read_words};
 pub use engine::{engine_check, engine_events, engine_plan};
 pub use fault::ToolFault;
 pub use outcome::{Outcome, status};
 pub use plan::PlanSource;
 pub use program::exit_status;
+pub use running::engine_run;
 pub use sample::sample_plan;
-pub use words::{Job, JobFault, read_words};

@@ -5,14 +5,15 @@ use crate::fault::ToolFault;
 use crate::input::{Input, open};
 use crate::outcome::{Outcome, status};
 use crate::plan::PlanSource;
-use crate::words::{Job, JobFault, read_words};
+use crate::running::engine_run;
 use camac_word::Watched;
+use camac_words::{Job, JobFault, read_words};
 use clap::Error;
 use clap::error::ErrorKind;
 use std::alloc::AllocError;
-use std::io::{BufWriter, Write};
+use std::io::{BufReader, BufWriter, Write};
 use std::rt::Runtime;
-use std::{env, io};
+use std::{env, fs, io};
 
 /// The status of a usage fault.
 const USAGE: u8 = 2;
@@ -58,7 +59,9 @@ fn serve<R: Runtime + AllocGlobal>(rt: &R, job: Job<'_>) -> u8 {
         Job::Plan(plan) => finished(rt, show_plan(rt, plan)),
         Job::Check(plan, script) => finished(rt, check(rt, plan, script)),
         Job::Events(file) => finished(rt, show_events(rt, file)),
-        Job::Run(..) => misused(rt, "fault not served yet"),
+        Job::Run(plan, script, answers, events) => {
+            finished(rt, run(rt, plan, script, answers, events))
+        }
     }
 }
 
@@ -73,6 +76,35 @@ fn check<R: Runtime + AllocGlobal>(rt: &R, plan: &str, script: &str) -> Result<O
     let mut script = Watched::new(open(rt, script)?);
     let mut out = Watched::new(io::writer(rt));
     engine_check(rt.alloc(), &mut plan, &mut script, &mut out)
+}
+
+// Answers are read ahead as far as they have come. The lines of an answer go out in one write, and none waits for the next answer.
+fn run<R: Runtime + AllocGlobal>(
+    rt: &R,
+    plan: &str,
+    script: &str,
+    answers: &str,
+    events: &str,
+) -> Result<Outcome, ToolFault> {
+    let mut plan = plan_source(rt, plan)?;
+    let mut script = Watched::new(open(rt, script)?);
+    let Ok(ahead) = BufReader::new(rt.alloc(), open(rt, answers)?) else {
+        return Err(ToolFault::Memory);
+    };
+    let Ok(file) = fs::create(rt, events) else {
+        return Err(ToolFault::Write);
+    };
+    let mut answers = Watched::new(ahead);
+    let mut events = Watched::new(file);
+    let mut out = Watched::new(io::writer(rt));
+    engine_run(
+        rt.alloc(),
+        &mut plan,
+        &mut script,
+        &mut answers,
+        &mut out,
+        &mut events,
+    )
 }
 
 // The lines are many, so they are gathered before they go out.

@@ -1,4 +1,4 @@
-use Rattle.camac_esone.proofs.Scan.{scan_gives}
+use Rattle.camac_esone.proofs.ScanLists.{scan_gives}
 use Rattle.camac_esone.proofs.laws.scan_test_gives_scan.Goals as goal
 
 pub returns : goal.returns

@@ -1,4 +1,4 @@
-use Rattle.camac_esone.proofs.Stop.{stop_gives}
+use Rattle.camac_esone.proofs.StopLists.{stop_gives}
 use Rattle.camac_esone.proofs.laws.stop_test_gives_q_stop.Goals as goal
 
 pub returns : goal.returns

@@ -1,4 +1,4 @@
-use Rattle.std.proofs.Common.{◌≡◌, ◌≢◌, ◌<◌, ◌≤◌, ℕ, length, drop, sym, subst, ◌∙◌, arith}
+use Rattle.std.proofs.Common.{◌≡◌, drop, sym, subst, ◌∙◌, arith}
 use Rattle.camac_model.specs.Meaning.{context}
 use Rattle.camac_model.specs.Run.{with_bit}
 use Rattle.camac_run.specs.Called.{chosen_of}

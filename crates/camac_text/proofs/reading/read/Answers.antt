@@ -1,11 +1,12 @@
 use Rattle.std.proofs.Common.{◌≡◌, List, sym, ap, ◌∙◌}
 use Rattle.camac_tokens.specs.declared.token.Token.{Token}
 use Rattle.camac_text.specs.Declarations.{declarations_at}
-use Rattle.camac_text.specs.Parser.{state, start}
+use Rattle.camac_cursor.specs.Parser.{state}
+use Rattle.camac_text.specs.Parser.{start}
 use Rattle.camac_text.proofs.WellFormed.{read_well_formed}
 use Rattle.camac_text.proofs.reading.read.Goals as goal
 
 pub script_in-requires : goal.script_in-requires
 script_in-requires c =
     let begins : state c.parser_of-parser.result ≡ start c.in_ok-tokens.tokens.items c.last_line.result = c.parser_of-parser.ensures ∙ ap (λ (ts : List Token). start ts c.last_line.result) c.deref.ensures.value in
-    read_well_formed c.args.text.now c.in_ok-tokens.tokens.items c.last_line.result (tt, state c.declarations.new.self) c.in_ok-tokens.ensures.exact (ap declarations_at (sym begins) ∙ c.in_ok-declarations.ensures)
+    read_well_formed c.args.text.now c.in_ok-tokens.tokens.items c.last_line.result (tt, state c.declarations.new.parser) c.in_ok-tokens.ensures.exact (ap declarations_at (sym begins) ∙ c.in_ok-declarations.ensures)

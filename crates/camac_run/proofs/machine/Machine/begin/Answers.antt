@@ -1,16 +1,21 @@
-use Rattle.std.proofs.Common.{◌+◌, length, arith, rules}
+use Rattle.camac_run.proofs.Loops.{while_begins}
+use Rattle.camac_run.proofs.Serving.{turns_are}
+use Rattle.camac_model.specs.Meaning.{turns, block_meaning}
+use Rattle.camac_model.specs.Fine.{most_turns}
+use Rattle.std.proofs.Common.{◌+◌, length, arith, rules, ℕ, [], sym, subst}
 use Rattle.std.specs.Prelude.{None}
-use Rattle.camac_lang.specs.Tree.{assign, set_register, single, put, crate_call, lam_call}
-use Rattle.camac_lang.specs.View.{expression_of, move_of, statement_of}
+use Rattle.camac_run.specs.Held.{free, FineThen, Advances}
+use Rattle.camac_lang.specs.Tree.{assign, set_register, single, put, crate_call, lam_call, choose, choose_else, locked, count, repeat}
+use Rattle.camac_lang.specs.View.{condition_of, expression_of, move_of, statement_of, statements_of}
 use Rattle.camac_run.proofs.Actions.{begun}
-use Rattle.camac_run.proofs.Frames.{room_stepped, wants_advance, step_advances}
-use Rattle.camac_run.proofs.Trees.{assign_is, register_is, single_is, put_is, crate_is, lam_is}
+use Rattle.camac_run.proofs.Frames.{room_stepped, wants_advance, block_advances, step_advances}
+use Rattle.camac_run.proofs.Trees.{assign_is, register_is, single_is, put_is, crate_is, lam_is, choose_is, choose_else_is, lock_is, count_is, repeat_is}
 use Rattle.camac_run.proofs.machine.Machine.begin.Goals as goal
 
 pub overflow_add-self : goal.overflow_add-self
 overflow_add-self g c =
     let h = c.args.self.now in
-    let s = begun h (statement_of c.args.statement.now) g.row.V (length h.checked.now.script.lams) c.requires.fits c.requires.fine in
+    let s = begun h (statement_of c.args.statement.now) g.row.V (length h.checked.now.script.lams) (free h) c.requires.fits c.requires.fine in
     let r = c.requires.room.steps in omega arith
 
 pub assign-requires : goal.assign-requires
@@ -66,3 +71,70 @@ returns-in-CrateCall-clause-advances g c =
 pub returns-in-LamCall-clause-advances : goal.returns-in-LamCall-clause-advances
 returns-in-LamCall-clause-advances g c =
     rw (c.in-LamCall.is, lam_is c.in-LamCall.line c.in-LamCall.call c.in-LamCall.lam) (wants_advance c.args.self.now (lam_call 0 c.in-LamCall.call c.in-LamCall.lam) c.call_lam.result c.requires.room c.call_lam.ensures)
+
+pub chosen-body-requires : goal.chosen-body-requires
+chosen-body-requires g c =
+    let e = choose_is c.in-If.line c.in-If.test c.in-If.then in
+    let fits = rw (c.in-If.is, e) at c.requires.fits in
+    let fine = rw (c.in-If.is, e) at c.requires.fine in
+    (search rules, (room_stepped c.args.self.now (c.args.self.now.steps + 1) c.requires.room, (rw c.deref.ensures.value fits.0, (rw c.deref-in-If.ensures.value (fits.1, fits.2), ((fits.1, tt), rw (c.deref.ensures.value, c.deref-in-If.ensures.value) fine)))))
+
+pub chosen-body-requires-in-IfElse : goal.chosen-body-requires-in-IfElse
+chosen-body-requires-in-IfElse g c =
+    let e = choose_else_is c.in-IfElse.line c.in-IfElse.test c.in-IfElse.then c.in-IfElse.otherwise in
+    let fits = rw (c.in-IfElse.is, e) at c.requires.fits in
+    let fine = rw (c.in-IfElse.is, e) at c.requires.fine in
+    (search rules, (room_stepped c.args.self.now (c.args.self.now.steps + 1) c.requires.room, (rw c.deref-in-IfElse.ensures.value fits.0, (rw c.deref-in-IfElse-2.ensures.value (fits.1, fits.2), (rw c.deref-in-IfElse-3.ensures.value (fits.1, fits.3), rw (c.deref-in-IfElse.ensures.value, c.deref-in-IfElse-2.ensures.value, c.deref-in-IfElse-3.ensures.value) fine)))))
+
+pub want_lock-requires : goal.want_lock-requires
+want_lock-requires g c =
+    let e = lock_is c.in-Lock.line c.in-Lock.crate_no c.in-Lock.body in
+    let fits = rw (c.in-Lock.is, e) at c.requires.fits in
+    let fine = rw (c.in-Lock.is, e) at c.requires.fine in
+    (search rules, (room_stepped c.args.self.now (c.args.self.now.steps + 1) c.requires.room, (fits.0, (rw c.deref-in-Lock.ensures.value (fits.1, fits.2), rw c.deref-in-Lock.ensures.value fine))))
+
+pub returns-in-If-clause-advances : goal.returns-in-If-clause-advances
+returns-in-If-clause-advances g c =
+    rw (c.in-If.is, choose_is c.in-If.line c.in-If.test c.in-If.then)
+    (block_advances c.args.self.now (choose 0 (condition_of c.in-If.test) (statements_of c.in-If.then.items)) c.chosen-body.result c.open.new.self c.open.ensures.same c.open.ensures.frames c.open.ensures.room
+    (rw (c.deref.ensures.value, c.deref-in-If.ensures.value) at c.chosen-body.ensures.goes))
+
+pub returns-in-IfElse-clause-advances : goal.returns-in-IfElse-clause-advances
+returns-in-IfElse-clause-advances g c =
+    rw (c.in-IfElse.is, choose_else_is c.in-IfElse.line c.in-IfElse.test c.in-IfElse.then c.in-IfElse.otherwise)
+    (block_advances c.args.self.now (choose_else 0 (condition_of c.in-IfElse.test) (statements_of c.in-IfElse.then.items) (statements_of c.in-IfElse.otherwise.items)) c.chosen-body-in-IfElse.result c.open-in-IfElse.new.self c.open-in-IfElse.ensures.same c.open-in-IfElse.ensures.frames c.open-in-IfElse.ensures.room
+    (rw (c.deref-in-IfElse.ensures.value, c.deref-in-IfElse-2.ensures.value, c.deref-in-IfElse-3.ensures.value) at c.chosen-body-in-IfElse.ensures.goes))
+
+pub returns-in-Lock-clause-advances : goal.returns-in-Lock-clause-advances
+returns-in-Lock-clause-advances g c =
+    rw (c.in-Lock.is, lock_is c.in-Lock.line c.in-Lock.crate_no c.in-Lock.body, ← c.deref-in-Lock.ensures.value) (wants_advance c.args.self.now (locked 0 (expression_of c.in-Lock.crate_no) (statements_of c.deref-in-Lock.result.now)) c.want_lock.result c.requires.room c.want_lock.ensures)
+
+pub count-requires : goal.count-requires
+count-requires g c =
+    let e = count_is c.in-For.line c.in-For.variable c.in-For.from c.in-For.to c.in-For.keeps c.in-For.body in
+    let fits = rw (c.in-For.is, e) at c.requires.fits in
+    let fine = rw (c.in-For.is, e) at c.requires.fine in
+    (search rules, (room_stepped c.args.self.now (c.args.self.now.steps + 1) c.requires.room, (fits.0, (fits.1, (fits.2, (rw c.deref-in-For.ensures.value (fits.3, fits.4), rw c.deref-in-For.ensures.value fine))))))
+
+pub again-requires : goal.again-requires
+again-requires g c =
+    let h = c.args.self.now in
+    let e = repeat_is c.in-While.line c.in-While.test c.in-While.turns c.in-While.measure c.in-While.keeps c.in-While.body in
+    let fits = rw (c.in-While.is, e) at c.requires.fits in
+    let fine = rw (c.in-While.is, e) at c.requires.fine in
+    let few = while_begins (record h { steps = h.steps + 1 }) 65535 c.deref-in-While.result.now c.in-While.test.parts.items c.deref-in-While-2.result.now c.in-While.body.items turns_are c.deref-in-While.ensures.value c.deref-in-While-2.ensures.value fine in
+    (search rules, (room_stepped h (h.steps + 1) c.requires.room, (rw c.deref-in-While.ensures.value fits.0, (rw c.deref-in-While-2.ensures.value (fits.1, fits.2), few))))
+
+pub returns-in-For-clause-advances : goal.returns-in-For-clause-advances
+returns-in-For-clause-advances g c =
+    rw (c.in-For.is, count_is c.in-For.line c.in-For.variable c.in-For.from c.in-For.to c.in-For.keeps c.in-For.body)
+    (step_advances c.args.self.now (count 0 c.in-For.variable (expression_of c.in-For.from) (expression_of c.in-For.to) [] (statements_of c.in-For.body.items)) None c.count.new.self (rw c.deref-in-For.ensures.value at c.count.ensures))
+
+pub returns-in-While-clause-advances : goal.returns-in-While-clause-advances
+returns-in-While-clause-advances g c =
+    let h = c.args.self.now in
+    let b = statements_of c.in-While.body.items in
+    let A : ℕ → Type 0 = λ n. Advances (record h { steps = h.steps + 1 }) (λ k. turns n (condition_of c.in-While.test) (block_meaning k most_turns b)) None c.again.new.self in
+    let few : A 65535 = rw (c.deref-in-While.ensures.value, c.deref-in-While-2.ensures.value) at c.again.ensures in
+    rw (c.in-While.is, repeat_is c.in-While.line c.in-While.test c.in-While.turns c.in-While.measure c.in-While.keeps c.in-While.body)
+    (step_advances h (repeat 0 (condition_of c.in-While.test) 0 0 [] b) None c.again.new.self (subst A (sym turns_are) few))

@@ -1,4 +1,4 @@
-use Rattle.std.proofs.Common.{◌≡◌, sym, ap, ◌∙◌}
+use Rattle.std.proofs.Common.{sym, ap, ◌∙◌}
 use Rattle.camac_branch.specs.Branch.{reply_to}
 use Rattle.camac_branch.specs.Crates.{branch_of, is_permitted}
 use Rattle.camac_run.specs.Rest.{address_of}

@@ -1,8 +1,9 @@
-use Rattle.std.proofs.Common.{◌<◌, ◌^◌, [], length, arith, rules}
+use Rattle.std.proofs.Common.{◌<◌, [], ◌∷◌, ◌++◌, length, refl, ap, sym, ◌∙◌, arith, rules}
+use Rattle.std.proofs.lemmas.List.{append-nil}
 use Rattle.std.proofs.lemmas.Bool.{false≢true}
 use Rattle.camac_lang.specs.View.{expression_of}
 use Rattle.camac_run.specs.Held.{bounds_of}
-use Rattle.camac_run.proofs.Actions.{has_value, put_fits}
+use Rattle.camac_run.proofs.Actions.{has_value, put_fits, put_goes}
 use Rattle.camac_run.proofs.machine.Machine.put.Goals as goal
 
 pub value_of-requires-clause-has_value : goal.value_of-requires-clause-has_value
@@ -18,3 +19,31 @@ pub unreachable-requires : goal.unreachable-requires
 unreachable-requires g c =
     let fits = put_fits c.args.self.now (expression_of c.args.value.now) c.value_of.result c.value_of.ensures c.requires.fine in
     absurd (false≢true (c.in-None.ensures.in_range.1 fits.1))
+
+pub returns : goal.returns
+returns g c =
+    let h = c.args.self.now in
+    let r = c.requires.room in
+    record {
+      room = record {
+        variables = r.variables;
+        registers = r.registers;
+        blocks = r.blocks;
+        words = r.words;
+        steps = r.steps;
+        cycles = r.cycles;
+        few_missed = r.few_missed;
+        missed = r.missed;
+        locks = r.locks;
+        unlocks = r.unlocks;
+      };
+      checked = refl;
+      service = refl;
+      wants = tt;
+      pace = omega arith;
+      told = [];
+      unlocks = sym (append-nil h.unlocks.items);
+      goes = λ answers.
+          put_goes h (expression_of c.args.value.now) c.value_of.result c.value_of.ensures c.push.new.self
+          (c.push.ensures ∙ ap (λ w. h.words ++ w ∷ []) c.in-Some.ensures.kept) answers;
+    }

@@ -1,17 +1,17 @@
-use Rattle.std.proofs.Common.{◌≡◌, ◌∷◌, ◌++◌, ℕ, ◌<◌, ◌≤◌, [], List, map, length, Some, rules, refl, sym, ap, subst, ◌∙◌, arith}
-use Rattle.std.specs.Prelude.{None, IsTrue, slice_get}
+use Rattle.std.proofs.Common.{◌≡◌, ◌∷◌, ◌++◌, ℕ, [], List, map, length, rules, refl, sym, ap, subst, ◌∙◌, arith}
+use Rattle.std.specs.Prelude.{None, IsTrue}
 use Rattle.camac_lang.specs.Scope.{is_well_formed}
 use Rattle.camac_lang.specs.Tree.{Script, Service}
 use Rattle.camac_lang.specs.View.{service_of, statements_of}
-use Rattle.camac_lang.specs.declared.tree.Stmt.{Stmt}
 use Rattle.std.proofs.lemmas.Option.{same_Some}
 use Rattle.camac_branch.specs.Branch.{Answer}
 use Rattle.camac_branch.specs.Crates.{branch_of}
-use Rattle.camac_model.specs.Fine.{Bounds, IsFine, most_turns}
+use Rattle.camac_model.specs.Fine.{IsFine, most_turns}
 use Rattle.camac_run.specs.declared.machine.Frame.{Frame}
 use Rattle.camac_run.specs.declared.machine.Machine.{Machine}
+use Rattle.camac_run.specs.declared.machine.Owner.TheVariants.{Plain}
 use Rattle.camac_run.specs.Held.{bounds_at, stands, IsFineHere, HasRoom}
-use Rattle.camac_run.specs.Within.{AllFit}
+use Rattle.camac_run.specs.Within.{Opens}
 use Rattle.camac_run.proofs.Bounds.{fits_parts, bounds_small, body_fits, fine_at}
 use Rattle.camac_run.proofs.Lams.{service_at}
 use Rattle.camac_run.proofs.Starts.{begun, room_begun, goes_begun}
@@ -35,7 +35,7 @@ settle-requires g c =
     let i = c.args.number in
     let v = c.index-services-number.result in
     let fs = c.push.new.self in
-    let f : Frame = record { rest = c.as_slice.result } in
+    let f : Frame = record { rest = c.as_slice.result; owner = Plain } in
     let F : Script → Type 0 = λ s. IsTrue (is_well_formed s) in
     let formed = subst F c.script.ensures c.well_formed-2.ensures in
     let store = fits_parts k.script g.row.V g.row.DEPTH g.row.CAP c.requires.fits in
@@ -46,11 +46,11 @@ settle-requires g c =
     let fits = body_fits k c.is_checked.ensures formed g.row.V g.row.DEPTH g.row.CAP store i (service_of v) there in
     let P : Machine g.row.V g.row.DEPTH g.row.CAP → Type 0 = λ m. HasRoom m × ((answers : List Answer) → IsFineHere m (stands None m answers)) in
     let same : ◌≡◌ {A = Machine g.row.V g.row.DEPTH g.row.CAP} (record (begun h i fs) { words = c.clear.new.self }) (begun h i fs) = ap (λ (ws : List ℕ). record (begun h i fs) { words = ws }) c.clear.ensures in
-    let room = room_begun h i fs f items c.requires.room fits.0 (subst (λ b. AllFit g.row.V (length k.script.lams) b) (sym body) fits.1) (bounds_small k c.is_checked.ensures formed g.row.V g.row.DEPTH g.row.CAP store i) in
-    let fine : (answers : List Answer) → IsFineHere (begun h i fs) (stands None (begun h i fs) answers) = λ answers. subst (λ b. IsFine k.plan (bounds_at k i) b) (sym (goes_begun h i fs f (service_of v) items body c.requires.room answers))
+    let room = room_begun h i fs f items refl c.requires.idle c.requires.room (subst (λ b. Opens g.row.V (length k.script.lams) g.row.DEPTH b) (sym body) fits) (bounds_small k c.is_checked.ensures formed g.row.V g.row.DEPTH g.row.CAP store i) in
+    let fine : (answers : List Answer) → IsFineHere (begun h i fs) (stands None (begun h i fs) answers) = λ answers. subst (λ b. IsFine k.plan (bounds_at k i) b) (sym (goes_begun h i fs f (service_of v) items refl c.requires.idle body c.requires.room answers))
     (fine_at k k.bounds k.script.services i (service_of v) (record { cycles = 0; words = 0; steps = 0 }) c.is_checked.ensures.services there most_turns (omega arith) (branch_of h.branch) answers) in
     let both = subst P (sym same) (room, fine) in
-    (search rules, both)
+    (search rules, (both.0, (c.requires.quiet, both.1)))
 
 pub returns : goal.returns
 returns g c = λ s at.
@@ -59,7 +59,7 @@ returns g c = λ s at.
     let i = c.args.number in
     let v = c.index-services-number.result in
     let fs = c.push.new.self in
-    let f : Frame = record { rest = c.as_slice.result } in
+    let f : Frame = record { rest = c.as_slice.result; owner = Plain } in
     let e : map service_of c.services.result.now ≡ k.script.services = c.services.ensures ∙ ap (λ s. s.services) c.script-2.ensures in
     let there = service_at c.services.result.now k.script.services i v e c.requires.number c.index-services-number.is in
     let own : service_of v ≡ s = same_Some (service_of v) s (sym there ∙ at) in
@@ -74,5 +74,5 @@ returns g c = λ s at.
       goes = λ answers.
           c.settle.ensures.goes answers
           ∙ ap (λ (ws : List ℕ). stands {V = g.row.V} {D = g.row.DEPTH} {C = g.row.CAP} None (record (begun h i fs) { words = ws }) answers) c.clear.ensures
-          ∙ goes_begun h i fs f s items body c.requires.room answers;
+          ∙ goes_begun h i fs f s items refl c.requires.idle body c.requires.room answers;
     }

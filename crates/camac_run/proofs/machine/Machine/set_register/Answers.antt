@@ -1,9 +1,8 @@
-use Rattle.std.proofs.Common.{[], ◌≡◌, Some, None, length, ap, ◌∙◌, refl, arith, rules}
-use Rattle.std.proofs.lemmas.List.{length-set}
+use Rattle.std.proofs.Common.{[], Some, None, length, ap, sym, ◌∙◌, refl, arith}
+use Rattle.std.proofs.lemmas.List.{append-nil, length-set}
 use Rattle.camac_lang.specs.View.{expression_of}
 use Rattle.camac_branch.specs.Address.{address}
 use Rattle.camac_model.specs.Value.{value}
-use Rattle.camac_run.specs.Held.{state_of}
 use Rattle.camac_run.specs.Store.{variables_in, registers_in}
 use Rattle.camac_run.proofs.Actions.{has_value, known, register_goes}
 use Rattle.camac_run.proofs.Stores.{set_is}
@@ -39,12 +38,15 @@ returns g c =
         cycles = c.requires.room.cycles;
         few_missed = c.requires.room.few_missed;
         missed = c.requires.room.missed;
-        free = c.requires.room.free;
+        locks = c.requires.room.locks;
+        unlocks = c.requires.room.unlocks;
       };
       checked = refl;
       service = refl;
       wants = tt;
       pace = omega arith;
+      told = [];
+      unlocks = sym (append-nil h.unlocks.items);
       goes = λ answers.
           register_goes h c.args.register (expression_of c.args.crate_no.now) (expression_of c.args.station.now) (expression_of c.args.sub_address.now) c.value_of-c.result c.value_of-n.result c.value_of-a.result c.value_of-c.ensures c.value_of-n.ensures c.value_of-a.ensures rs
           (ap registers_in c.set_in.ensures ∙ set_is None h.registers c.args.register (Some (address c.value_of-c.result c.value_of-n.result c.value_of-a.result)) (omega (arith, c.requires.register, c.requires.room.registers)))

@@ -2,6 +2,7 @@ use Rattle.std.proofs.Common.{◌≡◌, ◌+◌, ◌-◌, ◌*◌, List, length
 use Rattle.std.specs.Prelude.{None}
 use Rattle.camac_branch.specs.Branch.{Answer}
 use Rattle.camac_run.specs.Held.{bounds_of, stands, HasRoom}
+use Rattle.camac_run.specs.Rest.{says}
 use Rattle.camac_run.proofs.machine.Machine.settle.Given as goal
 
 -- what is left to run stays the same
@@ -10,7 +11,7 @@ invariant-loop-frame g l = record {
   room : HasRoom l.self;
   checked : l.self.checked ≡ l.initial.self.checked;
   service : l.self.service ≡ l.initial.self.service;
-  goes : (answers : List Answer) → stands None l.self answers ≡ stands None l.initial.self answers;
+  goes : (answers : List Answer) → says l.self.unlocks.items (stands None l.self answers) ≡ stands None l.initial.self answers;
 }
 
 -- a block more costs a step, and the steps are bounded

@@ -1,10 +1,12 @@
-use Rattle.std.proofs.Common.{◌≡◌, sym, ap, subst, ◌∙◌, arith}
+use Rattle.std.proofs.Common.{ap, subst, length, arith}
 use Rattle.std.proofs.lemmas.List.{length-replicate}
 use Rattle.std.specs.Prelude.{None, IsTrue}
 use Rattle.camac_lang.specs.Scope.{is_well_formed}
 use Rattle.camac_lang.specs.Tree.{Script}
 use Rattle.camac_branch.specs.Branch.{Branch}
+use Rattle.camac_branch.specs.Crates.{branch_of}
 use Rattle.camac_run.proofs.Bounds.{fits_parts, bounds_small}
+use Rattle.camac_run.proofs.Locks.{none_locked, among_few}
 use Rattle.camac_run.proofs.machine.Machine.start.Goals as goal
 
 pub returns-clause-room : goal.returns-clause-room
@@ -22,5 +24,8 @@ returns-clause-room g c =
       cycles = small.cycles;
       few_missed = omega arith;
       missed = omega arith;
-      free = λ i. ap (λ (b : Branch). (b i).locked) c.start.ensures;
+      locks = rw c.new.ensures (none_locked (branch_of c.start.result) (λ i. ap (λ (b : Branch). (b i).locked) c.start.ensures));
+      unlocks =
+          let few = among_few (branch_of c.start.result) 7 in
+          let none = ap length c.new-3.ensures in omega (arith, few, none);
     }

@@ -1,36 +1,36 @@
-use Rattle.std.proofs.Common.{◌≡◌, ◌+◌, ◌<◌, length, Some, refl, sym, ap, subst, ◌∙◌, arith, rules}
-use Rattle.std.specs.Prelude.{None, Option, option_and_then, option_map, slice_get, unwrap_or}
-use Rattle.camac_lang.specs.Tree.{Service}
+use Rattle.std.proofs.Common.{◌≡◌, ℕ, ◌+◌, Some, refl, sym, ap, ◌∙◌, arith}
+use Rattle.std.specs.Prelude.{None, option_map, unwrap_or}
 use Rattle.camac_branch.specs.Branch.{pattern_of}
 use Rattle.camac_branch.specs.Crates.{branch_of}
 use Rattle.camac_model.specs.Behaviour.{does, demanded}
 use Rattle.std.specs.Borrow.{Bor}
+use Rattle.arrayvec.specs.ArrayVec.{ArrayVec}
 use Rattle.camac_check.specs.Checked.{CheckedScript}
 use Rattle.camac_model.specs.Fine.{most_turns}
 use Rattle.camac_model.specs.Run.{Chosen, service_for, service_meaning}
-use Rattle.camac_run.specs.Called.{chosen_of}
-use Rattle.camac_run.specs.Held.{context_in, stands}
-use Rattle.camac_run.specs.Rest.{onward, served}
+use Rattle.camac_run.specs.Held.{context_in, want_of}
+use Rattle.camac_run.specs.Rest.{onward, served, says}
 use Rattle.camac_run.specs.Runner.{bit_at, rest, with_event, last_words_in}
 use Rattle.camac_run.specs.Sound.{held}
 use Rattle.camac_run.proofs.Services.{place}
 use Rattle.camac_run.proofs.Serving.{onward_passes, onward_serves}
 use Rattle.camac_run.proofs.Sizes.{machine_fits}
-use Rattle.camac_run.proofs.Told.{told_along, numbered, quiet, sound_after, serve_fine, none_mapped, some_mapped, few_events, below_along}
+use Rattle.camac_run.proofs.Told.{told_along, numbered, quiet, sound_after, serve_fine, none_wanted, none_mapped, some_mapped, few_events, below_along}
 use Rattle.camac_run.proofs.runner.Runner.demand.Goals as goal
 
 pub serve-next-requires : goal.serve-next-requires
 serve-next-requires g c =
     let inv = c.self.invariant in
-    let wanting : c.self.inside.wanting ≡ None = ap (λ h. h.wanting) c.self.view_is ∙ c.requires.idle in
+    let wanting : c.self.inside.wanting ≡ None = none_wanted want_of c.self.inside.wanting (ap (λ h. h.wanting) c.self.view_is ∙ c.requires.idle) in
     let idle = rw wanting at inv.idle in
-    (machine_fits _ c.requires-raw.1.1.1.0, (inv.room, (idle, (inv.fits, c.in-Some.ensures.known))))
+    (machine_fits _ c.requires-raw.1.1.1.0, (inv.room, (inv.quiet, (idle, (inv.fits, c.in-Some.ensures.known)))))
 
 pub invariant_of-self : goal.invariant_of-self
 invariant_of-self g c =
     let inv = c.self.invariant in
     record {
       room = inv.room;
+      quiet = inv.quiet;
       checked = inv.checked;
       formed = inv.formed;
       fits = inv.fits;
@@ -45,7 +45,7 @@ pub returns-in-None : goal.returns-in-None
 returns-in-None g c =
     let r = c.self.inside in
     let k = r.machine.checked.now in
-    let wanting : r.wanting ≡ None = ap (λ h. h.wanting) c.self.view_is ∙ c.requires.idle in
+    let wanting : r.wanting ≡ None = none_wanted want_of r.wanting (ap (λ h. h.wanting) c.self.view_is ∙ c.requires.idle) in
     let first : r.overrun ≡ None = ap (λ h. h.overrun) c.self.view_is ∙ c.requires.first in
     let pat : c.demand-pattern.result ≡ pattern_of k.plan (branch_of r.machine.branch) c.args.answer.gl = c.demand-pattern.ensures ∙ ap (λ p. pattern_of p (branch_of r.machine.branch) c.args.answer.gl) c.plan.ensures in
     let none : service_for (context_in k) (pattern_of k.plan (branch_of r.machine.branch) c.args.answer.gl) k.script.services ≡ None = ap (λ n. service_for (context_in k) n k.script.services) (sym pat) ∙ c.in-None.ensures.chosen in
@@ -53,7 +53,8 @@ returns-in-None g c =
       first = first;
       goes = λ answers. rw wanting
           (onward_passes k.plan k.script (branch_of r.machine.branch) c.args.answer answers none
-          ∙ ap (λ n. does (demanded n None) (onward (context_in k) k.script.services (branch_of r.machine.branch) answers)) (sym pat));
+          ∙ ap (λ n. does (demanded n None) (onward (context_in k) k.script.services (branch_of r.machine.branch) answers)) (sym pat)
+          ∙ ap (λ us. does (demanded c.demand-pattern.result None) (says us (onward (context_in k) k.script.services (branch_of r.machine.branch) answers))) (sym c.new.ensures));
       fed = refl;
       same = refl;
       next = tt;
@@ -80,7 +81,8 @@ invariant_of-self-in-Some g c =
     let p = place k.script.services i c.in-Some.ensures.known in
     let s = c.serve-next.ensures p.0 p.1 in
     let few = few_events c.serve-next.result r.events c.events_after-events.result (none_mapped c.serve-next.result _ _ c.is_over-over.ensures.ended c.events_after-events.ensures.ended) (some_mapped c.serve-next.result _ _ c.is_over-over.ensures.goes_on c.events_after-events.ensures.goes_on) in
-    sound_after r.machine c.serve-next.new.self r.wanting c.serve-next.result r.fed r.events c.events_after-events.result i inv s.room s.checked s.service c.in-Some.ensures.known s.wants s.over
+    let new = c.serve-next.new.self in
+    sound_after r.machine new c.take-unlocks.new.self r.wanting c.serve-next.result r.fed r.events c.events_after-events.result i c.take-unlocks.ensures.after inv s.room s.checked s.service c.in-Some.ensures.known s.wants s.over
     (serve_fine r.machine c.serve-next.new.self i p.0 c.serve-next.result inv.checked p.1 s)
     (let e = inv.events in omega (arith, few, e))
 
@@ -98,7 +100,7 @@ returns-in-Some g c =
     let p = place k.script.services i c.in-Some.ensures.known in
     let s = c.serve-next.ensures p.0 p.1 in
     let v : Chosen = record { number = i; bit = bit; service = p.0 } in
-    let wanting : r.wanting ≡ None = ap (λ h. h.wanting) c.self.view_is ∙ c.requires.idle in
+    let wanting : r.wanting ≡ None = none_wanted want_of r.wanting (ap (λ h. h.wanting) c.self.view_is ∙ c.requires.idle) in
     let first : r.overrun ≡ None = ap (λ h. h.overrun) c.self.view_is ∙ c.requires.first in
     let pat : c.demand-pattern.result ≡ pattern_of k.plan b c.args.answer.gl = c.demand-pattern.ensures ∙ ap (λ p. pattern_of p b c.args.answer.gl) c.plan.ensures in
     let called : service_for (context_in k) (pattern_of k.plan b c.args.answer.gl) k.script.services ≡ Some v =
@@ -116,7 +118,8 @@ returns-in-Some g c =
           ∙ ap (λ n. does (demanded n (Some i)) (served (context_in k) k.script.services bit (service_meaning (context_in k) most_turns p.0 b answers))) (sym pat)
           ∙ ap (does (demanded c.demand-pattern.result (Some i)))
           (ap (served (context_in k) k.script.services bit) (sym (s.goes answers))
-          ∙ told_along new r.machine.checked i bit next' c.if_over.result (r.fed + 1) n' c.is_over-over.result r.overrun answers s.checked s.service its s.over ended silent c.is_over-over.ensures.ended));
+          ∙ told_along new r.machine.checked i bit next' c.if_over.result (r.fed + 1) n' c.is_over-over.result r.overrun answers s.checked s.service its s.over ended silent c.is_over-over.ensures.ended new.unlocks.items
+          ∙ ap (λ us. says us (with_event c.if_over.result (last_words_in (held new next' (r.fed + 1) n' c.is_over-over.result r.overrun)) (rest (held new next' (r.fed + 1) n' c.is_over-over.result r.overrun) answers))) (ap (λ (v : ArrayVec ℕ). v.items) (sym c.take-unlocks.ensures.value))));
       fed = refl;
       same = number.0;
       next = number.1;

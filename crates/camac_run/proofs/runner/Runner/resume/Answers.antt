@@ -1,13 +1,12 @@
-use Rattle.std.proofs.Common.{◌≡◌, ◌+◌, ◌<◌, List, ◌∷◌, length, Some, refl, sym, ap, subst, ◌∙◌, arith, rules}
-use Rattle.std.specs.Prelude.{None, Option}
+use Rattle.std.proofs.Common.{◌≡◌, ℕ, ◌+◌, Some, refl, sym, ap, ◌∙◌, arith}
+use Rattle.std.specs.Prelude.{None}
 use Rattle.std.specs.Borrow.{Bor}
-use Rattle.camac_branch.specs.Branch.{Answer}
-use Rattle.camac_branch.specs.Crates.{branch_of}
+use Rattle.arrayvec.specs.ArrayVec.{ArrayVec}
 use Rattle.camac_check.specs.Checked.{CheckedScript}
 use Rattle.camac_model.specs.Behaviour.{does}
 use Rattle.camac_run.specs.declared.machine.Machine.{Machine}
-use Rattle.camac_run.specs.Held.{context_in, made, stands, IsFineHere}
-use Rattle.camac_run.specs.Rest.{served}
+use Rattle.camac_run.specs.Held.{context_in, piece_of, stands}
+use Rattle.camac_run.specs.Rest.{served, says}
 use Rattle.camac_run.specs.Runner.{bit_at, rest, with_event, last_words_in}
 use Rattle.camac_run.specs.Sound.{held}
 use Rattle.camac_run.proofs.Serving.{served_does, served_stops}
@@ -17,43 +16,44 @@ use Rattle.camac_run.proofs.runner.Runner.resume.Goals as goal
 
 pub take-requires : goal.take-requires
 take-requires g c =
+    let wanting : c.self.inside.wanting ≡ Some c.in-Some.wanting = sym c.take-waited.ensures.value ∙ c.in-Some.is in
     let inv = c.self.invariant in
-    let wanting : c.self.inside.wanting ≡ Some c.args.wanting = ap (λ h. h.wanting) c.self.view_is ∙ c.requires.wanting in
-    (machine_fits _ c.requires-raw.1.1.1.0, (inv.room, (rw wanting at inv.wants, rw wanting at inv.fine)))
+    (machine_fits _ c.requires-raw.1.1.1.0, (inv.room, (inv.quiet, (rw wanting at inv.wants, rw wanting at inv.fine))))
 
 pub settle-next-requires : goal.settle-next-requires
 settle-next-requires g c =
+    let wanting : c.self.inside.wanting ≡ Some c.in-Some.wanting = sym c.take-waited.ensures.value ∙ c.in-Some.is in
     let inv = c.self.invariant in
-    let wanting : c.self.inside.wanting ≡ Some c.args.wanting = ap (λ h. h.wanting) c.self.view_is ∙ c.requires.wanting in
     let t = c.in-Ok.ensures.took in
-    (machine_fits _ c.requires-raw.1.1.1.0, (t.room, take_fine c.self.inside.machine c.take.new.self c.args.wanting c.args.answer c.in-Ok.done (rw wanting at inv.fine) t))
+    (machine_fits _ c.requires-raw.1.1.1.0, (t.room, (ap (λ (v : ArrayVec ℕ). v.items) t.unlocks ∙ inv.quiet, take_fine c.self.inside.machine c.take.new.self c.in-Some.wanting c.args.answer c.in-Ok.item (rw wanting at inv.fine) t)))
 
 pub event-event-requires : goal.event-event-requires
 event-event-requires g c =
+    let wanting : c.self.inside.wanting ≡ Some c.in-Some.wanting = sym c.take-waited.ensures.value ∙ c.in-Some.is in
     let inv = c.self.invariant in
     let r = c.self.inside in
-    let wanting : r.wanting ≡ Some c.args.wanting = ap (λ h. h.wanting) c.self.view_is ∙ c.requires.wanting in
     let t = c.in-Ok.ensures.took in
     let s = c.settle-next.ensures in
     (machine_fits _ c.requires-raw.1.1.1.0, below_along c.settle-next.new.self r.machine.checked r.machine.service (s.checked ∙ t.checked) (s.service ∙ t.service) (rw wanting at inv.service))
 
 pub invariant_of-self : goal.invariant_of-self
 invariant_of-self g c =
+    let wanting : c.self.inside.wanting ≡ Some c.in-Some.wanting = sym c.take-waited.ensures.value ∙ c.in-Some.is in
     let inv = c.self.invariant in
     let r = c.self.inside in
     let mid = c.take.new.self in
     let new = c.settle-next.new.self in
     let next' = c.settle-next.result in
-    let wanting : r.wanting ≡ Some c.args.wanting = ap (λ h. h.wanting) c.self.view_is ∙ c.requires.wanting in
     let t = c.in-Ok.ensures.took in
     let s = c.settle-next.ensures in
     let few = few_events next' r.events c.events_after-events.result (none_mapped next' _ _ c.is_over-over.ensures.ended c.events_after-events.ensures.ended) (some_mapped next' _ _ c.is_over-over.ensures.goes_on c.events_after-events.ensures.goes_on) in
-    let fine = take_fine r.machine mid c.args.wanting c.args.answer c.in-Ok.done (rw wanting at inv.fine) t in
-    sound_after r.machine new r.wanting next' r.fed r.events c.events_after-events.result r.machine.service inv s.room (s.checked ∙ t.checked) (s.service ∙ t.service) (rw wanting at inv.service) s.wants s.over
+    let fine = take_fine r.machine mid c.in-Some.wanting c.args.answer c.in-Ok.item (rw wanting at inv.fine) t in
+    sound_after r.machine new c.take-unlocks.new.self r.wanting next' r.fed r.events c.events_after-events.result r.machine.service c.take-unlocks.ensures.after inv s.room (s.checked ∙ t.checked) (s.service ∙ t.service) (rw wanting at inv.service) s.wants s.over
     (settle_fine mid new next' fine s) (let e = inv.events in omega (arith, few, e))
 
 pub returns-in-Ok : goal.returns-in-Ok
 returns-in-Ok g c =
+    let wanting : c.self.inside.wanting ≡ Some c.in-Some.wanting = sym c.take-waited.ensures.value ∙ c.in-Some.is in
     let r = c.self.inside in
     let k = r.machine.checked.now in
     let ctx = context_in k in
@@ -63,8 +63,7 @@ returns-in-Ok g c =
     let new = c.settle-next.new.self in
     let next' = c.settle-next.result in
     let n' = c.events_after-events.result in
-    let d = c.in-Ok.done in
-    let wanting : r.wanting ≡ Some c.args.wanting = ap (λ h. h.wanting) c.self.view_is ∙ c.requires.wanting in
+    let d = c.in-Ok.item in
     let first : r.overrun ≡ None = ap (λ h. h.overrun) c.self.view_is ∙ c.requires.first in
     let t = c.in-Ok.ensures.took in
     let s = c.settle-next.ensures in
@@ -77,10 +76,11 @@ returns-in-Ok g c =
       first = first;
       goes = λ answers. rw wanting
           (ap (served ctx vs bit) (t.goes answers)
-          ∙ served_does ctx vs bit (made d) (stands None mid answers)
-          ∙ ap (does (made d))
+          ∙ served_does ctx vs bit (piece_of d) (stands None mid answers)
+          ∙ ap (does (piece_of d))
           (ap (served ctx vs bit) (sym (s.goes answers))
-          ∙ told_along new r.machine.checked r.machine.service bit next' c.if_over.result (r.fed + 1) n' c.is_over-over.result r.overrun answers (s.checked ∙ t.checked) (s.service ∙ t.service) refl s.over ended silent c.is_over-over.ensures.ended));
+          ∙ told_along new r.machine.checked r.machine.service bit next' c.if_over.result (r.fed + 1) n' c.is_over-over.result r.overrun answers (s.checked ∙ t.checked) (s.service ∙ t.service) refl s.over ended silent c.is_over-over.ensures.ended new.unlocks.items
+          ∙ ap (λ us. says us (with_event c.if_over.result (last_words_in (held new next' (r.fed + 1) n' c.is_over-over.result r.overrun)) (rest (held new next' (r.fed + 1) n' c.is_over-over.result r.overrun) answers))) (ap (λ (v : ArrayVec ℕ). v.items) (sym c.take-unlocks.ensures.value))));
       fed = refl;
       same = number.0;
       next = number.1;
@@ -91,14 +91,16 @@ returns-in-Ok g c =
 
 pub returns-in-Err : goal.returns-in-Err
 returns-in-Err g c =
+    let wanting : c.self.inside.wanting ≡ Some c.in-Some.wanting = sym c.take-waited.ensures.value ∙ c.in-Some.is in
     let r = c.self.inside in
     let k = r.machine.checked.now in
-    let wanting : r.wanting ≡ Some c.args.wanting = ap (λ h. h.wanting) c.self.view_is ∙ c.requires.wanting in
     let first : r.overrun ≡ None = ap (λ h. h.overrun) c.self.view_is ∙ c.requires.first in
     rw (c.stopped-progress.ensures, ← c.self.view_is) (record {
       now = rw first (λ answers. rw wanting
           (ap (served (context_in k) k.script.services (bit_at k r.machine.service)) (c.in-Err.ensures.overrun answers)
           ∙ served_stops (context_in k) k.script.services (bit_at k r.machine.service) _ _));
       again = rw first tt;
-      same = ap (λ (m : Machine g.row.V g.row.DEPTH g.row.CAP). held m r.wanting r.fed r.events r.has_event (Some c.in-Err.overrun)) c.in-Err.ensures.same;
+      same =
+          ap (λ (m : Machine g.row.V g.row.DEPTH g.row.CAP). held m (Some c.in-Some.wanting) r.fed r.events r.has_event (Some c.in-Err.overrun)) c.in-Err.ensures.same
+          ∙ ap (λ o. held r.machine o r.fed r.events r.has_event (Some c.in-Err.overrun)) (sym wanting);
     })

@@ -1,4 +1,4 @@
-use Rattle.std.proofs.Common.{◌≡◌, sym, ap, subst, ◌∙◌, arith, length, Bool, true}
+use Rattle.std.proofs.Common.{◌≡◌, sym, ap, subst, ◌∙◌, arith, length, true}
 use Rattle.std.specs.Prelude.{IsTrue}
 use Rattle.std.specs.Borrow.{Bor}
 use Rattle.camac_lang.specs.Scope.{is_well_formed}
@@ -25,6 +25,7 @@ invariant_of-result g c =
     let m = c.start.ensures in
     record {
       room = m.room;
+      quiet = m.quiet;
       checked = subst (λ (b : Bor CheckedScript). IsChecked b.now) (sym m.checked) c.is_checked.ensures;
       formed = subst (λ (b : Bor CheckedScript). IsTrue (is_well_formed b.now.script)) (sym m.checked) formed;
       fits = subst (λ (b : Bor CheckedScript). plays b.now.script g.row.V g.row.DEPTH g.row.CAP ≡ true) (sym m.checked) c.requires;

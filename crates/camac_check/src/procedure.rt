@@ -1,0 +1,135 @@
+// The rules of calls, and where the body of a procedure starts.
+
+ghost use Rattle.std.specs.Prelude.{◌≡◌, IfOk, map, option_map, slice_get, if◌then◌else◌};
+ghost use Rattle.camac_lang.specs.View.{expression_of, parameter_of, procedure_of};
+ghost use Rattle.camac_rules.specs.Procedures.{ranges_of, parameter_range, arguments_fit, call_rule, can_be_called, at_entry};
+ghost use Rattle.camac_rules.specs.Refusal.{given};
+ghost use Rattle.camac_range.specs.Interval.{is_inside};
+ghost use Rattle.camac_check.specs.Gives.{Gives, by_code, verdict_of};
+
+use crate::context::Context;
+use crate::statement::Findings;
+use camac_known::{CheckFault, Costs, Facts, range_of, required};
+use camac_lang::{Expr, Parameter, Procedure};
+use camac_range::Range;
+use camac_rules::CheckRule;
+use std::alloc::{AllocError, Global};
+
+/// Checks a call, by the heading of the procedure.
+#[tactic(auto, unfolding(camac_rules::specs::Refusal::go_on))]
+pub fn call(
+    alloc: Global,
+    context: &Context,
+    line: u32,
+    procedure: usize,
+    arguments: &[Expr],
+    known: &Facts,
+) -> Result<Findings, CheckFault>
+    ensures { Gives verdict_of result (call_rule (by_code context.now) line procedure (map expression_of arguments.now) known.now) }
+{
+    let ranges = ranges_of(alloc, line, arguments, known.ranges())?;
+    let called = procedure_at(context.procedures, procedure, line)?;
+    required(
+        arguments_fit(&ranges, &called.parameters),
+        CheckRule::ArgumentOutOfRange,
+        line,
+    )?;
+    Ok(Findings {
+        known: Some(known.try_clone(alloc)?),
+        costs: Costs::of_call(called.cycles, called.words, called.steps),
+    })
+}
+
+// The ranges of these arguments.
+#[tactic(auto, unfolding(camac_rules::specs::Refusal::go_on))]
+fn ranges_of(
+    alloc: Global,
+    line: u32,
+    arguments: &[Expr],
+    ranges: &[Range],
+) -> Result<Vec<Range>, CheckFault>
+    ensures { Gives (λ v. v.items) result (ranges_of line (map expression_of arguments.now) ranges.now) }
+{
+    match arguments {
+        [] => Ok(Vec::new(alloc)),
+        [argument, rest @ ..] => {
+            let first = range_of(line, argument, ranges)?;
+            let mut all = ranges_of(alloc, line, rest, ranges)?;
+            all.insert(0, first)?;
+            Ok(all)
+        }
+    }
+}
+
+// A procedure by its number. E21 where there is none.
+#[tactic(auto, using(crate::proofs::Lams::procedures_by_number), unfolding(camac_rules::specs::Refusal::given))]
+fn procedure_at(
+    procedures: &[Procedure],
+    number: usize,
+    line: u32,
+) -> Result<&Procedure, CheckFault>
+    ensures { Gives (λ p. procedure_of p.now) result (given (slice_get (map procedure_of procedures.now) number) CheckRule.ArgumentOutOfRange line) }
+{
+    match procedures.get(number) {
+        Some(procedure) => Ok(procedure),
+        None => Err(CheckFault::Broken {
+            rule: CheckRule::ArgumentOutOfRange,
+            line,
+        }),
+    }
+}
+
+// Whether there are as many arguments as parameters, each in its range.
+fn arguments_fit(ranges: &[Range], parameters: &[Parameter]) -> bool
+    ensures { result ≡ arguments_fit ranges.now (map parameter_of parameters.now) }
+{
+    match ranges {
+        [] => parameters.is_empty(),
+        [range, others @ ..] => match parameters {
+            [] => false,
+            [parameter, rest @ ..] => {
+                is_in_range(*range, parameter) && arguments_fit(others, rest)
+            }
+        },
+    }
+}
+
+fn is_in_range(range: Range, parameter: &Parameter) -> bool
+    ensures { result ≡ is_inside range (parameter_range (parameter_of parameter.now)) }
+{
+    parameter.low <= range.lo() && range.hi() <= parameter.high
+}
+
+/// What is known where the body of a procedure starts, if it can be called at all.
+pub fn at_entry(alloc: Global, parameters: &[Parameter]) -> Result<Option<Facts>, AllocError>
+    ensures { IfOk result (λ k. k ≡ at_entry (map parameter_of parameters.now)) }
+{
+    match parameter_ranges(alloc, parameters)? {
+        Some(ranges) => Ok(Some(Facts::at_call(alloc, ranges))),
+        None => Ok(None),
+    }
+}
+
+// The ranges of these parameters, if each has a number.
+fn parameter_ranges(
+    alloc: Global,
+    parameters: &[Parameter],
+) -> Result<Option<Vec<Range>>, AllocError>
+    ensures { IfOk result (λ o. option_map (λ v. v.items) o ≡ (if can_be_called (map parameter_of parameters.now) then Some (map parameter_range (map parameter_of parameters.now)) else None)) }
+{
+    match parameters {
+        [] => Ok(Some(Vec::new(alloc))),
+        [parameter, rest @ ..] => {
+            let Some(range) = Range::new(parameter.low, parameter.high) else {
+                return Ok(None);
+            };
+            match parameter_ranges(alloc, rest)? {
+                None => Ok(None),
+                Some(mut all) => {
+                    all.insert(0, range)?;
+                    Ok(Some(all))
+                }
+            }
+        }
+    }
+}

@@ -1,0 +1,9 @@
+pub mod Searches
+pub mod Sums
+pub mod Steps
+pub mod Loops
+pub mod Places
+pub mod Moves
+pub mod Uses
+pub mod Registers
+pub mod Local

@@ -1,0 +1,5 @@
+pub mod Names
+pub mod Reading
+pub mod Readers
+pub mod Parser
+pub mod Places

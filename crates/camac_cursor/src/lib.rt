@@ -1,0 +1,9 @@
+//! The state in which a script's tokens are read: what is left of them, and what is declared so far.
+#![tactic(auto)]
+
+mod counting;
+mod cursor;
+mod names;
+mod naming;
+
+pub use cursor::{Called, Parser};

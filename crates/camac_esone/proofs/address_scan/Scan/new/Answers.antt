@@ -1,0 +1,5 @@
+use Rattle.camac_esone.proofs.Standing.{at_start}
+use Rattle.camac_esone.proofs.address_scan.Scan.new.Goals as goal
+
+pub returns-clause-stands : goal.returns-clause-stands
+returns-clause-stands c = rw (← c.first.view_is, c.from.ensures) (at_start _)

@@ -1,0 +1,50 @@
+-- What each of the three transfers holds in progress, and what is left of it then.
+use Rattle.std.specs.Prelude.{ℕ, List, Option}
+use Rattle.camac_branch.specs.Address.{Address}
+use Rattle.camac_esone.specs.Transfers.{stop_wanted, repeat_wanted, scan_wanted}
+use Rattle.camac_esone.specs.Lists.{Cycle, IsStopList, IsRepeatList, IsScanList}
+use Rattle.camac_esone.specs.Progress.{Left, StandsAt, LeadsOn}
+
+-- Q-stop: how many further cycles there are at most, none after Q=0
+pub record StopHeld : Type 0 where
+  pub at : Address
+  pub cycles : ℕ
+  pub tally : ℕ
+
+-- Q-repeat: how many words are missing, and how many further cycles there are at most
+pub record RepeatHeld : Type 0 where
+  pub at : Address
+  pub words : ℕ
+  pub cycles : ℕ
+  pub tally : ℕ
+
+-- Scan: the next address, the final one, and how many words are missing
+pub record ScanHeld : Type 0 where
+  pub at : Address
+  pub last : Address
+  pub words : ℕ
+  pub tally : ℕ
+
+abbrev pub stop_left : StopHeld → Left
+stop_left h = record { wanted = stop_wanted h.at h.cycles; tally = h.tally }
+
+abbrev pub repeat_left : RepeatHeld → Left
+repeat_left h = record { wanted = repeat_wanted h.at h.words h.cycles; tally = h.tally }
+
+abbrev pub scan_left : ScanHeld → Left
+scan_left h = record { wanted = scan_wanted h.at h.last h.words; tally = h.tally }
+
+-- At all cycles at which it stands, a transfer leads on along its lists.
+abbrev pub LeadsAlongStop : Left → Option Address → Type 0
+LeadsAlongStop left next =
+    (at : Address) (max : ℕ) (cycles : List Cycle) → StandsAt (stop_wanted at max) left cycles → LeadsOn (IsStopList at max) cycles next
+
+abbrev pub LeadsAlongRepeat : Left → Option Address → Type 0
+LeadsAlongRepeat left next =
+    (at : Address) (max limit : ℕ) (cycles : List Cycle) → StandsAt (repeat_wanted at max limit) left cycles
+    → LeadsOn (IsRepeatList at max limit) cycles next
+
+abbrev pub LeadsAlongScan : Left → Option Address → Type 0
+LeadsAlongScan left next =
+    (first last : Address) (max : ℕ) (cycles : List Cycle) → StandsAt (scan_wanted first last max) left cycles
+    → LeadsOn (IsScanList first last max) cycles next

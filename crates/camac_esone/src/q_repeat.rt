@@ -1,0 +1,90 @@
+// Q-repeat (ESONE's CFUBR).
+
+ghost use Rattle.std.specs.Prelude.{◌≡◌, ◌∷◌, [], IsSome};
+ghost use Rattle.camac_esone.specs.Held.{repeat_left, LeadsAlongRepeat};
+ghost use Rattle.camac_esone.specs.Progress.{Continues, StandsAt, AddsCycle, IsTally};
+ghost use Rattle.camac_esone.specs.Transfers.{repeat_wanted};
+
+use crate::address::Address;
+use std::marker::Model;
+
+/// A block transfer at one address in which Q=0 asks for the same cycle again, and which ends after `max` words, and after `limit`
+/// cycles at the latest (own).
+#[derive(Clone, Copy, Debug, PartialEq, Eq)]
+pub struct QRepeat {
+    address: Address,
+    // how many words are missing
+    words: u32,
+    // how many further cycles there are at most
+    cycles: u32,
+    tally: u32,
+}
+
+impl Model for QRepeat {
+    ghost use Rattle.std.specs.Prelude.{◌+◌, ◌<◌, ◌^◌};
+    ghost use Rattle.camac_esone.specs.Held.{RepeatHeld};
+
+    ghost Value = { RepeatHeld };
+
+    ghost view = { λ t. record { at = t.address; words = t.words; cycles = t.cycles; tally = t.tally } };
+
+    ghost invariant = { λ t. t.tally + t.words < 2 ^ 32 };
+
+    ghost inverse = { λ h. record { address = h.at; words = h.words; cycles = h.cycles; tally = h.tally } };
+}
+
+impl QRepeat {
+    /// The transfer before its first cycle; with a `max` or `limit` of 0 there is none.
+    pub fn new(address: Address, max: u32, limit: u32) -> Self
+        ensures held { result ≡ record { at = address; words = max; cycles = limit; tally = 0 } }
+        ensures stands { StandsAt (repeat_wanted address max limit) (repeat_left result) [] }
+    {
+        QRepeat {
+            address,
+            words: max,
+            cycles: limit,
+            tally: 0,
+        }
+    }
+
+    /// Where the next cycle goes, or none at the end.
+    pub fn next(&self) -> Option<Address>
+        ensures wanted { result ≡ (repeat_left self.now).wanted [] }
+        ensures list { LeadsAlongRepeat (repeat_left self.now) result }
+    {
+        if self.words > 0 && self.cycles > 0 {
+            Some(self.address)
+        } else {
+            None
+        }
+    }
+
+    /// Takes the Q of the cycle that `next` asked for.
+    pub fn take(&mut self, q: bool)
+        requires { IsSome ((repeat_left self.old).wanted []) }
+        ensures continues { Continues (repeat_left self.old) q (repeat_left self.new) }
+        ensures stands { AddsCycle (repeat_left self.old) q (repeat_left self.new) }
+    {
+        self.cycles -= 1;
+        if q {
+            self.words -= 1;
+            self.tally += 1;
+        }
+    }
+
+    /// How many cycles had Q=1.
+    pub fn tally(&self) -> u32
+        ensures held { result ≡ self.now.tally }
+        ensures replies { IsTally (repeat_left self.now) result }
+    {
+        self.tally
+    }
+
+    /// The number of the table word that the next cycle sends, from 0: after Q=0 the same again.
+    pub fn index(&self) -> usize
+        ensures held { result ≡ self.now.tally }
+        ensures replies { IsTally (repeat_left self.now) result }
+    {
+        self.tally as usize
+    }
+}

@@ -1,0 +1,87 @@
+// Q-stop (ESONE's CFUBC).
+
+ghost use Rattle.std.specs.Prelude.{◌≡◌, ◌∷◌, [], IsSome};
+ghost use Rattle.camac_esone.specs.Held.{stop_left, LeadsAlongStop};
+ghost use Rattle.camac_esone.specs.Progress.{Continues, StandsAt, AddsCycle, IsTally};
+ghost use Rattle.camac_esone.specs.Transfers.{stop_wanted};
+
+use crate::address::Address;
+use std::marker::Model;
+
+/// A block transfer at one address that ends after the first cycle with Q=0, and after `max` cycles at the latest (own).
+#[derive(Clone, Copy, Debug, PartialEq, Eq)]
+pub struct QStop {
+    address: Address,
+    // how many further cycles there are at most
+    cycles: u32,
+    tally: u32,
+}
+
+impl Model for QStop {
+    ghost use Rattle.std.specs.Prelude.{◌+◌, ◌<◌, ◌^◌};
+    ghost use Rattle.camac_esone.specs.Held.{StopHeld};
+
+    ghost Value = { StopHeld };
+
+    ghost view = { λ t. record { at = t.address; cycles = t.cycles; tally = t.tally } };
+
+    ghost invariant = { λ t. t.tally + t.cycles < 2 ^ 32 };
+
+    ghost inverse = { λ h. record { address = h.at; cycles = h.cycles; tally = h.tally } };
+}
+
+impl QStop {
+    /// The transfer before its first cycle; with a `max` of 0 there is none.
+    pub fn new(address: Address, max: u32) -> Self
+        ensures held { result ≡ record { at = address; cycles = max; tally = 0 } }
+        ensures stands { StandsAt (stop_wanted address max) (stop_left result) [] }
+    {
+        QStop {
+            address,
+            cycles: max,
+            tally: 0,
+        }
+    }
+
+    /// Where the next cycle goes, or none at the end.
+    pub fn next(&self) -> Option<Address>
+        ensures wanted { result ≡ (stop_left self.now).wanted [] }
+        ensures list { LeadsAlongStop (stop_left self.now) result }
+    {
+        if self.cycles > 0 {
+            Some(self.address)
+        } else {
+            None
+        }
+    }
+
+    /// Takes the Q of the cycle that `next` asked for.
+    pub fn take(&mut self, q: bool)
+        requires { IsSome ((stop_left self.old).wanted []) }
+        ensures continues { Continues (stop_left self.old) q (stop_left self.new) }
+        ensures stands { AddsCycle (stop_left self.old) q (stop_left self.new) }
+    {
+        if q {
+            self.cycles -= 1;
+            self.tally += 1;
+        } else {
+            self.cycles = 0;
+        }
+    }
+
+    /// How many cycles had Q=1.
+    pub fn tally(&self) -> u32
+        ensures held { result ≡ self.now.tally }
+        ensures replies { IsTally (stop_left self.now) result }
+    {
+        self.tally
+    }
+
+    /// The number of the table word that the next cycle sends, from 0.
+    pub fn index(&self) -> usize
+        ensures held { result ≡ self.now.tally }
+        ensures replies { IsTally (stop_left self.now) result }
+    {
+        self.tally as usize
+    }
+}

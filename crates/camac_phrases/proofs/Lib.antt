@@ -1,0 +1,9 @@
+pub mod ExpressionsRead
+pub mod BracketsRead
+pub mod ConditionsRead
+pub mod KeepsRead
+pub mod LocalExpressions
+pub mod LocalConditions
+pub mod LocalKeeps
+pub mod ArgumentsRead
+pub mod LocalArguments

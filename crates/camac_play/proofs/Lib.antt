@@ -1,0 +1,5 @@
+pub mod Sending
+pub mod Pieces
+pub mod Steps
+pub mod Fed
+pub mod Whole

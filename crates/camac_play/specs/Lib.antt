@@ -1,0 +1,5 @@
+pub mod Sent
+pub mod Played
+pub mod Telling
+pub mod Step
+pub mod Play

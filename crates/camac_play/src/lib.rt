@@ -1,0 +1,15 @@
+//! Plays a script against the text of its answers, and writes its listing and its event file while it runs.
+#![tactic(auto)]
+
+mod ending;
+mod fault;
+mod feeding;
+mod playable;
+mod playing;
+mod step;
+mod telling;
+
+pub use ending::Ending;
+pub use fault::PlayFault;
+pub use playable::is_playable;
+pub use playing::play;

@@ -1,0 +1,7 @@
+pub mod Pieces
+pub mod Phrases
+pub mod Statements
+pub mod Declarations
+pub mod Spells
+pub mod Served
+pub mod Laws

@@ -1,0 +1,12 @@
+use Rattle.std.proofs.Common.{◌≡◌, ◌+◌, ◌≤◌, length}
+use Rattle.camac_cursor.specs.Reading.{while_next}
+use Rattle.camac_cursor.specs.Readers.{is_name}
+use Rattle.camac_text.specs.Declarations.{one_more_variable}
+use Rattle.camac_cursor.specs.Parser.{state}
+use Rattle.camac_text.proofs.declarations.more_variables.Given as goal
+
+abbrev pub invariant-loop-parser : goal.invariant-loop-parser
+invariant-loop-parser l = (while_next is_name one_more_variable l.count (state l.parser) ≡ while_next is_name one_more_variable 1 (state l.fn.parser)) × (l.count + length l.parser.rest.now ≤ 1 + length l.fn.parser.rest.now)
+
+abbrev pub decreases-loop-parser : goal.decreases-loop-parser
+decreases-loop-parser l = length l.parser.rest.now

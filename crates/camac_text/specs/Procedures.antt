@@ -1,0 +1,100 @@
+-- What is read at each place of a procedure.
+use Rattle.std.specs.Prelude.{ℕ, true, false, List, [], ◌∷◌, ◌++◌, length, take, nat_lt, if◌then◌else◌}
+use Rattle.camac_lang.specs.Depth.{callable}
+use Rattle.camac_lang.specs.Tree.{Text, Statement, Parameter, Procedure, next_procedure}
+use Rattle.camac_lang.specs.View.{block_of}
+use Rattle.camac_tokens.specs.declared.token.Keyword.TheVariants as word
+use Rattle.camac_tokens.specs.declared.token.Sign.TheVariants as sign
+use Rattle.camac_tokens.specs.declared.fault.TextRule.TheVariants.{LimitPassed}
+use Rattle.camac_cursor.specs.Reading.{State, Reader, ◌>>=◌, ◌>>◌, give, ask, change, peek, advance, check, while_next, one_more}
+use Rattle.camac_cursor.specs.Readers.{is_sign, expect, expect_sign, any_number, new_name, new_parameter}
+use Rattle.camac_statements.specs.Statements.{block_at}
+
+-- ---- the heading
+
+unfoldable pub parameter_at : Reader Parameter
+parameter_at = do
+  name ← new_parameter
+  expect word.In
+  low ← any_number
+  expect_sign sign.UpTo
+  high ← any_number
+  give (record { name = name; low = low; high = high })
+
+-- `,` and a parameter
+unfoldable pub next_parameter : Reader Parameter
+next_parameter = advance >> parameter_at
+
+unfoldable pub parameter_list : Reader (List Parameter)
+parameter_list = do
+  first ← parameter_at
+  while_next (is_sign sign.Comma) (one_more next_parameter) (first ∷ [])
+
+unfoldable pub parameters_at : Reader (List Parameter)
+parameters_at = peek >>= λ k. if is_sign sign.RightBracket k then give [] else parameter_list
+
+pub record Heading : Type 0 where
+  pub parameters : List Parameter
+  pub cycles : ℕ
+  pub words : ℕ
+  pub steps : ℕ
+
+unfoldable pub heading_at : Reader Heading
+heading_at = do
+  expect_sign sign.LeftBracket
+  parameters ← parameters_at
+  expect_sign sign.RightBracket
+  expect word.Within
+  cycles ← any_number
+  expect word.Cycles
+  expect word.Event
+  words ← any_number
+  expect word.Words
+  expect word.Steps
+  steps ← any_number
+  give (record { parameters = parameters; cycles = cycles; words = words; steps = steps })
+
+-- ---- the whole procedure
+
+-- a procedure sees no variables but its parameters, and its own name is declared
+abbrev pub in_heading : Text → State → State
+in_heading name s = record s { variables = []; in_procedure = true; declared = s.declared ++ name ∷ [] }
+
+abbrev pub procedure_made : ℕ → Text → Heading → List Text → List Statement → Procedure
+procedure_made line name h registers body = record {
+  line = line;
+  name = name;
+  parameters = h.parameters;
+  cycles = h.cycles;
+  words = h.words;
+  steps = h.steps;
+  registers = registers;
+  body = block_of body;
+}
+
+-- a procedure can be called from its end on; what it declared for itself ends with it
+abbrev pub with_procedure : Procedure → List Text → ℕ → State → State
+with_procedure p variables names s = record s {
+  variables = variables;
+  declared = take names s.declared;
+  registers = [];
+  in_procedure = false;
+  procedures = s.procedures ++ p ∷ [];
+  callables = s.callables ++ callable s.callables p ∷ [];
+  order = s.order ++ next_procedure ∷ [];
+}
+
+unfoldable pub procedure_declaration : ℕ → Reader (Unit {0})
+procedure_declaration line = do
+  known ← ask (λ s. s.procedures)
+  check (nat_lt (length known) 16) LimitPassed
+  advance
+  name ← new_name
+  advance
+  variables ← ask (λ s. s.variables)
+  change (in_heading name)
+  names ← ask (λ s. length s.declared)
+  heading ← heading_at
+  body ← block_at 16
+  registers ← ask (λ s. s.registers)
+  change (with_procedure (procedure_made line name heading registers body) variables names)

@@ -1,0 +1,44 @@
+-- What is read at each place of a table.
+use Rattle.std.specs.Prelude.{ℕ, Bool, true, false, List, [], ◌∷◌, ◌++◌, length, Option, Some, nat_lt}
+use Rattle.camac_lang.specs.Tree.{Table, next_table}
+use Rattle.camac_tokens.specs.declared.token.Sign.TheVariants as sign
+use Rattle.camac_tokens.specs.declared.token.TokenKind.{TokenKind}
+use Rattle.camac_tokens.specs.declared.token.TokenKind.TheVariants as kind
+use Rattle.camac_tokens.specs.declared.fault.TextRule.TheVariants.{NumberTooLarge, LimitPassed}
+use Rattle.camac_cursor.specs.Reading.{State, Reader, ◌>>=◌, ◌>>◌, give, ask, change, advance, check, while_next}
+use Rattle.camac_cursor.specs.Readers.{expect_sign, number_here, new_name}
+
+-- a word behind so many words
+unfoldable pub word_behind : ℕ → Reader ℕ
+word_behind count = do
+  n ← number_here
+  check (nat_lt n 16777216) NumberTooLarge
+  check (nat_lt count 1024) LimitPassed
+  advance
+  give n
+
+abbrev pub one_more_word : List ℕ → Reader (List ℕ)
+one_more_word words = word_behind (length words) >>= λ w. give (words ++ w ∷ [])
+
+abbrev pub is_number : Option TokenKind → Bool
+is_number (Some (kind.Number n)) = true
+is_number _ = false
+
+unfoldable pub table_words : Reader (List ℕ)
+table_words = do
+  first ← word_behind 0
+  while_next is_number one_more_word (first ∷ [])
+
+abbrev pub with_table : Table → State → State
+with_table t s = record s { tables = s.tables ++ t ∷ []; declared = s.declared ++ t.name ∷ []; order = s.order ++ next_table ∷ [] }
+
+unfoldable pub table_declaration : ℕ → Reader (Unit {0})
+table_declaration line = do
+  known ← ask (λ s. s.tables)
+  check (nat_lt (length known) 16) LimitPassed
+  advance
+  name ← new_name
+  advance
+  expect_sign sign.Equals
+  words ← table_words
+  change (with_table (record { line = line; name = name; words = words }))

@@ -1,0 +1,146 @@
+// Procedures.
+
+ghost use Rattle.std.specs.Prelude.{◌≡◌, ◌≤◌, map};
+ghost use Rattle.camac_lang.specs.Depth.{inner_depth};
+ghost use Rattle.camac_lang.specs.View.{parameter_of, procedure_of};
+ghost use Rattle.camac_cursor.specs.Reading.{change};
+ghost use Rattle.camac_cursor.specs.Parser.{state, Gives};
+ghost use Rattle.camac_text.specs.Headings.{heading_of};
+ghost use Rattle.camac_text.specs.Procedures.{parameter_at, next_parameter, parameter_list, parameters_at, heading_at, with_procedure, procedure_declaration};
+
+use crate::depth::inner_depth;
+use camac_cursor::{Called, Parser};
+use camac_lang::{Item, Name, Parameter, Procedure};
+use camac_statements::block;
+use camac_tokens::{Keyword, Sign, TextFault, TextRule};
+use std::mem;
+
+/// What stands in a procedure's heading behind its name.
+#[derive(Drop)]
+pub struct Heading {
+    parameters: Vec<Parameter>,
+    cycles: u32,
+    words: u32,
+    steps: u32,
+}
+
+/// `proc`
+#[tactic(auto, unfolding(crate::specs::Procedures::procedure_declaration))]
+pub fn procedure_declaration(parser: &mut Parser<'_>, line: u32) -> Result<(), TextFault>
+    ensures { Gives (λ _. tt) result parser.new (procedure_declaration line (state parser.old)) }
+{
+    if parser.procedures.len() >= 16 {
+        return Err(parser.fault(TextRule::LimitPassed));
+    }
+    parser.advance();
+    let name = parser.new_name()?;
+    parser.advance();
+    let variables = mem::replace(&mut parser.variables, Vec::new(parser.alloc));
+    parser.in_procedure = true;
+    parser.declared.push(name.duplicate())?;
+    let names = parser.declared.len();
+    let heading = read_heading(parser)?;
+    let body = block(parser, 16)?;
+    let registers = mem::replace(&mut parser.registers, Vec::new(parser.alloc));
+    let procedure = Procedure {
+        line,
+        name,
+        parameters: heading.parameters,
+        cycles: heading.cycles,
+        words: heading.words,
+        steps: heading.steps,
+        registers,
+        body,
+    };
+    close_procedure(parser, procedure, variables, names)
+}
+
+/// The end of a procedure, behind which the script has these variables and so many names again.
+fn close_procedure(
+    parser: &mut Parser<'_>,
+    procedure: Procedure,
+    variables: Vec<Name>,
+    names: usize,
+) -> Result<(), TextFault>
+    requires { inner_depth (state parser.old).callables (procedure_of procedure).body ≤ 15 }
+    ensures { Gives (λ _. tt) result parser.new (change (with_procedure (procedure_of procedure) variables.items names) (state parser.old)) }
+{
+    let depth = inner_depth(&procedure.body, &parser.callables) + 1;
+    let parameters = procedure.parameters.len();
+    parser.variables = variables;
+    parser.declared.truncate(names);
+    parser.registers = Vec::new(parser.alloc);
+    parser.in_procedure = false;
+    parser.callables.push(Called { parameters, depth })?;
+    parser.procedures.push(procedure)?;
+    parser.order.push(Item::Procedure)?;
+    Ok(())
+}
+
+#[tactic(auto, unfolding(crate::specs::Procedures::heading_at))]
+fn read_heading(parser: &mut Parser<'_>) -> Result<Heading, TextFault>
+    ensures { Gives heading_of result parser.new (heading_at (state parser.old)) }
+{
+    parser.expect_sign(Sign::LeftBracket)?;
+    let parameters = parameters(parser)?;
+    parser.expect_sign(Sign::RightBracket)?;
+    parser.expect(Keyword::Within)?;
+    let cycles = parser.any_number()?;
+    parser.expect(Keyword::Cycles)?;
+    parser.expect(Keyword::Event)?;
+    let words = parser.any_number()?;
+    parser.expect(Keyword::Words)?;
+    parser.expect(Keyword::Steps)?;
+    let steps = parser.any_number()?;
+    Ok(Heading {
+        parameters,
+        cycles,
+        words,
+        steps,
+    })
+}
+
+#[tactic(auto, unfolding(crate::specs::Procedures::parameters_at))]
+fn parameters(parser: &mut Parser<'_>) -> Result<Vec<Parameter>, TextFault>
+    ensures { Gives (λ ps. map parameter_of ps.items) result parser.new (parameters_at (state parser.old)) }
+{
+    if parser.next_is_sign(Sign::RightBracket) {
+        return Ok(Vec::new(parser.alloc));
+    }
+    parameter_list(parser)
+}
+
+#[tactic(auto, unfolding(crate::specs::Procedures::parameter_list))]
+fn parameter_list(parser: &mut Parser<'_>) -> Result<Vec<Parameter>, TextFault>
+    ensures { Gives (λ ps. map parameter_of ps.items) result parser.new (parameter_list (state parser.old)) }
+{
+    let first = parameter(parser)?;
+    let mut parameters = Vec::new(parser.alloc);
+    parameters.push(first)?;
+    while parser.next_is_sign(Sign::Comma) {
+        let parameter = next_parameter(parser)?;
+        parameters.push(parameter)?;
+    }
+    Ok(parameters)
+}
+
+/// `,` and a parameter.
+#[tactic(auto, unfolding(crate::specs::Procedures::next_parameter))]
+fn next_parameter(parser: &mut Parser<'_>) -> Result<Parameter, TextFault>
+    ensures { Gives parameter_of result parser.new (next_parameter (state parser.old)) }
+{
+    parser.advance();
+    parameter(parser)
+}
+
+#[tactic(auto, unfolding(crate::specs::Procedures::parameter_at))]
+fn parameter(parser: &mut Parser<'_>) -> Result<Parameter, TextFault>
+    ensures { Gives parameter_of result parser.new (parameter_at (state parser.old)) }
+{
+    let name = parser.new_parameter()?;
+    parser.expect(Keyword::In)?;
+    let low = parser.any_number()?;
+    parser.expect_sign(Sign::UpTo)?;
+    let high = parser.any_number()?;
+    Ok(Parameter { name, low, high })
+}

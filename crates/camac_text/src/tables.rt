@@ -1,0 +1,68 @@
+// Tables.
+
+ghost use Rattle.std.specs.Prelude.{◌≡◌};
+ghost use Rattle.camac_cursor.specs.Reading.{kind_of};
+ghost use Rattle.camac_cursor.specs.Parser.{state, Gives};
+ghost use Rattle.camac_text.specs.Tables.{is_number, word_behind, table_words, table_declaration};
+
+use camac_cursor::Parser;
+use camac_lang::{Item, Table};
+use camac_tokens::{Sign, TextFault, TextRule, TokenKind};
+use camac_word::Word24;
+
+/// `table`
+#[tactic(auto, unfolding(crate::specs::Tables::table_declaration))]
+pub fn table_declaration(parser: &mut Parser<'_>, line: u32) -> Result<(), TextFault>
+    ensures { Gives (λ _. tt) result parser.new (table_declaration line (state parser.old)) }
+{
+    if parser.tables.len() >= 16 {
+        return Err(parser.fault(TextRule::LimitPassed));
+    }
+    parser.advance();
+    let name = parser.new_name()?;
+    parser.advance();
+    parser.expect_sign(Sign::Equals)?;
+    let words = table_words(parser)?;
+    parser.declared.push(name.duplicate())?;
+    parser.tables.push(Table { line, name, words })?;
+    parser.order.push(Item::Table)?;
+    Ok(())
+}
+
+#[tactic(auto, unfolding(crate::specs::Tables::table_words))]
+fn table_words(parser: &mut Parser<'_>) -> Result<Vec<Word24>, TextFault>
+    ensures { Gives (λ ws. ws.items) result parser.new (table_words (state parser.old)) }
+{
+    let first = word_behind(parser, 0)?;
+    let mut words = Vec::new(parser.alloc);
+    words.push(first)?;
+    while next_is_number(parser) {
+        let word = word_behind(parser, words.len())?;
+        words.push(word)?;
+    }
+    Ok(words)
+}
+
+fn next_is_number(parser: &Parser<'_>) -> bool
+    ensures { result ≡ is_number (kind_of parser.now.rest.now) }
+{
+    matches!(parser.peek(), Some(TokenKind::Number(_)))
+}
+
+/// A word behind so many words.
+#[tactic(auto, unfolding(crate::specs::Tables::word_behind))]
+fn word_behind(parser: &mut Parser<'_>, count: usize) -> Result<Word24, TextFault>
+    ensures { Gives (λ w. w) result parser.new (word_behind count (state parser.old)) }
+{
+    let number = parser.number_here()?;
+    match Word24::new(number) {
+        Some(word) => {
+            if count >= 1024 {
+                return Err(parser.fault(TextRule::LimitPassed));
+            }
+            parser.advance();
+            Ok(word)
+        }
+        None => Err(parser.fault(TextRule::NumberTooLarge)),
+    }
+}

@@ -1,0 +1,8 @@
+use Rattle.camac_word.specs.Watched.{inner_of}
+use Rattle.camac_tool.proofs.Runs.{plan_refused}
+use Rattle.camac_tool.proofs.running.engine_run.Goals as goal
+
+pub returns-in-Err-clause-runs : goal.returns-in-Err-clause-runs
+returns-in-Err-clause-runs g c =
+    plan_refused c.refuse_run.result g.P.Read.remaining c.args.plan.now c.read_plan.new.source _ _ _ _ c.in-Err.rule (rw c.in-Err.is at c.in_ok-says.ensures.reads)
+    (rw c.plan_code.ensures at (c.refuse_run.ensures.refuses (g.E.Write.contents (inner_of c.args.events.now))))

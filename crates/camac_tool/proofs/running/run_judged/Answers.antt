@@ -1,0 +1,5 @@
+use Rattle.camac_word.specs.Watched.{inner_of}
+use Rattle.camac_tool.proofs.running.run_judged.Goals as goal
+
+pub returns-in-Refused-clause-runs : goal.returns-in-Refused-clause-runs
+returns-in-Refused-clause-runs g c = rw c.in-Refused.is (c.refuse_run.ensures.refuses (g.E.Write.contents (inner_of c.args.events.now)))

@@ -1,0 +1,131 @@
+// The engine of a run: from a plan, a script and the text of its answers to a listing and an event file.
+
+ghost use Rattle.std.specs.Prelude.{◌≡◌, ◌||◌, false, ℕ, List, Option};
+ghost use Rattle.camac_answer.specs.Answers.{left_in};
+ghost use Rattle.camac_answer.specs.declared.answers.Stage.TheVariants.{Running};
+ghost use Rattle.camac_play.specs.Sent.{held};
+ghost use Rattle.camac_tool.specs.Engine.{is_write_fault};
+ghost use Rattle.camac_tool.specs.Plan.{plan_failed};
+ghost use Rattle.camac_tool.specs.Reading.{is_read_fault};
+ghost use Rattle.camac_tool.specs.Run.{Refuses, Runs, RunsJudged, RunsOn, RunsScript, outcome_of};
+ghost use Rattle.camac_word.specs.Watched.{inner_of, has_failed};
+
+use crate::codes::plan_code;
+use crate::engine::refuse;
+use crate::fault::ToolFault;
+use crate::judging::{Judged, judge};
+use crate::outcome::Outcome;
+use crate::plan::{PlanSource, read_plan};
+use crate::reading::{TEXT_LIMIT, read_whole};
+use camac_branch::Plan;
+use camac_check::Checked;
+use camac_play::{Ending, PlayFault, is_playable, play};
+use camac_report::Refusal;
+use camac_run::End;
+use camac_word::Watched;
+use std::alloc::Global;
+use std::io::{Read, Write};
+
+/// Runs a script on a plan and the text of its answers: the listing, or the line of the first refusal, is written to `out`, the event
+/// file to `events`. The plan is read and judged first, then the script; then the run begins, and what an answer did is written before
+/// the next answer is asked for. Nothing is written before a fault but one of a writer, which leaves a front of what is sent to both in
+/// one order, or of the reader of the answers, which leaves what the run tells on the answers before it.
+pub fn engine_run<P: Read, S: Read, A: Read, W: Write, E: Write>(
+    alloc: Global,
+    plan: &mut PlanSource<P>,
+    script: &mut Watched<S>,
+    answers: &mut Watched<A>,
+    out: &mut Watched<W>,
+    events: &mut Watched<E>,
+) -> Result<Outcome, ToolFault>
+    ensures runs { Runs P.remaining plan.old plan.new (S.remaining (inner_of script.old)) (S.remaining (inner_of script.new)) (left_in Running 0 (A.remaining (inner_of answers.old)))
+        (held (W.contents (inner_of out.old)) (E.contents (inner_of events.old))) (held (W.contents (inner_of out.new)) (E.contents (inner_of events.new))) result }
+    ensures out_failed { (has_failed out.new || has_failed events.new) ≡ ((has_failed out.old || has_failed events.old) || is_write_fault result) }
+    ensures in_failed { ((plan_failed plan.new || has_failed script.new) || has_failed answers.new)
+        ≡ (((plan_failed plan.old || has_failed script.old) || has_failed answers.old) || is_read_fault result) }
+{
+    let says = read_plan(alloc, plan)?;
+    match says {
+        Ok(plan) => run_on(alloc, &plan, script, answers, out, events),
+        Err(rule) => refuse_run(out, Refusal::Plan(plan_code(rule))),
+    }
+}
+
+fn run_on<S: Read, A: Read, W: Write, E: Write>(
+    alloc: Global,
+    plan: &Plan,
+    script: &mut Watched<S>,
+    answers: &mut Watched<A>,
+    out: &mut Watched<W>,
+    events: &mut Watched<E>,
+) -> Result<Outcome, ToolFault>
+    ensures runs { RunsOn plan.now (S.remaining (inner_of script.old)) (S.remaining (inner_of script.new)) (left_in Running 0 (A.remaining (inner_of answers.old)))
+        (held (W.contents (inner_of out.old)) (E.contents (inner_of events.old))) (held (W.contents (inner_of out.new)) (E.contents (inner_of events.new))) result }
+    ensures out_failed { (has_failed out.new || has_failed events.new) ≡ ((has_failed out.old || has_failed events.old) || is_write_fault result) }
+    ensures in_failed { (has_failed script.new || has_failed answers.new) ≡ ((has_failed script.old || has_failed answers.old) || is_read_fault result) }
+{
+    let text = read_whole(alloc, script, TEXT_LIMIT)?;
+    let judged = judge(alloc, plan, &text)?;
+    run_judged(alloc, &judged, answers, out, events)
+}
+
+fn run_judged<A: Read, W: Write, E: Write>(
+    alloc: Global,
+    judged: &Judged,
+    answers: &mut Watched<A>,
+    out: &mut Watched<W>,
+    events: &mut Watched<E>,
+) -> Result<Outcome, ToolFault>
+    ensures runs { RunsJudged judged.now (left_in Running 0 (A.remaining (inner_of answers.old)))
+        (held (W.contents (inner_of out.old)) (E.contents (inner_of events.old))) (held (W.contents (inner_of out.new)) (E.contents (inner_of events.new))) result }
+    ensures out_failed { (has_failed out.new || has_failed events.new) ≡ ((has_failed out.old || has_failed events.old) || is_write_fault result) }
+    ensures in_failed { has_failed answers.new ≡ (has_failed answers.old || is_read_fault result) }
+{
+    match judged {
+        Judged::Accepted(checked) => run_checked(alloc, checked, answers, out, events),
+        Judged::Refused(refusal) => refuse_run(out, *refusal),
+    }
+}
+
+fn run_checked<A: Read, W: Write, E: Write>(
+    alloc: Global,
+    checked: &Checked,
+    answers: &mut Watched<A>,
+    out: &mut Watched<W>,
+    events: &mut Watched<E>,
+) -> Result<Outcome, ToolFault>
+    ensures runs { RunsScript checked.now.plan checked.now.script (left_in Running 0 (A.remaining (inner_of answers.old)))
+        (held (W.contents (inner_of out.old)) (E.contents (inner_of events.old))) (held (W.contents (inner_of out.new)) (E.contents (inner_of events.new))) result }
+    ensures out_failed { (has_failed out.new || has_failed events.new) ≡ ((has_failed out.old || has_failed events.old) || is_write_fault result) }
+    ensures in_failed { has_failed answers.new ≡ (has_failed answers.old || is_read_fault result) }
+{
+    if !is_playable(checked) {
+        return Err(ToolFault::NotServed);
+    }
+    match play(alloc, checked, answers, out, events) {
+        Ok(ending) => Ok(outcome_of(ending)),
+        Err(PlayFault::Read) => Err(ToolFault::Read),
+        Err(PlayFault::Write) => Err(ToolFault::Write),
+    }
+}
+
+// A wait that is not permitted and a fault of the answers refuse, the end of the answers does not.
+fn outcome_of(ending: Ending) -> Outcome
+    ensures { result ≡ outcome_of ending }
+{
+    match ending {
+        Ending::End(End::Ended) => Outcome::Good,
+        Ending::End(End::Short) => Outcome::Good,
+        Ending::End(End::Overrun(_)) => Outcome::Refused,
+        Ending::Refused { .. } => Outcome::Refused,
+    }
+}
+
+// The line of a refusal, and nothing to the event file.
+fn refuse_run<W: Write>(out: &mut Watched<W>, refusal: Refusal) -> Result<Outcome, ToolFault>
+    ensures refuses { (e : Option (List ℕ)) → Refuses refusal (held (W.contents (inner_of out.old)) e) (held (W.contents (inner_of out.new)) e) result }
+    ensures failed { has_failed out.new ≡ (has_failed out.old || is_write_fault result) }
+    ensures no_read { is_read_fault result ≡ false }
+{
+    refuse(out, refusal)
+}
