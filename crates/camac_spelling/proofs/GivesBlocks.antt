@@ -21,6 +21,7 @@ use Rattle.camac_spelling.proofs.Gives.{ok, after, while_turn, left}
 use Rattle.camac_spelling.proofs.Runs.{Runs, left_at, listed}
 use Rattle.camac_spelling.proofs.Opens.{statement_opens, block_ends}
 use Rattle.camac_spelling.proofs.GivesActions.{IsGiven, assignment_given, setting_given, single_given, put_given, crate_given, lam_call_given}
+use Rattle.camac_spelling.proofs.GivesTransfers.{scan_given, stop_given, repeat_transfer_given}
 use Rattle.camac_spelling.proofs.GivesStatements.{AreGiven, RunsBraced, braced_given, choose_given, choose_else_given, locked_given}
 use Rattle.camac_spelling.proofs.GivesLoops.{count_given, repeat_given}
 
@@ -85,9 +86,9 @@ mutual
   statement_given n (assign line x e) = assignment_given n line x e
   statement_given n (set_register line r c s a) = setting_given n line r c s a
   statement_given n (single line size f r d) = single_given n line size f r d
-  statement_given n (address_scan line f r1 r2 e x) = unserved n (address_scan line f r1 r2 e x) refl
-  statement_given n (q_stop line f r g e x) = unserved n (q_stop line f r g e x) refl
-  statement_given n (q_repeat line f r g e l x) = unserved n (q_repeat line f r g e l x) refl
+  statement_given n (address_scan line f r1 r2 e x) = scan_given n line f r1 r2 e x
+  statement_given n (q_stop line f r g e x) = stop_given n line f r g e x
+  statement_given n (q_repeat line f r g e l x) = repeat_transfer_given n line f r g e l x
   statement_given n (put line e) = put_given n line e
   statement_given n (crate_call line k e) = crate_given n line k e
   statement_given n (lam_call line k l) = lam_call_given n line k l

@@ -18,6 +18,7 @@ pub mod GivesPhrases
 pub mod GivesKeeps
 pub mod Runs
 pub mod GivesActions
+pub mod GivesTransfers
 pub mod Opens
 pub mod GivesStatements
 pub mod GivesLoops

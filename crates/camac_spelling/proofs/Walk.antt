@@ -6,7 +6,7 @@ use Rattle.std.proofs.lemmas.List.{length-take-le}
 use Rattle.camac_lang.specs.Scope.{Before, declared}
 use Rattle.camac_lang.specs.Statements.{statements}
 use Rattle.camac_lang.specs.Tests.{total, most, is_new, are_new}
-use Rattle.camac_lang.specs.Tree.{Text, Lam, Service, Item, next_table, next_lam, next_variables, next_procedure, next_service, Script}
+use Rattle.camac_lang.specs.Tree.{Text, Table, Lam, Service, Item, next_table, next_lam, next_variables, next_procedure, next_service, Script}
 use Rattle.camac_lang.proofs.Options.{then_parts}
 use Rattle.camac_tokens.specs.declared.token.Keyword.TheVariants as keyword
 use Rattle.camac_tokens.specs.declared.token.Token.{Token}
@@ -82,7 +82,7 @@ map_length (l ∷ ls) = ap suc (map_length ls)
 new_found : (xs : List Text) (p : ℕ) → are_new xs [] ≡ true → p < length xs → place_of (text_at xs p) xs ≡ Some p
 new_found xs p e below = ap (place_of (text_at xs p)) (sym (take_all xs)) ∙ found_there xs [] p (length xs) e below (omega arith)
 
-pub finds_names : (t : Script) (b : Before) (s : State) (v : Service) → Stands t b s → Finds (service_names t v) s.variables s.lams
+pub finds_names : (t : Script) (b : Before) (s : State) (v : Service) → Stands t b s → Finds (service_names t v) s.variables s.lams s.tables
 finds_names t b s v st = record {
   variables = λ p below.
       let many : length s.variables ≡ b.variables = ap (λ (xs : List Text). length xs) st.variables ∙ length-take-le b.variables t.variables st.variables_within in
@@ -99,6 +99,7 @@ finds_names t b s v st = record {
       ap (λ (x : Text). lam_place x s.lams) same
       ∙ sym (position_from-map lam_name (bytes_eq (text_at (map lam_name s.lams) p)) 0 s.lams)
       ∙ new_found (map lam_name s.lams) p st.new_lams (omega arith);
+  tables = λ p below. let none : length s.tables ≡ 0 = ap (λ (gs : List Table). length gs) st.tables in absurd (omega arith);
 }
 
 pub sets_names : (t : Script) (b : Before) (s : State) (v : Service) → Stands t b s → are_new v.registers b.names ≡ true → other_registers s + length v.registers ≤ 64 → Sets (service_names t v) s.declared (other_registers s)
