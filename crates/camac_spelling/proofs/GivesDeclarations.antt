@@ -28,7 +28,7 @@ use Rattle.camac_spelling.proofs.GivesStatements.{RunsBraced}
 use Rattle.camac_spelling.proofs.GivesBlocks.{body_given}
 
 -- how a declaration begins
-first_given : (line : ℕ) (k : TokenKind) (s : State) (ps : List Piece) (rest : List Token) → Front s.rest (first_piece line k ∷ ps) rest → declaration_at s ≡ declaration_by line (Some k) s
+pub first_given : (line : ℕ) (k : TokenKind) (s : State) (ps : List Piece) (rest : List Token) → Front s.rest (first_piece line k ∷ ps) rest → declaration_at s ≡ declaration_by line (Some k) s
 unfolding declaration_at
 first_given line k s ps rest f =
     let h = front_line s.rest s.end_line line k ps rest f in

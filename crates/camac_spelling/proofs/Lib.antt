@@ -25,6 +25,7 @@ pub mod GivesLoops
 pub mod GivesBlocks
 pub mod Fresh
 pub mod GivesDeclarations
+pub mod GivesTables
 pub mod Walk
 pub mod Walks
 pub mod Read

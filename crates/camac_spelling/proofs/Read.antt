@@ -1,5 +1,5 @@
 -- What is spelled is read: the whole script.
-use Rattle.std.proofs.Common.{◌≡◌, ℕ, ◌+◌, ◌≤◌, Bool, true, false, ◌&&◌, nat_eq, nat_le, List, [], ◌∷◌, ◌++◌, length, take, drop, Option, Some, None, Result, Ok, Err, refl, sym, ap, subst, ◌∙◌, append_assoc, arith}
+use Rattle.std.proofs.Common.{◌≡◌, ℕ, ◌+◌, ◌≤◌, Bool, true, ◌&&◌, nat_eq, nat_le, List, [], ◌∷◌, ◌++◌, length, take, drop, Option, Some, None, Result, Ok, Err, refl, sym, ap, subst, ◌∙◌, append_assoc, arith}
 use Rattle.std.specs.Prelude.{slice_get}
 use Rattle.std.proofs.lemmas.Bool.{leb-true, eqb-true}
 use Rattle.std.proofs.lemmas.List.{append-nil}
@@ -14,6 +14,7 @@ use Rattle.camac_tokens.specs.Scanning.{last_line}
 use Rattle.camac_cursor.specs.Reading.{State, kind_of, while_next}
 use Rattle.camac_cursor.specs.Readers.{is_name as next_is_name}
 use Rattle.camac_text.specs.Declarations.{declaration_at, is_token, declarations_at}
+use Rattle.camac_text.specs.Tables.{is_number as next_is_number}
 use Rattle.camac_text.specs.Parser.{start, tree_so_far, tree_in, tree_of_tokens, tree_behind, script_of}
 use Rattle.camac_cursor.proofs.Registers.{first_of_both, second_of_both}
 use Rattle.camac_text.proofs.Declares.{declarations_progress}
@@ -26,7 +27,7 @@ use Rattle.camac_spelling.specs.Laws.{SpelledTokensAreRead, SpelledIsRead, Spell
 use Rattle.camac_spelling.proofs.Fronts.{front_split}
 use Rattle.camac_spelling.proofs.Gives.{ok, while_turn}
 use Rattle.camac_spelling.proofs.Fresh.{take_all}
-use Rattle.camac_spelling.proofs.Walk.{passed_of, Limited, Stands, declaration_opens}
+use Rattle.camac_spelling.proofs.Walk.{passed_of, Limited, Stands, Closes, declaration_opens}
 use Rattle.camac_spelling.proofs.Walks.{declaration_goes}
 
 -- ---- the declarations in their order
@@ -50,13 +51,13 @@ passes t b b' next_service e =
     let p = then_parts (λ x. unless_broken (service_stands b x) (with_service b)) (slice_get t.services b.services) b' e in
     ap passed_of (sym (unless_parts (service_stands b p.0) (with_service b) b' p.2).1)
 
--- no name stands where a declaration or the end does
-no_name_next : (t : Script) (is : List Item) (b last : Before) (ts : List Token) → all_declared t b is ≡ Some last → Front ts (spell.declarations t (passed_of b) is) [] → next_is_name (kind_of ts) ≡ false
-no_name_next t [] b last ts e f = ap (λ (us : List Token). next_is_name (kind_of us)) f
-no_name_next t (i ∷ is) b last ts e f =
+-- a declaration or the end goes on with no declaration
+next_closes : (t : Script) (is : List Item) (b last : Before) (ts : List Token) → all_declared t b is ≡ Some last → Front ts (spell.declarations t (passed_of b) is) [] → Closes (kind_of ts)
+next_closes t [] b last ts e f = record { no_name = ap (λ (us : List Token). next_is_name (kind_of us)) f; no_number = ap (λ (us : List Token). next_is_number (kind_of us)) f }
+next_closes t (i ∷ is) b last ts e f =
     let p = then_parts (λ k. all_declared t k is) (declared t b i) last e in
     let m = front_split ts (spell.declaration t (passed_of b) i) (spell.declarations t (pass i (passed_of b)) is) [] f in
-    (declaration_opens t b p.0 i ts m.0 p.1 m.1).no_name
+    (declaration_opens t b p.0 i ts m.0 p.1 m.1).closes
 
 record Walked (t : Script) (is : List Item) (last : Before) (s : State) : Type 0 where
   end : State
@@ -78,7 +79,7 @@ walked t (i ∷ is) b last s limits served st e f =
     let p = then_parts (λ k. all_declared t k is) (declared t b i) last e in
     let m = front_split s.rest (spell.declaration t (passed_of b) i) (spell.declarations t (pass i (passed_of b)) is) [] f in
     let others : Front m.0 (spell.declarations t (passed_of p.0) is) [] = subst (λ (k : Passed). Front m.0 (spell.declarations t k is) []) (sym (passes t b p.0 i p.1)) m.2 in
-    let one = declaration_goes t i b p.0 s m.0 limits served st p.1 m.1 (no_name_next t is p.0 last m.0 p.2 others) in
+    let one = declaration_goes t i b p.0 s m.0 limits served st p.1 m.1 (next_closes t is p.0 last m.0 p.2 others) in
     let more = walked t is p.0 last one.next limits served one.stands p.2 (subst (λ (us : List Token). Front us (spell.declarations t (passed_of p.0) is) []) (sym one.left) others) in
     record {
       end = more.end;
@@ -103,6 +104,7 @@ limited t e =
     record {
       variables = omega arith;
       lams = leb-true (length t.lams) 64 (first_of_both (nat_le (length t.lams) 64) _ e2);
+      tables = leb-true (length t.tables) 16 (first_of_both (nat_le (length t.tables) 16) _ e3);
       services = leb-true (length t.services) 24 (first_of_both (nat_le (length t.services) 24) _ e4);
       registers = omega arith;
       statements = omega arith;
@@ -111,7 +113,7 @@ limited t e =
 begins : (t : Script) (ts : List Token) (end_line : ℕ) → Stands t nothing_before (start ts end_line)
 begins t ts end_line = record {
   tables = refl;
-  no_tables = refl;
+  tables_within = omega arith;
   procedures = refl;
   callables = refl;
   no_callables = refl;
@@ -128,8 +130,10 @@ begins t ts end_line = record {
   names = λ x. refl;
   new_variables = refl;
   new_lams = refl;
+  new_tables = refl;
   covers_variables = λ x h. refl;
   covers_lams = λ x h. refl;
+  covers_tables = λ x h. refl;
 }
 
 has_before : (o : Option Before) (test : Before → Bool) → has o test ≡ true → (b : Before) × (o ≡ Some b) × (test b ≡ true)
@@ -138,6 +142,7 @@ has_before (Some b) test e = (b, refl, e)
 
 whole_tree : (t : Script) (b : Before) (s : State) → Served t → Stands t b s → s.order ≡ t.order → is_all t b ≡ true → tree_so_far s ≡ t
 whole_tree t b s served st ordered all =
+    let tables_all : b.tables ≡ length t.tables = eqb-true b.tables (length t.tables) (first_of_both (nat_eq b.tables (length t.tables)) _ all) in
     let e1 = second_of_both (nat_eq b.tables (length t.tables)) _ all in
     let lams_all : b.lams ≡ length t.lams = eqb-true b.lams (length t.lams) (first_of_both (nat_eq b.lams (length t.lams)) _ e1) in
     let e2 = second_of_both (nat_eq b.lams (length t.lams)) _ e1 in
@@ -147,7 +152,7 @@ whole_tree t b s served st ordered all =
     let lams : s.lams ≡ t.lams = st.lams ∙ ap (λ (i : ℕ). take i t.lams) lams_all ∙ take_all t.lams in
     let variables : s.variables ≡ t.variables = st.variables ∙ ap (λ (i : ℕ). take i t.variables) variables_all ∙ take_all t.variables in
     let services : s.services ≡ t.services = st.services ∙ ap (λ (i : ℕ). take i t.services) services_all ∙ take_all t.services in
-    let tables : s.tables ≡ t.tables = st.tables ∙ sym served.no_tables in
+    let tables : s.tables ≡ t.tables = st.tables ∙ ap (λ (i : ℕ). take i t.tables) tables_all ∙ take_all t.tables in
     let procedures : s.procedures ≡ t.procedures = st.procedures ∙ sym served.no_procedures in
     ap (λ (is : List Item). record (tree_so_far s) { order = is }) ordered
     ∙ ap (λ (xs : List Table). record (tree_so_far s) { order = t.order; tables = xs }) tables

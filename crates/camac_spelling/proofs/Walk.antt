@@ -1,6 +1,7 @@
 -- The declarations of a well-formed tree, which its tokens spell, are read in their order.
 use Rattle.std.proofs.Common.{◌≡◌, ℕ, zero, suc, ◌≤◌, ◌<◌, true, false, List, [], ◌∷◌, map, length, take, drop, Option, Some, refl, sym, ap, subst, ◌∙◌, arith, ◌+◌}
 use Rattle.std.specs.Prelude.{slice_get}
+use Rattle.std.specs.List.{position_from}
 use Rattle.std.specs.Str.{bytes_eq}
 use Rattle.std.proofs.lemmas.List.{length-take-le}
 use Rattle.camac_lang.specs.Scope.{Before, declared}
@@ -12,10 +13,11 @@ use Rattle.camac_tokens.specs.declared.token.Keyword.TheVariants as keyword
 use Rattle.camac_tokens.specs.declared.token.Token.{Token}
 use Rattle.camac_tokens.specs.declared.token.TokenKind.{TokenKind}
 use Rattle.camac_tokens.specs.declared.token.TokenKind.TheVariants as kind
-use Rattle.camac_cursor.specs.Names.{place_of, lam_place}
+use Rattle.camac_cursor.specs.Names.{place_of}
 use Rattle.camac_cursor.specs.Reading.{State, kind_of}
 use Rattle.camac_cursor.specs.Readers.{other_registers, is_name as next_is_name}
 use Rattle.camac_text.specs.Declarations.{is_token}
+use Rattle.camac_text.specs.Tables.{is_number as next_is_number}
 use Rattle.camac_cursor.proofs.Searches.{position_from-map}
 use Rattle.camac_spelling.specs.Pieces.{Piece, first_piece, text_at, Front}
 use Rattle.camac_spelling.specs.Declarations as spell
@@ -28,6 +30,9 @@ use Rattle.camac_spelling.proofs.Runs.{Sets}
 abbrev pub lam_name : Lam → Text
 lam_name l = l.name
 
+abbrev pub table_name : Table → Text
+table_name g = g.name
+
 abbrev pub passed_of : Before → Passed
 passed_of b = record { tables = b.tables; lams = b.lams; variables = b.variables; procedures = b.procedures; services = b.services }
 
@@ -35,14 +40,15 @@ passed_of b = record { tables = b.tables; lams = b.lams; variables = b.variables
 pub record Limited (t : Script) : Type 0 where
   pub variables : length t.variables ≤ 64
   pub lams : length t.lams ≤ 64
+  pub tables : length t.tables ≤ 16
   pub services : length t.services ≤ 24
   pub registers : most (λ (v : Service). length v.registers) t.services ≤ 64
   pub statements : total (λ (v : Service). statements v.body) t.services ≤ 4096
 
 -- The state is that behind the first declarations of the tree.
 pub record Stands (t : Script) (b : Before) (s : State) : Type 0 where
-  pub tables : s.tables ≡ []
-  pub no_tables : b.tables ≡ 0
+  pub tables : s.tables ≡ take b.tables t.tables
+  pub tables_within : b.tables ≤ length t.tables
   pub procedures : s.procedures ≡ []
   pub callables : b.callables ≡ []
   pub no_callables : s.callables ≡ []
@@ -59,8 +65,10 @@ pub record Stands (t : Script) (b : Before) (s : State) : Type 0 where
   pub names : (x : Text) → is_new x b.names ≡ is_new x s.declared
   pub new_variables : are_new s.variables [] ≡ true
   pub new_lams : are_new (map lam_name s.lams) [] ≡ true
+  pub new_tables : are_new (map table_name s.tables) [] ≡ true
   pub covers_variables : (x : Text) → is_new x s.declared ≡ true → is_new x s.variables ≡ true
   pub covers_lams : (x : Text) → is_new x s.declared ≡ true → is_new x (map lam_name s.lams) ≡ true
+  pub covers_tables : (x : Text) → is_new x s.declared ≡ true → is_new x (map table_name s.tables) ≡ true
 
 -- ---- what the names of a tree find
 
@@ -70,17 +78,28 @@ prefix_text (x ∷ xs) zero p below within = absurd (omega arith)
 prefix_text (x ∷ xs) (suc j) zero below within = refl
 prefix_text (x ∷ xs) (suc j) (suc p) below within = prefix_text xs j p (omega arith) (omega arith)
 
-map_take : (j : ℕ) (ls : List Lam) → map lam_name (take j ls) ≡ take j (map lam_name ls)
-map_take zero ls = refl
-map_take (suc j) [] = refl
-map_take (suc j) (l ∷ ls) = ap (λ (w : List Text). l.name ∷ w) (map_take j ls)
+map_take : {A : Type 0} (f : A → Text) (j : ℕ) (xs : List A) → map f (take j xs) ≡ take j (map f xs)
+map_take f zero xs = refl
+map_take f (suc j) [] = refl
+map_take f (suc j) (x ∷ xs) = ap (λ (w : List Text). f x ∷ w) (map_take f j xs)
 
-map_length : (ls : List Lam) → length (map lam_name ls) ≡ length ls
-map_length [] = refl
-map_length (l ∷ ls) = ap suc (map_length ls)
+map_length : {A : Type 0} (f : A → Text) (xs : List A) → length (map f xs) ≡ length xs
+map_length f [] = refl
+map_length f (x ∷ xs) = ap suc (map_length f xs)
 
 new_found : (xs : List Text) (p : ℕ) → are_new xs [] ≡ true → p < length xs → place_of (text_at xs p) xs ≡ Some p
 new_found xs p e below = ap (place_of (text_at xs p)) (sym (take_all xs)) ∙ found_there xs [] p (length xs) e below (omega arith)
+
+-- the first of a list, each found by its name
+found_first : {A : Type 0} (f : A → Text) (all xs : List A) (j p : ℕ) → xs ≡ take j all → j ≤ length all → are_new (map f xs) [] ≡ true → p < length xs → position_from (λ x. bytes_eq (text_at (map f all) p) (f x)) 0 xs ≡ Some p
+found_first {A} f all xs j p first within new below =
+    let many : length xs ≡ j = ap (λ (ys : List A). length ys) first ∙ length-take-le j all within in
+    let whole : length (map f all) ≡ length all = map_length f all in
+    let here : length (map f xs) ≡ length xs = map_length f xs in
+    let same : text_at (map f all) p ≡ text_at (map f xs) p = prefix_text (map f all) j p (omega arith) (omega arith) ∙ ap (λ (ys : List Text). text_at ys p) (sym (map_take f j all) ∙ ap (map f) (sym first)) in
+    ap (λ (z : Text). position_from (λ x. bytes_eq z (f x)) 0 xs) same
+    ∙ sym (position_from-map f (bytes_eq (text_at (map f xs) p)) 0 xs)
+    ∙ new_found (map f xs) p new (omega arith)
 
 pub finds_names : (t : Script) (b : Before) (s : State) (v : Service) → Stands t b s → Finds (service_names t v) s.variables s.lams s.tables
 finds_names t b s v st = record {
@@ -89,17 +108,8 @@ finds_names t b s v st = record {
       let within : b.variables ≤ length t.variables = st.variables_within in
       let same : text_at t.variables p ≡ text_at s.variables p = prefix_text t.variables b.variables p (omega arith) within ∙ ap (λ (xs : List Text). text_at xs p) (sym st.variables) in
       ap (λ (x : Text). place_of x s.variables) same ∙ new_found s.variables p st.new_variables below;
-  lams = λ p below.
-      let xs : List Text = map lam_name t.lams in
-      let many : length s.lams ≡ b.lams = ap (λ (ls : List Lam). length ls) st.lams ∙ length-take-le b.lams t.lams st.lams_within in
-      let within : b.lams ≤ length t.lams = st.lams_within in
-      let all : length xs ≡ length t.lams = map_length t.lams in
-      let here : length (map lam_name s.lams) ≡ length s.lams = map_length s.lams in
-      let same : text_at xs p ≡ text_at (map lam_name s.lams) p = prefix_text xs b.lams p (omega arith) (omega arith) ∙ ap (λ (ys : List Text). text_at ys p) (sym (map_take b.lams t.lams) ∙ ap (map lam_name) (sym st.lams)) in
-      ap (λ (x : Text). lam_place x s.lams) same
-      ∙ sym (position_from-map lam_name (bytes_eq (text_at (map lam_name s.lams) p)) 0 s.lams)
-      ∙ new_found (map lam_name s.lams) p st.new_lams (omega arith);
-  tables = λ p below. let none : length s.tables ≡ 0 = ap (λ (gs : List Table). length gs) st.tables in absurd (omega arith);
+  lams = λ p below. found_first lam_name t.lams s.lams b.lams p st.lams st.lams_within st.new_lams below;
+  tables = λ p below. found_first table_name t.tables s.tables b.tables p st.tables st.tables_within st.new_tables below;
 }
 
 pub sets_names : (t : Script) (b : Before) (s : State) (v : Service) → Stands t b s → are_new v.registers b.names ≡ true → other_registers s + length v.registers ≤ 64 → Sets (service_names t v) s.declared (other_registers s)
@@ -116,8 +126,13 @@ sets_names t b s v st new few = record {
 pub there : {A : Type 0} (spell' : A → List Piece) (o : Option A) (x : A) (ts rest : List Token) → o ≡ Some x → Front ts (spell.if_there spell' o) rest → Front ts (spell' x) rest
 there spell' o x ts rest e f = subst (λ (p : Option _). Front ts (spell.if_there spell' p) rest) e f
 
-pub record Opens (k : Option TokenKind) : Type 0 where
+-- what goes on with no declaration
+pub record Closes (k : Option TokenKind) : Type 0 where
   pub no_name : next_is_name k ≡ false
+  pub no_number : next_is_number k ≡ false
+
+pub record Opens (k : Option TokenKind) : Type 0 where
+  pub closes : Closes k
   pub token : is_token k ≡ true
 
 opened : (k : Option TokenKind) (j : TokenKind) → k ≡ Some j → Opens (Some j) → Opens k
@@ -129,15 +144,15 @@ begins_with line k ps more ts rest e f = (front_first ts (first_piece line k) mo
 pub declaration_opens : (t : Script) (b b' : Before) (i : Item) (ts rest : List Token) → declared t b i ≡ Some b' → Front ts (spell.declaration t (passed_of b) i) rest → Opens (kind_of ts)
 declaration_opens t b b' next_table ts rest e f =
     let p = then_parts _ (slice_get t.tables b.tables) b' e in
-    opened (kind_of ts) _ (begins_with p.0.line (kind.Keyword keyword.Table) (spell.table_declaration p.0) _ ts rest refl (there spell.table_declaration (slice_get t.tables b.tables) p.0 ts rest p.1 f)) (record { no_name = refl; token = refl })
+    opened (kind_of ts) _ (begins_with p.0.line (kind.Keyword keyword.Table) (spell.table_declaration p.0) _ ts rest refl (there spell.table_declaration (slice_get t.tables b.tables) p.0 ts rest p.1 f)) (record { closes = record { no_name = refl; no_number = refl }; token = refl })
 declaration_opens t b b' next_lam ts rest e f =
     let p = then_parts _ (slice_get t.lams b.lams) b' e in
-    opened (kind_of ts) _ (begins_with p.0.line (kind.Keyword keyword.Cdlam) (spell.lam_declaration p.0) _ ts rest refl (there spell.lam_declaration (slice_get t.lams b.lams) p.0 ts rest p.1 f)) (record { no_name = refl; token = refl })
+    opened (kind_of ts) _ (begins_with p.0.line (kind.Keyword keyword.Cdlam) (spell.lam_declaration p.0) _ ts rest refl (there spell.lam_declaration (slice_get t.lams b.lams) p.0 ts rest p.1 f)) (record { closes = record { no_name = refl; no_number = refl }; token = refl })
 declaration_opens t b b' (next_variables line n) ts rest e f =
-    opened (kind_of ts) _ (begins_with line (kind.Keyword keyword.Var) (spell.variable_declaration line (take n (drop b.variables t.variables))) _ ts rest refl f) (record { no_name = refl; token = refl })
+    opened (kind_of ts) _ (begins_with line (kind.Keyword keyword.Var) (spell.variable_declaration line (take n (drop b.variables t.variables))) _ ts rest refl f) (record { closes = record { no_name = refl; no_number = refl }; token = refl })
 declaration_opens t b b' next_procedure ts rest e f =
     let p = then_parts _ (slice_get t.procedures b.procedures) b' e in
-    opened (kind_of ts) _ (begins_with p.0.line (kind.Keyword keyword.Proc) (spell.procedure_declaration t p.0) _ ts rest refl (there (spell.procedure_declaration t) (slice_get t.procedures b.procedures) p.0 ts rest p.1 f)) (record { no_name = refl; token = refl })
+    opened (kind_of ts) _ (begins_with p.0.line (kind.Keyword keyword.Proc) (spell.procedure_declaration t p.0) _ ts rest refl (there (spell.procedure_declaration t) (slice_get t.procedures b.procedures) p.0 ts rest p.1 f)) (record { closes = record { no_name = refl; no_number = refl }; token = refl })
 declaration_opens t b b' next_service ts rest e f =
     let p = then_parts _ (slice_get t.services b.services) b' e in
-    opened (kind_of ts) _ (begins_with p.0.line (kind.Keyword keyword.Service) (spell.service_declaration t p.0) _ ts rest refl (there (spell.service_declaration t) (slice_get t.services b.services) p.0 ts rest p.1 f)) (record { no_name = refl; token = refl })
+    opened (kind_of ts) _ (begins_with p.0.line (kind.Keyword keyword.Service) (spell.service_declaration t p.0) _ ts rest refl (there (spell.service_declaration t) (slice_get t.services b.services) p.0 ts rest p.1 f)) (record { closes = record { no_name = refl; no_number = refl }; token = refl })

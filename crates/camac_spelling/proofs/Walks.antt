@@ -8,15 +8,16 @@ use Rattle.std.proofs.Math.Seq.{take-add}
 use Rattle.std.proofs.lemmas.Option.{slice_get_within}
 use Rattle.camac_lang.specs.Depth.{inner_depth}
 use Rattle.camac_lang.specs.Expressions.{Scope, Callable}
-use Rattle.camac_lang.specs.Scope.{Before, are_declarable, lam_stands, service_stands, service_scope, with_lam, with_variables, with_service, declared}
+use Rattle.camac_lang.specs.Scope.{Before, are_declarable, table_stands, lam_stands, service_stands, service_scope, with_table, with_lam, with_variables, with_service, declared}
 use Rattle.camac_lang.specs.Statements.{after_block, statements}
 use Rattle.camac_lang.specs.Tests.{each, has, total, most, is_name, is_new, are_new, is_number, is_sub_address, unless_broken}
-use Rattle.camac_lang.specs.Tree.{Text, Lam, Procedure, Service, Item, next_table, next_lam, next_variables, next_procedure, next_service, Script}
+use Rattle.camac_lang.specs.Tree.{Text, Table, Lam, Procedure, Service, Item, next_table, next_lam, next_variables, next_procedure, next_service, Script}
 use Rattle.camac_lang.proofs.Options.{unless_parts, then_parts}
 use Rattle.camac_tokens.specs.declared.token.Token.{Token}
 use Rattle.camac_cursor.specs.Reading.{State, kind_of}
 use Rattle.camac_cursor.specs.Readers.{other_registers, is_name as next_is_name}
 use Rattle.camac_text.specs.Declarations.{with_lam as lam_added, with_variables_of, declaration_at}
+use Rattle.camac_text.specs.Tables.{is_number as next_is_number, with_table as table_added}
 use Rattle.camac_cursor.proofs.Registers.{first_of_both, second_of_both, both}
 use Rattle.camac_text.proofs.Listed.{each_append, new_same, front_or_behind, total_push}
 use Rattle.camac_cursor.proofs.Uses.{scope_of}
@@ -28,7 +29,8 @@ use Rattle.camac_spelling.proofs.Gives.{at, ok}
 use Rattle.camac_spelling.proofs.Fresh.{take_one, new_behind, most_there, total_there, each_there}
 use Rattle.camac_spelling.proofs.GivesStatements.{RunsBraced}
 use Rattle.camac_spelling.proofs.GivesDeclarations.{lam_declared, with_names, variables_declared, with_body, service_declared}
-use Rattle.camac_spelling.proofs.Walk.{lam_name, passed_of, Limited, Stands, finds_names, sets_names, there}
+use Rattle.camac_spelling.proofs.GivesTables.{table_declared}
+use Rattle.camac_spelling.proofs.Walk.{lam_name, table_name, passed_of, Limited, Stands, finds_names, sets_names, there, Closes}
 
 -- One more declaration is read, and the state behind it is that behind the first declarations.
 pub record Goes (t : Script) (b : Before) (i : Item) (s : State) (rest : List Token) : Type 0 where
@@ -66,7 +68,7 @@ lam_goes t b b' s rest limits st e f =
     let grown : s.lams ++ l ∷ [] ≡ take (b.lams + 1) t.lams = ap (λ (ls : List Lam). ls ++ l ∷ []) st.lams ∙ sym (take_one t.lams b.lams l p.1) in
     let stands : Stands t (with_lam l.name b) u = record {
       tables = st.tables;
-      no_tables = st.no_tables;
+      tables_within = st.tables_within;
       procedures = st.procedures;
       callables = st.callables;
       no_callables = st.no_callables;
@@ -85,10 +87,58 @@ lam_goes t b b' s rest limits st e f =
       new_lams = subst (λ (xs : List Text). are_new xs [] ≡ true) (sym (map-append lam_name s.lams (l ∷ []))) (new_behind (l.name ∷ []) (map lam_name s.lams) s.declared st.new_lams st.covers_lams (both (is_new l.name s.declared) true new refl));
       covers_variables = covers_still (l.name ∷ []) s.variables s.declared st.covers_variables;
       covers_lams = λ x h. subst (λ (xs : List Text). is_new x xs ≡ true) (sym (map-append lam_name s.lams (l ∷ []))) (covers_more (l.name ∷ []) (map lam_name s.lams) s.declared st.covers_lams x h);
+      new_tables = st.new_tables;
+      covers_tables = covers_still (l.name ∷ []) (map table_name s.tables) s.declared st.covers_tables;
     } in
     record {
       next = u;
       read = lam_declared l s rest (omega arith) new (lt-ltb l.sub_address 16 sub_less) (there spell.lam_declaration (slice_get t.lams b.lams) l s.rest rest p.1 f);
+      ordered = refl;
+      left = refl;
+      stands = subst (λ (k : Before). Stands t k u) r.1 stands;
+    }
+
+table_goes : (t : Script) (b b' : Before) (s : State) (rest : List Token) → Limited t → Stands t b s → declared t b next_table ≡ Some b' → Front s.rest (spell.declaration t (passed_of b) next_table) rest → next_is_number (kind_of rest) ≡ false → Goes t b' next_table s rest
+table_goes t b b' s rest limits st e f off =
+    let p = then_parts (λ g. unless_broken (table_stands b g) (with_table g.name b)) (slice_get t.tables b.tables) b' e in
+    let g : Table = p.0 in
+    let r = unless_parts (table_stands b g) (with_table g.name b) b' p.2 in
+    let declarable = first_of_both (are_declarable (g.name ∷ []) b.names) _ r.0 in
+    let sizes = second_of_both (are_declarable (g.name ∷ []) b.names) _ r.0 in
+    let upper = second_of_both (nat_le 1 (length g.words)) _ sizes in
+    let new_b : is_new g.name b.names ≡ true = first_of_both (is_new g.name b.names) true (second_of_both (each is_name (g.name ∷ [])) (are_new (g.name ∷ []) b.names) declarable) in
+    let new : is_new g.name s.declared ≡ true = sym (st.names g.name) ∙ new_b in
+    let many : length s.tables ≡ b.tables = ap (λ (gs : List Table). length gs) st.tables ∙ length-take-le b.tables t.tables st.tables_within in
+    let within : b.tables < length t.tables = slice_get_within t.tables b.tables g p.1 in
+    let few : length t.tables ≤ 16 = limits.tables in
+    let u : State = table_added g (at s rest) in
+    let stands : Stands t (with_table g.name b) u = record {
+      tables = ap (λ (gs : List Table). gs ++ g ∷ []) st.tables ∙ sym (take_one t.tables b.tables g p.1);
+      tables_within = omega arith;
+      procedures = st.procedures;
+      callables = st.callables;
+      no_callables = st.no_callables;
+      outside = st.outside;
+      counted = st.counted;
+      lams = st.lams;
+      lams_within = st.lams_within;
+      variables = st.variables;
+      variables_within = st.variables_within;
+      services = st.services;
+      services_within = st.services_within;
+      registers = st.registers;
+      statements = st.statements;
+      names = front_or_behind (g.name ∷ []) b.names s.declared st.names;
+      new_variables = st.new_variables;
+      new_lams = st.new_lams;
+      new_tables = subst (λ (xs : List Text). are_new xs [] ≡ true) (sym (map-append table_name s.tables (g ∷ []))) (new_behind (g.name ∷ []) (map table_name s.tables) s.declared st.new_tables st.covers_tables (both (is_new g.name s.declared) true new refl));
+      covers_variables = covers_still (g.name ∷ []) s.variables s.declared st.covers_variables;
+      covers_lams = covers_still (g.name ∷ []) (map lam_name s.lams) s.declared st.covers_lams;
+      covers_tables = λ x h. subst (λ (xs : List Text). is_new x xs ≡ true) (sym (map-append table_name s.tables (g ∷ []))) (covers_more (g.name ∷ []) (map table_name s.tables) s.declared st.covers_tables x h);
+    } in
+    record {
+      next = u;
+      read = table_declared g s rest (omega arith) new (leb-true 1 (length g.words) (first_of_both (nat_le 1 (length g.words)) _ sizes)) (leb-true (length g.words) 1024 (first_of_both (nat_le (length g.words) 1024) _ upper)) (second_of_both (nat_le (length g.words) 1024) _ upper) (there spell.table_declaration (slice_get t.tables b.tables) g s.rest rest p.1 f) off;
       ordered = refl;
       left = refl;
       stands = subst (λ (k : Before). Stands t k u) r.1 stands;
@@ -120,7 +170,7 @@ variables_goes t line n b b' s rest limits st e f off =
     let grown : s.variables ++ xs ≡ take (b.variables + length xs) t.variables = ap (λ (ys : List Text). ys ++ xs) st.variables ∙ grows.0 ∙ ap (λ (i : ℕ). take (b.variables + i) t.variables) (sym many) in
     let stands : Stands t (with_variables xs b) u = record {
       tables = st.tables;
-      no_tables = st.no_tables;
+      tables_within = st.tables_within;
       procedures = st.procedures;
       callables = st.callables;
       no_callables = st.no_callables;
@@ -139,6 +189,8 @@ variables_goes t line n b b' s rest limits st e f off =
       new_lams = st.new_lams;
       covers_variables = covers_more xs s.variables s.declared st.covers_variables;
       covers_lams = covers_still xs (map lam_name s.lams) s.declared st.covers_lams;
+      new_tables = st.new_tables;
+      covers_tables = covers_still xs (map table_name s.tables) s.declared st.covers_tables;
     } in
     record {
       next = u;
@@ -153,7 +205,7 @@ same_scope : (t : Script) (b : Before) (s : State) → Stands t b s → service_
 same_scope t b s st =
     let variables : b.variables ≡ length s.variables = sym (ap (λ (ys : List Text). length ys) st.variables ∙ length-take-le b.variables t.variables st.variables_within) in
     let lams : b.lams ≡ length s.lams = sym (ap (λ (ys : List Lam). length ys) st.lams ∙ length-take-le b.lams t.lams st.lams_within) in
-    let tables : b.tables ≡ length s.tables = st.no_tables ∙ ap (λ (ts : List _). length ts) (sym st.tables) in
+    let tables : b.tables ≡ length s.tables = sym (ap (λ (ys : List Table). length ys) st.tables ∙ length-take-le b.tables t.tables st.tables_within) in
     let scope : ℕ → ℕ → ℕ → List Callable → Scope = λ v g l cs. record { variables = v; tables = g; lams = l; callables = cs; is_procedure = false } in
     let outside : false ≡ s.in_procedure = sym st.outside in
     ap (λ (i : ℕ). scope i b.tables b.lams b.callables) variables
@@ -216,7 +268,7 @@ service_goes t b b' s rest limits served st e f =
     let u : State = with_body s rest v m in
     let stands : Stands t (with_service b) u = record {
       tables = st.tables;
-      no_tables = st.no_tables;
+      tables_within = st.tables_within;
       procedures = st.procedures;
       callables = st.callables;
       no_callables = st.no_callables;
@@ -235,6 +287,8 @@ service_goes t b b' s rest limits served st e f =
       new_lams = st.new_lams;
       covers_variables = st.covers_variables;
       covers_lams = st.covers_lams;
+      new_tables = st.new_tables;
+      covers_tables = st.covers_tables;
     } in
     record {
       next = u;
@@ -244,13 +298,13 @@ service_goes t b b' s rest limits served st e f =
       stands = subst (λ (k : Before). Stands t k u) r.1 stands;
     }
 
--- there are no tables and no procedures yet
+-- there are no procedures yet
 none_there : {A B : Type 0} (xs : List A) (i : ℕ) (g : A → Option B) (b : B) → xs ≡ [] → option_and_then g (slice_get xs i) ≡ Some b → ⊥
 none_there {A} xs i g b none e = let none_is : option_and_then g (slice_get (let ys : List A = [] in ys) i) ≡ Some b = subst (λ (ys : List A). option_and_then g (slice_get ys i) ≡ Some b) none e in absurd cc
 
-pub declaration_goes : (t : Script) (i : Item) (b b' : Before) (s : State) (rest : List Token) → Limited t → Served t → Stands t b s → declared t b i ≡ Some b' → Front s.rest (spell.declaration t (passed_of b) i) rest → next_is_name (kind_of rest) ≡ false → Goes t b' i s rest
-declaration_goes t next_table b b' s rest limits served st e f off = absurd (none_there t.tables b.tables _ b' served.no_tables e)
-declaration_goes t next_lam b b' s rest limits served st e f off = lam_goes t b b' s rest limits st e f
-declaration_goes t (next_variables line n) b b' s rest limits served st e f off = variables_goes t line n b b' s rest limits st e f off
-declaration_goes t next_procedure b b' s rest limits served st e f off = absurd (none_there t.procedures b.procedures _ b' served.no_procedures e)
-declaration_goes t next_service b b' s rest limits served st e f off = service_goes t b b' s rest limits served st e f
+pub declaration_goes : (t : Script) (i : Item) (b b' : Before) (s : State) (rest : List Token) → Limited t → Served t → Stands t b s → declared t b i ≡ Some b' → Front s.rest (spell.declaration t (passed_of b) i) rest → Closes (kind_of rest) → Goes t b' i s rest
+declaration_goes t next_table b b' s rest limits served st e f ends = table_goes t b b' s rest limits st e f ends.no_number
+declaration_goes t next_lam b b' s rest limits served st e f ends = lam_goes t b b' s rest limits st e f
+declaration_goes t (next_variables line n) b b' s rest limits served st e f ends = variables_goes t line n b b' s rest limits st e f ends.no_name
+declaration_goes t next_procedure b b' s rest limits served st e f ends = absurd (none_there t.procedures b.procedures _ b' served.no_procedures e)
+declaration_goes t next_service b b' s rest limits served st e f ends = service_goes t b b' s rest limits served st e f

@@ -1,4 +1,4 @@
--- Trees of the forms that are read so far: no tables, no procedures, no calls.
+-- Trees of the forms that are read so far: no procedures, no calls.
 use Rattle.std.specs.Prelude.{◌≡◌, [], Bool, true, false, ◌&&◌, IsTrue}
 use Rattle.camac_lang.specs.Tests.{each}
 use Rattle.camac_lang.specs.Tree.{Statement, choose, choose_else, count, repeat, locked, call, Block, done, next, Script}
@@ -19,6 +19,5 @@ abbrev mutual
 
 -- This goes once the other forms are read.
 pub record Served (s : Script) : Type 0 where
-  pub no_tables : s.tables ≡ []
   pub no_procedures : s.procedures ≡ []
   pub bodies : IsTrue (each (λ v. are_served v.body) s.services)
