@@ -41,7 +41,7 @@ use Rattle.camac_spelling.proofs.Runs.{Runs, left_at, begin_given, first_given, 
 
 -- A statement that is spelled is read.
 abbrev pub IsGiven : Names → Statement → Type 0
-IsGiven n x = (room : ℕ) (s : State) (rest : List Token) (j k m : ℕ) → Runs n s j k m room (reached_by (scope_of s) j x) (is_served x) (statement_depth [] x) (statements_in x) → Front s.rest (spell.statement n x) rest → Ends (kind_of rest) → statement_with room (block_at room) s ≡ ok x (left_at n s rest k m)
+IsGiven n x = (room : ℕ) (s : State) (rest : List Token) (j k m : ℕ) → Runs n s j k m room (reached_by (scope_of s) j x) (is_served x) (statement_depth s.callables x) (statements_in x) → Front s.rest (spell.statement n x) rest → Ends (kind_of rest) → statement_with room (block_at room) s ≡ ok x (left_at n s rest k m)
 
 pub put_given : (n : Names) (line : ℕ) (e : Expression) → IsGiven n (put line e)
 unfolding put_action

@@ -23,6 +23,7 @@ use Rattle.camac_spelling.proofs.Opens.{statement_opens, block_ends}
 use Rattle.camac_spelling.proofs.GivesActions.{IsGiven, assignment_given, setting_given, single_given, put_given, crate_given, lam_call_given}
 use Rattle.camac_spelling.proofs.GivesStatements.{AreGiven, RunsBraced, braced_given, choose_given, choose_else_given, locked_given}
 use Rattle.camac_spelling.proofs.GivesLoops.{count_given, repeat_given}
+use Rattle.camac_spelling.proofs.GivesCalls.{call_given}
 
 done_given : (n : Names) → AreGiven n done
 done_given n room acc s rest j k m c f brace =
@@ -45,11 +46,11 @@ next_given n x b first others room acc s rest j k m c f brace =
     let p = then_parts (λ i. after_block (scope_of s) i b) (reached_by (scope_of s) j x) k c.reached in
     let grows : p.0 ≤ k = block_grows (scope_of s) p.0 k b p.2 in
     let within : k ≤ length n.registers = c.within in
-    let deep : max (statement_depth [] x) (inner_depth [] b) ≤ room = c.deep in
+    let deep : max (statement_depth s.callables x) (inner_depth s.callables b) ≤ room = c.deep in
     let counted : m ≡ s.statements + (statements_in x + statements b) = c.counted in
     let few : m ≤ 4096 = c.few in
     let m1 : ℕ = s.statements + statements_in x in
-    let one : Runs n s j p.0 m1 room (reached_by (scope_of s) j x) (is_served x) (statement_depth [] x) (statements_in x) = record {
+    let one : Runs n s j p.0 m1 room (reached_by (scope_of s) j x) (is_served x) (statement_depth s.callables x) (statements_in x) = record {
       finds = c.finds;
       sets = c.sets;
       registers = c.registers;
@@ -61,7 +62,7 @@ next_given n x b first others room acc s rest j k m c f brace =
       few = omega arith;
     } in
     let u : State = left_at n s us p.0 m1 in
-    let rest_of : Runs n u p.0 k m room (after_block (scope_of s) p.0 b) (are_served b) (inner_depth [] b) (statements b) = record {
+    let rest_of : Runs n u p.0 k m room (after_block (scope_of s) p.0 b) (are_served b) (inner_depth s.callables b) (statements b) = record {
       finds = c.finds;
       sets = c.sets;
       registers = refl;
@@ -96,7 +97,7 @@ mutual
   statement_given n (count line x e1 e2 ks b) = count_given n line x e1 e2 ks b (block_given n b)
   statement_given n (repeat line c t x ks b) = repeat_given n line c t x ks b (block_given n b)
   statement_given n (locked line e b) = locked_given n line e b (block_given n b)
-  statement_given n (call line p es) = unserved n (call line p es) refl
+  statement_given n (call line p es) = call_given n line p es
 
   block_given : (n : Names) (b : Block) → AreGiven n b
   block_given n done = done_given n

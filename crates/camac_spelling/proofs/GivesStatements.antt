@@ -35,15 +35,15 @@ use Rattle.camac_spelling.proofs.GivesActions.{IsGiven}
 
 -- The statements of a block that is spelled are read, up to its brace.
 abbrev pub AreGiven : Names → Block → Type 0
-AreGiven n b = (room : ℕ) (acc : List Statement) (s : State) (rest : List Token) (j k m : ℕ) → Runs n s j k m room (after_block (scope_of s) j b) (are_served b) (inner_depth [] b) (statements b) → Front s.rest (spell.block n b) rest → kind_of rest ≡ Some (kind.Sign mark.RightBrace) → while_next is_no_end (one_more (statement_with room (block_at room))) acc s ≡ ok (acc ++ listed b) (left_at n s rest k m)
+AreGiven n b = (room : ℕ) (acc : List Statement) (s : State) (rest : List Token) (j k m : ℕ) → Runs n s j k m room (after_block (scope_of s) j b) (are_served b) (inner_depth s.callables b) (statements b) → Front s.rest (spell.block n b) rest → kind_of rest ≡ Some (kind.Sign mark.RightBrace) → while_next is_no_end (one_more (statement_with room (block_at room))) acc s ≡ ok (acc ++ listed b) (left_at n s rest k m)
 
 -- a block in its braces
 abbrev pub RunsBraced : Names → State → ℕ → ℕ → ℕ → ℕ → Block → Type 0
-RunsBraced n s j k m room b = Runs n s j k m room (after_block (scope_of s) j b) (are_served b) (suc (inner_depth [] b)) (statements b)
+RunsBraced n s j k m room b = Runs n s j k m room (after_block (scope_of s) j b) (are_served b) (suc (inner_depth s.callables b)) (statements b)
 
 pub braced_given : (n : Names) (b : Block) → AreGiven n b → (room : ℕ) (s : State) (rest : List Token) (j k m : ℕ) → RunsBraced n s j k m room b → Front s.rest (spell.braced (spell.block n b)) rest → block_at room s ≡ ok (listed b) (left_at n s rest k m)
 unfolding block_at many
-braced_given n b given zero s rest j k m c f = let deep : suc (inner_depth [] b) ≤ 0 = c.deep in absurd (omega arith)
+braced_given n b given zero s rest j k m c f = let deep : suc (inner_depth s.callables b) ≤ 0 = c.deep in absurd (omega arith)
 braced_given n b given (suc room) s rest j k m c f =
     let ps : List Piece = spell.block n b in
     let h = front_first s.rest (sign mark.LeftBrace) (ps ++ sign mark.RightBrace ∷ []) rest f in
@@ -51,8 +51,8 @@ braced_given n b given (suc room) s rest j k m c f =
     let parts = front_split (behind s.rest) ps (sign mark.RightBrace ∷ []) rest h.1 in
     let us : List Token = parts.0 in
     let closing = front_first us (sign mark.RightBrace) [] rest parts.2 in
-    let deep : suc (inner_depth [] b) ≤ suc room = c.deep in
-    let inside : Runs n u j k m room (after_block (scope_of s) j b) (are_served b) (inner_depth [] b) (statements b) = record {
+    let deep : suc (inner_depth s.callables b) ≤ suc room = c.deep in
+    let inside : Runs n u j k m room (after_block (scope_of s) j b) (are_served b) (inner_depth s.callables b) (statements b) = record {
       finds = c.finds;
       sets = c.sets;
       registers = c.registers;
@@ -88,7 +88,7 @@ locked_given n line e b given room s rest j k m c f ends =
     let us : List Token = parts.0 in
     let p = then_parts (λ i. after_block (scope_of s) i b) (begun_by (scope_of s) j x) k c.reached in
     let r = unless_parts (head_fits (scope_of s) j x) j p.0 p.1 in
-    let deep : max (expression_depth e) (suc (inner_depth [] b)) ≤ room = c.deep in
+    let deep : max (expression_depth e) (suc (inner_depth s.callables b)) ≤ room = c.deep in
     let counted : m ≡ s.statements + suc (statements b) = c.counted in
     let few : m ≤ 4096 = c.few in
     let inside : RunsBraced n (at (begun s) us) p.0 k m room b = record {
@@ -127,7 +127,7 @@ choose_given n line t b given room s rest j k m c f ends =
     let brace = brace_first n b us rest parts.2 in
     let p = then_parts (λ i. after_block (scope_of s) i b) (begun_by (scope_of s) j x) k c.reached in
     let r = unless_parts (head_fits (scope_of s) j x) j p.0 p.1 in
-    let deep : max (most part_depth t) (suc (inner_depth [] b)) ≤ room = c.deep in
+    let deep : max (most part_depth t) (suc (inner_depth s.callables b)) ≤ room = c.deep in
     let counted : m ≡ s.statements + suc (statements b) = c.counted in
     let few : m ≤ 4096 = c.few in
     let inside : RunsBraced n (at (begun s) us) p.0 k m room b = record {
@@ -167,7 +167,7 @@ choose_else_given n line t a b given_a given_b room s rest j k m c f ends =
     let r = unless_parts (head_fits (scope_of s) j x) j q.0 q.1 in
     let grows : p.0 ≤ k = block_grows (scope_of s) p.0 k b p.2 in
     let within : k ≤ length n.registers = c.within in
-    let deep : max (most part_depth t) (max (suc (inner_depth [] a)) (suc (inner_depth [] b))) ≤ room = c.deep in
+    let deep : max (most part_depth t) (max (suc (inner_depth s.callables a)) (suc (inner_depth s.callables b))) ≤ room = c.deep in
     let counted : m ≡ s.statements + suc (statements a + statements b) = c.counted in
     let few : m ≤ 4096 = c.few in
     let m1 : ℕ = suc s.statements + statements a in

@@ -21,6 +21,7 @@ pub mod GivesActions
 pub mod Opens
 pub mod GivesStatements
 pub mod GivesLoops
+pub mod GivesCalls
 pub mod GivesBlocks
 pub mod Fresh
 pub mod GivesDeclarations

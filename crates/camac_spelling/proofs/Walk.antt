@@ -3,6 +3,7 @@ use Rattle.std.proofs.Common.{◌≡◌, ℕ, zero, suc, ◌≤◌, ◌<◌, tru
 use Rattle.std.specs.Prelude.{slice_get}
 use Rattle.std.specs.Str.{bytes_eq}
 use Rattle.std.proofs.lemmas.List.{length-take-le}
+use Rattle.camac_lang.specs.Expressions.{Callable}
 use Rattle.camac_lang.specs.Scope.{Before, declared}
 use Rattle.camac_lang.specs.Statements.{statements}
 use Rattle.camac_lang.specs.Tests.{total, most, is_new, are_new}
@@ -21,7 +22,7 @@ use Rattle.camac_spelling.specs.Pieces.{Piece, first_piece, text_at, Front}
 use Rattle.camac_spelling.specs.Declarations as spell
 use Rattle.camac_spelling.specs.Declarations.{Passed, service_names}
 use Rattle.camac_spelling.proofs.Fronts.{front_first}
-use Rattle.camac_spelling.proofs.Gives.{Finds}
+use Rattle.camac_spelling.proofs.Gives.{FindsAll}
 use Rattle.camac_spelling.proofs.Fresh.{each_new, found_there, absent_there, take_next, take_all}
 use Rattle.camac_spelling.proofs.Runs.{Sets}
 
@@ -82,7 +83,7 @@ map_length (l ∷ ls) = ap suc (map_length ls)
 new_found : (xs : List Text) (p : ℕ) → are_new xs [] ≡ true → p < length xs → place_of (text_at xs p) xs ≡ Some p
 new_found xs p e below = ap (place_of (text_at xs p)) (sym (take_all xs)) ∙ found_there xs [] p (length xs) e below (omega arith)
 
-pub finds_names : (t : Script) (b : Before) (s : State) (v : Service) → Stands t b s → Finds (service_names t v) s.variables s.lams
+pub finds_names : (t : Script) (b : Before) (s : State) (v : Service) → Stands t b s → FindsAll (service_names t v) s
 finds_names t b s v st = record {
   variables = λ p below.
       let many : length s.variables ≡ b.variables = ap (λ (xs : List Text). length xs) st.variables ∙ length-take-le b.variables t.variables st.variables_within in
@@ -99,6 +100,7 @@ finds_names t b s v st = record {
       ap (λ (x : Text). lam_place x s.lams) same
       ∙ sym (position_from-map lam_name (bytes_eq (text_at (map lam_name s.lams) p)) 0 s.lams)
       ∙ new_found (map lam_name s.lams) p st.new_lams (omega arith);
+  procedures = λ p below. let none : length s.callables ≡ 0 = ap (λ (qs : List Callable). length qs) st.no_callables in absurd (omega arith);
 }
 
 pub sets_names : (t : Script) (b : Before) (s : State) (v : Service) → Stands t b s → are_new v.registers b.names ≡ true → other_registers s + length v.registers ≤ 64 → Sets (service_names t v) s.declared (other_registers s)

@@ -188,8 +188,8 @@ service_goes t b b' s rest limits served st e f =
     let scope : service_scope b ≡ scope_of s = same_scope t b s st in
     let reaches : after_block (scope_of s) 0 v.body ≡ Some (length v.registers) =
     subst (λ (c : Scope). after_block c 0 v.body ≡ Some (length v.registers)) scope (has_some (after_block (service_scope b) 0 v.body) (length v.registers) (first_of_both (has (after_block (service_scope b) 0 v.body) (λ n. nat_eq n (length v.registers))) _ body)) in
-    let deep : suc (inner_depth [] v.body) ≤ 16 =
-    subst (λ (cs : List Callable). suc (inner_depth cs v.body) ≤ 16) st.callables (leb-true (suc (inner_depth b.callables v.body)) 16 (second_of_both (has (after_block (service_scope b) 0 v.body) (λ n. nat_eq n (length v.registers))) _ body)) in
+    let deep : suc (inner_depth s.callables v.body) ≤ 16 =
+    subst (λ (cs : List Callable). suc (inner_depth cs v.body) ≤ 16) (st.callables ∙ sym st.no_callables) (leb-true (suc (inner_depth b.callables v.body)) 16 (second_of_both (has (after_block (service_scope b) 0 v.body) (λ n. nat_eq n (length v.registers))) _ body)) in
     let few_registers : length v.registers ≤ most (λ (x : Service). length x.registers) t.services = most_there (λ (x : Service). length x.registers) t.services b.services v p.1 in
     let all_registers : most (λ (x : Service). length x.registers) t.services ≤ 64 = limits.registers in
     let none_beside : other_registers s ≡ 0 = beside s st.procedures st.outside in

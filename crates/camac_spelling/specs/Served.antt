@@ -1,14 +1,13 @@
--- Trees of the forms that are read so far: no tables, no procedures, no transfers, no calls.
+-- Trees of the forms that are read so far: no tables, no procedures, no transfers.
 use Rattle.std.specs.Prelude.{◌≡◌, [], Bool, true, false, ◌&&◌, IsTrue}
 use Rattle.camac_lang.specs.Tests.{each}
-use Rattle.camac_lang.specs.Tree.{Statement, address_scan, q_stop, q_repeat, choose, choose_else, count, repeat, locked, call, Block, done, next, Script}
+use Rattle.camac_lang.specs.Tree.{Statement, address_scan, q_stop, q_repeat, choose, choose_else, count, repeat, locked, Block, done, next, Script}
 
 abbrev mutual
   pub is_served : Statement → Bool
   is_served (address_scan line f r1 r2 e x) = false
   is_served (q_stop line f r g e x) = false
   is_served (q_repeat line f r g e l x) = false
-  is_served (call line p es) = false
   is_served (choose line c a) = are_served a
   is_served (choose_else line c a b) = are_served a && are_served b
   is_served (count line x e1 e2 ks body) = are_served body
