@@ -2,8 +2,9 @@
 use Rattle.std.proofs.Common.{◌≡◌, ℕ, ◌<◌, Bool, true, false, cond, nat_lt, List, length, Option, Some, Result, Ok, refl, ap, ◌∙◌}
 use Rattle.std.proofs.lemmas.Bool.{ltb-true}
 use denote.Enum.Bare.{true_same}
+use Rattle.camac_lang.specs.Expressions.{Callable}
 use Rattle.camac_lang.specs.Tests.{is_new}
-use Rattle.camac_lang.specs.Tree.{Text, Table, Lam}
+use Rattle.camac_lang.specs.Tree.{Text, Table, Lam, Procedure}
 use Rattle.camac_tokens.specs.contracts.token.Keyword as keyword_type
 use Rattle.camac_tokens.specs.contracts.token.Sign as sign_type
 use Rattle.camac_tokens.specs.declared.token.Keyword.{Keyword}
@@ -14,7 +15,7 @@ use Rattle.camac_tokens.specs.declared.token.TokenKind.TheVariants as kind
 use Rattle.camac_tokens.specs.declared.fault.TextRule.{TextRule}
 use Rattle.camac_tokens.specs.declared.fault.TextRule.TheVariants.{UnexpectedToken, NumberTooLarge, DeclaredTwice}
 use Rattle.camac_tokens.specs.Fault.{Fault}
-use Rattle.camac_cursor.specs.Names.{place_of, lam_place, table_place}
+use Rattle.camac_cursor.specs.Names.{place_of, lam_place, table_place, procedure_place}
 use Rattle.camac_cursor.specs.Reading.{State, Reader, then_read, ◌>>◌, give, advance, fail, check, kind_of, behind, while_next}
 use Rattle.camac_cursor.specs.Readers.{is_keyword, is_sign, expect, expect_sign, name_of, name_here, number_of, number_here, any_number, branch_number, function_number, sub_address_number, new_name, used_at, used_register, used_variable, used_lam, used_table, known_at, variable_here}
 use Rattle.camac_cursor.proofs.Steps.{Progresses, while_on}
@@ -94,13 +95,14 @@ used_given : (s : State) (place : Option ℕ) (p : ℕ) → place ≡ Some p →
 used_given s place p e = ap (λ (o : Option ℕ). used_at o s) e
 
 -- each name is found at its number
-pub record Finds (n : Names) (vs : List Text) (ls : List Lam) (gs : List Table) : Type 0 where
+pub record Finds (n : Names) (vs : List Text) (ls : List Lam) (gs : List Table) (ps : List Procedure) (qs : List Callable) : Type 0 where
   pub variables : (p : ℕ) → p < length vs → place_of (text_at n.variables p) vs ≡ Some p
   pub lams : (p : ℕ) → p < length ls → lam_place (text_at n.lams p) ls ≡ Some p
   pub tables : (p : ℕ) → p < length gs → table_place (text_at n.tables p) gs ≡ Some p
+  pub procedures : (p : ℕ) → p < length qs → procedure_place (text_at n.procedures p) ps ≡ Some p
 
 abbrev pub FindsAll : Names → State → Type 0
-FindsAll n s = Finds n s.variables s.lams s.tables
+FindsAll n s = Finds n s.variables s.lams s.tables s.procedures s.callables
 
 pub variable_given : (n : Names) (s : State) (p : ℕ) → FindsAll n s → nat_lt p (length s.variables) ≡ true → kind_of s.rest ≡ Some (kind.Name (text_at n.variables p)) → used_variable s ≡ ok p (at s (behind s.rest))
 unfolding used_variable
@@ -125,7 +127,7 @@ unfolding used_register
 register_given n s p found e =
     after (name_here s) _ (text_at n.registers p) s (name_seen s (text_at n.registers p) e) (used_given s (place_of (text_at n.registers p) s.registers) p found)
 
-known_given : (s : State) (place : Option ℕ) (p : ℕ) → place ≡ Some p → known_at place s ≡ ok p s
+pub known_given : (s : State) (place : Option ℕ) (p : ℕ) → place ≡ Some p → known_at place s ≡ ok p s
 known_given s place p e = ap (λ (o : Option ℕ). known_at o s) e
 
 pub variable_seen : (n : Names) (s : State) (p : ℕ) → FindsAll n s → nat_lt p (length s.variables) ≡ true → kind_of s.rest ≡ Some (kind.Name (text_at n.variables p)) → variable_here s ≡ ok p s

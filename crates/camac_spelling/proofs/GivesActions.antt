@@ -30,7 +30,6 @@ use Rattle.camac_statements.proofs.Acts.{begun}
 use Rattle.camac_cursor.proofs.Registers.{first_of_both, second_of_both}
 use Rattle.camac_spelling.specs.Pieces.{Piece, word, sign, numeral, name_at, text_at, Names, Front}
 use Rattle.camac_spelling.specs.Phrases as phrase
-use Rattle.camac_spelling.specs.Served.{is_served}
 use Rattle.camac_spelling.specs.Statements as spell
 use Rattle.camac_spelling.proofs.Fronts.{front_split, front_first, front_line}
 use Rattle.camac_spelling.proofs.Gives.{at, ok, after, left, expected_sign, branch_given, function_given, variable_seen, register_given, lam_given}
@@ -41,7 +40,7 @@ use Rattle.camac_spelling.proofs.Runs.{Runs, left_at, begin_given, first_given, 
 
 -- A statement that is spelled is read.
 abbrev pub IsGiven : Names → Statement → Type 0
-IsGiven n x = (room : ℕ) (s : State) (rest : List Token) (j k m : ℕ) → Runs n s j k m room (reached_by (scope_of s) j x) (is_served x) (statement_depth [] x) (statements_in x) → Front s.rest (spell.statement n x) rest → Ends (kind_of rest) → statement_with room (block_at room) s ≡ ok x (left_at n s rest k m)
+IsGiven n x = (room : ℕ) (s : State) (rest : List Token) (j k m : ℕ) → Runs n s j k m room (reached_by (scope_of s) j x) (statement_depth s.callables x) (statements_in x) → Front s.rest (spell.statement n x) rest → Ends (kind_of rest) → statement_with room (block_at room) s ≡ ok x (left_at n s rest k m)
 
 pub put_given : (n : Names) (line : ℕ) (e : Expression) → IsGiven n (put line e)
 unfolding put_action
@@ -51,7 +50,7 @@ put_given n line e room s rest j k m c f ends =
     let h = front_line s.rest s.end_line line (kind.Keyword w) ps rest f in
     let r = unless_parts (head_fits (scope_of s) j (put line e)) j k c.reached in
     first_given line room (block_at room) (kind.Keyword w) s ps rest f
-    ∙ simple_given n (put line e) s rest j k m room _ _ _ _ c r.1
+    ∙ simple_given n (put line e) s rest j k m room _ _ _ c r.1
     (after (expression_at room (begun s)) _ e (at (begun s) rest) (expression_given n e room (begun s) rest c.finds r.0 c.deep h.2 ends.signs) refl)
 
 pub assignment_given : (n : Names) (line x : ℕ) (e : Expression) → IsGiven n (assign line x e)
@@ -65,7 +64,7 @@ assignment_given n line x e room s rest j k m c f ends =
     let ts : List Token = behind (behind s.rest) in
     first_given line room (block_at room) named s ps rest f
     ∙ after (variable_here s) _ x s (variable_seen n s x c.finds (first_of_both (nat_lt x (length s.variables)) _ r.0) h.0)
-    (simple_given n (assign line x e) s rest j k m room _ _ _ (expect_sign mark.Equals >> (expression_at room >>= λ value. give (assign line x value))) c r.1
+    (simple_given n (assign line x e) s rest j k m room _ _ (expect_sign mark.Equals >> (expression_at room >>= λ value. give (assign line x value))) c r.1
     (after (expect_sign mark.Equals (begun s)) _ tt (at (begun s) ts) (expected_sign mark.Equals (begun s) q.0)
     (after (expression_at room (at (begun s) ts)) _ e (at (begun s) rest) (expression_given n e room (at (begun s) ts) rest c.finds (second_of_both (nat_lt x (length s.variables)) _ r.0) c.deep q.1 ends.signs) refl)))
 
@@ -91,7 +90,7 @@ single_given n line size g r d room s rest j k m c f ends =
     let within : k ≤ length n.registers = c.within in
     first_given line room (block_at room) (kind.Keyword w) s (numeral g ∷ name_at n.registers r ∷ phrase.move n d) rest f
     ∙ single_by size room (block_at room) line s
-    ∙ simple_given n (single line size g r d) s rest j k m room _ _ _ _ c same
+    ∙ simple_given n (single line size g r d) s rest j k m room _ _ _ c same
     (after (function_number (begun s)) _ g (at (begun s) t2) (function_given (begun s) g number.0 (let less : g < 32 = omega arith in lt-ltb g 32 less))
     (after (used_register (at (begun s) t2)) _ r (at (begun s) t3) (register_given n (at (begun s) t2) r (ap (place_of (text_at n.registers r)) c.registers ∙ c.sets.set r j below (omega arith)) register.0)
     (after (move_at room (at (begun s) t3)) _ d (at (begun s) rest) (move_given n d room (at (begun s) t3) rest c.finds (second_of_both (nat_lt r j) _ more) c.deep register.1 ends.signs ends.no_move) refl)))
@@ -140,20 +139,20 @@ switch_given true s e = ap (λ (k : Option TokenKind). switch_by k s) e
 switch_given false s e = ap (λ (k : Option TokenKind). switch_by k s) e
 
 -- a call on a crate without a switch
-crate_plain : (n : Names) (call : CrateCall) (line : ℕ) (e : Expression) (room : ℕ) (s : State) (rest : List Token) (j k m : ℕ) → Runs n s j k m room (reached_by (scope_of s) j (crate_call line call e)) true (expression_depth e) 1 → Front (behind s.rest) (phrase.expression n e ++ []) rest → NoSign (kind_of rest) → crate_action call room line s ≡ ok (crate_call line call e) (left_at n s rest k m)
+crate_plain : (n : Names) (call : CrateCall) (line : ℕ) (e : Expression) (room : ℕ) (s : State) (rest : List Token) (j k m : ℕ) → Runs n s j k m room (reached_by (scope_of s) j (crate_call line call e)) (expression_depth e) 1 → Front (behind s.rest) (phrase.expression n e ++ []) rest → NoSign (kind_of rest) → crate_action call room line s ≡ ok (crate_call line call e) (left_at n s rest k m)
 unfolding crate_action
 crate_plain n call line e room s rest j k m c f ends =
     let parts = front_split (behind s.rest) (phrase.expression n e) [] rest f in
     let g : Front (behind s.rest) (phrase.expression n e) rest = subst (λ (ts : List Token). Front (behind s.rest) (phrase.expression n e) ts) parts.2 parts.1 in
     let r = unless_parts (head_fits (scope_of s) j (crate_call line call e)) j k c.reached in
-    simple_given n (crate_call line call e) s rest j k m room _ _ _ (expression_at room >>= λ crate_no. give (crate_call line call crate_no)) c r.1
+    simple_given n (crate_call line call e) s rest j k m room _ _ (expression_at room >>= λ crate_no. give (crate_call line call crate_no)) c r.1
     (after (expression_at room (begun s)) _ e (at (begun s) rest) (expression_given n e room (begun s) rest c.finds r.0 c.deep g ends) refl)
 
 switch_no_sign : (b : Bool) → NoSign (Some (kind.Keyword (cond b keyword.On keyword.Off)))
 switch_no_sign true = record { product = refl; sum = refl }
 switch_no_sign false = record { product = refl; sum = refl }
 
-crate_switched : (n : Names) (on off : CrateCall) (b : Bool) (line : ℕ) (e : Expression) (room : ℕ) (s : State) (rest : List Token) (j k m : ℕ) → Runs n s j k m room (reached_by (scope_of s) j (crate_call line (cond b on off) e)) true (expression_depth e) 1 → Front (behind s.rest) (phrase.expression n e ++ word (cond b keyword.On keyword.Off) ∷ []) rest → crate_switch on off room line s ≡ ok (crate_call line (cond b on off) e) (left_at n s rest k m)
+crate_switched : (n : Names) (on off : CrateCall) (b : Bool) (line : ℕ) (e : Expression) (room : ℕ) (s : State) (rest : List Token) (j k m : ℕ) → Runs n s j k m room (reached_by (scope_of s) j (crate_call line (cond b on off) e)) (expression_depth e) 1 → Front (behind s.rest) (phrase.expression n e ++ word (cond b keyword.On keyword.Off) ∷ []) rest → crate_switch on off room line s ≡ ok (crate_call line (cond b on off) e) (left_at n s rest k m)
 unfolding crate_switch
 crate_switched n on off b line e room s rest j k m c f =
     let w : Keyword = cond b keyword.On keyword.Off in
@@ -161,7 +160,7 @@ crate_switched n on off b line e room s rest j k m c f =
     let us : List Token = parts.0 in
     let h = front_first us (word w) [] rest parts.2 in
     let r = unless_parts (head_fits (scope_of s) j (crate_call line (cond b on off) e)) j k c.reached in
-    simple_given n (crate_call line (cond b on off) e) s rest j k m room _ _ _ (expression_at room >>= λ crate_no. switch >>= λ is_on. give (crate_call line (cond is_on on off) crate_no)) c r.1
+    simple_given n (crate_call line (cond b on off) e) s rest j k m room _ _ (expression_at room >>= λ crate_no. switch >>= λ is_on. give (crate_call line (cond is_on on off) crate_no)) c r.1
     (after (expression_at room (begun s)) _ e (at (begun s) us) (expression_given n e room (begun s) us c.finds r.0 c.deep parts.1 (no_sign (kind_of us) _ h.0 (switch_no_sign b)))
     (after (switch (at (begun s) us)) _ b (at (begun s) (behind us)) (switch_given b (at (begun s) us) h.0) (left (crate_call line (cond b on off) e) (begun s) (behind us) rest h.1)))
 
@@ -194,15 +193,15 @@ crate_given n line crate_word.DemandOff e room s rest j k m c f ends =
     let ps : List Piece = phrase.expression n e ++ word keyword.Off ∷ [] in
     first_given line room (block_at room) (kind.Keyword keyword.Cccd) s ps rest f ∙ crate_switched n crate_word.DemandOn crate_word.DemandOff false line e room s rest j k m c (front_line s.rest s.end_line line (kind.Keyword keyword.Cccd) ps rest f).2
 
-lam_plain : (n : Names) (call : LamCall) (line l room : ℕ) (s : State) (rest : List Token) (j k m : ℕ) → Runs n s j k m room (reached_by (scope_of s) j (lam_call line call l)) true 0 1 → Front (behind s.rest) (name_at n.lams l ∷ []) rest → lam_action call line s ≡ ok (lam_call line call l) (left_at n s rest k m)
+lam_plain : (n : Names) (call : LamCall) (line l room : ℕ) (s : State) (rest : List Token) (j k m : ℕ) → Runs n s j k m room (reached_by (scope_of s) j (lam_call line call l)) 0 1 → Front (behind s.rest) (name_at n.lams l ∷ []) rest → lam_action call line s ≡ ok (lam_call line call l) (left_at n s rest k m)
 unfolding lam_action
 lam_plain n call line l room s rest j k m c f =
     let h = front_first (behind s.rest) (name_at n.lams l) [] rest f in
     let r = unless_parts (head_fits (scope_of s) j (lam_call line call l)) j k c.reached in
-    simple_given n (lam_call line call l) s rest j k m room _ _ _ (used_lam >>= λ lam. give (lam_call line call lam)) c r.1
+    simple_given n (lam_call line call l) s rest j k m room _ _ (used_lam >>= λ lam. give (lam_call line call lam)) c r.1
     (after (used_lam (begun s)) _ l (at (begun s) (behind (behind s.rest))) (lam_given n (begun s) l c.finds r.0 h.0) (left (lam_call line call l) (begun s) (behind (behind s.rest)) rest h.1))
 
-lam_switched : (n : Names) (b : Bool) (line l room : ℕ) (s : State) (rest : List Token) (j k m : ℕ) → Runs n s j k m room (reached_by (scope_of s) j (lam_call line (cond b lam_word.Enable lam_word.Disable) l)) true 0 1 → Front (behind s.rest) (name_at n.lams l ∷ word (cond b keyword.On keyword.Off) ∷ []) rest → lam_switch line s ≡ ok (lam_call line (cond b lam_word.Enable lam_word.Disable) l) (left_at n s rest k m)
+lam_switched : (n : Names) (b : Bool) (line l room : ℕ) (s : State) (rest : List Token) (j k m : ℕ) → Runs n s j k m room (reached_by (scope_of s) j (lam_call line (cond b lam_word.Enable lam_word.Disable) l)) 0 1 → Front (behind s.rest) (name_at n.lams l ∷ word (cond b keyword.On keyword.Off) ∷ []) rest → lam_switch line s ≡ ok (lam_call line (cond b lam_word.Enable lam_word.Disable) l) (left_at n s rest k m)
 unfolding lam_switch
 lam_switched n b line l room s rest j k m c f =
     let call : LamCall = cond b lam_word.Enable lam_word.Disable in
@@ -211,7 +210,7 @@ lam_switched n b line l room s rest j k m c f =
     let ts : List Token = behind (behind s.rest) in
     let g = front_first ts (word w) [] rest h.1 in
     let r = unless_parts (head_fits (scope_of s) j (lam_call line call l)) j k c.reached in
-    simple_given n (lam_call line call l) s rest j k m room _ _ _ (used_lam >>= λ lam. switch >>= λ is_on. give (lam_call line (cond is_on lam_word.Enable lam_word.Disable) lam)) c r.1
+    simple_given n (lam_call line call l) s rest j k m room _ _ (used_lam >>= λ lam. switch >>= λ is_on. give (lam_call line (cond is_on lam_word.Enable lam_word.Disable) lam)) c r.1
     (after (used_lam (begun s)) _ l (at (begun s) ts) (lam_given n (begun s) l c.finds r.0 h.0)
     (after (switch (at (begun s) ts)) _ b (at (begun s) (behind ts)) (switch_given b (at (begun s) ts) g.0) (left (lam_call line call l) (begun s) (behind ts) rest g.1)))
 

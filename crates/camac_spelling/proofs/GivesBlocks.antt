@@ -1,5 +1,5 @@
 -- Every statement and every block that is spelled is read.
-use Rattle.std.proofs.Common.{◌≡◌, ℕ, ◌+◌, ◌≤◌, max, true, false, List, [], ◌∷◌, ◌++◌, length, take, Some, refl, sym, ap, ◌∙◌, append_assoc, arith}
+use Rattle.std.proofs.Common.{◌≡◌, ℕ, ◌+◌, ◌≤◌, max, List, [], ◌∷◌, ◌++◌, length, take, Some, refl, sym, ap, ◌∙◌, append_assoc, arith}
 use Rattle.std.proofs.lemmas.List.{append-nil}
 use Rattle.camac_lang.specs.Depth.{statement_depth, inner_depth}
 use Rattle.camac_lang.specs.Statements.{after as reached_by, after_block, statements_in, statements}
@@ -11,10 +11,8 @@ use Rattle.camac_cursor.specs.Reading.{State, kind_of, one_more, give}
 use Rattle.camac_statements.specs.Statements.{statement_with, is_no_end, block_at}
 use Rattle.camac_cursor.proofs.Steps.{while_off}
 use Rattle.camac_cursor.proofs.Uses.{scope_of}
-use Rattle.camac_cursor.proofs.Registers.{first_of_both, second_of_both}
 use Rattle.camac_statements.proofs.Bodies.{statements_progress}
 use Rattle.camac_spelling.specs.Pieces.{Names, Front}
-use Rattle.camac_spelling.specs.Served.{is_served, are_served}
 use Rattle.camac_spelling.specs.Statements as spell
 use Rattle.camac_spelling.proofs.Fronts.{front_split}
 use Rattle.camac_spelling.proofs.Gives.{ok, after, while_turn, left}
@@ -24,6 +22,7 @@ use Rattle.camac_spelling.proofs.GivesActions.{IsGiven, assignment_given, settin
 use Rattle.camac_spelling.proofs.GivesTransfers.{scan_given, stop_given, repeat_transfer_given}
 use Rattle.camac_spelling.proofs.GivesStatements.{AreGiven, RunsBraced, braced_given, choose_given, choose_else_given, locked_given}
 use Rattle.camac_spelling.proofs.GivesLoops.{count_given, repeat_given}
+use Rattle.camac_spelling.proofs.GivesCalls.{call_given}
 
 done_given : (n : Names) → AreGiven n done
 done_given n room acc s rest j k m c f brace =
@@ -46,29 +45,27 @@ next_given n x b first others room acc s rest j k m c f brace =
     let p = then_parts (λ i. after_block (scope_of s) i b) (reached_by (scope_of s) j x) k c.reached in
     let grows : p.0 ≤ k = block_grows (scope_of s) p.0 k b p.2 in
     let within : k ≤ length n.registers = c.within in
-    let deep : max (statement_depth [] x) (inner_depth [] b) ≤ room = c.deep in
+    let deep : max (statement_depth s.callables x) (inner_depth s.callables b) ≤ room = c.deep in
     let counted : m ≡ s.statements + (statements_in x + statements b) = c.counted in
     let few : m ≤ 4096 = c.few in
     let m1 : ℕ = s.statements + statements_in x in
-    let one : Runs n s j p.0 m1 room (reached_by (scope_of s) j x) (is_served x) (statement_depth [] x) (statements_in x) = record {
+    let one : Runs n s j p.0 m1 room (reached_by (scope_of s) j x) (statement_depth s.callables x) (statements_in x) = record {
       finds = c.finds;
       sets = c.sets;
       registers = c.registers;
       reached = p.1;
       within = omega arith;
-      is_served = first_of_both (is_served x) _ c.is_served;
       deep = omega arith;
       counted = refl;
       few = omega arith;
     } in
     let u : State = left_at n s us p.0 m1 in
-    let rest_of : Runs n u p.0 k m room (after_block (scope_of s) p.0 b) (are_served b) (inner_depth [] b) (statements b) = record {
+    let rest_of : Runs n u p.0 k m room (after_block (scope_of s) p.0 b) (inner_depth s.callables b) (statements b) = record {
       finds = c.finds;
       sets = c.sets;
       registers = refl;
       reached = p.2;
       within = c.within;
-      is_served = second_of_both (is_served x) _ c.is_served;
       deep = omega arith;
       counted = omega arith;
       few = c.few;
@@ -76,10 +73,6 @@ next_given n x b first others room acc s rest j k m c f brace =
     while_turn is_no_end (one_more (statement_with room (block_at room))) (statements_progress room) acc s (acc ++ x ∷ []) u (statement_opens n x s.rest us parts.1)
     (after (statement_with room (block_at room) s) (λ y. give (acc ++ y ∷ [])) x u (first room s us j p.0 m1 one parts.1 (block_ends n b us rest parts.2 brace)) refl)
     (others room (acc ++ x ∷ []) u rest p.0 k m rest_of parts.2 brace ∙ ap (λ (xs : List Statement). ok xs (left_at n s rest k m)) (append_assoc acc (x ∷ []) (listed b)))
-
--- a form that is not served yet
-unserved : (n : Names) (x : Statement) → is_served x ≡ false → IsGiven n x
-unserved n x never room s rest j k m c f ends = let yes : is_served x ≡ true = c.is_served in absurd (let both = sym never ∙ yes in cc)
 
 mutual
   statement_given : (n : Names) (x : Statement) → IsGiven n x
@@ -97,7 +90,7 @@ mutual
   statement_given n (count line x e1 e2 ks b) = count_given n line x e1 e2 ks b (block_given n b)
   statement_given n (repeat line c t x ks b) = repeat_given n line c t x ks b (block_given n b)
   statement_given n (locked line e b) = locked_given n line e b (block_given n b)
-  statement_given n (call line p es) = unserved n (call line p es) refl
+  statement_given n (call line p es) = call_given n line p es
 
   block_given : (n : Names) (b : Block) → AreGiven n b
   block_given n done = done_given n

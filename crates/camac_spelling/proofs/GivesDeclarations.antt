@@ -163,7 +163,6 @@ service_declared t v s rest m room lam_fits c f =
       registers = c.registers;
       reached = c.reached;
       within = c.within;
-      is_served = c.is_served;
       deep = c.deep;
       counted = c.counted;
       few = c.few;

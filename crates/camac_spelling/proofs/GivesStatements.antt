@@ -24,7 +24,6 @@ use Rattle.camac_statements.proofs.Acts.{begun}
 use Rattle.camac_cursor.proofs.Registers.{first_of_both, second_of_both}
 use Rattle.camac_spelling.specs.Pieces.{Piece, word, sign, Names, Front}
 use Rattle.camac_spelling.specs.Phrases as phrase
-use Rattle.camac_spelling.specs.Served.{are_served}
 use Rattle.camac_spelling.specs.Statements as spell
 use Rattle.camac_spelling.proofs.Fronts.{front_split, front_first, front_line}
 use Rattle.camac_spelling.proofs.Gives.{at, ok, after, checked, left, expected_sign}
@@ -35,15 +34,15 @@ use Rattle.camac_spelling.proofs.GivesActions.{IsGiven}
 
 -- The statements of a block that is spelled are read, up to its brace.
 abbrev pub AreGiven : Names → Block → Type 0
-AreGiven n b = (room : ℕ) (acc : List Statement) (s : State) (rest : List Token) (j k m : ℕ) → Runs n s j k m room (after_block (scope_of s) j b) (are_served b) (inner_depth [] b) (statements b) → Front s.rest (spell.block n b) rest → kind_of rest ≡ Some (kind.Sign mark.RightBrace) → while_next is_no_end (one_more (statement_with room (block_at room))) acc s ≡ ok (acc ++ listed b) (left_at n s rest k m)
+AreGiven n b = (room : ℕ) (acc : List Statement) (s : State) (rest : List Token) (j k m : ℕ) → Runs n s j k m room (after_block (scope_of s) j b) (inner_depth s.callables b) (statements b) → Front s.rest (spell.block n b) rest → kind_of rest ≡ Some (kind.Sign mark.RightBrace) → while_next is_no_end (one_more (statement_with room (block_at room))) acc s ≡ ok (acc ++ listed b) (left_at n s rest k m)
 
 -- a block in its braces
 abbrev pub RunsBraced : Names → State → ℕ → ℕ → ℕ → ℕ → Block → Type 0
-RunsBraced n s j k m room b = Runs n s j k m room (after_block (scope_of s) j b) (are_served b) (suc (inner_depth [] b)) (statements b)
+RunsBraced n s j k m room b = Runs n s j k m room (after_block (scope_of s) j b) (suc (inner_depth s.callables b)) (statements b)
 
 pub braced_given : (n : Names) (b : Block) → AreGiven n b → (room : ℕ) (s : State) (rest : List Token) (j k m : ℕ) → RunsBraced n s j k m room b → Front s.rest (spell.braced (spell.block n b)) rest → block_at room s ≡ ok (listed b) (left_at n s rest k m)
 unfolding block_at many
-braced_given n b given zero s rest j k m c f = let deep : suc (inner_depth [] b) ≤ 0 = c.deep in absurd (omega arith)
+braced_given n b given zero s rest j k m c f = let deep : suc (inner_depth s.callables b) ≤ 0 = c.deep in absurd (omega arith)
 braced_given n b given (suc room) s rest j k m c f =
     let ps : List Piece = spell.block n b in
     let h = front_first s.rest (sign mark.LeftBrace) (ps ++ sign mark.RightBrace ∷ []) rest f in
@@ -51,14 +50,13 @@ braced_given n b given (suc room) s rest j k m c f =
     let parts = front_split (behind s.rest) ps (sign mark.RightBrace ∷ []) rest h.1 in
     let us : List Token = parts.0 in
     let closing = front_first us (sign mark.RightBrace) [] rest parts.2 in
-    let deep : suc (inner_depth [] b) ≤ suc room = c.deep in
-    let inside : Runs n u j k m room (after_block (scope_of s) j b) (are_served b) (inner_depth [] b) (statements b) = record {
+    let deep : suc (inner_depth s.callables b) ≤ suc room = c.deep in
+    let inside : Runs n u j k m room (after_block (scope_of s) j b) (inner_depth s.callables b) (statements b) = record {
       finds = c.finds;
       sets = c.sets;
       registers = c.registers;
       reached = c.reached;
       within = c.within;
-      is_served = c.is_served;
       deep = omega arith;
       counted = c.counted;
       few = c.few;
@@ -88,7 +86,7 @@ locked_given n line e b given room s rest j k m c f ends =
     let us : List Token = parts.0 in
     let p = then_parts (λ i. after_block (scope_of s) i b) (begun_by (scope_of s) j x) k c.reached in
     let r = unless_parts (head_fits (scope_of s) j x) j p.0 p.1 in
-    let deep : max (expression_depth e) (suc (inner_depth [] b)) ≤ room = c.deep in
+    let deep : max (expression_depth e) (suc (inner_depth s.callables b)) ≤ room = c.deep in
     let counted : m ≡ s.statements + suc (statements b) = c.counted in
     let few : m ≤ 4096 = c.few in
     let inside : RunsBraced n (at (begun s) us) p.0 k m room b = record {
@@ -97,7 +95,6 @@ locked_given n line e b given room s rest j k m c f ends =
       registers = c.registers ∙ ap (λ (i : ℕ). take i n.registers) r.1;
       reached = p.2;
       within = c.within;
-      is_served = c.is_served;
       deep = omega arith;
       counted = omega arith;
       few = c.few;
@@ -127,7 +124,7 @@ choose_given n line t b given room s rest j k m c f ends =
     let brace = brace_first n b us rest parts.2 in
     let p = then_parts (λ i. after_block (scope_of s) i b) (begun_by (scope_of s) j x) k c.reached in
     let r = unless_parts (head_fits (scope_of s) j x) j p.0 p.1 in
-    let deep : max (most part_depth t) (suc (inner_depth [] b)) ≤ room = c.deep in
+    let deep : max (most part_depth t) (suc (inner_depth s.callables b)) ≤ room = c.deep in
     let counted : m ≡ s.statements + suc (statements b) = c.counted in
     let few : m ≤ 4096 = c.few in
     let inside : RunsBraced n (at (begun s) us) p.0 k m room b = record {
@@ -136,7 +133,6 @@ choose_given n line t b given room s rest j k m c f ends =
       registers = c.registers ∙ ap (λ (i : ℕ). take i n.registers) r.1;
       reached = p.2;
       within = c.within;
-      is_served = c.is_served;
       deep = omega arith;
       counted = omega arith;
       few = c.few;
@@ -167,7 +163,7 @@ choose_else_given n line t a b given_a given_b room s rest j k m c f ends =
     let r = unless_parts (head_fits (scope_of s) j x) j q.0 q.1 in
     let grows : p.0 ≤ k = block_grows (scope_of s) p.0 k b p.2 in
     let within : k ≤ length n.registers = c.within in
-    let deep : max (most part_depth t) (max (suc (inner_depth [] a)) (suc (inner_depth [] b))) ≤ room = c.deep in
+    let deep : max (most part_depth t) (max (suc (inner_depth s.callables a)) (suc (inner_depth s.callables b))) ≤ room = c.deep in
     let counted : m ≡ s.statements + suc (statements a + statements b) = c.counted in
     let few : m ≤ 4096 = c.few in
     let m1 : ℕ = suc s.statements + statements a in
@@ -177,7 +173,6 @@ choose_else_given n line t a b given_a given_b room s rest j k m c f ends =
       registers = c.registers ∙ ap (λ (i : ℕ). take i n.registers) r.1;
       reached = q.2;
       within = omega arith;
-      is_served = first_of_both (are_served a) _ c.is_served;
       deep = omega arith;
       counted = refl;
       few = omega arith;
@@ -189,7 +184,6 @@ choose_else_given n line t a b given_a given_b room s rest j k m c f ends =
       registers = refl;
       reached = p.2;
       within = c.within;
-      is_served = second_of_both (are_served a) _ c.is_served;
       deep = omega arith;
       counted = omega arith;
       few = c.few;

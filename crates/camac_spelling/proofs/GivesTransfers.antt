@@ -1,5 +1,5 @@
 -- Transfers that are spelled are read.
-use Rattle.std.proofs.Common.{◌≡◌, ℕ, ◌≤◌, ◌<◌, max, Bool, true, nat_lt, List, [], ◌∷◌, ◌++◌, length, Option, Some, None, refl, ap, ◌∙◌, arith}
+use Rattle.std.proofs.Common.{◌≡◌, ℕ, ◌≤◌, ◌<◌, max, true, nat_lt, List, [], ◌∷◌, ◌++◌, length, Option, Some, None, refl, ap, ◌∙◌, arith}
 use Rattle.std.proofs.lemmas.Bool.{ltb-true, leb-true, lt-ltb}
 use Rattle.camac_lang.specs.Depth.{expression_depth}
 use Rattle.camac_lang.specs.Expressions.{expression_fits}
@@ -38,8 +38,8 @@ function_read s g fits next =
     function_given s g next (let less : g < 32 = omega arith in lt-ltb g 32 less)
 
 -- a register that is set
-register_read : (n : Names) (s : State) (ts : List Token) (r j k m room : ℕ) (reaches : Option ℕ) (served : Bool) (depth : ℕ) → Runs n s j k m room reaches served depth 1 → j ≡ k → nat_lt r j ≡ true → kind_of ts ≡ Some (kind.Name (text_at n.registers r)) → used_register (at (begun s) ts) ≡ ok r (at (begun s) (behind ts))
-register_read n s ts r j k m room reaches served depth c same fits next =
+register_read : (n : Names) (s : State) (ts : List Token) (r j k m room : ℕ) (reaches : Option ℕ) (depth : ℕ) → Runs n s j k m room reaches depth 1 → j ≡ k → nat_lt r j ≡ true → kind_of ts ≡ Some (kind.Name (text_at n.registers r)) → used_register (at (begun s) ts) ≡ ok r (at (begun s) (behind ts))
+register_read n s ts r j k m room reaches depth c same fits next =
     let below : r < j = ltb-true r j fits in
     let within : k ≤ length n.registers = c.within in
     register_given n (at (begun s) ts) r (ap (place_of (text_at n.registers r)) c.registers ∙ c.sets.set r j below (omega arith)) next
@@ -100,10 +100,10 @@ scan_given n line g r1 r2 e x room s rest j k m c f ends =
     let q2 = second_of_both (nat_lt r1 j) _ q1 in
     let q3 = second_of_both (nat_lt r2 j) _ q2 in
     first_given line room (block_at room) (kind.Keyword keyword.Cfmad) s (numeral g ∷ p2) rest f
-    ∙ simple_given n y s rest j k m room _ _ _ _ c rule.1
+    ∙ simple_given n y s rest j k m room _ _ _ c rule.1
     (after (function_number (begun s)) _ g (at (begun s) t2) (function_read (begun s) g (first_of_both (is_function g) _ rule.0) number.0)
-    (after (used_register (at (begun s) t2)) _ r1 (at (begun s) t3) (register_read n s t2 r1 j k m room _ _ _ c rule.1 (first_of_both (nat_lt r1 j) _ q1) first.0)
-    (after (used_register (at (begun s) t3)) _ r2 (at (begun s) t4) (register_read n s t3 r2 j k m room _ _ _ c rule.1 (first_of_both (nat_lt r2 j) _ q2) last.0)
+    (after (used_register (at (begun s) t2)) _ r1 (at (begun s) t3) (register_read n s t2 r1 j k m room _ _ c rule.1 (first_of_both (nat_lt r1 j) _ q1) first.0)
+    (after (used_register (at (begun s) t3)) _ r2 (at (begun s) t4) (register_read n s t3 r2 j k m room _ _ c rule.1 (first_of_both (nat_lt r2 j) _ q2) last.0)
     (after (last_bound keyword.Max room (at (begun s) t4)) _ (e, x) (at (begun s) rest)
     (bound_given n keyword.Max e x room (at (begun s) t4) rest c.finds (first_of_both (expression_fits (scope_of s) e) _ q3) c.deep (second_of_both (expression_fits (scope_of s) e) _ q3) last.1) refl))))
 
@@ -130,9 +130,9 @@ stop_given n line g r t e x room s rest j k m c f ends =
     let q2 = second_of_both (nat_lt r j) _ q1 in
     let q3 = second_of_both (table_fits (scope_of s) t) _ q2 in
     first_given line room (block_at room) (kind.Keyword keyword.Cfubc) s (numeral g ∷ p2) rest f
-    ∙ simple_given n y s rest j k m room _ _ _ _ c rule.1
+    ∙ simple_given n y s rest j k m room _ _ _ c rule.1
     (after (function_number (begun s)) _ g (at (begun s) t2) (function_read (begun s) g (first_of_both (is_function g) _ rule.0) number.0)
-    (after (used_register (at (begun s) t2)) _ r (at (begun s) t3) (register_read n s t2 r j k m room _ _ _ c rule.1 (first_of_both (nat_lt r j) _ q1) register.0)
+    (after (used_register (at (begun s) t2)) _ r (at (begun s) t3) (register_read n s t2 r j k m room _ _ c rule.1 (first_of_both (nat_lt r j) _ q1) register.0)
     (after (table_at (at (begun s) t3)) _ t (at (begun s) us) (write_given n t (at (begun s) t3) us c.finds (first_of_both (table_fits (scope_of s) t) _ q2) parts.1 most.0)
     (after (last_bound keyword.Max room (at (begun s) us)) _ (e, x) (at (begun s) rest)
     (bound_given n keyword.Max e x room (at (begun s) us) rest c.finds (first_of_both (expression_fits (scope_of s) e) _ q3) c.deep (second_of_both (expression_fits (scope_of s) e) _ q3) parts.2) refl))))
@@ -166,9 +166,9 @@ repeat_transfer_given n line g r t e l x room s rest j k m c f ends =
     let q4 = second_of_both (expression_fits (scope_of s) e) _ q3 in
     let deep : max (expression_depth e) (expression_depth l) ≤ room = c.deep in
     first_given line room (block_at room) (kind.Keyword keyword.Cfubr) s (numeral g ∷ p2) rest f
-    ∙ simple_given n y s rest j k m room _ _ _ _ c rule.1
+    ∙ simple_given n y s rest j k m room _ _ _ c rule.1
     (after (function_number (begun s)) _ g (at (begun s) t2) (function_read (begun s) g (first_of_both (is_function g) _ rule.0) number.0)
-    (after (used_register (at (begun s) t2)) _ r (at (begun s) t3) (register_read n s t2 r j k m room _ _ _ c rule.1 (first_of_both (nat_lt r j) _ q1) register.0)
+    (after (used_register (at (begun s) t2)) _ r (at (begun s) t3) (register_read n s t2 r j k m room _ _ c rule.1 (first_of_both (nat_lt r j) _ q1) register.0)
     (after (table_at (at (begun s) t3)) _ t (at (begun s) us) (write_given n t (at (begun s) t3) us c.finds (first_of_both (table_fits (scope_of s) t) _ q2) parts.1 most.0)
     (after (expect keyword.Max (at (begun s) us)) _ tt (at (begun s) (behind us)) (expected keyword.Max (at (begun s) us) most.0)
     (after (expression_at room (at (begun s) (behind us))) _ e (at (begun s) vs) (expression_given n e room (at (begun s) (behind us)) vs c.finds (first_of_both (expression_fits (scope_of s) e) _ q3) (omega arith) more.1 (no_sign (kind_of vs) _ limit.0 limit_no_sign))

@@ -22,6 +22,7 @@ pub mod GivesTransfers
 pub mod Opens
 pub mod GivesStatements
 pub mod GivesLoops
+pub mod GivesCalls
 pub mod GivesBlocks
 pub mod Fresh
 pub mod GivesDeclarations

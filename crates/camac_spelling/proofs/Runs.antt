@@ -33,14 +33,13 @@ pub record Sets (n : Names) (declared : List Text) (beside : ℕ) : Type 0 where
   pub few : beside + length n.registers ≤ 64
 
 -- With so many registers set before and after, so many statements after, so much room; and what the rules say of it: the registers
--- after it, whether it is served, its depth, its statements.
-pub record Runs (n : Names) (s : State) (j k m room : ℕ) (reaches : Option ℕ) (served : Bool) (depth count : ℕ) : Type 0 where
+-- after it, its depth, its statements.
+pub record Runs (n : Names) (s : State) (j k m room : ℕ) (reaches : Option ℕ) (depth count : ℕ) : Type 0 where
   pub finds : FindsAll n s
   pub sets : Sets n s.declared (other_registers s)
   pub registers : s.registers ≡ take j n.registers
   pub reached : reaches ≡ Some k
   pub within : k ≤ length n.registers
-  pub is_served : served ≡ true
   pub deep : depth ≤ room
   pub counted : m ≡ s.statements + count
   pub few : m ≤ 4096
@@ -62,8 +61,8 @@ first_given line room block k s ps rest f =
     ap (λ (l : ℕ). statement_by room block l (kind_of s.rest) s) h.1 ∙ ap (λ (o : Option TokenKind). statement_by room block line o s) h.0
 
 -- one that sets no register and holds no block
-pub simple_given : (n : Names) (x : Statement) (s : State) (rest : List Token) (j k m room : ℕ) (reaches : Option ℕ) (served : Bool) (depth : ℕ) (g : Reader Statement) → Runs n s j k m room reaches served depth 1 → j ≡ k → g (begun s) ≡ ok x (at (begun s) rest) → (begin >> g) s ≡ ok x (left_at n s rest k m)
-simple_given n x s rest j k m room reaches served depth g c same h =
+pub simple_given : (n : Names) (x : Statement) (s : State) (rest : List Token) (j k m room : ℕ) (reaches : Option ℕ) (depth : ℕ) (g : Reader Statement) → Runs n s j k m room reaches depth 1 → j ≡ k → g (begun s) ≡ ok x (at (begun s) rest) → (begin >> g) s ≡ ok x (left_at n s rest k m)
+simple_given n x s rest j k m room reaches depth g c same h =
     let few : m ≤ 4096 = c.few in
     let counted : m ≡ s.statements + 1 = c.counted in
     let one : suc s.statements ≡ m = omega arith in

@@ -4,6 +4,7 @@ use Rattle.std.specs.Prelude.{slice_get}
 use Rattle.std.specs.List.{position_from}
 use Rattle.std.specs.Str.{bytes_eq}
 use Rattle.std.proofs.lemmas.List.{length-take-le}
+use Rattle.camac_lang.specs.Expressions.{Callable}
 use Rattle.camac_lang.specs.Scope.{Before, declared}
 use Rattle.camac_lang.specs.Statements.{statements}
 use Rattle.camac_lang.specs.Tests.{total, most, is_new, are_new}
@@ -23,7 +24,7 @@ use Rattle.camac_spelling.specs.Pieces.{Piece, first_piece, text_at, Front}
 use Rattle.camac_spelling.specs.Declarations as spell
 use Rattle.camac_spelling.specs.Declarations.{Passed, service_names}
 use Rattle.camac_spelling.proofs.Fronts.{front_first}
-use Rattle.camac_spelling.proofs.Gives.{Finds}
+use Rattle.camac_spelling.proofs.Gives.{FindsAll}
 use Rattle.camac_spelling.proofs.Fresh.{each_new, found_there, absent_there, take_next, take_all}
 use Rattle.camac_spelling.proofs.Runs.{Sets}
 
@@ -101,7 +102,7 @@ found_first {A} f all xs j p first within new below =
     ∙ sym (position_from-map f (bytes_eq (text_at (map f xs) p)) 0 xs)
     ∙ new_found (map f xs) p new (omega arith)
 
-pub finds_names : (t : Script) (b : Before) (s : State) (v : Service) → Stands t b s → Finds (service_names t v) s.variables s.lams s.tables
+pub finds_names : (t : Script) (b : Before) (s : State) (v : Service) → Stands t b s → FindsAll (service_names t v) s
 finds_names t b s v st = record {
   variables = λ p below.
       let many : length s.variables ≡ b.variables = ap (λ (xs : List Text). length xs) st.variables ∙ length-take-le b.variables t.variables st.variables_within in
@@ -110,6 +111,7 @@ finds_names t b s v st = record {
       ap (λ (x : Text). place_of x s.variables) same ∙ new_found s.variables p st.new_variables below;
   lams = λ p below. found_first lam_name t.lams s.lams b.lams p st.lams st.lams_within st.new_lams below;
   tables = λ p below. found_first table_name t.tables s.tables b.tables p st.tables st.tables_within st.new_tables below;
+  procedures = λ p below. let none : length s.callables ≡ 0 = ap (λ (qs : List Callable). length qs) st.no_callables in absurd (omega arith);
 }
 
 pub sets_names : (t : Script) (b : Before) (s : State) (v : Service) → Stands t b s → are_new v.registers b.names ≡ true → other_registers s + length v.registers ≤ 64 → Sets (service_names t v) s.declared (other_registers s)

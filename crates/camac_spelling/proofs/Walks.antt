@@ -24,9 +24,9 @@ use Rattle.camac_cursor.proofs.Uses.{scope_of}
 use Rattle.camac_spelling.specs.Pieces.{Front}
 use Rattle.camac_spelling.specs.Declarations as spell
 use Rattle.camac_spelling.specs.Declarations.{Passed, service_names}
-use Rattle.camac_spelling.specs.Served.{are_served, Served}
+use Rattle.camac_spelling.specs.Served.{Served}
 use Rattle.camac_spelling.proofs.Gives.{at, ok}
-use Rattle.camac_spelling.proofs.Fresh.{take_one, new_behind, most_there, total_there, each_there}
+use Rattle.camac_spelling.proofs.Fresh.{take_one, new_behind, most_there, total_there}
 use Rattle.camac_spelling.proofs.GivesStatements.{RunsBraced}
 use Rattle.camac_spelling.proofs.GivesDeclarations.{lam_declared, with_names, variables_declared, with_body, service_declared}
 use Rattle.camac_spelling.proofs.GivesTables.{table_declared}
@@ -226,8 +226,8 @@ beside s none out =
     let second : count [] s.in_procedure ≡ 0 = ap (λ (b : Bool). count [] b) out in
     first ∙ second
 
-service_goes : (t : Script) (b b' : Before) (s : State) (rest : List Token) → Limited t → Served t → Stands t b s → declared t b next_service ≡ Some b' → Front s.rest (spell.declaration t (passed_of b) next_service) rest → Goes t b' next_service s rest
-service_goes t b b' s rest limits served st e f =
+service_goes : (t : Script) (b b' : Before) (s : State) (rest : List Token) → Limited t → Stands t b s → declared t b next_service ≡ Some b' → Front s.rest (spell.declaration t (passed_of b) next_service) rest → Goes t b' next_service s rest
+service_goes t b b' s rest limits st e f =
     let p = then_parts (λ v. unless_broken (service_stands b v) (with_service b)) (slice_get t.services b.services) b' e in
     let v : Service = p.0 in
     let r = unless_parts (service_stands b v) (with_service b) b' p.2 in
@@ -240,12 +240,11 @@ service_goes t b b' s rest limits served st e f =
     let scope : service_scope b ≡ scope_of s = same_scope t b s st in
     let reaches : after_block (scope_of s) 0 v.body ≡ Some (length v.registers) =
     subst (λ (c : Scope). after_block c 0 v.body ≡ Some (length v.registers)) scope (has_some (after_block (service_scope b) 0 v.body) (length v.registers) (first_of_both (has (after_block (service_scope b) 0 v.body) (λ n. nat_eq n (length v.registers))) _ body)) in
-    let deep : suc (inner_depth [] v.body) ≤ 16 =
-    subst (λ (cs : List Callable). suc (inner_depth cs v.body) ≤ 16) st.callables (leb-true (suc (inner_depth b.callables v.body)) 16 (second_of_both (has (after_block (service_scope b) 0 v.body) (λ n. nat_eq n (length v.registers))) _ body)) in
+    let deep : suc (inner_depth s.callables v.body) ≤ 16 =
+    subst (λ (cs : List Callable). suc (inner_depth cs v.body) ≤ 16) (st.callables ∙ sym st.no_callables) (leb-true (suc (inner_depth b.callables v.body)) 16 (second_of_both (has (after_block (service_scope b) 0 v.body) (λ n. nat_eq n (length v.registers))) _ body)) in
     let few_registers : length v.registers ≤ most (λ (x : Service). length x.registers) t.services = most_there (λ (x : Service). length x.registers) t.services b.services v p.1 in
     let all_registers : most (λ (x : Service). length x.registers) t.services ≤ 64 = limits.registers in
     let none_beside : other_registers s ≡ 0 = beside s st.procedures st.outside in
-    let is_served : are_served v.body ≡ true = each_there (λ (x : Service). are_served x.body) t.services b.services v p.1 served.bodies in
     let m : ℕ = s.statements + statements v.body in
     let so_far : s.statements ≡ total (λ (x : Service). statements x.body) (take b.services t.services) = st.statements ∙ ap (λ (vs : List Service). total (λ (x : Service). statements x.body) vs) st.services in
     let one_more : total (λ (x : Service). statements x.body) (take b.services t.services) + statements v.body ≤ total (λ (x : Service). statements x.body) t.services = total_there (λ (x : Service). statements x.body) t.services b.services v p.1 in
@@ -256,7 +255,6 @@ service_goes t b b' s rest limits served st e f =
       registers = st.registers;
       reached = reaches;
       within = omega arith;
-      is_served = is_served;
       deep = deep;
       counted = refl;
       few = omega arith;
@@ -307,4 +305,4 @@ declaration_goes t next_table b b' s rest limits served st e f ends = table_goes
 declaration_goes t next_lam b b' s rest limits served st e f ends = lam_goes t b b' s rest limits st e f
 declaration_goes t (next_variables line n) b b' s rest limits served st e f ends = variables_goes t line n b b' s rest limits st e f ends.no_name
 declaration_goes t next_procedure b b' s rest limits served st e f ends = absurd (none_there t.procedures b.procedures _ b' served.no_procedures e)
-declaration_goes t next_service b b' s rest limits served st e f ends = service_goes t b b' s rest limits served st e f
+declaration_goes t next_service b b' s rest limits served st e f ends = service_goes t b b' s rest limits st e f

@@ -1,23 +1,7 @@
--- Trees of the forms that are read so far: no procedures, no calls.
-use Rattle.std.specs.Prelude.{◌≡◌, [], Bool, true, false, ◌&&◌, IsTrue}
-use Rattle.camac_lang.specs.Tests.{each}
-use Rattle.camac_lang.specs.Tree.{Statement, choose, choose_else, count, repeat, locked, call, Block, done, next, Script}
+-- Trees of the forms that are read so far: no procedures.
+use Rattle.std.specs.Prelude.{◌≡◌, []}
+use Rattle.camac_lang.specs.Tree.{Script}
 
-abbrev mutual
-  pub is_served : Statement → Bool
-  is_served (call line p es) = false
-  is_served (choose line c a) = are_served a
-  is_served (choose_else line c a b) = are_served a && are_served b
-  is_served (count line x e1 e2 ks body) = are_served body
-  is_served (repeat line c turns x ks body) = are_served body
-  is_served (locked line e body) = are_served body
-  is_served _ = true
-
-  pub are_served : Block → Bool
-  are_served done = true
-  are_served (next s rest) = is_served s && are_served rest
-
--- This goes once the other forms are read.
+-- This goes once procedures are read.
 pub record Served (s : Script) : Type 0 where
   pub no_procedures : s.procedures ≡ []
-  pub bodies : IsTrue (each (λ v. are_served v.body) s.services)
