@@ -21,7 +21,7 @@ use Rattle.camac_spelling.specs.Pieces.{Piece, first_piece, word, numeral, name,
 use Rattle.camac_spelling.specs.Declarations as spell
 use Rattle.camac_spelling.specs.Statements.{braced, block}
 use Rattle.camac_spelling.proofs.Fronts.{front_first, front_line}
-use Rattle.camac_spelling.proofs.Gives.{at, ok, after, checked, while_turn, left, expected, number_given, branch_given, sub_address_given, new_name_seen, lam_given}
+use Rattle.camac_spelling.proofs.Gives.{at, ok, after, checked, while_turn, expected, number_given, branch_given, sub_address_given, new_name_seen, lam_given}
 use Rattle.camac_spelling.proofs.Fresh.{take_all}
 use Rattle.camac_spelling.proofs.Runs.{left_at, listed, block_of_listed}
 use Rattle.camac_spelling.proofs.GivesStatements.{RunsBraced}
@@ -69,21 +69,34 @@ lam_declared l s rest room new below f =
 abbrev pub with_names : State → List Token → List Text → State
 with_names s rest xs = record s { rest = rest; variables = s.variables ++ xs; variable_count = s.variable_count + length xs; declared = s.declared ++ xs }
 
-variable_declared : (s : State) (x : Text) → kind_of s.rest ≡ Some (kind.Name x) → is_new x s.declared ≡ true → s.variable_count < 64 → new_variable s ≡ ok tt (with_names s (behind s.rest) (x ∷ []))
-unfolding new_variable added
-variable_declared s x e new room =
+-- a variable or a parameter, whose name stands next
+pub name_added : (s : State) (x : Text) → s.variable_count < 64 → added x s ≡ ok tt (with_names s (behind s.rest) (x ∷ []))
+unfolding added
+name_added s x room =
     let one_more : suc s.variable_count ≡ s.variable_count + 1 = omega arith in
-    after (new_name s) _ x s (new_name_seen s x e new)
-    (checked (nat_lt s.variable_count 64) LimitPassed (advance >> change (with_variable x)) s (lt-ltb s.variable_count 64 room)
-    (ap (λ (i : ℕ). ok tt (record s { rest = behind s.rest; variables = s.variables ++ x ∷ []; variable_count = i; declared = s.declared ++ x ∷ [] })) one_more))
+    checked (nat_lt s.variable_count 64) LimitPassed (advance >> change (with_variable x)) s (lt-ltb s.variable_count 64 room)
+    (ap (λ (i : ℕ). ok tt (record s { rest = behind s.rest; variables = s.variables ++ x ∷ []; variable_count = i; declared = s.declared ++ x ∷ [] })) one_more)
+
+variable_declared : (s : State) (x : Text) → kind_of s.rest ≡ Some (kind.Name x) → is_new x s.declared ≡ true → s.variable_count < 64 → new_variable s ≡ ok tt (with_names s (behind s.rest) (x ∷ []))
+unfolding new_variable
+variable_declared s x e new room = after (new_name s) added x s (new_name_seen s x e new) (name_added s x room)
+
+-- none more
+pub no_names : (s : State) (rest : List Token) → s.rest ≡ rest → s ≡ with_names s rest []
+no_names s rest same =
+    let no_more : s.variable_count ≡ s.variable_count + 0 = omega arith in
+    ap (λ (ts : List Token). at s ts) same
+    ∙ ap (λ (xs : List Text). record s { rest = rest; variables = xs }) (sym (append-nil s.variables))
+    ∙ ap (λ (i : ℕ). record s { rest = rest; variables = s.variables ++ []; variable_count = i }) no_more
+    ∙ ap (λ (xs : List Text). record s { rest = rest; variables = s.variables ++ []; variable_count = s.variable_count + 0; declared = xs }) (sym (append-nil s.declared))
 
 -- new behind one more name as in front of it
-new_after : (x : Text) (xs ds : List Text) → are_new xs (x ∷ ds) ≡ true → are_new xs (ds ++ x ∷ []) ≡ true
+pub new_after : (x : Text) (xs ds : List Text) → are_new xs (x ∷ ds) ≡ true → are_new xs (ds ++ x ∷ []) ≡ true
 new_after x xs ds e = new_same xs (ds ++ x ∷ []) (x ∷ ds) (λ z. sym (front_or_behind (x ∷ []) ds ds (λ y. refl) z)) ∙ e
 
 -- one name and then others
-names_joined : (s : State) (rest : List Token) (x : Text) (xs : List Text) → with_names (with_names s (behind s.rest) (x ∷ [])) rest xs ≡ with_names s rest (x ∷ xs)
-names_joined s rest x xs =
+pub names_joined : (s : State) (between rest : List Token) (x : Text) (xs : List Text) → with_names (with_names s between (x ∷ [])) rest xs ≡ with_names s rest (x ∷ xs)
+names_joined s between rest x xs =
     let many : (s.variable_count + 1) + length xs ≡ s.variable_count + suc (length xs) = omega arith in
     ap (λ (ys : List Text). record s { rest = rest; variables = ys; variable_count = (s.variable_count + 1) + length xs; declared = (s.declared ++ x ∷ []) ++ xs }) (append_assoc s.variables (x ∷ []) xs)
     ∙ ap (λ (i : ℕ). record s { rest = rest; variables = s.variables ++ x ∷ xs; variable_count = i; declared = (s.declared ++ x ∷ []) ++ xs }) many
@@ -91,13 +104,9 @@ names_joined s rest x xs =
 
 names_declared : (xs : List Text) (counted : ℕ) (s : State) (rest : List Token) → are_new xs s.declared ≡ true → s.variable_count + length xs ≤ 64 → Front s.rest (map name xs) rest → is_name (kind_of rest) ≡ false → while_next is_name one_more_variable counted s ≡ ok (counted + length xs) (with_names s rest xs)
 names_declared [] counted s rest new room f off =
-    let no_more : s.variable_count ≡ s.variable_count + 0 = omega arith in
     while_off is_name one_more_variable counted s (ap (λ (ts : List Token). is_name (kind_of ts)) f ∙ off)
-    ∙ left counted s s.rest rest f
-    ∙ ap (λ (i : ℕ). ok i (at s rest)) (let zero_more : counted ≡ counted + 0 = omega arith in zero_more)
-    ∙ ap (λ (xs : List Text). ok (counted + 0) (record s { rest = rest; variables = xs })) (sym (append-nil s.variables))
-    ∙ ap (λ (i : ℕ). ok (counted + 0) (record s { rest = rest; variables = s.variables ++ []; variable_count = i })) no_more
-    ∙ ap (λ (xs : List Text). ok (counted + 0) (record s { rest = rest; variables = s.variables ++ []; variable_count = s.variable_count + 0; declared = xs })) (sym (append-nil s.declared))
+    ∙ ap (λ (i : ℕ). ok i s) (let zero_more : counted ≡ counted + 0 = omega arith in zero_more)
+    ∙ ap (λ (w : State). ok (counted + 0) w) (no_names s rest f)
 names_declared (x ∷ xs) counted s rest new room f off =
     let h = front_first s.rest (name x) (map name xs) rest f in
     let u : State = with_names s (behind s.rest) (x ∷ []) in
@@ -106,7 +115,7 @@ names_declared (x ∷ xs) counted s rest new room f off =
     (after (new_variable s) (λ _. give (counted + 1)) tt u (variable_declared s x h.0 (first_of_both (is_new x s.declared) _ new) (omega arith)) refl)
     (names_declared xs (counted + 1) u rest (new_after x xs s.declared (second_of_both (is_new x s.declared) _ new)) (omega arith) h.1 off
     ∙ ap (λ (i : ℕ). ok i (with_names u rest xs)) total
-    ∙ ap (λ (w : State). ok (counted + suc (length xs)) w) (names_joined s rest x xs))
+    ∙ ap (λ (w : State). ok (counted + suc (length xs)) w) (names_joined s (behind s.rest) rest x xs))
 
 pub variables_declared : (line n : ℕ) (xs : List Text) (s : State) (rest : List Token) → 1 ≤ n → length xs ≡ n → are_new xs s.declared ≡ true → s.variable_count + length xs ≤ 64 → Front s.rest (spell.variable_declaration line xs) rest → is_name (kind_of rest) ≡ false → declaration_at s ≡ ok tt (with_variables_of line n (with_names s rest xs))
 unfolding variable_declaration
@@ -121,7 +130,7 @@ variables_declared line n (x ∷ xs) s rest some many new room f off =
     ∙ after (new_variable (at s t1)) _ tt u (variable_declared (at s t1) x f1.0 (first_of_both (is_new x s.declared) _ new) (omega arith))
     (after (while_next is_name one_more_variable 1 u) _ (1 + length xs) (with_names u rest xs) (names_declared xs 1 u rest (new_after x xs s.declared (second_of_both (is_new x s.declared) _ new)) (omega arith) f1.1 off)
     (ap (λ (i : ℕ). ok tt (with_variables_of line i (with_names u rest xs))) is_n
-    ∙ ap (λ (w : State). ok tt (with_variables_of line n w)) (names_joined (at s t1) rest x xs)))
+    ∙ ap (λ (w : State). ok tt (with_variables_of line n w)) (names_joined (at s t1) (behind t1) rest x xs)))
 
 -- ---- a service
 

@@ -27,6 +27,7 @@ pub mod GivesBlocks
 pub mod Fresh
 pub mod GivesDeclarations
 pub mod GivesTables
+pub mod GivesProcedures
 pub mod Walk
 pub mod Walks
 pub mod Read
