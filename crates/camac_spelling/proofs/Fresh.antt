@@ -1,16 +1,16 @@
 -- Lists of names of which none is there twice.
-use Rattle.std.proofs.Common.{◌≡◌, ℕ, zero, suc, ◌+◌, ◌≤◌, ◌<◌, Bool, true, false, not, cond, List, [], ◌∷◌, ◌++◌, length, take, Some, None, refl, sym, ap, subst, ◌∙◌, append_assoc, arith}
+use Rattle.std.proofs.Common.{◌≡◌, ℕ, zero, suc, ◌+◌, ◌≤◌, ◌<◌, Bool, true, false, not, cond, ◌&&◌, List, [], ◌∷◌, ◌++◌, length, take, Some, None, refl, sym, ap, ◌∙◌, append_assoc, arith}
 use Rattle.std.specs.Prelude.{slice_get}
 use Rattle.std.specs.List.{position_from}
 use Rattle.std.specs.Str.{bytes_eq}
 use Rattle.std.proofs.lemmas.Bool.{not-true}
 use Rattle.std.proofs.lemmas.List.{append-nil}
 use Rattle.std.proofs.lemmas.Slice.Eq.{bytes_eq-Decides}
-use Rattle.camac_lang.specs.Tests.{each, most, total, is_new, are_new}
+use Rattle.camac_lang.specs.Tests.{most, total, is_new, are_new}
 use Rattle.camac_lang.specs.Tree.{Text}
 use Rattle.camac_cursor.specs.Names.{place_of}
 use Rattle.camac_cursor.proofs.Registers.{both, first_of_both, second_of_both}
-use Rattle.camac_text.proofs.Listed.{each_append}
+use Rattle.camac_text.proofs.Listed.{each_append, new_same, front_or_behind}
 use Rattle.camac_spelling.specs.Pieces.{text_at}
 
 -- each of new names is new
@@ -93,6 +93,20 @@ new_behind (x ∷ xs) vs ds e covers new =
     (λ z h. each_append (λ y. not (bytes_eq z y)) vs (x ∷ []) ∙ both (is_new z vs) _ (covers z (second_of_both (not (bytes_eq z x)) _ h)) (both (not (bytes_eq z x)) true (first_of_both (not (bytes_eq z x)) _ h) refl))
     (second_of_both (is_new x ds) _ new)
 
+-- of new names in two parts, the first are new, and the others are so behind them
+pub new_parts : (xs ys ds : List Text) → are_new (xs ++ ys) ds ≡ true → (are_new xs ds ≡ true) × (are_new ys (ds ++ xs) ≡ true)
+new_parts [] ys ds e = (refl, ap (λ (w : List Text). are_new ys w) (append-nil ds) ∙ e)
+new_parts (x ∷ xs) ys ds e =
+    let rest = new_parts xs ys (x ∷ ds) (second_of_both (is_new x ds) _ e) in
+    let here : (z : Text) → is_new z (ds ++ x ∷ xs) ≡ is_new z (x ∷ (ds ++ xs)) = λ z. sym (ap (λ (w : List Text). is_new z w) (append_assoc ds (x ∷ []) xs)) ∙ front_or_behind_one z in
+    (both (is_new x ds) _ (first_of_both (is_new x ds) _ e) rest.0, new_same ys (ds ++ x ∷ xs) (x ∷ (ds ++ xs)) here ∙ rest.1)
+  where
+    front_or_behind_one : (z : Text) → is_new z ((ds ++ x ∷ []) ++ xs) ≡ is_new z ((x ∷ ds) ++ xs)
+    front_or_behind_one z =
+        each_append (λ y. not (bytes_eq z y)) (ds ++ x ∷ []) xs
+        ∙ ap (λ (b : Bool). b && is_new z xs) (sym (front_or_behind (x ∷ []) ds ds (λ y. refl) z))
+        ∙ sym (each_append (λ y. not (bytes_eq z y)) (x ∷ ds) xs)
+
 -- ---- sums and maxima over a list
 
 pub most_there : {A : Type 0} (f : A → ℕ) (xs : List A) (i : ℕ) (x : A) → slice_get xs i ≡ Some x → f x ≤ most f xs
@@ -109,9 +123,13 @@ total_there {A} f (y ∷ ys) zero x e = let same : y ≡ x = some_is y x e in le
   some_is a b h = cc
 total_there f (y ∷ ys) (suc i) x e = let rest : total f (take i ys) + f x ≤ total f ys = total_there f ys i x e in omega arith
 
-pub each_there : {A : Type 0} (test : A → Bool) (xs : List A) (i : ℕ) (x : A) → slice_get xs i ≡ Some x → each test xs ≡ true → test x ≡ true
-each_there test [] i x e h = absurd cc
-each_there {A} test (y ∷ ys) zero x e h = subst (λ (z : A). test z ≡ true) (some_is y x e) (first_of_both (test y) _ h) where
-  some_is : (a b : A) → Some a ≡ Some b → a ≡ b
-  some_is a b g = cc
-each_there test (y ∷ ys) (suc i) x e h = each_there test ys i x e (second_of_both (test y) _ h)
+-- of the first they are no more
+pub total_first : {A : Type 0} (f : A → ℕ) (xs : List A) (i : ℕ) → total f (take i xs) ≤ total f xs
+total_first f xs zero = omega arith
+total_first f [] (suc i) = omega arith
+total_first f (y ∷ ys) (suc i) = let rest : total f (take i ys) ≤ total f ys = total_first f ys i in omega arith
+
+pub most_first : {A : Type 0} (f : A → ℕ) (xs : List A) (i : ℕ) → most f (take i xs) ≤ most f xs
+most_first f xs zero = omega arith
+most_first f [] (suc i) = omega arith
+most_first f (y ∷ ys) (suc i) = let rest : most f (take i ys) ≤ most f ys = most_first f ys i in omega arith

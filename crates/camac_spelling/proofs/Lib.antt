@@ -30,4 +30,5 @@ pub mod GivesTables
 pub mod GivesProcedures
 pub mod Walk
 pub mod Walks
+pub mod WalksBodies
 pub mod Read

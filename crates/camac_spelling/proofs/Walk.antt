@@ -4,11 +4,10 @@ use Rattle.std.specs.Prelude.{slice_get}
 use Rattle.std.specs.List.{position_from}
 use Rattle.std.specs.Str.{bytes_eq}
 use Rattle.std.proofs.lemmas.List.{length-take-le}
-use Rattle.camac_lang.specs.Expressions.{Callable}
 use Rattle.camac_lang.specs.Scope.{Before, declared}
 use Rattle.camac_lang.specs.Statements.{statements}
 use Rattle.camac_lang.specs.Tests.{total, most, is_new, are_new}
-use Rattle.camac_lang.specs.Tree.{Text, Table, Lam, Service, Item, next_table, next_lam, next_variables, next_procedure, next_service, Script}
+use Rattle.camac_lang.specs.Tree.{Text, Table, Lam, Procedure, Service, Item, next_table, next_lam, next_variables, next_procedure, next_service, Script}
 use Rattle.camac_lang.proofs.Options.{then_parts}
 use Rattle.camac_tokens.specs.declared.token.Keyword.TheVariants as keyword
 use Rattle.camac_tokens.specs.declared.token.Token.{Token}
@@ -16,15 +15,16 @@ use Rattle.camac_tokens.specs.declared.token.TokenKind.{TokenKind}
 use Rattle.camac_tokens.specs.declared.token.TokenKind.TheVariants as kind
 use Rattle.camac_cursor.specs.Names.{place_of}
 use Rattle.camac_cursor.specs.Reading.{State, kind_of}
-use Rattle.camac_cursor.specs.Readers.{other_registers, is_name as next_is_name}
+use Rattle.camac_cursor.specs.Readers.{is_name as next_is_name}
 use Rattle.camac_text.specs.Declarations.{is_token}
 use Rattle.camac_text.specs.Tables.{is_number as next_is_number}
+use Rattle.camac_text.proofs.ParametersRead.{names_of}
 use Rattle.camac_cursor.proofs.Searches.{position_from-map}
-use Rattle.camac_spelling.specs.Pieces.{Piece, first_piece, text_at, Front}
+use Rattle.camac_spelling.specs.Pieces.{Piece, first_piece, text_at, Names, Front}
 use Rattle.camac_spelling.specs.Declarations as spell
-use Rattle.camac_spelling.specs.Declarations.{Passed, service_names}
+use Rattle.camac_spelling.specs.Declarations.{Passed, service_names, procedure_names}
 use Rattle.camac_spelling.proofs.Fronts.{front_first}
-use Rattle.camac_spelling.proofs.Gives.{FindsAll}
+use Rattle.camac_spelling.proofs.Gives.{Finds, FindsAll}
 use Rattle.camac_spelling.proofs.Fresh.{each_new, found_there, absent_there, take_next, take_all}
 use Rattle.camac_spelling.proofs.Runs.{Sets}
 
@@ -34,27 +34,48 @@ lam_name l = l.name
 abbrev pub table_name : Table → Text
 table_name g = g.name
 
+abbrev pub procedure_name : Procedure → Text
+procedure_name p = p.name
+
+-- what the limits count
+abbrev pub parameter_count : Procedure → ℕ
+parameter_count p = length p.parameters
+
+abbrev pub own_registers : Procedure → ℕ
+own_registers p = length p.registers
+
+abbrev pub service_registers : Service → ℕ
+service_registers v = length v.registers
+
+abbrev pub procedure_statements : Procedure → ℕ
+procedure_statements p = statements p.body
+
+abbrev pub service_statements : Service → ℕ
+service_statements v = statements v.body
+
 abbrev pub passed_of : Before → Passed
 passed_of b = record { tables = b.tables; lams = b.lams; variables = b.variables; procedures = b.procedures; services = b.services }
 
 -- What the limits of the tree say.
 pub record Limited (t : Script) : Type 0 where
-  pub variables : length t.variables ≤ 64
+  pub variables : length t.variables + total parameter_count t.procedures ≤ 64
   pub lams : length t.lams ≤ 64
   pub tables : length t.tables ≤ 16
   pub services : length t.services ≤ 24
-  pub registers : most (λ (v : Service). length v.registers) t.services ≤ 64
-  pub statements : total (λ (v : Service). statements v.body) t.services ≤ 4096
+  pub procedures : length t.procedures ≤ 16
+  pub registers : total own_registers t.procedures + most service_registers t.services ≤ 64
+  pub statements : total procedure_statements t.procedures + total service_statements t.services ≤ 4096
 
 -- The state is that behind the first declarations of the tree.
 pub record Stands (t : Script) (b : Before) (s : State) : Type 0 where
   pub tables : s.tables ≡ take b.tables t.tables
   pub tables_within : b.tables ≤ length t.tables
-  pub procedures : s.procedures ≡ []
-  pub callables : b.callables ≡ []
-  pub no_callables : s.callables ≡ []
+  pub procedures : s.procedures ≡ take b.procedures t.procedures
+  pub procedures_within : b.procedures ≤ length t.procedures
+  pub callables : b.callables ≡ s.callables
+  pub called : length s.callables ≡ length s.procedures
   pub outside : s.in_procedure ≡ false
-  pub counted : s.variable_count ≡ length s.variables
+  pub counted : s.variable_count ≡ length s.variables + total parameter_count s.procedures
   pub lams : s.lams ≡ take b.lams t.lams
   pub lams_within : b.lams ≤ length t.lams
   pub variables : s.variables ≡ take b.variables t.variables
@@ -62,14 +83,16 @@ pub record Stands (t : Script) (b : Before) (s : State) : Type 0 where
   pub services : s.services ≡ take b.services t.services
   pub services_within : b.services ≤ length t.services
   pub registers : s.registers ≡ []
-  pub statements : s.statements ≡ total (λ (v : Service). statements v.body) s.services
+  pub statements : s.statements ≡ total procedure_statements s.procedures + total service_statements s.services
   pub names : (x : Text) → is_new x b.names ≡ is_new x s.declared
   pub new_variables : are_new s.variables [] ≡ true
   pub new_lams : are_new (map lam_name s.lams) [] ≡ true
   pub new_tables : are_new (map table_name s.tables) [] ≡ true
+  pub new_procedures : are_new (map procedure_name s.procedures) [] ≡ true
   pub covers_variables : (x : Text) → is_new x s.declared ≡ true → is_new x s.variables ≡ true
   pub covers_lams : (x : Text) → is_new x s.declared ≡ true → is_new x (map lam_name s.lams) ≡ true
   pub covers_tables : (x : Text) → is_new x s.declared ≡ true → is_new x (map table_name s.tables) ≡ true
+  pub covers_procedures : (x : Text) → is_new x s.declared ≡ true → is_new x (map procedure_name s.procedures) ≡ true
 
 -- ---- what the names of a tree find
 
@@ -111,15 +134,24 @@ finds_names t b s v st = record {
       ap (λ (x : Text). place_of x s.variables) same ∙ new_found s.variables p st.new_variables below;
   lams = λ p below. found_first lam_name t.lams s.lams b.lams p st.lams st.lams_within st.new_lams below;
   tables = λ p below. found_first table_name t.tables s.tables b.tables p st.tables st.tables_within st.new_tables below;
-  procedures = λ p below. let none : length s.callables ≡ 0 = ap (λ (qs : List Callable). length qs) st.no_callables in absurd (omega arith);
+  procedures = λ p below. let called : length s.callables ≡ length s.procedures = st.called in found_first procedure_name t.procedures s.procedures b.procedures p st.procedures st.procedures_within st.new_procedures (omega arith);
 }
 
-pub sets_names : (t : Script) (b : Before) (s : State) (v : Service) → Stands t b s → are_new v.registers b.names ≡ true → other_registers s + length v.registers ≤ 64 → Sets (service_names t v) s.declared (other_registers s)
-sets_names t b s v st new few = record {
-  fresh = λ p below. sym (st.names (text_at v.registers p)) ∙ each_new v.registers b.names p new below;
-  set = λ p j below within. found_there v.registers b.names p j new below within;
-  unset = λ j below. absent_there v.registers b.names j new below;
-  more = λ j below. take_next v.registers j below;
+-- the variables of a procedure are its parameters
+pub procedure_finds : (t : Script) (b : Before) (s : State) (p : Procedure) → Stands t b s → are_new (names_of p.parameters) [] ≡ true → Finds (procedure_names t p) (names_of p.parameters) s.lams s.tables s.procedures s.callables
+procedure_finds t b s p st new = record {
+  variables = λ i below. new_found (names_of p.parameters) i new below;
+  lams = λ i below. found_first lam_name t.lams s.lams b.lams i st.lams st.lams_within st.new_lams below;
+  tables = λ i below. found_first table_name t.tables s.tables b.tables i st.tables st.tables_within st.new_tables below;
+  procedures = λ i below. let called : length s.callables ≡ length s.procedures = st.called in found_first procedure_name t.procedures s.procedures b.procedures i st.procedures st.procedures_within st.new_procedures (omega arith);
+}
+
+pub sets_names : (n : Names) (declared : List Text) (beside : ℕ) → are_new n.registers declared ≡ true → beside + length n.registers ≤ 64 → Sets n declared beside
+sets_names n declared beside new few = record {
+  fresh = λ p below. each_new n.registers declared p new below;
+  set = λ p j below within. found_there n.registers declared p j new below within;
+  unset = λ j below. absent_there n.registers declared j new below;
+  more = λ j below. take_next n.registers j below;
   few = few;
 }
 

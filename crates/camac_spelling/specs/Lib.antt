@@ -3,5 +3,4 @@ pub mod Phrases
 pub mod Statements
 pub mod Declarations
 pub mod Spells
-pub mod Served
 pub mod Laws

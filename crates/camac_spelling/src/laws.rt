@@ -12,27 +12,27 @@ pub fn read_is_spelled()
     ensures { ReadIsSpelled }
 {}
 
-/// A tree of the forms served so far that tokens spell is what is read of them, whatever the line of the end.
+/// A tree that tokens spell is what is read of them, whatever the line of the end.
 pub fn spelled_tokens_are_read()
     ensures { SpelledTokensAreRead }
 {}
 
-/// A tree of the forms served so far that the tokens of a text spell is what is read of the text, so `parse` answers it.
+/// A tree that the tokens of a text spell is what is read of the text, so `parse` answers it.
 pub fn spelled_is_read()
     ensures { SpelledIsRead }
 {}
 
-/// Tokens spell at most one tree of the forms served so far.
+/// Tokens spell at most one tree.
 pub fn spelled_once()
     ensures { SpelledOnce }
 {}
 
-/// Where `parse` answers a fault at a token, no list of tokens that is the same up to and with this token spells a tree of the forms served so far.
+/// Where `parse` answers a fault at a token, no list of tokens that is the same up to and with this token spells a tree.
 pub fn fault_spells_nothing()
     ensures { FaultSpellsNothing }
 {}
 
-/// A text that is refused has no tree of the forms served so far that its tokens spell.
+/// A text that is refused has no tree that its tokens spell.
 pub fn refused_is_not_spelled()
     ensures { RefusedIsNotSpelled }
 {}
