@@ -2,7 +2,7 @@
 use Rattle.std.proofs.Common.{◌≡◌, ℕ, suc, ◌+◌, ◌<◌, List, length, get_or, drop, drop-cons, add-one, Option, Some, None, Result, Ok, Err, refl, sym, ap, ◌∙◌, arith}
 use Rattle.camac_lang.specs.Tree.{Statement, Block, done, next}
 use Rattle.camac_model.specs.Fine.{Bounds}
-use Rattle.camac_rules.specs.Fault.{Fault, broken, not_served}
+use Rattle.camac_rules.specs.Fault.{Fault, broken}
 use Rattle.camac_rules.specs.Refusal.{go_on, if_reached}
 use Rattle.camac_rules.specs.Known.{Facts}
 use Rattle.camac_rules.specs.Costs.{costs, no_costs, plus, Verdict, verdict, unreached}
@@ -13,7 +13,7 @@ use Rattle.camac_lang.specs.View.{statement_of, statements_of}
 use Rattle.camac_lang.specs.declared.tree.Stmt.{Stmt}
 use Rattle.camac_check.specs.declared.context.Context as code
 use Rattle.camac_known.specs.declared.fault.CheckFault.{CheckFault}
-use Rattle.camac_known.specs.declared.fault.CheckFault.TheVariants.{OutOfMemory, Broken, NotServed}
+use Rattle.camac_known.specs.declared.fault.CheckFault.TheVariants.{OutOfMemory, Broken}
 use Rattle.camac_check.specs.Gives.{Fails, by_code}
 
 same_costs : (a b c d e f : ℕ) → a ≡ d → b ≡ e → c ≡ f → costs a b c ≡ costs d e f
@@ -109,7 +109,6 @@ block_refused context around (Some k) c s rest f e = block_fails context around 
 pub block_stops : (context : code.Context) (around : Around) (known : Option Facts) (c : Bounds) (s : Statement) (rest : Block) (e : CheckFault) → Fails e (if_reached unreached known (accept_statement (by_code context) around s)) → Fails e (rest_rule context around (verdict known c) (next s rest))
 block_stops context around known c s rest OutOfMemory h = tt
 block_stops context around known c s rest (Broken rule line) h = block_refused context around known c s rest (broken rule line) h
-block_stops context around known c s rest (NotServed line) h = block_refused context around known c s rest (not_served line) h
 
 -- the list of a block from its next statement on
 pub next_of : (xs : List Stmt) (i : ℕ) (x : Stmt) → i < length xs → x ≡ get_or xs i x → statements_of (drop i xs) ≡ next (statement_of x) (statements_of (drop (i + 1) xs))

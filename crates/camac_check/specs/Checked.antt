@@ -8,9 +8,9 @@ use Rattle.camac_names.specs.Linked.{LinkedScript, layout_coded}
 use Rattle.camac_model.specs.Fine.{Bounds, AreFineServices, AreFineProcedures}
 use Rattle.camac_model.specs.Headline.{RunsSafely, WithinHeadings}
 use Rattle.camac_rules.specs.Accept.{accept}
-use Rattle.camac_rules.specs.Fault.{broken, not_served}
+use Rattle.camac_rules.specs.Fault.{broken}
 use Rattle.camac_known.specs.declared.fault.CheckFault.{CheckFault}
-use Rattle.camac_known.specs.declared.fault.CheckFault.TheVariants.{OutOfMemory, Broken, NotServed}
+use Rattle.camac_known.specs.declared.fault.CheckFault.TheVariants.{OutOfMemory, Broken}
 
 -- with the bounds of each service, in text order
 pub record CheckedScript : Type 0 where
@@ -40,7 +40,6 @@ abbrev pub Judges : LinkedScript → Result CheckedScript CheckFault → Type 0
 Judges l (Ok c) = (c.plan ≡ l.plan) × (c.script ≡ l.script) × (accept l.plan l.script ≡ Ok c.bounds)
 Judges l (Err OutOfMemory) = Unit {0}
 Judges l (Err (Broken rule line)) = accept l.plan l.script ≡ Err (broken rule line)
-Judges l (Err (NotServed line)) = accept l.plan l.script ≡ Err (not_served line)
 
 -- Distinct values have distinct codes, by which a proof tells them apart.
 abbrev pub bounds_coded : Coded Bounds

@@ -19,9 +19,6 @@ pub enum CheckFault {
     OutOfMemory,
     #[error("line {line}: {rule:?}")]
     Broken { rule: CheckRule, line: u32 },
-    /// A statement or a procedure of a kind that is not accepted yet.
-    #[error("line {line}: not accepted yet")]
-    NotServed { line: u32 },
 }
 
 impl From<AllocError> for CheckFault {

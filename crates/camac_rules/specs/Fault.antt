@@ -4,5 +4,3 @@ use Rattle.camac_rules.specs.declared.rule.CheckRule.{CheckRule}
 
 pub data Fault : Type 0 where
   broken : (rule : CheckRule) → (line : ℕ) → Fault
-  -- a statement or a procedure of a kind that is not accepted yet
-  not_served : (line : ℕ) → Fault

@@ -7,7 +7,7 @@ use Rattle.camac_text.specs.Parser.{script_of}
 use Rattle.camac_names.specs.Link.{link_fault}
 use Rattle.camac_names.specs.declared.fault.LinkFault.{LinkFault}
 use Rattle.camac_names.specs.declared.fault.LinkFault.TheVariants as link_fault_of
-use Rattle.camac_rules.specs.Fault.{Fault as CheckFault, broken, not_served}
+use Rattle.camac_rules.specs.Fault.{Fault as CheckFault, broken}
 use Rattle.camac_rules.specs.Accept.{accept}
 use Rattle.camac_model.specs.Fine.{Bounds}
 use Rattle.camac_report.specs.declared.refusal.Refusal.{Refusal}
@@ -18,7 +18,7 @@ use Rattle.camac_tool.specs.declared.fault.ToolFault.TheVariants as fault
 use Rattle.camac_tool.specs.declared.judging.Judged.{Judged}
 use Rattle.camac_tool.specs.declared.judging.Judged.TheVariants as judged
 
--- none where the script has a statement that is not served yet
+-- none where memory was refused
 abbrev pub Accepted : Type 0
 Accepted = Option (Result Script Refusal)
 
@@ -26,7 +26,6 @@ Accepted = Option (Result Script Refusal)
 abbrev pub accepted_checked : Script → Result (List Bounds) CheckFault → Accepted
 accepted_checked script (Ok bounds) = Some (Ok script)
 accepted_checked script (Err (broken rule line)) = Some (Err (refusal.Check (check_code rule) line))
-accepted_checked script (Err (not_served line)) = None
 
 -- by what linking says of it
 abbrev pub accepted_linked : Layout → Script → Option LinkFault → Accepted
@@ -42,10 +41,9 @@ accepted_read plan (Err flaw) = Some (Err (refusal.Text (text_code flaw.rule) fl
 abbrev pub accepted : Layout → List ℕ → Accepted
 accepted plan text = accepted_read plan (script_of text)
 
--- the script was judged for the plan, memory was refused, or something in it is not served yet
+-- the script was judged for the plan, or memory was refused
 abbrev pub Accepts : Result Judged ToolFault → Layout → Accepted → Type 0
 Accepts (Ok (judged.Accepted c)) plan a = (c.plan ≡ plan) × (a ≡ Some (Ok c.script))
 Accepts (Ok (judged.Refused r)) plan a = a ≡ Some (Err r)
 Accepts (Err fault.Memory) plan a = Unit {0}
-Accepts (Err fault.NotServed) plan a = a ≡ None
 Accepts (Err _) plan a = ⊥

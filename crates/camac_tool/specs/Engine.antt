@@ -16,11 +16,10 @@ use Rattle.camac_tool.specs.declared.judging.Judged.{Judged}
 use Rattle.camac_tool.specs.declared.plan.PlanSource.{PlanSource}
 use Rattle.camac_tool.specs.declared.reading.TheConstants.{TEXT_LIMIT, EVENTS_LIMIT}
 
--- a script was judged, memory was refused, or something in it is not served yet
+-- a script was judged, or memory was refused
 abbrev pub Judges : Result Judged ToolFault → Report → Type 0
 Judges (Ok j) r = r ≡ report_of j
 Judges (Err fault.Memory) r = Unit {0}
-Judges (Err fault.NotServed) r = r ≡ None
 Judges (Err _) r = ⊥
 
 abbrev pub Tells : Report → (Outcome → List ℕ → Type 0) → Type 0
@@ -49,7 +48,7 @@ ChecksOn plan a b o p (Err fault.Write) = (text : List ℕ) × WasRead TEXT_LIMI
 ChecksOn plan a b o p (Err fault.Read) = Keeps o p
 ChecksOn plan a b o p (Err fault.Memory) = Keeps o p
 ChecksOn plan a b o p (Err fault.TooLong) = ConsumesSome a b (TEXT_LIMIT + 1) × Keeps o p
-ChecksOn plan a b o p (Err fault.NotServed) = ((text : List ℕ) × WasRead TEXT_LIMIT a b text × (report plan text ≡ None)) × Keeps o p
+ChecksOn plan a b o p (Err fault.NotServed) = ⊥
 
 -- the same where the plan may be refused: of the script nothing is read then
 abbrev pub ChecksIf : Result Layout PlanRule → (a b : Option (List ℕ)) → (o p : Option (List ℕ)) → Result Outcome ToolFault → Type 0

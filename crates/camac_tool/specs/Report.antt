@@ -8,7 +8,7 @@ use Rattle.camac_text.specs.Parser.{script_of}
 use Rattle.camac_names.specs.Link.{link_fault}
 use Rattle.camac_names.specs.declared.fault.LinkFault.{LinkFault}
 use Rattle.camac_names.specs.declared.fault.LinkFault.TheVariants as link_fault_of
-use Rattle.camac_rules.specs.Fault.{Fault as CheckFault, broken, not_served}
+use Rattle.camac_rules.specs.Fault.{Fault as CheckFault, broken}
 use Rattle.camac_rules.specs.Accept.{accept}
 use Rattle.camac_model.specs.Fine.{Bounds}
 use Rattle.camac_event.specs.declared.event.Version.{Version}
@@ -26,7 +26,7 @@ use Rattle.camac_tool.specs.declared.judging.Judged.TheVariants as judged
 use Rattle.camac_tool.specs.declared.outcome.Outcome.{Outcome}
 use Rattle.camac_tool.specs.declared.outcome.Outcome.TheVariants.{Good, Refused}
 
--- the outcome and the text; none where the script has a statement that is not served yet
+-- the outcome and the text; none where memory was refused
 abbrev pub Report : Type 0
 Report = Option (Outcome × List ℕ)
 
@@ -37,7 +37,6 @@ refused r = Some (Refused, refusal_text r)
 abbrev pub report_accepted : Layout → Script → Result (List Bounds) CheckFault → Report
 report_accepted plan script (Ok bounds) = Some (Good, verdict_text plan script bounds)
 report_accepted plan script (Err (broken rule line)) = refused (refusal.Check (check_code rule) line)
-report_accepted plan script (Err (not_served line)) = None
 
 -- of what linking says of the script
 abbrev pub report_linked : Layout → Script → Option LinkFault → Report

@@ -60,7 +60,6 @@ fn judge_linked(alloc: Global, linked: Linked) -> Result<Judged, ToolFault>
     match check(alloc, linked) {
         Ok(checked) => Ok(Judged::Accepted(checked)),
         Err(CheckFault::OutOfMemory) => Err(ToolFault::Memory),
-        Err(CheckFault::NotServed { .. }) => Err(ToolFault::NotServed),
         Err(CheckFault::Broken { rule, line }) => Ok(Judged::Refused(Refusal::Check {
             code: check_code(rule),
             line,
