@@ -15,45 +15,23 @@ use camac_tokens::{Keyword, TextFault, TextRule, TokenKind};
 pub fn crate_call(parser: &mut Parser<'_>, room: u32, line: u32) -> Result<Stmt, TextFault>
     ensures { Gives statement_of result parser.new (crate_call_by room line (kind_of parser.old.rest.now) (state parser.old)) }
 {
-    match parser.peek() {
-        Some(TokenKind::Keyword(Keyword::Cccz)) => crate_action(
-            parser,
-            CrateCall::Initialise,
-            room,
-            line,
-        ),
-        Some(TokenKind::Keyword(Keyword::Cccc)) => crate_action(
-            parser,
-            CrateCall::Clear,
-            room,
-            line,
-        ),
-        Some(TokenKind::Keyword(Keyword::Ctci)) => crate_action(
-            parser,
-            CrateCall::TestInhibit,
-            room,
-            line,
-        ),
-        Some(TokenKind::Keyword(Keyword::Ctcd)) => crate_action(
-            parser,
-            CrateCall::TestDemandOutput,
-            room,
-            line,
-        ),
-        Some(TokenKind::Keyword(Keyword::Ctgl)) => crate_action(
-            parser,
-            CrateCall::TestDemand,
-            room,
-            line,
-        ),
-        Some(TokenKind::Keyword(Keyword::Ccci)) => crate_switch(
+    let Some(TokenKind::Keyword(word)) = parser.peek() else {
+        return lam_call(parser, line);
+    };
+    match word {
+        Keyword::Cccz => crate_action(parser, CrateCall::Initialise, room, line),
+        Keyword::Cccc => crate_action(parser, CrateCall::Clear, room, line),
+        Keyword::Ctci => crate_action(parser, CrateCall::TestInhibit, room, line),
+        Keyword::Ctcd => crate_action(parser, CrateCall::TestDemandOutput, room, line),
+        Keyword::Ctgl => crate_action(parser, CrateCall::TestDemand, room, line),
+        Keyword::Ccci => crate_switch(
             parser,
             CrateCall::InhibitOn,
             CrateCall::InhibitOff,
             room,
             line,
         ),
-        Some(TokenKind::Keyword(Keyword::Cccd)) => crate_switch(
+        Keyword::Cccd => crate_switch(
             parser,
             CrateCall::DemandOn,
             CrateCall::DemandOff,

@@ -1,6 +1,6 @@
 // How many brackets and braces a body has open at once.
 
-ghost use Rattle.std.specs.Prelude.{◌≡◌, ◌≤◌, map, slice_get};
+ghost use Rattle.std.specs.Prelude.{◌≡◌, ◌≤◌, map, max, slice_get};
 ghost use Rattle.camac_lang.specs.Depth.{expression_depth, test_depth, part_depth, move_depth, statement_depth, inner_depth, depth_of};
 ghost use Rattle.camac_lang.specs.Tests.{most};
 ghost use Rattle.camac_lang.specs.View.{expression_of, test_of, part_of, condition_of, move_of, statement_of, statements_of};
@@ -14,8 +14,7 @@ fn expression_depth(e: &Expr) -> u32
     ensures { result ≡ expression_depth (expression_of e.now) }
 {
     match e {
-        Expr::Num(_) => 0,
-        Expr::Var(_) => 0,
+        Expr::Num(_) | Expr::Var(_) => 0,
         Expr::Group(inner) => expression_depth(inner) + 1,
         Expr::Add(a, b) => expression_depth(a).max(expression_depth(b)),
         Expr::Sub(a, b) => expression_depth(a).max(expression_depth(b)),
@@ -109,26 +108,31 @@ fn called_depth(callables: &[Called], place: usize) -> u32
     }
 }
 
+/// Of what a register is set to.
+fn address_depth(crate_no: &Expr, station: &Expr, sub_address: &Expr) -> u32
+    requires { max (expression_depth (expression_of crate_no.now)) (max (expression_depth (expression_of station.now)) (expression_depth (expression_of sub_address.now))) ≤ 16 }
+    ensures { result ≡ max (expression_depth (expression_of crate_no.now)) (max (expression_depth (expression_of station.now)) (expression_depth (expression_of sub_address.now))) }
+{
+    let of_place = expression_depth(station).max(expression_depth(sub_address));
+    expression_depth(crate_no).max(of_place)
+}
+
 #[cycle(depth)]
 fn statement_depth(s: &Stmt, callables: &[Called]) -> u32
     requires { statement_depth (map callable_of callables.now) (statement_of s.now) ≤ 16 }
     ensures { result ≡ statement_depth (map callable_of callables.now) (statement_of s.now) }
 {
     match s {
-        Stmt::Assign { value, .. } => expression_depth(value),
+        Stmt::Assign { value, .. } | Stmt::Put { value, .. } => expression_depth(value),
         Stmt::SetRegister {
             crate_no,
             station,
             sub_address,
             ..
-        } => expression_depth(crate_no).max(expression_depth(station).max(expression_depth(
-            sub_address,
-        ))),
+        } => address_depth(crate_no, station, sub_address),
         Stmt::Single { data, .. } => move_depth(data),
-        Stmt::Scan { max, .. } => expression_depth(max),
-        Stmt::QStop { max, .. } => expression_depth(max),
+        Stmt::Scan { max, .. } | Stmt::QStop { max, .. } => expression_depth(max),
         Stmt::QRepeat { max, limit, .. } => expression_depth(max).max(expression_depth(limit)),
-        Stmt::Put { value, .. } => expression_depth(value),
         Stmt::CrateCall { crate_no, .. } => expression_depth(crate_no),
         Stmt::LamCall { .. } => 0,
         Stmt::If { test, then, .. } => condition_depth(test).max(inner_depth(then, callables) + 1),

@@ -241,6 +241,11 @@ fn choices(rt: HostRuntime) -> Result<(), Fail> {
         1,
     )?;
     assert_eq!(rt; names, Some((TextRule::NotDeclared, 4)));
+    Ok(())
+}
+
+#[test]
+fn open_braces(rt: HostRuntime) -> Result<(), Fail> {
     let depth = fault_of_many(
         &rt,
         b"cdlam adc 1 1 5 12\nvar v\nservice adc within 100 cycles event 100 words {",
