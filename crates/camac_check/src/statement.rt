@@ -3,11 +3,13 @@
 ghost use Rattle.std.specs.Prelude.{◌≡◌, IsTrue, map};
 ghost use Rattle.camac_lang.specs.View.{expression_of, keep_of, statement_of, statements_of};
 ghost use Rattle.camac_rules.specs.Costs.{unreached};
+ghost use Rattle.camac_rules.specs.Cycles.{Context as Rules};
 ghost use Rattle.camac_rules.specs.Refusal.{if_reached};
 ghost use Rattle.camac_rules.specs.Statements.{assign_rule, register_rule, put_rule, accept_statement, accept_block};
 ghost use Rattle.camac_loops.specs.Ordered.{are_ordered};
 ghost use Rattle.camac_check.specs.Ends.{for_end, while_end};
 ghost use Rattle.camac_check.specs.Gives.{Gives, by_code, verdict_of};
+ghost use Rattle.camac_check.specs.Kinds.{is_plain, is_cycle, is_transfer, is_choice, is_lock, is_count, is_repeat};
 
 use crate::calls::{crate_call, lam_call, lock_crate};
 use crate::context::Context;
@@ -59,7 +61,7 @@ pub fn accept_block(
 
 // Checks a statement, if it can be reached.
 #[cycle(statements)]
-#[tactic(auto, unfolding(camac_rules::specs::Refusal::go_on, camac_rules::specs::Refusal::if_reached))]
+#[tactic(auto, unfolding(camac_rules::specs::Refusal::if_reached))]
 fn accept_statement(
     alloc: Global,
     context: &Context,
@@ -69,49 +71,64 @@ fn accept_statement(
 ) -> Result<Findings, CheckFault>
     ensures { Gives verdict_of result (if_reached unreached known.now (accept_statement (by_code context.now) around.now (statement_of statement.now))) }
 {
-    let Some(known) = known else {
-        return Ok(Findings {
+    match known {
+        Some(known) => accept_reached(alloc, context, around, statement, known),
+        None => Ok(Findings {
             known: None,
             costs: Costs::new(0, 0, 0),
-        });
-    };
+        }),
+    }
+}
+
+// Checks a statement that can be reached, by its kind.
+#[cycle(statements)]
+fn accept_reached(
+    alloc: Global,
+    context: &Context,
+    around: &Around,
+    statement: &Stmt,
+    known: &Facts,
+) -> Result<Findings, CheckFault>
+    ensures { Gives verdict_of result (accept_statement (by_code context.now) around.now (statement_of statement.now) known.now) }
+{
     match statement {
-        Stmt::Assign {
-            line,
-            variable,
-            value,
-        } => assign(alloc, around, *line, *variable, value, known),
-        Stmt::SetRegister {
-            line,
-            register,
-            crate_no,
-            station,
-            sub_address,
-        } => set_register(
-            alloc,
-            *line,
-            *register,
-            crate_no,
-            station,
-            sub_address,
-            known,
-        ),
-        Stmt::Single {
-            line,
-            size,
-            function,
-            register,
-            data,
-        } => single(
-            alloc, context, around, *line, *size, *function, *register, data, known,
-        ),
-        Stmt::Put { line, value } => put(alloc, *line, value, known),
-        Stmt::CrateCall { line, crate_no, .. } => {
-            crate_call(alloc, context, around, *line, crate_no, known)
+        Stmt::Assign { .. } | Stmt::SetRegister { .. } | Stmt::Put { .. } => {
+            plain_statement(alloc, around, statement, known)
         }
-        Stmt::LamCall { line, call, lam } => {
-            lam_call(alloc, context, around, *line, *call, *lam, known)
+        Stmt::Single { .. } | Stmt::CrateCall { .. } | Stmt::LamCall { .. } => {
+            cycle_statement(alloc, context, around, statement, known)
         }
+        Stmt::Scan { .. } | Stmt::QStop { .. } | Stmt::QRepeat { .. } => {
+            transfer_statement(alloc, context, around, statement, known)
+        }
+        Stmt::Call {
+            line,
+            procedure,
+            arguments,
+        } => call(alloc, context, *line, *procedure, arguments, known),
+        Stmt::If { .. } | Stmt::IfElse { .. } => {
+            accept_choice(alloc, context, around, statement, known)
+        }
+        Stmt::Lock { .. } => accept_lock(alloc, context, around, statement, known),
+        Stmt::For { .. } => accept_count(alloc, context, around, statement, known),
+        Stmt::While { .. } => accept_repeat(alloc, context, around, statement, known),
+    }
+}
+
+// Checks an `if`, with or without `else`.
+#[cycle(statements)]
+#[tactic(auto, unfolding(camac_rules::specs::Refusal::go_on, camac_rules::specs::Refusal::if_reached))]
+fn accept_choice(
+    alloc: Global,
+    context: &Context,
+    around: &Around,
+    statement: &Stmt,
+    known: &Facts,
+) -> Result<Findings, CheckFault>
+    requires { IsTrue (is_choice (statement_of statement.now)) }
+    ensures { Gives verdict_of result (accept_statement (by_code context.now) around.now (statement_of statement.now) known.now) }
+{
+    match statement {
         Stmt::If { line, test, then } => {
             let ways = split(alloc, *line, &test.parts, known)?;
             let first = accept_block(alloc, context, around, then, ways.holds)?;
@@ -134,85 +151,101 @@ fn accept_statement(
                 costs: first.costs.or(second.costs),
             })
         }
-        Stmt::Lock {
-            line,
-            crate_no,
-            body,
-        } => {
-            let c = lock_crate(context, around, *line, crate_no, known)?;
-            let inside = around.with_locked(alloc, c)?;
-            let entry = known.try_clone(alloc)?;
-            let inner = accept_block(alloc, context, &inside, body, Some(entry))?;
-            Ok(Findings {
-                known: inner.known,
-                costs: inner.costs.in_lock(waits_of(context.plan, c)),
-            })
-        }
-        Stmt::Scan {
-            line,
-            function,
-            first,
-            last,
-            max,
-            tally,
-        } => scan(
-            alloc, context, around, *line, *function, *first, *last, max, *tally, known,
-        ),
-        Stmt::QStop {
-            line,
-            function,
-            register,
-            table,
-            max,
-            tally,
-        } => q_stop(
-            alloc, context, around, *line, *function, *register, *table, max, *tally, known,
-        ),
-        Stmt::QRepeat {
-            line,
-            function,
-            register,
-            table,
-            max,
-            limit,
-            tally,
-        } => q_repeat(
-            alloc, context, around, *line, *function, *register, *table, max, limit, *tally, known,
-        ),
-        Stmt::For {
-            line,
-            variable,
-            from,
-            to,
-            keeps,
-            body,
-        } => {
-            let limits = for_limits(around, *line, *variable, from, to, keeps, known)?;
-            let inside = around.with_fixed(alloc, *variable)?;
-            let top = limits.head(alloc, *variable, keeps, body, known)?;
-            let turn = accept_block(alloc, context, &inside, body, top)?;
-            counted(alloc, *line, *variable, limits, keeps, body, known, turn)
-        }
-        Stmt::While {
-            line,
-            test,
-            turns,
-            measure,
-            keeps,
-            body,
-        } => {
-            let top = while_head(alloc, *line, *turns, *measure, keeps, body, known)?;
-            let ways = split(alloc, *line, &test.parts, &top)?;
-            let most = turn_bound(&ways.holds, *turns);
-            let turn = accept_block(alloc, context, around, body, ways.holds)?;
-            repeated(*line, keeps, ways.fails, most, turn)
-        }
-        Stmt::Call {
-            line,
-            procedure,
-            arguments,
-        } => call(alloc, context, *line, *procedure, arguments, known),
+        _ => unreachable!(),
     }
+}
+
+// Checks a `lock` with its block.
+#[cycle(statements)]
+#[tactic(auto, unfolding(camac_rules::specs::Refusal::go_on, camac_rules::specs::Refusal::if_reached))]
+fn accept_lock(
+    alloc: Global,
+    context: &Context,
+    around: &Around,
+    statement: &Stmt,
+    known: &Facts,
+) -> Result<Findings, CheckFault>
+    requires { IsTrue (is_lock (statement_of statement.now)) }
+    ensures { Gives verdict_of result (accept_statement (by_code context.now) around.now (statement_of statement.now) known.now) }
+{
+    let Stmt::Lock {
+        line,
+        crate_no,
+        body,
+    } = statement
+    else {
+        unreachable!()
+    };
+    let c = lock_crate(context, around, *line, crate_no, known)?;
+    let inside = around.with_locked(alloc, c)?;
+    let entry = known.try_clone(alloc)?;
+    let inner = accept_block(alloc, context, &inside, body, Some(entry))?;
+    Ok(Findings {
+        known: inner.known,
+        costs: inner.costs.in_lock(waits_of(context.plan, c)),
+    })
+}
+
+// Checks a `for`.
+#[cycle(statements)]
+#[tactic(auto, unfolding(camac_rules::specs::Refusal::go_on, camac_rules::specs::Refusal::if_reached))]
+fn accept_count(
+    alloc: Global,
+    context: &Context,
+    around: &Around,
+    statement: &Stmt,
+    known: &Facts,
+) -> Result<Findings, CheckFault>
+    requires { IsTrue (is_count (statement_of statement.now)) }
+    ensures { Gives verdict_of result (accept_statement (by_code context.now) around.now (statement_of statement.now) known.now) }
+{
+    let Stmt::For {
+        line,
+        variable,
+        from,
+        to,
+        keeps,
+        body,
+    } = statement
+    else {
+        unreachable!()
+    };
+    let limits = for_limits(around, *line, *variable, from, to, keeps, known)?;
+    let inside = around.with_fixed(alloc, *variable)?;
+    let top = limits.head(alloc, *variable, keeps, body, known)?;
+    let turn = accept_block(alloc, context, &inside, body, top)?;
+    counted(alloc, *line, *variable, limits, keeps, body, known, turn)
+}
+
+// Checks a `while`.
+#[cycle(statements)]
+#[tactic(auto, unfolding(camac_rules::specs::Refusal::go_on, camac_rules::specs::Refusal::if_reached))]
+fn accept_repeat(
+    alloc: Global,
+    context: &Context,
+    around: &Around,
+    statement: &Stmt,
+    known: &Facts,
+) -> Result<Findings, CheckFault>
+    requires { IsTrue (is_repeat (statement_of statement.now)) }
+    ensures { Gives verdict_of result (accept_statement (by_code context.now) around.now (statement_of statement.now) known.now) }
+{
+    let Stmt::While {
+        line,
+        test,
+        turns,
+        measure,
+        keeps,
+        body,
+    } = statement
+    else {
+        unreachable!()
+    };
+    let top = while_head(alloc, *line, *turns, *measure, keeps, body, known)?;
+    let ways = split(alloc, *line, &test.parts, &top)?;
+    let most = turn_bound(&ways.holds, *turns);
+    let turn = accept_block(alloc, context, around, body, ways.holds)?;
+    repeated(*line, keeps, ways.fails, most, turn)
 }
 
 // What a `for` leaves and costs, where this was found of a turn.
@@ -253,6 +286,120 @@ fn repeated(
         known: fails,
         costs: turn.costs.in_loop(u64::from(most)),
     })
+}
+
+// A statement without a dataway cycle, and without statements in it.
+fn plain_statement(
+    alloc: Global,
+    around: &Around,
+    statement: &Stmt,
+    known: &Facts,
+) -> Result<Findings, CheckFault>
+    requires { IsTrue (is_plain (statement_of statement.now)) }
+    ensures { (rules : Rules) → Gives verdict_of result (accept_statement rules around.now (statement_of statement.now) known.now) }
+{
+    match statement {
+        Stmt::Assign {
+            line,
+            variable,
+            value,
+        } => assign(alloc, around, *line, *variable, value, known),
+        Stmt::SetRegister {
+            line,
+            register,
+            crate_no,
+            station,
+            sub_address,
+        } => set_register(
+            alloc,
+            *line,
+            *register,
+            crate_no,
+            station,
+            sub_address,
+            known,
+        ),
+        Stmt::Put { line, value } => put(alloc, *line, value, known),
+        _ => unreachable!(),
+    }
+}
+
+// A statement of one dataway cycle.
+fn cycle_statement(
+    alloc: Global,
+    context: &Context,
+    around: &Around,
+    statement: &Stmt,
+    known: &Facts,
+) -> Result<Findings, CheckFault>
+    requires { IsTrue (is_cycle (statement_of statement.now)) }
+    ensures { Gives verdict_of result (accept_statement (by_code context.now) around.now (statement_of statement.now) known.now) }
+{
+    match statement {
+        Stmt::Single {
+            line,
+            size,
+            function,
+            register,
+            data,
+        } => single(
+            alloc, context, around, *line, *size, *function, *register, data, known,
+        ),
+        Stmt::CrateCall { line, crate_no, .. } => {
+            crate_call(alloc, context, around, *line, crate_no, known)
+        }
+        Stmt::LamCall { line, call, lam } => {
+            lam_call(alloc, context, around, *line, *call, *lam, known)
+        }
+        _ => unreachable!(),
+    }
+}
+
+// A transfer.
+fn transfer_statement(
+    alloc: Global,
+    context: &Context,
+    around: &Around,
+    statement: &Stmt,
+    known: &Facts,
+) -> Result<Findings, CheckFault>
+    requires { IsTrue (is_transfer (statement_of statement.now)) }
+    ensures { Gives verdict_of result (accept_statement (by_code context.now) around.now (statement_of statement.now) known.now) }
+{
+    match statement {
+        Stmt::Scan {
+            line,
+            function,
+            first,
+            last,
+            max,
+            tally,
+        } => scan(
+            alloc, context, around, *line, *function, *first, *last, max, *tally, known,
+        ),
+        Stmt::QStop {
+            line,
+            function,
+            register,
+            table,
+            max,
+            tally,
+        } => q_stop(
+            alloc, context, around, *line, *function, *register, *table, max, *tally, known,
+        ),
+        Stmt::QRepeat {
+            line,
+            function,
+            register,
+            table,
+            max,
+            limit,
+            tally,
+        } => q_repeat(
+            alloc, context, around, *line, *function, *register, *table, max, limit, *tally, known,
+        ),
+        _ => unreachable!(),
+    }
 }
 
 // A variable and its value.
