@@ -10,8 +10,8 @@ use Rattle.camac_lang.proofs.Standing.{limits_hold}
 use Rattle.camac_branch.specs.Plan.{Layout, IsPlan}
 use Rattle.camac_model.specs.Fine.{Bounds}
 use Rattle.camac_model.specs.Headline.{AreWithinHeadings, WithinHeadings}
-use Rattle.camac_check.specs.Fits.{fits}
-use Rattle.camac_check.proofs.Depths.{shallow, services_shallow}
+use Rattle.camac_size.specs.Fits.{fits}
+use Rattle.camac_size.proofs.Depths.{shallow, services_shallow}
 
 words_below : (plan : Layout) (ks : List Bounds) (vs : List Service) → plan.buffer ≤ 4096 → AreWithinHeadings plan ks vs → most (λ q. q.words) vs ≤ 4096
 words_below plan ks [] small h = omega arith

@@ -3,5 +3,4 @@ pub mod Lams
 pub mod Capped
 pub mod Judged
 pub mod Blocks
-pub mod Depths
 pub mod Fitting

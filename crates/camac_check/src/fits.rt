@@ -1,13 +1,10 @@
-// Whether a script fits a store of fixed size.
+// Whether a checked script fits stores of fixed size.
 
-ghost use Rattle.std.specs.Prelude.{◌≡◌, ◌+◌, ◌≤◌, length, map, true};
-ghost use Rattle.camac_lang.specs.Tests.{total, most};
-ghost use Rattle.camac_lang.specs.View.{procedure_of, service_of};
-ghost use Rattle.camac_check.specs.Fits.{fits};
+ghost use Rattle.std.specs.Prelude.{◌≡◌, true};
+ghost use Rattle.camac_size.specs.Fits.{fits};
 
 use crate::checked::Checked;
-use crate::depth::script_depth;
-use camac_lang::{Procedure, Script, Service, limits_hold};
+use camac_size::fits;
 
 impl Checked {
     /// Whether there is room for the script: for its variables and all parameters of procedures among `v`, for the registers of each
@@ -15,11 +12,7 @@ impl Checked {
     pub fn fits(&self, v: usize, depth: usize, cap: usize) -> bool
         ensures { result ≡ fits self.now.script v depth cap }
     {
-        let script = self.script();
-        variables_of(script) <= v
-            && registers_of(script) <= v
-            && script_depth(script) <= depth
-            && most_words(script.services()) <= cap
+        fits(self.script(), v, depth, cap)
     }
 
     /// The law that 64 variables, 64 registers, a depth of 16 and events of 4,096 words are room for each checked script.
@@ -29,61 +22,5 @@ impl Checked {
         self.is_checked();
         self.script().well_formed();
         self.plan().is_plan();
-    }
-}
-
-// The variables and all parameters.
-fn variables_of(script: &Script) -> usize
-    ensures { result ≡ length script.now.variables + total (λ p. length p.parameters) script.now.procedures }
-{
-    script.well_formed();
-    limits_hold();
-    script.variables().len() + all_parameters(script.procedures())
-}
-
-fn all_parameters(procedures: &[Procedure]) -> usize
-    requires { total (λ p. length p.parameters) (map procedure_of procedures.now) ≤ 64 }
-    ensures { result ≡ total (λ p. length p.parameters) (map procedure_of procedures.now) }
-{
-    match procedures {
-        [] => 0,
-        [procedure, rest @ ..] => procedure.parameters.len() + all_parameters(rest),
-    }
-}
-
-// The registers of all procedures, and of the service that has the most.
-fn registers_of(script: &Script) -> usize
-    ensures { result ≡ total (λ p. length p.registers) script.now.procedures + most (λ v. length v.registers) script.now.services }
-{
-    script.well_formed();
-    limits_hold();
-    all_registers(script.procedures()) + most_registers(script.services())
-}
-
-fn all_registers(procedures: &[Procedure]) -> usize
-    requires { total (λ p. length p.registers) (map procedure_of procedures.now) ≤ 64 }
-    ensures { result ≡ total (λ p. length p.registers) (map procedure_of procedures.now) }
-{
-    match procedures {
-        [] => 0,
-        [procedure, rest @ ..] => procedure.registers.len() + all_registers(rest),
-    }
-}
-
-fn most_registers(services: &[Service]) -> usize
-    ensures { result ≡ most (λ v. length v.registers) (map service_of services.now) }
-{
-    match services {
-        [] => 0,
-        [service, rest @ ..] => service.registers.len().max(most_registers(rest)),
-    }
-}
-
-fn most_words(services: &[Service]) -> usize
-    ensures { result ≡ most (λ v. v.words) (map service_of services.now) }
-{
-    match services {
-        [] => 0,
-        [service, rest @ ..] => (service.words as usize).max(most_words(rest)),
     }
 }

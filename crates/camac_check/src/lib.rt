@@ -6,7 +6,6 @@ mod calls;
 mod checked;
 mod context;
 mod cycle;
-mod depth;
 mod fits;
 mod judge;
 mod procedure;

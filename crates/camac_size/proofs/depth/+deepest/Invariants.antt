@@ -1,5 +1,5 @@
 use Rattle.std.proofs.Common.{length}
-use Rattle.camac_check.proofs.depth.+deepest.Given as goal
+use Rattle.camac_size.proofs.depth.+deepest.Given as goal
 
 abbrev pub decreases-deepest : goal.decreases-deepest
 decreases-deepest l = length l.depths.now

@@ -2,9 +2,9 @@ use Rattle.std.proofs.Common.{◌+◌, ◌<◌, ◌≤◌, length, map, drop, ap
 use Rattle.std.proofs.lemmas.List.{drop_all}
 use Rattle.camac_lang.specs.View.{procedure_of, statements_of}
 use Rattle.camac_lang.specs.Depth.{inner_depth}
-use Rattle.camac_check.specs.Fits.{callables_of}
-use Rattle.camac_check.proofs.Depths.{next_procedure, step_below, step_same, last_same}
-use Rattle.camac_check.proofs.depth.depths_of.Goals as goal
+use Rattle.camac_size.specs.Fits.{callables_of}
+use Rattle.camac_size.proofs.Depths.{next_procedure, step_below, step_same, last_same}
+use Rattle.camac_size.proofs.depth.depths_of.Goals as goal
 
 pub block_depth-depth-requires : goal.block_depth-depth-requires
 block_depth-depth-requires c =

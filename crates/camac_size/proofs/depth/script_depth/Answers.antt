@@ -4,9 +4,9 @@ use Rattle.camac_lang.specs.Depth.{callables_after, inner_depth}
 use Rattle.camac_lang.specs.Tests.{most}
 use Rattle.camac_lang.specs.View.{procedure_of, service_of}
 use Rattle.camac_lang.proofs.Standing.{limits_hold}
-use Rattle.camac_check.specs.Fits.{callables_of}
-use Rattle.camac_check.proofs.Depths.{depths, shallow, services_below, whole_depth}
-use Rattle.camac_check.proofs.depth.script_depth.Goals as goal
+use Rattle.camac_size.specs.Fits.{callables_of}
+use Rattle.camac_size.proofs.Depths.{depths, shallow, services_below, whole_depth}
+use Rattle.camac_size.proofs.depth.script_depth.Goals as goal
 
 pub depths_of-depths-requires-clause-room : goal.depths_of-depths-requires-clause-room
 depths_of-depths-requires-clause-room c =

@@ -2,9 +2,9 @@ use Rattle.std.proofs.Common.{◌≡◌, [], map, drop}
 use Rattle.arrayvec.specs.ArrayVec.{array_vec_len}
 use Rattle.camac_lang.specs.Depth.{callables_after}
 use Rattle.camac_lang.specs.View.{procedure_of}
-use Rattle.camac_check.specs.Fits.{callables_of}
-use Rattle.camac_check.proofs.Depths.{depths}
-use Rattle.camac_check.proofs.depth.depths_of.Given as goal
+use Rattle.camac_size.specs.Fits.{callables_of}
+use Rattle.camac_size.proofs.Depths.{depths}
+use Rattle.camac_size.proofs.depth.depths_of.Given as goal
 
 abbrev pub invariant-procedures : goal.invariant-procedures
 invariant-procedures l = record {

@@ -10,7 +10,7 @@ use Rattle.camac_lang.specs.Tree.{Statement, assign, set_register, single, addre
 use Rattle.camac_lang.proofs.Standing.{procedures_stand, services_stand}
 use Rattle.camac_lang.specs.View.{procedure_of}
 use Rattle.camac_lang.specs.declared.script.Procedure as code
-use Rattle.camac_check.specs.Fits.{callables_of}
+use Rattle.camac_size.specs.Fits.{callables_of}
 
 abbrev pub depths : List Callable → List ℕ
 depths qs = map (λ q. q.depth) qs

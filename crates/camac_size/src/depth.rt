@@ -4,7 +4,7 @@ ghost use Rattle.std.specs.Prelude.{◌≡◌, ◌≤◌, suc, [], length, map, 
 ghost use Rattle.camac_lang.specs.Depth.{expression_depth, test_depth, part_depth, move_depth, depth_of, statement_depth, inner_depth, callables_after, script_depth};
 ghost use Rattle.camac_lang.specs.Tests.{most};
 ghost use Rattle.camac_lang.specs.View.{expression_of, test_of, part_of, move_of, statement_of, statements_of, procedure_of, service_of};
-ghost use Rattle.camac_check.specs.Fits.{callables_of};
+ghost use Rattle.camac_size.specs.Fits.{callables_of};
 
 use arrayvec::ArrayVec;
 use camac_lang::{Expr, Move, Part, Procedure, Script, Service, Stmt, Test};
