@@ -2,6 +2,6 @@
 #![tactic(auto)]
 
 mod depth;
-mod fits;
+mod room;
 
-pub use fits::fits;
+pub use room::fits;
