@@ -3,3 +3,4 @@ pub mod Pieces
 pub mod Steps
 pub mod Fed
 pub mod Whole
+pub mod EventFile

@@ -21,7 +21,7 @@ listing_listed : (t : List ℕ) → listing_of (to_listing t) ≡ t
 listing_listed [] = refl
 listing_listed (b ∷ t) = ap (λ (l : List ℕ). b ∷ l) (listing_listed t)
 
-events_listed : (t : List ℕ) → events_of (to_listing t) ≡ []
+pub events_listed : (t : List ℕ) → events_of (to_listing t) ≡ []
 events_listed [] = refl
 events_listed (b ∷ t) = events_listed t
 
@@ -29,7 +29,7 @@ listing_recorded : (t : List ℕ) → listing_of (to_events t) ≡ []
 listing_recorded [] = refl
 listing_recorded (b ∷ t) = listing_recorded t
 
-events_recorded : (t : List ℕ) → events_of (to_events t) ≡ t
+pub events_recorded : (t : List ℕ) → events_of (to_events t) ≡ t
 events_recorded [] = refl
 events_recorded (b ∷ t) = ap (λ (l : List ℕ). b ∷ l) (events_recorded t)
 

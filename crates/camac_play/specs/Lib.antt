@@ -3,3 +3,4 @@ pub mod Played
 pub mod Telling
 pub mod Step
 pub mod Play
+pub mod Headline

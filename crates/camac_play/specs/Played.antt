@@ -3,9 +3,9 @@ use Rattle.std.specs.Prelude.{ℕ, ◌+◌, List, [], ◌∷◌, ◌++◌, lengt
 use Rattle.camac_lang.specs.Tree.{Script}
 use Rattle.camac_branch.specs.Branch.{Answer}
 use Rattle.camac_branch.specs.Plan.{Layout}
-use Rattle.camac_event.specs.Spelling.{Entry, header, record_of}
+use Rattle.camac_event.specs.Spelling.{header, record_of}
 use Rattle.camac_event.specs.declared.event.Version.TheVariants.{Two}
-use Rattle.camac_model.specs.Behaviour.{Event, Piece, demanded, cycled, lock_taken, lock_released, event_left, Stop, short, overrun, pieces, stop_of, events}
+use Rattle.camac_model.specs.Behaviour.{Piece, demanded, cycled, lock_taken, lock_released, event_left, Stop, short, overrun, pieces, stop_of, events}
 use Rattle.camac_model.specs.Run.{the_run}
 use Rattle.camac_answer.specs.Reading.{Reading}
 use Rattle.camac_answer.specs.declared.fault.AnswerFault.{AnswerFault}
@@ -18,13 +18,11 @@ use Rattle.camac_report.specs.declared.refusal.Refusal.TheVariants as refusal
 use Rattle.camac_report.specs.Refusal.{refusal_text}
 use Rattle.camac_listing.specs.Ends.{stop_in, end_text}
 use Rattle.camac_listing.specs.Items.{item_text}
+use Rattle.camac_log.specs.Headline.{entry_of}
 use Rattle.camac_run.specs.declared.item.End.TheVariants as end
 use Rattle.camac_play.specs.Sent.{Sent, to_listing, to_events}
 use Rattle.camac_play.specs.declared.ending.Ending.{Ending}
 use Rattle.camac_play.specs.declared.ending.Ending.TheVariants as how
-
-abbrev pub entry_of : Event → Entry
-entry_of e = record { gl = e.bit; usage = Some (record { cycles = e.cycles; missed = e.missed }); words = e.words }
 
 -- the record of an event under its number; other pieces have none
 abbrev pub record_text : ℕ → Piece → List ℕ

@@ -4,6 +4,7 @@
 mod ending;
 mod fault;
 mod feeding;
+mod laws;
 mod playable;
 mod playing;
 mod step;
@@ -11,5 +12,6 @@ mod telling;
 
 pub use ending::Ending;
 pub use fault::PlayFault;
+pub use laws::event_file_is_sent;
 pub use playable::is_playable;
 pub use playing::play;

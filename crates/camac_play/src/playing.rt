@@ -1,8 +1,9 @@
 // A run, from the text of its answers to its listing and its event file.
 
-ghost use Rattle.std.specs.Prelude.{◌≡◌, ◌||◌, true, is_err, IfOk, IfErr};
+ghost use Rattle.std.specs.Prelude.{◌≡◌, ◌||◌, ◌<◌, ◌^◌, true, is_err, IfOk, IfErr};
 ghost use Rattle.camac_answer.specs.Answers.{left_in, left_of, stage_of, given_by, reader_failed};
 ghost use Rattle.camac_answer.specs.declared.answers.Stage.TheVariants.{Running};
+ghost use Rattle.camac_play.specs.Headline.{PlaysByHeadline};
 ghost use Rattle.camac_play.specs.Play.{Plays, is_read_fault, is_write_fault};
 ghost use Rattle.camac_play.specs.Played.{ending_text};
 ghost use Rattle.camac_play.specs.Sent.{held};
@@ -18,6 +19,7 @@ use crate::telling::close;
 use camac_answer::Answers;
 use camac_check::Checked;
 use camac_event::write_header;
+use camac_log::runs_by_headline;
 use camac_word::Watched;
 use std::alloc::Global;
 use std::io::{Read, Write};
@@ -35,6 +37,8 @@ pub fn play<R: Read, W: Write, E: Write>(
     requires { plays checked.now.script 64 16 4096 ≡ true }
     ensures plays { Plays checked.now.plan checked.now.script (left_in Running 0 (R.remaining (inner_of answers.old)))
         (held (W.contents (inner_of out.old)) (E.contents (inner_of events.old))) (held (W.contents (inner_of out.new)) (E.contents (inner_of events.new))) result }
+    ensures headline { IfOk result (λ _. PlaysByHeadline checked.now.plan checked.now.script checked.now.bounds (left_in Running 0 (R.remaining (inner_of answers.old)))
+        (E.contents (inner_of events.old)) (E.contents (inner_of events.new))) }
     ensures out_failed { (has_failed out.new || has_failed events.new) ≡ ((has_failed out.old || has_failed events.old) || is_write_fault result) }
     ensures in_failed { has_failed answers.new ≡ (has_failed answers.old || is_read_fault result) }
 {
@@ -54,10 +58,13 @@ fn play_on<R: Read, W: Write, E: Write>(
     requires given { given_by answers.old ≡ 0 }
     ensures plays { Plays checked.now.plan checked.now.script (left_of R.remaining answers.old)
         (held (W.contents (inner_of out.old)) (E.contents (inner_of events.old))) (held (W.contents (inner_of out.new)) (E.contents (inner_of events.new))) result }
+    ensures headline { IfOk result (λ _. PlaysByHeadline checked.now.plan checked.now.script checked.now.bounds (left_of R.remaining answers.old)
+        (E.contents (inner_of events.old)) (E.contents (inner_of events.new))) }
     ensures out_failed { (has_failed out.new || has_failed events.new) ≡ ((has_failed out.old || has_failed events.old) || is_write_fault result) }
     ensures in_failed { reader_failed answers.new ≡ (reader_failed answers.old || is_read_fault result) }
     ensures same_reader { answers.new.reader.ghost_name ≡ answers.old.reader.ghost_name }
 {
+    runs_by_headline(checked);
     write_header(events)?;
     let (ending, count) = feed(checked, answers, out, events)?;
     finish(out, ending, count)
@@ -68,6 +75,7 @@ fn finish<W: Write>(out: &mut Watched<W>, ending: Ending, count: u32) -> Result<
     ensures value { IfOk result (λ e. e ≡ ending) }
     ensures text { Writes (W.contents (inner_of out.old)) (W.contents (inner_of out.new)) result (ending_text ending count) }
     ensures fault { IfErr result (λ f. f ≡ Write) }
+    ensures few { count < 2 ^ 32 }
     ensures failed { has_failed out.new ≡ (has_failed out.old || is_err result) }
 {
     close(out, &ending, count)?;

@@ -5,6 +5,7 @@ use Rattle.camac_event.specs.declared.event.Version.TheVariants.{Two}
 use Rattle.camac_answer.specs.Answers.{left_of}
 use Rattle.camac_word.specs.Watched.{inner_of}
 use Rattle.camac_play.specs.Played.{ending_text}
+use Rattle.camac_play.proofs.EventFile.{plays_by_headline}
 use Rattle.camac_play.proofs.Sending.{by_listing, front_events, sends_events}
 use Rattle.camac_play.proofs.Whole.{stops_at_header, stops_in_run, finishes}
 use Rattle.camac_play.proofs.playing.play_on.Goals as goal
@@ -25,4 +26,10 @@ pub returns-clause-plays : goal.returns-clause-plays
 returns-clause-plays g c =
     finishes c.args.checked.now.plan c.args.checked.now.script (left_of g.R.Read.remaining c.args.answers.now) _ _ (sends_events (g.W.Write.contents (inner_of c.args.out.now)) _ _ (header Two) c.in_ok-write_header.ensures.text) _ _
     c.in_ok-ending.ending c.in_ok-ending.count c.finish.result c.in_ok-ending.ensures.feeds c.finish.ensures.value c.finish.ensures.fault
+    (by_listing c.finish.result _ _ _ (ending_text c.in_ok-ending.ending c.in_ok-ending.count) c.finish.ensures.text)
+
+pub returns-clause-headline : goal.returns-clause-headline
+returns-clause-headline g c =
+    plays_by_headline c.args.checked.now.plan c.args.checked.now.script c.args.checked.now.bounds (left_of g.R.Read.remaining c.args.answers.now) c.runs_by_headline.ensures.headline _ _ (sends_events (g.W.Write.contents (inner_of c.args.out.now)) _ _ (header Two) c.in_ok-write_header.ensures.text) _ _
+    c.in_ok-ending.ending c.in_ok-ending.count c.finish.result c.finish.ensures.few c.in_ok-ending.ensures.feeds
     (by_listing c.finish.result _ _ _ (ending_text c.in_ok-ending.ending c.in_ok-ending.count) c.finish.ensures.text)

@@ -1,0 +1,5 @@
+pub mod Told
+pub mod Bits
+pub mod Locks
+pub mod Entries
+pub mod Headline

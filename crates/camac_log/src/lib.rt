@@ -1,0 +1,10 @@
+//! A run over a whole list of answers, with all that it tells, and what is promised of it and of its event file.
+#![tactic(auto)]
+
+mod items;
+mod laws;
+mod log;
+
+pub use items::Items;
+pub use laws::runs_by_headline;
+pub use log::{Log, run};
