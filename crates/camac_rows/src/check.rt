@@ -1,7 +1,7 @@
 // What `camac check @sample` writes of a script.
 
 use crate::plans::SAMPLE;
-use crate::scripts::{STRAIGHT_LINE, VERDICT};
+use camac_fixtures::scripts::{STRAIGHT_LINE, VERDICT};
 use camac_tool::{Outcome, PlanSource, ToolFault, engine_check};
 use camac_word::Watched;
 use std::alloc::Global;
@@ -53,26 +53,41 @@ fn checked_on(alloc: Global, plan: &[u8], script: &[u8]) -> Result<(Outcome, Vec
     Ok((outcome, out.into_inner()))
 }
 
-#[test]
-fn straight_line_on_a_plan_text(rt: HostRuntime) -> Result<(), Fail> {
-    let (outcome, written) = checked_on(rt.alloc(), SAMPLE, STRAIGHT_LINE)?;
-    assert_eq!(rt; outcome, Outcome::Good);
-    assert_eq!(rt; written.as_slice(), VERDICT);
+pub fn expect_on(
+    rt: &(impl Abort + AllocGlobal),
+    plan: &[u8],
+    script: &[u8],
+    want: (Outcome, &[u8]),
+) -> Result<(), Fail> {
+    let (outcome, written) = checked_on(rt.alloc(), plan, script)?;
+    let (wanted, lines) = want;
+    assert_eq!(rt; outcome, wanted);
+    assert_eq!(rt; written.as_slice(), lines);
     Ok(())
 }
 
 #[test]
+fn straight_line_on_a_plan_text(rt: HostRuntime) -> Result<(), Fail> {
+    expect_on(&rt, SAMPLE, STRAIGHT_LINE, (Outcome::Good, VERDICT))
+}
+
+#[test]
 fn the_plan_is_judged_first(rt: HostRuntime) -> Result<(), Fail> {
-    let (outcome, written) = checked_on(rt.alloc(), b"=", b"!")?;
-    assert_eq!(rt; outcome, Outcome::Refused);
-    assert_eq!(rt; written.as_slice(), b"refused P1: not TOML\n".as_slice());
-    let (outcome, written) = checked_on(rt.alloc(), b"", STRAIGHT_LINE)?;
-    assert_eq!(rt; outcome, Outcome::Refused);
-    assert_eq!(rt;
-        written.as_slice(),
-        b"refused L1 line 1: LAM at no installed station\n".as_slice()
-    );
-    Ok(())
+    expect_on(
+        &rt,
+        b"=",
+        b"!",
+        (Outcome::Refused, b"refused P1: not TOML\n"),
+    )?;
+    expect_on(
+        &rt,
+        b"",
+        STRAIGHT_LINE,
+        (
+            Outcome::Refused,
+            b"refused L1 line 1: LAM at no installed station\n",
+        ),
+    )
 }
 
 #[test]

@@ -1,7 +1,7 @@
 // Reads and writes of `camac events` that fail, each in turn, and a file that is too long.
 
 use crate::event_file::{FILE_ONE, FILE_TWO, LISTING_ONE, LISTING_TWO};
-use crate::fakes::{Broken, Endless, Narrow, WhenFull};
+use camac_fixtures::fakes::{Broken, Endless, Narrow, WhenFull};
 use camac_tool::{Outcome, ToolFault, engine_events};
 use camac_word::Watched;
 use std::process::Abort;

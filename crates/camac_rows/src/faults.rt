@@ -1,7 +1,7 @@
 // Reads and writes that fail, each in turn, and a reader that never ends.
 
-use crate::fakes::{Broken, Endless, Narrow, WhenFull};
-use crate::scripts::{STRAIGHT_LINE, VERDICT};
+use camac_fixtures::fakes::{Broken, Endless, Narrow, WhenFull};
+use camac_fixtures::scripts::{STRAIGHT_LINE, VERDICT};
 use camac_tool::{Outcome, PlanSource, ToolFault, engine_check, status};
 use camac_word::Watched;
 use std::process::Abort;

@@ -1,7 +1,7 @@
 // Whether the standard script fits a store of fixed size.
 
-use crate::scripts::STRAIGHT_LINE;
 use camac_check::check;
+use camac_fixtures::scripts::STRAIGHT_LINE;
 use camac_names::resolve;
 use camac_text::parse;
 use camac_tool::sample_plan;

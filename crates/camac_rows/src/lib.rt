@@ -1,6 +1,8 @@
-//! Worked rows that cross crates, as tests over readers and writers in memory.
+//! Worked rows of plans, scripts, verdicts and event files, as tests over readers and writers in memory.
 #![tactic(auto)]
 
+#[cfg(test)]
+mod bounds;
 #[cfg(test)]
 mod calls;
 #[cfg(test)]
@@ -11,8 +13,6 @@ mod event_faults;
 mod event_file;
 #[cfg(test)]
 mod events;
-#[cfg(test)]
-mod fakes;
 #[cfg(test)]
 mod faults;
 #[cfg(test)]
@@ -31,18 +31,6 @@ mod plans;
 mod procedures;
 #[cfg(test)]
 mod ranges;
-#[cfg(test)]
-mod run;
-#[cfg(test)]
-mod run_cycles;
-#[cfg(test)]
-mod run_faults;
-#[cfg(test)]
-mod run_locks;
-#[cfg(test)]
-mod run_loops;
-#[cfg(test)]
-mod scripts;
 #[cfg(test)]
 mod transfers;
 #[cfg(test)]

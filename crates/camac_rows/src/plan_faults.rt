@@ -1,7 +1,7 @@
 // Reads and writes of `camac plan` that fail, each in turn, and a reader that never ends.
 
-use crate::fakes::{Broken, Endless, Narrow, WhenFull};
 use crate::plans::{LISTING, SAMPLE};
+use camac_fixtures::fakes::{Broken, Endless, Narrow, WhenFull};
 use camac_tool::{Outcome, PlanSource, ToolFault, engine_plan, status};
 use camac_word::Watched;
 use std::process::Abort;

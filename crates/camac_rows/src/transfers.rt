@@ -1,6 +1,8 @@
 // What `camac check @sample` writes of transfers.
 
-use crate::check::{expect_accepted, expect_refused};
+use crate::check::{expect_accepted, expect_on, expect_refused};
+use crate::plans::TWO_CRATES;
+use camac_tool::Outcome;
 use std::test::Fail;
 
 #[test]
@@ -66,6 +68,58 @@ cfmad 0 a b max 17 tally t
         b"accepted
 service adc gl 3 cycles 51 of 51 words 17 of 17 steps 20
 ",
+    )?;
+    expect_accepted(
+        &rt,
+        b"cdlam adc 1 1 5 12
+var v k i t
+service adc within 51 cycles event 17 words {
+cdreg a 1 1 5 0
+cdreg b 1 1 6 0
+cfmad 0 a b max 1 tally t
+}
+",
+        b"accepted
+service adc gl 3 cycles 9 of 51 words 1 of 17 steps 6
+",
+    )
+}
+
+#[test]
+fn scan_two_crates(rt: HostRuntime) -> Result<(), Fail> {
+    expect_on(
+        &rt,
+        TWO_CRATES,
+        b"cdlam adc 1 1 5 12
+var v k i t
+service adc within 100 cycles event 100 words {
+cdreg a 1 1 5 0
+cdreg b 1 2 5 0
+cfmad 0 a b max 4 tally t
+}
+",
+        (
+            Outcome::Refused,
+            b"refused E13 line 6: crates of a scan differ\n",
+        ),
+    )?;
+    expect_on(
+        &rt,
+        TWO_CRATES,
+        b"cdlam adc 1 1 5 12
+var v k i t
+service adc within 100 cycles event 100 words {
+cdreg a 1 2 5 0
+cdreg b 1 2 5 0
+cfmad 0 a b max 4 tally t
+}
+",
+        (
+            Outcome::Good,
+            b"accepted
+service adc gl 3 cycles 1 of 100 words 1 of 100 steps 4
+",
+        ),
     )
 }
 

@@ -1,6 +1,6 @@
 // A script's copy is the script: its contract says so, and here memory is found for it.
 
-use crate::scripts::STRAIGHT_LINE;
+use camac_fixtures::scripts::STRAIGHT_LINE;
 use camac_text::parse;
 use std::test::Fail;
 

@@ -1,8 +1,9 @@
 // A run's reads and writes that fail, and answers without end.
 
-use crate::fakes::{Broken, Endless, Narrow, WhenFull};
-use crate::run::{ANSWERS, EVENTS, LISTING};
-use crate::scripts::STRAIGHT_LINE;
+use crate::locks::{LOCKOUT, OVERRUN, WAITING};
+use crate::run::{ANSWERS, EVENTS, LISTING, NO_EVENTS};
+use camac_fixtures::fakes::{Broken, Endless, Narrow, WhenFull};
+use camac_fixtures::scripts::STRAIGHT_LINE;
 use camac_tool::{Outcome, PlanSource, ToolFault, engine_run};
 use camac_word::Watched;
 use std::alloc::Global;
@@ -173,9 +174,9 @@ impl Read for Pieces<'_> {
 fn answers_in_pieces(rt: HostRuntime) -> Result<(), Fail> {
     for size in [1, 2, 7, 19, 20, 21] {
         let mut plan = PlanSource::<&[u8]>::Sample;
-        let mut script = Watched::new(STRAIGHT_LINE);
+        let mut script = Watched::new(LOCKOUT);
         let mut answers = Watched::new(Pieces {
-            text: ANSWERS,
+            text: WAITING,
             size,
         });
         let mut out = Watched::new(Vec::new(rt.alloc()));
@@ -188,9 +189,9 @@ fn answers_in_pieces(rt: HostRuntime) -> Result<(), Fail> {
             &mut out,
             &mut events,
         );
-        assert_eq!(rt; answer, Ok(Outcome::Good));
-        assert_eq!(rt; out.into_inner().as_slice(), LISTING);
-        assert_eq!(rt; events.into_inner().as_slice(), EVENTS);
+        assert_eq!(rt; answer, Ok(Outcome::Refused));
+        assert_eq!(rt; out.into_inner().as_slice(), OVERRUN);
+        assert_eq!(rt; events.into_inner().as_slice(), NO_EVENTS);
     }
     Ok(())
 }

@@ -1,6 +1,6 @@
 // What `camac run @sample` writes of a script and its answers.
 
-use crate::scripts::STRAIGHT_LINE;
+use camac_fixtures::scripts::STRAIGHT_LINE;
 use camac_tool::{Outcome, PlanSource, ToolFault, engine_run};
 use camac_word::Watched;
 use std::alloc::Global;
@@ -70,6 +70,42 @@ pub fn expect_run(
     assert_eq!(rt; listing.as_slice(), lines);
     assert_eq!(rt; events.as_slice(), file);
     Ok(())
+}
+
+/// An event of the converter's service.
+pub struct Event<'a> {
+    pub cycles: u32,
+    pub missed: u16,
+    pub words: &'a [u32],
+}
+
+// The event file of these events.
+fn file_of(alloc: Global, events: &[Event]) -> Result<Vec<u8>, Fail> {
+    let mut file = NO_EVENTS.to_vec(alloc)?;
+    for (number, event) in (1u32..).zip(events) {
+        let count = u16::try_from(event.words.len())?;
+        file.extend_from_slice(b"\xca\x4d\x00\x03")?;
+        file.extend_from_slice(&number.to_be_bytes())?;
+        file.extend_from_slice(&event.cycles.to_be_bytes())?;
+        file.extend_from_slice(&event.missed.to_be_bytes())?;
+        file.extend_from_slice(&count.to_be_bytes())?;
+        for word in event.words {
+            file.extend_from_slice(&word.to_be_bytes())?;
+        }
+    }
+    Ok(file)
+}
+
+/// The run comes to the end of its answers with this listing and these events.
+pub fn expect_events(
+    rt: &(impl Abort + AllocGlobal),
+    script: &[u8],
+    answers: &[u8],
+    lines: &[u8],
+    events: &[Event],
+) -> Result<(), Fail> {
+    let file = file_of(rt.alloc(), events)?;
+    expect_run(rt, script, answers, (Outcome::Good, lines, &file))
 }
 
 #[test]

@@ -4,7 +4,8 @@ use crate::run::{NO_EVENTS, expect_run};
 use camac_tool::Outcome;
 use std::test::Fail;
 
-const LOCKOUT: &[u8] = b"cdlam adc 1 1 5 12
+/// A crate is locked for four reads.
+pub const LOCKOUT: &[u8] = b"cdlam adc 1 1 5 12
 var v k i t
 service adc within 6 cycles event 100 words {
 cdreg r 1 1 5 0
@@ -17,25 +18,27 @@ lock 1 {
 }
 ";
 
+/// Answers of which the last has a wait that the lock does not permit.
+pub const WAITING: &[u8] = b"0 0 000000 0 000004
+0 0 000000 2 000000
+1 1 000abc 0 000000
+1 1 000abc 1 000000
+";
+
+/// What they list.
+pub const OVERRUN: &[u8] = b"demand 000004 adc
+lock 1 wait 2
+cycle 1 5 0 0 in 000abc x1 q1 wait 0
+overrun 1 wait 1 events 0
+";
+
 #[test]
 fn lockout(rt: HostRuntime) -> Result<(), Fail> {
     expect_run(
         &rt,
         LOCKOUT,
-        b"0 0 000000 0 000004
-0 0 000000 2 000000
-1 1 000abc 0 000000
-1 1 000abc 1 000000
-",
-        (
-            Outcome::Refused,
-            b"demand 000004 adc
-lock 1 wait 2
-cycle 1 5 0 0 in 000abc x1 q1 wait 0
-overrun 1 wait 1 events 0
-",
-            NO_EVENTS,
-        ),
+        WAITING,
+        (Outcome::Refused, OVERRUN, NO_EVENTS),
     )
 }
 

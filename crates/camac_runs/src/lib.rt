@@ -1,0 +1,13 @@
+//! Worked rows of runs, as tests over readers and writers in memory.
+#![tactic(auto)]
+
+#[cfg(test)]
+mod cycles;
+#[cfg(test)]
+mod faults;
+#[cfg(test)]
+mod locks;
+#[cfg(test)]
+mod loops;
+#[cfg(test)]
+mod run;
