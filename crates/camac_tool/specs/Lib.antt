@@ -6,4 +6,5 @@ pub mod Plan
 pub mod Engine
 pub mod Accepted
 pub mod Run
+pub mod Headline
 pub mod Input

@@ -1,0 +1,4 @@
+use Rattle.camac_tool.proofs.running.run_checked.Goals as goal
+
+pub returns-in-Ok-clause-headline : goal.returns-in-Ok-clause-headline
+returns-in-Ok-clause-headline g c = (c.is_checked.ensures.accepted, c.in-Ok.ensures.headline)
