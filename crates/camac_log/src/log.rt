@@ -8,7 +8,6 @@ ghost use Rattle.camac_log.specs.Headline.{Headline};
 ghost use Rattle.camac_log.specs.Log.{IsLogOf, left_entries, unlock_items};
 ghost use Rattle.camac_model.specs.Behaviour.{items, events, stop_of};
 ghost use Rattle.camac_model.specs.Run.{the_run};
-ghost use Rattle.camac_run.specs.Plays.{plays};
 ghost use Rattle.camac_run.specs.Runner.{rest};
 
 use crate::items::Items;
@@ -32,13 +31,13 @@ pub struct Log {
 /// operation (`Ended`), inside a service (`Short`), which then leaves no event, or at a wait that is not permitted (`Overrun`). An `Err`
 /// is want of memory for the log.
 pub fn run(alloc: Global, checked: &Checked, answers: &[Answer]) -> Result<Log, AllocError>
-    requires plays { plays checked.now.script 64 16 4096 ≡ true }
     requires answers { length answers.now ≤ 1000000 }
     ensures log { IfOk result (λ log. IsLogOf log (the_run checked.now.plan checked.now.script answers.now)) }
     ensures headline { IfOk result (λ log. Headline checked.now.plan checked.now.script checked.now.bounds answers.now
         (spelling log.events.version log.events.events)) }
 {
     runs_by_headline(checked);
+    checked.fits_greatest();
     let mut runner = Runner::<64, 16, 4096>::start(checked);
     let mut items = Items::new(alloc);
     let mut events = Events::new(alloc, Version::Two);

@@ -8,7 +8,6 @@ ghost use Rattle.camac_model.specs.Behaviour.{stop_of, pieces};
 ghost use Rattle.camac_play.specs.Play.{Feeds, failed_by, faulted, is_read_fault, is_write_fault};
 ghost use Rattle.camac_play.specs.Step.{IsOut};
 ghost use Rattle.camac_play.specs.Sent.{held};
-ghost use Rattle.camac_run.specs.Plays.{plays};
 ghost use Rattle.camac_run.specs.Runner.{rest};
 ghost use Rattle.camac_word.specs.Watched.{inner_of, has_failed};
 
@@ -29,7 +28,6 @@ pub fn feed<R: Read, W: Write, E: Write>(
     out: &mut Watched<W>,
     events: &mut Watched<E>,
 ) -> Result<(Ending, u32), PlayFault>
-    requires plays { plays checked.now.script 64 16 4096 ≡ true }
     requires running { stage_of answers.old ≡ Running }
     requires given { given_by answers.old ≡ 0 }
     ensures feeds { Feeds checked.now.plan checked.now.script (left_of R.remaining answers.old)
@@ -38,6 +36,7 @@ pub fn feed<R: Read, W: Write, E: Write>(
     ensures in_failed { reader_failed answers.new ≡ (reader_failed answers.old || is_read_fault result) }
     ensures same_reader { answers.new.reader.ghost_name ≡ answers.old.reader.ghost_name }
 {
+    checked.fits_greatest();
     let mut runner = Runner::<64, 16, 4096>::start(checked);
     let mut count = 0;
     'answers: loop {

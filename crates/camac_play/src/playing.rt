@@ -8,7 +8,6 @@ ghost use Rattle.camac_play.specs.Play.{Plays, is_read_fault, is_write_fault};
 ghost use Rattle.camac_play.specs.Played.{ending_text};
 ghost use Rattle.camac_play.specs.Sent.{held};
 ghost use Rattle.camac_play.specs.declared.fault.PlayFault.TheVariants.{Write};
-ghost use Rattle.camac_run.specs.Plays.{plays};
 ghost use Rattle.camac_word.specs.Watched.{inner_of, has_failed};
 ghost use Rattle.camac_word.specs.Writing.{Writes};
 
@@ -34,7 +33,6 @@ pub fn play<R: Read, W: Write, E: Write>(
     out: &mut Watched<W>,
     events: &mut Watched<E>,
 ) -> Result<Ending, PlayFault>
-    requires { plays checked.now.script 64 16 4096 ≡ true }
     ensures plays { Plays checked.now.plan checked.now.script (left_in Running 0 (R.remaining (inner_of answers.old)))
         (held (W.contents (inner_of out.old)) (E.contents (inner_of events.old))) (held (W.contents (inner_of out.new)) (E.contents (inner_of events.new))) result }
     ensures headline { IfOk result (λ _. PlaysByHeadline checked.now.plan checked.now.script checked.now.bounds (left_in Running 0 (R.remaining (inner_of answers.old)))
@@ -53,7 +51,6 @@ fn play_on<R: Read, W: Write, E: Write>(
     out: &mut Watched<W>,
     events: &mut Watched<E>,
 ) -> Result<Ending, PlayFault>
-    requires plays { plays checked.now.script 64 16 4096 ≡ true }
     requires running { stage_of answers.old ≡ Running }
     requires given { given_by answers.old ≡ 0 }
     ensures plays { Plays checked.now.plan checked.now.script (left_of R.remaining answers.old)

@@ -1,7 +1,8 @@
 -- The bounds of a service fit a store that is large enough.
-use Rattle.std.proofs.Common.{◌≡◌, ℕ, zero, suc, ◌+◌, ◌-◌, ◌≤◌, List, [], ◌∷◌, length, Some, Bool, true, refl, subst, arith}
+use Rattle.std.proofs.Common.{◌≡◌, ℕ, zero, suc, ◌+◌, ◌-◌, ◌≤◌, List, [], ◌∷◌, length, Some, Bool, true, refl, sym, ap, subst, take, arith}
 use Rattle.std.specs.Prelude.{◌&&◌, IsTrue, slice_get, slice_index_or, nat_le}
 use Rattle.std.proofs.lemmas.Bool.{and_parts, leb-true}
+use Rattle.std.proofs.lemmas.List.{take_all}
 use Rattle.camac_lang.specs.Depth.{inner_depth, callables_after, script_depth}
 use Rattle.camac_lang.specs.Laws.{whole, ServiceStands}
 use Rattle.camac_lang.specs.Scope.{is_well_formed}
@@ -11,27 +12,24 @@ use Rattle.camac_lang.proofs.Places.{most_at}
 use Rattle.camac_lang.proofs.Standing.{services_stand}
 use Rattle.camac_branch.specs.Plan.{Layout}
 use Rattle.camac_check.specs.Checked.{CheckedScript, IsChecked}
-use Rattle.camac_run.specs.Fits.{fits}
-use Rattle.camac_run.specs.Plays.{are_played, plays}
+use Rattle.camac_size.specs.Fits.{fits}
 use Rattle.camac_model.specs.Fine.{Bounds, IsFineService, AreFine}
 use Rattle.camac_model.specs.Headline.{IsWithinHeading, AreWithinHeadings}
 use Rattle.camac_model.specs.Value.{greatest}
 use Rattle.camac_run.specs.Held.{bounds_at}
-use Rattle.camac_run.specs.Within.{Opens}
-use Rattle.camac_run.proofs.Played.{played_fits}
+use Rattle.camac_run.specs.Store.{seen_by_service}
+use Rattle.camac_run.specs.Within.{reach_of, ScopeFits, Opens}
+use Rattle.camac_run.proofs.Fitted.{block_fits}
 
 -- what a store has room for
 pub record HasStore (s : Script) (v d w : ℕ) : Type 0 where
-  pub variables : length s.variables ≤ v
-  pub registers : most (λ q. length q.registers) s.services ≤ v
+  pub variables : length s.variables + total (λ p. length p.parameters) s.procedures ≤ v
+  pub registers : total (λ p. length p.registers) s.procedures + most (λ q. length q.registers) s.services ≤ v
   pub depth : script_depth s ≤ d
   pub words : most (λ q. q.words) s.services ≤ w
-  pub played : are_played s.services ≡ true
 
-pub fits_parts : (s : Script) (v d w : ℕ) → plays s v d w ≡ true → HasStore s v d w
-fits_parts s v d w both =
-    let parts = and_parts (fits s v d w) (are_played s.services) both in
-    let h = parts.0 in
+pub fits_parts : (s : Script) (v d w : ℕ) → fits s v d w ≡ true → HasStore s v d w
+fits_parts s v d w h =
     let n1 : ℕ = length s.variables + total (λ p. length p.parameters) s.procedures in
     let n2 : ℕ = total (λ p. length p.registers) s.procedures + most (λ q. length q.registers) s.services in
     let n4 : ℕ = most (λ q. q.words) s.services in
@@ -39,14 +37,11 @@ fits_parts s v d w both =
     let a = and_parts (nat_le n1 v) (nat_le n2 v && t3) h in
     let b = and_parts (nat_le n2 v) t3 a.1 in
     let c = and_parts (nat_le (script_depth s) d) (nat_le n4 w) b.1 in
-    let l1 : n1 ≤ v = leb-true n1 v a.0 in
-    let l2 : n2 ≤ v = leb-true n2 v b.0 in
     record {
-      variables = omega arith;
-      registers = omega arith;
+      variables = leb-true n1 v a.0;
+      registers = leb-true n2 v b.0;
       depth = leb-true (script_depth s) d c.0;
       words = leb-true n4 w c.1;
-      played = parts.1;
     }
 
 -- the bounds of a service by its number, and the service
@@ -80,18 +75,31 @@ module _ (c : CheckedScript) (checked : IsChecked c) (formed : IsTrue (is_well_f
       })
       checked.headings
 
-  -- the body of a service fits
-  pub body_fits : (i : ℕ) (s : Service) → slice_get c.script.services i ≡ Some s → Opens v (length c.script.lams) d s.body
+  -- the scope of a service fits, and its body
+  pub scope_fits : (i : ℕ) (s : Service) → slice_get c.script.services i ≡ Some s → ScopeFits v c.script (seen_by_service c.script s)
+  scope_fits i s e =
+      let every : take (length c.script.procedures) c.script.procedures ≡ c.script.procedures = take_all (length c.script.procedures) c.script.procedures (omega arith) in
+      let few : length s.registers ≤ most (λ q. length q.registers) c.script.services = most_at (λ q. length q.registers) c.script.services i s e in
+      let registers = store.registers in
+      let room : length s.registers + total (λ p. length p.registers) c.script.procedures ≤ v = omega (arith, few, registers) in
+      record {
+        variables = omega arith;
+        registers = omega arith;
+        more_variables = subst (λ ps. length c.script.variables + total (λ p. length p.parameters) ps ≤ v) (sym every) store.variables;
+        more_registers = subst (λ ps. length s.registers + total (λ p. length p.registers) ps ≤ v) (sym every) room;
+      }
+
+  pub body_fits : (i : ℕ) (s : Service) → slice_get c.script.services i ≡ Some s → Opens (reach_of c.script (seen_by_service c.script s)) d s.body
   body_fits i s e =
+      let every : take (length c.script.procedures) c.script.procedures ≡ c.script.procedures = take_all (length c.script.procedures) c.script.procedures (omega arith) in
       let st = stands i s e in
       let deep : suc (inner_depth (whole c.script).callables s.body) ≤ most (λ q. suc (inner_depth (callables_after [] c.script.procedures) q.body)) c.script.services =
       most_at (λ q. suc (inner_depth (callables_after [] c.script.procedures) q.body)) c.script.services i s e in
-      let depth = store.depth in
-      let few : length s.registers ≤ most (λ q. length q.registers) c.script.services = most_at (λ q. length q.registers) c.script.services i s e in
-      let registers = store.registers in (
+      let depth = store.depth in (
         omega (arith, deep, depth),
-        played_fits (whole c.script) v (length c.script.lams) c.script.services i (length s.registers) (d - 1) s
-            store.played e st.body (omega (arith, few, registers)) store.variables (omega arith) (omega (arith, deep, depth)),
+        block_fits (whole c.script) (reach_of c.script (seen_by_service c.script s))
+            (record { variables = omega arith; tables = omega arith; lams = omega arith; procedures = ap (λ ps. callables_after [] ps) (sym every) })
+            s.body 0 (length s.registers) (d - 1) st.body (omega arith) (omega (arith, deep, depth)),
       )
 
 -- a service is fine by the bounds of its number

@@ -15,7 +15,7 @@ use Rattle.camac_model.specs.Meaning.{context, counted, count_turns, turns, bloc
 use Rattle.camac_model.specs.Safe.{IsSafe}
 use Rattle.camac_model.specs.Value.{truth}
 use Rattle.camac_model.proofs.Grown.{counts_grow}
-use Rattle.camac_run.specs.Rest.{Owner, nothing, releases, counts, repeats, owed, Open, left_of, rest_in, says}
+use Rattle.camac_run.specs.Rest.{Owner, nothing, releases, counts, repeats, returns, owed, Open, left_of, rest_in, says}
 
 pub some_is : {A : Type 0} (o : Option A) (v : A) → o ≡ Some v → IsSome o
 some_is o v e = rw e refl
@@ -110,6 +110,7 @@ module _ (plan : Layout) (k : Bounds) where
       record { cycles = h.1.cycles; words = h.1.words; steps = omega (arith, steps); are_words = h.1.are_words }
   keeps_owed script (counts x v last n b) s h = keeps_counts script b (last - v) n x (v + 1) last s h
   keeps_owed script (repeats test n b) s h = keeps_turns script b test n s h
+  keeps_owed script (returns p vs rs) s h = record { cycles = h.cycles; words = h.words; steps = h.steps; are_words = h.are_words }
 
   keeps_left : (script : Script) (o : Open) (s : State) → IsFine plan k (left_of (context plan script) o s) → IsWithin k s
   keeps_left script o s h =

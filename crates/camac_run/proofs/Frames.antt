@@ -1,5 +1,5 @@
 -- A machine with one block more or less.
-use Rattle.std.proofs.Common.{◌≡◌, ℕ, ◌+◌, ◌-◌, ◌*◌, ◌<◌, ◌≤◌, List, [], ◌∷◌, ◌++◌, length, length-append, refl, sym, ap, subst, ◌∙◌, arith}
+use Rattle.std.proofs.Common.{◌≡◌, ℕ, ◌+◌, ◌-◌, ◌*◌, ◌<◌, ◌≤◌, List, [], ◌∷◌, ◌++◌, length, length-append, map, refl, sym, ap, subst, ◌∙◌, arith}
 use Rattle.std.proofs.lemmas.List.{append-nil, map-append, length-map}
 use Rattle.std.proofs.Math.Path.{fun_ext}
 use Rattle.std.specs.Prelude.{Option, Some, None}
@@ -7,7 +7,7 @@ use Rattle.std.specs.Borrow.{Bor}
 use Rattle.camac_check.specs.Checked.{CheckedScript}
 use Rattle.arrayvec.specs.ArrayVec.{ArrayVec}
 use Rattle.camac_lang.specs.declared.tree.Stmt.{Stmt}
-use Rattle.camac_lang.specs.Tree.{Statement, Block, next}
+use Rattle.camac_lang.specs.Tree.{Statement, Block, next, Script}
 use Rattle.camac_lang.specs.View.{statements_of}
 use Rattle.camac_branch.specs.Branch.{Answer}
 use Rattle.camac_branch.specs.Crates.{branch_of}
@@ -20,15 +20,16 @@ use Rattle.camac_run.specs.declared.machine.Frame.{Frame}
 use Rattle.camac_run.specs.declared.machine.Machine.{Machine}
 use Rattle.camac_run.specs.declared.machine.Owner.TheVariants.{Plain}
 use Rattle.camac_run.specs.declared.machine.Wanting.{Wanting}
+use Rattle.camac_run.specs.declared.scope.Scope.{Scope}
 use Rattle.camac_run.specs.Rest.{nothing, owed, Open, left_of, rest_in, says}
-use Rattle.camac_run.specs.Within.{StatementFits, Opens, OwnerFits, OpenFit}
-use Rattle.camac_run.specs.Held.{bounds_at, bounds_of, open_of, opens_of, holds, AreHeld, free, context_in, state_of, left_in, stands, IsFineHere, HasRoomFor, HasRoom, Wants, Advances}
+use Rattle.camac_run.specs.Within.{StatementFits, Opens, OwnerFits, outer, OpenFit}
+use Rattle.camac_run.specs.Held.{bounds_at, bounds_of, open_in, opens_in, holds, AreHeld, free, reach, context_in, state_of, left_in, stands, IsFineHere, HasRoomFor, HasRoom, Wants, Advances}
 use Rattle.camac_run.proofs.Blocks.{then_ends, rest_push, opens_push, opens_pop, says_more, measure_falls}
 use Rattle.camac_run.proofs.Locks.{held_push, held_same}
 
 -- what is left with a frame more
-pub left_pushed : (c : Context) (fs : List Frame) (f : Frame) (s : State) → rest_in c (opens_of (fs ++ f ∷ [])) s ≡ then_do (left_of c (open_of f) s) (rest_in c (opens_of fs))
-left_pushed c fs f s = ap (λ os. rest_in c os s) (map-append open_of fs (f ∷ [])) ∙ rest_push c (opens_of fs) (open_of f) s
+pub left_pushed : (c : Context) (go : Frame → Open) (fs : List Frame) (f : Frame) (s : State) → rest_in c (map go (fs ++ f ∷ [])) s ≡ then_do (left_of c (go f) s) (rest_in c (map go fs))
+left_pushed c go fs f s = ap (λ os. rest_in c os s) (map-append go fs (f ∷ [])) ∙ rest_push c (map go fs) (go f) s
 
 -- a block with nothing to do after it
 plain_left : (c : Context) (b : Block) (s : State) → left_of c (record { block = b; owner = nothing }) s ≡ block_meaning c most_turns b s
@@ -41,6 +42,8 @@ module _ {V D C : ℕ} (h : Machine V D C) where
   room_stepped n r = record {
     variables = r.variables;
     registers = r.registers;
+    fits = r.fits;
+    scope = r.scope;
     blocks = r.blocks;
     words = r.words;
     steps = r.steps;
@@ -52,10 +55,12 @@ module _ {V D C : ℕ} (h : Machine V D C) where
   }
 
   -- by other open blocks
-  pub room_with : (fs : ArrayVec Frame) (os qs : List Open) → OpenFit V (length h.checked.now.script.lams) D qs → AreHeld (branch_of h.branch) qs → HasRoomFor h os → HasRoomFor (record h { frames = fs }) qs
+  pub room_with : (fs : ArrayVec Frame) (os qs : List Open) → OpenFit V h.checked.now.script h.scope D qs → AreHeld (branch_of h.branch) qs → HasRoomFor h os → HasRoomFor (record h { frames = fs }) qs
   room_with fs os qs b l r = record {
     variables = r.variables;
     registers = r.registers;
+    fits = r.fits;
+    scope = r.scope;
     blocks = b;
     words = r.words;
     steps = r.steps;
@@ -66,65 +71,64 @@ module _ {V D C : ℕ} (h : Machine V D C) where
     unlocks = r.unlocks;
   }
 
-  abbrev lams : ℕ
-  lams = length h.checked.now.script.lams
-
-  opens_length : length (opens_of h.frames.items) ≡ length h.frames.items
-  opens_length = length-map h.frames.items open_of
+  opens_length : length (opens_in h) ≡ length h.frames.items
+  opens_length = length-map h.frames.items (open_in h)
 
   module _ (f : Frame) (fs : ArrayVec Frame) where
-    opens_pushed : fs.items ≡ h.frames.items ++ f ∷ [] → opens_of fs.items ≡ opens_of h.frames.items ++ open_of f ∷ []
-    opens_pushed e = ap opens_of e ∙ map-append open_of h.frames.items (f ∷ [])
+    opens_pushed : fs.items ≡ h.frames.items ++ f ∷ [] → map (open_in h) fs.items ≡ opens_in h ++ open_in h f ∷ []
+    opens_pushed e = ap (map (open_in h)) e ∙ map-append (open_in h) h.frames.items (f ∷ [])
 
     -- with a block more, which holds no lock
-    pub room_opened : fs.items ≡ h.frames.items ++ f ∷ [] → HasRoom h → Opens V lams (free h) (open_of f).block → OwnerFits V lams (free h) (open_of f).owner → ((c : ℕ) → holds c (open_of f).owner ≡ 0) → HasRoom (record h { frames = fs })
-    room_opened e r b w none =
-        let n : D - length h.frames.items ≡ D - length (opens_of h.frames.items) = ap (λ k. D - k) (sym opens_length) in
-        let fit = opens_push V lams D (opens_of h.frames.items) (open_of f) r.blocks (subst (λ d. Opens V lams d (open_of f).block) n b) (subst (λ d. OwnerFits V lams d (open_of f).owner) n w) in
-        let held = held_push (branch_of h.branch) (opens_of h.frames.items) (open_of f) none r.locks in
-        room_with fs (opens_of h.frames.items) (opens_of fs.items) (subst (OpenFit V lams D) (sym (opens_pushed e)) fit) (subst (AreHeld (branch_of h.branch)) (sym (opens_pushed e)) held) r
+    pub room_opened : fs.items ≡ h.frames.items ++ f ∷ [] → HasRoom h → Opens (reach h) (free h) (open_in h f).block → OwnerFits V h.checked.now.script h.scope (free h) (open_in h f).owner → outer h.scope (open_in h f).owner ≡ h.scope → ((c : ℕ) → holds c (open_in h f).owner ≡ 0) → HasRoom (record h { frames = fs })
+    room_opened e r b w stays none =
+        let s : Script = h.checked.now.script in
+        let n : D - length h.frames.items ≡ D - length (opens_in h) = ap (λ k. D - k) (sym opens_length) in
+        let fit = opens_push V s h.scope D (opens_in h) (open_in h f) (subst (λ (u : Scope). OpenFit V s u D (opens_in h)) (sym stays) r.blocks) (subst (λ d. Opens (reach h) d (open_in h f).block) n b) (subst (λ d. OwnerFits V s h.scope d (open_in h f).owner) n w) in
+        let held = held_push (branch_of h.branch) (opens_in h) (open_in h f) none r.locks in
+        room_with fs (opens_in h) (map (open_in h) fs.items) (subst (OpenFit V h.checked.now.script h.scope D) (sym (opens_pushed e)) fit) (subst (AreHeld (branch_of h.branch)) (sym (opens_pushed e)) held) r
 
     -- the same block with its first statement begun
-    pub room_begun : (o : Open) (st : Statement) → fs.items ≡ h.frames.items ++ f ∷ [] → o.block ≡ next st (open_of f).block → o.owner ≡ (open_of f).owner → HasRoomFor h (opens_of h.frames.items ++ o ∷ []) → HasRoom (record h { frames = fs }) × StatementFits V lams (D - length fs.items) st
+    pub room_begun : (o : Open) (st : Statement) → fs.items ≡ h.frames.items ++ f ∷ [] → o.block ≡ next st (open_in h f).block → o.owner ≡ (open_in h f).owner → HasRoomFor h (opens_in h ++ o ∷ []) → HasRoom (record h { frames = fs }) × StatementFits (reach h) (D - length fs.items) st
     room_begun o st e b w r =
-        let os : List Open = opens_of h.frames.items in
-        let last = opens_pop V lams D os o r.blocks in
-        let block : Opens V lams (D - length os) (next st (open_of f).block) = subst (λ q. Opens V lams (D - length os) q) b last.block in
-        let fit = opens_push V lams D os (open_of f) last.others (block.0, block.1.1) (subst (λ q. OwnerFits V lams (D - length os) q) w last.owner) in
-        let held = held_same (branch_of h.branch) os o (open_of f) (λ c. ap (holds c) w) r.locks in
+        let os : List Open = opens_in h in
+        let s : Script = h.checked.now.script in
+        let last = opens_pop V s h.scope D os o r.blocks in
+        let block : Opens (reach h) (D - length os) (next st (open_in h f).block) = subst (λ q. Opens (reach h) (D - length os) q) b last.block in
+        let fit = opens_push V s h.scope D os (open_in h f) (subst (λ q. OpenFit V s (outer h.scope q) D os) w last.others) (block.0, block.1.1) (subst (λ q. OwnerFits V s h.scope (D - length os) q) w last.owner) in
+        let held = held_same (branch_of h.branch) os o (open_in h f) (λ c. ap (holds c) w) r.locks in
         let n : length fs.items ≡ length os + 1 = ap length e ∙ length-append h.frames.items (f ∷ []) ∙ ap (λ k. k + 1) (sym opens_length) in
         let d : D - length os - 1 ≡ D - length fs.items = omega (arith, n) in (
-          room_with fs (os ++ o ∷ []) (opens_of fs.items) (subst (OpenFit V lams D) (sym (opens_pushed e)) fit) (subst (AreHeld (branch_of h.branch)) (sym (opens_pushed e)) held) r,
-          subst (λ k. StatementFits V lams k st) d block.1.0,
+          room_with fs (os ++ o ∷ []) (map (open_in h) fs.items) (subst (OpenFit V h.checked.now.script h.scope D) (sym (opens_pushed e)) fit) (subst (AreHeld (branch_of h.branch)) (sym (opens_pushed e)) held) r,
+          subst (λ k. StatementFits (reach h) k st) d block.1.0,
         )
 
     -- what was left, with this frame first
-    pub goes_pushed : fs.items ≡ h.frames.items ++ f ∷ [] → (b : Behaviour State) → then_do b (left_in (record h { frames = fs })) ≡ then_do (then_do b (left_of (context_in h.checked.now) (open_of f))) (left_in h)
+    pub goes_pushed : fs.items ≡ h.frames.items ++ f ∷ [] → (b : Behaviour State) → then_do b (left_in (record h { frames = fs })) ≡ then_do (then_do b (left_of (context_in h.checked.now) (open_in h f))) (left_in h)
     goes_pushed e b =
         let c : Context = context_in h.checked.now in
-        ap (λ (gs : List Frame). then_do b (rest_in c (opens_of gs))) e
-        ∙ ap (λ (go : Action). then_do b go) (fun_ext (left_pushed c h.frames.items f))
-        ∙ sym (then_assoc b (left_of c (open_of f)) (left_in h))
+        ap (λ (gs : List Frame). then_do b (rest_in c (map (open_in h) gs))) e
+        ∙ ap (λ (go : Action). then_do b go) (fun_ext (left_pushed c (open_in h) h.frames.items f))
+        ∙ sym (then_assoc b (left_of c (open_in h f)) (left_in h))
 
     -- what was left of a block, with its first statement begun
-    pub goes_begun : (o : Open) (st : Statement) → fs.items ≡ h.frames.items ++ f ∷ [] → o.block ≡ next st (open_of f).block → o.owner ≡ (open_of f).owner → (s : State) → then_do (effect (context_in h.checked.now) most_turns st (stepped s)) (left_in (record h { frames = fs })) ≡ then_do (left_of (context_in h.checked.now) o s) (left_in h)
+    pub goes_begun : (o : Open) (st : Statement) → fs.items ≡ h.frames.items ++ f ∷ [] → o.block ≡ next st (open_in h f).block → o.owner ≡ (open_in h f).owner → (s : State) → then_do (effect (context_in h.checked.now) most_turns st (stepped s)) (left_in (record h { frames = fs })) ≡ then_do (left_of (context_in h.checked.now) o s) (left_in h)
     goes_begun o st e b w s =
         let c : Context = context_in h.checked.now in
         goes_pushed e (effect c most_turns st (stepped s))
         ∙ ap (λ r. then_do r (left_in h))
-        (sym (then_assoc (effect c most_turns st (stepped s)) (block_meaning c most_turns (open_of f).block) (owed c (open_of f).owner))
-        ∙ ap (λ q. then_do (block_meaning c most_turns q s) (owed c (open_of f).owner)) (sym b)
+        (sym (then_assoc (effect c most_turns st (stepped s)) (block_meaning c most_turns (open_in h f).block) (owed c (open_in h f).owner))
+        ∙ ap (λ q. then_do (block_meaning c most_turns q s) (owed c (open_in h f).owner)) (sym b)
         ∙ ap (λ q. then_do (block_meaning c most_turns o.block s) (owed c q)) (sym w))
 
     -- the frame that is taken comes first
-    pub room_popped : h.frames.items ≡ fs.items ++ f ∷ [] → HasRoom h → HasRoomFor (record h { frames = fs }) (opens_of fs.items ++ open_of f ∷ [])
+    pub room_popped : h.frames.items ≡ fs.items ++ f ∷ [] → HasRoom h → HasRoomFor (record h { frames = fs }) (map (open_in h) fs.items ++ open_in h f ∷ [])
     room_popped e r =
-        let same : opens_of h.frames.items ≡ opens_of fs.items ++ open_of f ∷ [] = ap opens_of e ∙ map-append open_of fs.items (f ∷ []) in
-        room_with fs (opens_of h.frames.items) (opens_of fs.items ++ open_of f ∷ []) (subst (OpenFit V lams D) same r.blocks) (subst (AreHeld (branch_of h.branch)) same r.locks) r
+        let same : opens_in h ≡ map (open_in h) fs.items ++ open_in h f ∷ [] = ap (map (open_in h)) e ∙ map-append (open_in h) fs.items (f ∷ []) in
+        room_with fs (opens_in h) (map (open_in h) fs.items ++ open_in h f ∷ []) (subst (OpenFit V h.checked.now.script h.scope D) same r.blocks) (subst (AreHeld (branch_of h.branch)) same r.locks) r
 
-    pub goes_popped : h.frames.items ≡ fs.items ++ f ∷ [] → (s : State) → left_in h s ≡ then_do (left_of (context_in h.checked.now) (open_of f) s) (left_in (record h { frames = fs }))
+    pub goes_popped : h.frames.items ≡ fs.items ++ f ∷ [] → (s : State) → left_in h s ≡ then_do (left_of (context_in h.checked.now) (open_in h f) s) (left_in (record h { frames = fs }))
     goes_popped e s =
-        ap (λ (gs : List Frame). rest_in (context_in h.checked.now) (opens_of gs) s) e ∙ left_pushed (context_in h.checked.now) fs.items f s
+        ap (λ (gs : List Frame). rest_in (context_in h.checked.now) (map (open_in h) gs) s) e ∙ left_pushed (context_in h.checked.now) (open_in h) fs.items f s
 
   -- a statement that wants an answer
   pub wants_advance : (st : Statement) (w : Wanting) → HasRoom h → Wants (record h { steps = h.steps + 1 }) (λ c. effect c most_turns st) w → Advances h (λ c s. effect c most_turns st (stepped s)) (Some w) (record h { steps = h.steps + 1 })
@@ -155,8 +159,8 @@ module _ {V D C : ℕ} (h : Machine V D C) where
     told = [];
     unlocks = sym (append-nil h.unlocks.items);
     goes = λ answers.
-        ap (λ (gs : List Frame). rest_in (context_in h.checked.now) (opens_of gs) (stepped (state_of h answers))) pushed
-        ∙ left_pushed (context_in h.checked.now) h.frames.items (record { rest = body; owner = Plain }) (stepped (state_of h answers))
+        ap (λ (gs : List Frame). rest_in (context_in h.checked.now) (map (open_in h) gs) (stepped (state_of h answers))) pushed
+        ∙ left_pushed (context_in h.checked.now) (open_in h) h.frames.items (record { rest = body; owner = Plain }) (stepped (state_of h answers))
         ∙ ap (λ b. then_do b (left_in h)) (plain_left (context_in h.checked.now) (statements_of body.now) (stepped (state_of h answers)) ∙ goes answers);
   }) room
 
@@ -194,7 +198,7 @@ smaller new h fs f e1 e2 within pace popped =
 
 -- what was left, after what the frame that was taken came to
 pub goes_further : {V D C : ℕ} (h new : Machine V D C) (f : Frame) (fs : ArrayVec Frame) → h.frames.items ≡ fs.items ++ f ∷ [] → (told : List ℕ) → new.unlocks.items ≡ h.unlocks.items ++ told → (w : Option Wanting) (answers : List Answer)
-    → says told (stands w new answers) ≡ then_do (left_of (context_in h.checked.now) (open_of f) (state_of h answers)) (left_in (record h { frames = fs }))
+    → says told (stands w new answers) ≡ then_do (left_of (context_in h.checked.now) (open_in h f) (state_of h answers)) (left_in (record h { frames = fs }))
     → says new.unlocks.items (stands w new answers) ≡ says h.unlocks.items (stands None h answers)
 goes_further h new f fs popped told e w answers goes =
     ap (λ us. says us (stands w new answers)) e

@@ -1,46 +1,45 @@
 -- Going on after a block that is over.
-use Rattle.camac_run.proofs.Takes.{room_variables}
-use Rattle.camac_run.proofs.Stores.{set_is}
+use Rattle.camac_run.proofs.Scopes.{opens_written, room_written, variables_written}
 use Rattle.camac_run.proofs.Loops.{fine_as, advances_as}
-use Rattle.camac_run.specs.Within.{OwnerFits}
+use Rattle.camac_run.specs.Within.{OwnerFits, outer, OpenFit}
 use Rattle.camac_model.specs.Meaning.{count_turns, turns, block_meaning}
 use Rattle.camac_model.specs.Fine.{most_turns}
-use Rattle.camac_model.specs.State.{State, Variables, with_variable}
-use Rattle.std.proofs.Common.{◌≡◌, ℕ, ◌+◌, ◌<◌, ◌≤◌, List, [], ◌∷◌, ◌++◌, length, length-append, true, false, refl, sym, ap, subst, ◌∙◌, arith, ◌-◌, set, suc}
-use Rattle.std.proofs.lemmas.List.{append-nil, length-map, length-set}
-use Rattle.std.specs.Prelude.{None}
+use Rattle.camac_model.specs.State.{Variables, with_variable}
+use Rattle.std.proofs.Common.{◌≡◌, ℕ, ◌+◌, ◌<◌, ◌≤◌, List, [], ◌∷◌, ◌++◌, length, length-append, true, false, refl, sym, ap, subst, ◌∙◌, arith, ◌-◌, suc}
+use Rattle.std.proofs.lemmas.List.{append-nil, length-map}
+use Rattle.std.specs.Prelude.{Option, None}
 use Rattle.arrayvec.specs.ArrayVec.{ArrayVec}
 use Rattle.camac_lang.specs.Tree.{done, Condition, Block}
 use Rattle.camac_branch.specs.Branch.{Branch, with_lock, Answer}
+use Rattle.camac_branch.specs.Address.{Address}
+use Rattle.camac_run.specs.Store.{variables_in, registers_in, held_at}
+use Rattle.camac_run.specs.declared.scope.Scope.{Scope}
 use Rattle.camac_branch.specs.Crates.{Crates, branch_of}
 use Rattle.camac_model.specs.Behaviour.{does, lock_released, ends, then_do}
 use Rattle.camac_model.specs.Cycle.{after_release}
 use Rattle.camac_run.specs.declared.machine.Machine.{Machine}
-use Rattle.camac_run.specs.Held.{open_of, opens_of, AreHeld, locked_among, state_of, bounds_of, left_in, FineThen, HasRoomFor, HasRoom, Advances, holds, free, context_in}
-use Rattle.camac_run.specs.Rest.{nothing, releases, owed, Owner, Open, counts, repeats}
+use Rattle.camac_run.specs.Held.{with_value, open_in, opens_in, AreHeld, locked_among, state_of, bounds_of, left_in, FineThen, HasRoomFor, HasRoom, Advances, holds, free, reach, context_in}
+use Rattle.camac_run.specs.Rest.{nothing, releases, owed, Owner, Open, counts, repeats, returns, rest_in}
 use Rattle.camac_run.proofs.Blocks.{LastFits, opens_pop}
 use Rattle.camac_run.proofs.Fine.{keeps_rest}
 use Rattle.camac_run.proofs.Frames.{room_with}
 use Rattle.camac_run.proofs.Locks.{held_pop, held_last, held_released, among_released}
 
 module _ {V D C : ℕ} (h : Machine V D C) where
-  abbrev l : ℕ
-  l = length h.checked.now.script.lams
-
   abbrev os : List Open
-  os = opens_of h.frames.items
+  os = opens_in h
 
   abbrev over : Owner → Open
   over o = record { block = done; owner = o }
 
-  last : (o : Owner) → HasRoomFor h (os ++ over o ∷ []) → LastFits V l D os (over o)
-  last o r = opens_pop V l D os (over o) r.blocks
+  last : (o : Owner) → HasRoomFor h (os ++ over o ∷ []) → LastFits V h.checked.now.script h.scope D os (over o)
+  last o r = opens_pop V h.checked.now.script h.scope D os (over o) r.blocks
 
   -- there is room for the block that is left
   pub depth_left : (o : Open) → HasRoomFor h (os ++ o ∷ []) → length h.frames.items < D
   depth_left o r =
-      let lt = (opens_pop V l D os o r.blocks).depth in
-      let n = length-map h.frames.items open_of in omega (arith, lt, n)
+      let lt = (opens_pop V h.checked.now.script h.scope D os o r.blocks).depth in
+      let n = length-map h.frames.items (open_in h) in omega (arith, lt, n)
 
   pub plain_leaves : HasRoomFor h (os ++ over nothing ∷ []) → Advances h (λ c. owed c nothing) None h
   unfolding owed
@@ -94,6 +93,8 @@ module _ {V D C : ℕ} (h : Machine V D C) where
           record {
             variables = room.variables;
             registers = room.registers;
+            fits = room.fits;
+            scope = room.scope;
             blocks = (last (releases k) room).others;
             words = room.words;
             steps = room.steps;
@@ -118,11 +119,44 @@ module _ {V D C : ℕ} (h : Machine V D C) where
       }
 
   -- a block after which no lock is released
-  pub room_left : (o : Owner) → ((c : ℕ) → holds c o ≡ 0) → HasRoomFor h (os ++ over o ∷ []) → HasRoom h
-  room_left o none r = room_with h h.frames (os ++ over o ∷ []) os (last o r).others (held_pop (branch_of h.branch) os (over o) none r.locks) r
+  pub room_left : (o : Owner) → outer h.scope o ≡ h.scope → ((c : ℕ) → holds c o ≡ 0) → HasRoomFor h (os ++ over o ∷ []) → HasRoom h
+  room_left o stays none r = room_with h h.frames (os ++ over o ∷ []) os (subst (λ (u : Scope). OpenFit V h.checked.now.script u D os) stays (last o r).others) (held_pop (branch_of h.branch) os (over o) none r.locks) r
 
-  pub owner_left : (o : Owner) → HasRoomFor h (os ++ over o ∷ []) → OwnerFits V l (free h) o
-  owner_left o r = subst (λ n. OwnerFits V l n o) (ap (λ n. D - n) (length-map h.frames.items open_of)) (last o r).owner
+  pub owner_left : (o : Owner) → HasRoomFor h (os ++ over o ∷ []) → OwnerFits V h.checked.now.script h.scope (free h) o
+  owner_left o r = subst (λ n. OwnerFits V h.checked.now.script h.scope n o) (ap (λ n. D - n) (length-map h.frames.items (open_in h))) (last o r).owner
+
+  -- the caller of a procedure goes on
+  module _ (p : Scope) (vs : List ℕ) (rs : List (Option Address)) where
+    room_returned : HasRoomFor h (os ++ over (returns p vs rs) ∷ []) → HasRoom (record h { scope = p })
+    room_returned r = record {
+      variables = r.variables;
+      registers = r.registers;
+      fits = r.fits;
+      scope = (last (returns p vs rs) r).owner.1;
+      blocks = (last (returns p vs rs) r).others;
+      words = r.words;
+      steps = r.steps;
+      cycles = r.cycles;
+      few_missed = r.few_missed;
+      missed = r.missed;
+      locks = held_pop (branch_of h.branch) os (over (returns p vs rs)) (λ c. refl) r.locks;
+      unlocks = r.unlocks;
+    }
+
+    pub return_leaves : vs ≡ held_at p.variables h.variables → rs ≡ held_at p.registers h.registers → HasRoomFor h (os ++ over (returns p vs rs) ∷ []) → Advances h (λ c. owed c (returns p vs rs)) None (record h { scope = p })
+    unfolding owed
+    return_leaves e f r = record {
+      room = room_returned r;
+      checked = refl;
+      service = refl;
+      wants = tt;
+      pace = omega arith;
+      told = [];
+      unlocks = sym (append-nil h.unlocks.items);
+      goes = λ answers.
+          ap (λ ws. left_in h (record (state_of h answers) { variables = variables_in ws; registers = registers_in (held_at p.registers h.registers) })) (sym e)
+          ∙ ap (λ qs. left_in h (record (state_of h answers) { variables = variables_in vs; registers = registers_in qs })) (sym f);
+    }
 
   -- a `for` goes on
   module _ (x v w n : ℕ) (b : Block) where
@@ -145,9 +179,9 @@ module _ {V D C : ℕ} (h : Machine V D C) where
     next_leaves lt new k =
         advances_as h (λ c. count_turns (suc (w - (v + 1))) n x (v + 1) w (block_meaning c most_turns b)) (λ c. owed c (counts x v w n b)) None new (λ answers. sym (turn_next lt answers)) k
 
-    pub last_leaves : w ≤ v → x < V → (new : Machine V D C) → new ≡ record h { variables = set h.variables x w } → HasRoom h → Advances h (λ c. owed c (counts x v w n b)) None new
+    pub last_leaves : w ≤ v → x < (reach h).variables → (new : Machine V D C) → new ≡ with_value h x w → HasRoom h → Advances h (λ c. owed c (counts x v w n b)) None new
     last_leaves le lt new same r = subst (λ m. Advances h (λ c. owed c (counts x v w n b)) None m) (sym same) (record {
-      room = room_variables h (set h.variables x w) (length-set h.variables x w ∙ r.variables) r;
+      room = room_written h x w r;
       checked = refl;
       service = refl;
       wants = tt;
@@ -155,7 +189,8 @@ module _ {V D C : ℕ} (h : Machine V D C) where
       told = [];
       unlocks = sym (append-nil h.unlocks.items);
       goes = λ answers.
-          ap (λ (vs : Variables). left_in h (record (state_of h answers) { variables = vs })) (set_is 0 h.variables x w (omega (arith, lt, r.variables)))
+          ap (λ os. rest_in (context_in h.checked.now) os (state_of (with_value h x w) answers)) (sym (opens_written h x w r))
+          ∙ ap (λ (vs : Variables). left_in h (record (state_of h answers) { variables = vs })) (variables_written h x w lt r)
           ∙ ap (λ b. then_do b (left_in h)) (sym (turn_last le answers));
     })
 

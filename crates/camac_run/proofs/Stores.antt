@@ -17,15 +17,12 @@ set_here d xs k v below i =
 pub set_is : {A : Type 0} (d : A) (xs : List A) (k : ℕ) (v : A) → k < length xs → (λ i. get_or (set xs k v) i d) ≡ set_at k v (λ j. get_or xs j d)
 set_is d xs k v below = fun_ext (set_here d xs k v below)
 
-all_same : {A : Type 0} (d : A) (n i : ℕ) → get_or (replicate n d) i d ≡ d
+pub all_same : {A : Type 0} (d : A) (n i : ℕ) → get_or (replicate n d) i d ≡ d
 all_same d n i =
     elim (cases_lt i n) [
       | inl less ↦ get_or-replicate n i d d less
       | inr past ↦ get_or_past (replicate n d) i d (rw length-replicate past)
     ]
-
-pub all_are : {A : Type 0} (d : A) (n : ℕ) → ◌≡◌ {A = ℕ → A} (λ i. get_or (replicate n d) i d) (λ i. d)
-all_are d n = fun_ext (all_same d n)
 
 -- where no crate is locked, unlocking changes nothing
 pub unlocked_same : (b : Branch) → ((c : ℕ) → (b c).locked ≡ false) → unlocked b ≡ b

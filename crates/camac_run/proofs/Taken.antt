@@ -1,5 +1,5 @@
 -- What an answer does to a machine that wants the lock of a crate.
-use Rattle.std.proofs.Common.{◌≡◌, ℕ, ◌+◌, ◌-◌, ◌^◌, ◌<◌, ◌≤◌, List, [], ◌∷◌, ◌++◌, length, Bool, true, false, Option, Some, None, refl, sym, ap, subst, ◌∙◌, arith}
+use Rattle.std.proofs.Common.{◌≡◌, ℕ, ◌+◌, ◌-◌, ◌^◌, ◌<◌, ◌≤◌, List, [], ◌∷◌, ◌++◌, length, map, Bool, true, false, Option, Some, None, refl, sym, ap, subst, ◌∙◌, arith}
 use Rattle.std.proofs.lemmas.Bool.{false≢true}
 use Rattle.std.proofs.lemmas.List.{length-map, map-append}
 use Rattle.std.specs.Borrow.{Bor}
@@ -24,8 +24,8 @@ use Rattle.camac_run.specs.declared.machine.Frame.{Frame}
 use Rattle.camac_run.specs.declared.machine.Machine.{Machine}
 use Rattle.camac_run.specs.declared.machine.Owner.TheVariants.{Locked}
 use Rattle.camac_run.specs.declared.machine.Wanting.TheVariants.{Lock}
-use Rattle.camac_run.specs.Held.{context_in, open_of, opens_of, AreHeld, locked_among, state_of, bounds_of, left_in, stands, IsFineHere, HasRoom, IsWanting, TakesLock, IsRefused, Takes, Overruns}
-use Rattle.camac_run.specs.Rest.{awaited, owed, Open, rest_in}
+use Rattle.camac_run.specs.Held.{context_in, open_in, opens_in, AreHeld, locked_among, reach, state_of, bounds_of, left_in, stands, IsFineHere, HasRoom, IsWanting, TakesLock, IsRefused, Takes, Overruns}
+use Rattle.camac_run.specs.Rest.{awaited, follows, owed, Open, rest_in}
 use Rattle.camac_run.specs.Within.{Opens, OpenFit}
 use Rattle.camac_run.proofs.Blocks.{opens_push}
 use Rattle.camac_run.proofs.Fine.{keeps_rest}
@@ -63,11 +63,11 @@ module _ {V D C : ℕ} (h : Machine V D C) (k : ℕ) (body : Bor (List Stmt)) (a
   later answers = after_lock k a.wait answers (state_of h (a ∷ answers))
 
   -- the block comes first, then the release
-  inside_first : (u : State) → then_do (inside u) (left_in h) ≡ rest_in (context_in h.checked.now) (opens_of (h.frames.items ++ opened ∷ [])) u
+  inside_first : (u : State) → then_do (inside u) (left_in h) ≡ rest_in (context_in h.checked.now) (map (open_in h) (h.frames.items ++ opened ∷ [])) u
   unfolding owed
-  inside_first u = sym (left_pushed (context_in h.checked.now) h.frames.items opened u)
+  inside_first u = sym (left_pushed (context_in h.checked.now) (open_in h) h.frames.items opened u)
 
-  goes : (answers : List Answer) → is_permitted h.checked.now.plan (branch_of h.branch) k a.wait ≡ true → stands (Some (Lock k body)) h (a ∷ answers) ≡ does (lock_taken k a.wait) (rest_in (context_in h.checked.now) (opens_of (h.frames.items ++ opened ∷ [])) (later answers))
+  goes : (answers : List Answer) → is_permitted h.checked.now.plan (branch_of h.branch) k a.wait ≡ true → stands (Some (Lock k body)) h (a ∷ answers) ≡ does (lock_taken k a.wait) (rest_in (context_in h.checked.now) (map (open_in h) (h.frames.items ++ opened ∷ [])) (later answers))
   unfolding awaited
   goes answers p =
       ap (λ o. then_do o (left_in h)) (lock_goes k inside (state_of h (a ∷ answers)) a answers refl ready.1.0 h.checked.now.plan ready.0 p)
@@ -90,33 +90,32 @@ module _ {V D C : ℕ} (h : Machine V D C) (k : ℕ) (body : Bor (List Stmt)) (a
     abbrev after : Machine V D C
     after = record h { branch = mid.branch; cycles = h.cycles + w; frames = fs }
 
-    abbrev l : ℕ
-    l = length h.checked.now.script.lams
-
     abbrev os : List Open
-    os = opens_of h.frames.items
+    os = opens_in h
 
-    pushed_opens : opens_of fs.items ≡ os ++ open_of opened ∷ []
-    pushed_opens = ap opens_of pushed ∙ map-append open_of h.frames.items (opened ∷ [])
+    pushed_opens : map (open_in h) fs.items ≡ os ++ open_in h opened ∷ []
+    pushed_opens = ap (map (open_in h)) pushed ∙ map-append (open_in h) h.frames.items (opened ∷ [])
 
     room_taken : HasRoom after
     room_taken =
-        let n : D - length h.frames.items ≡ D - length os = ap (λ i. D - i) (sym (length-map h.frames.items open_of)) in
-        let fit : OpenFit V l D (os ++ open_of opened ∷ []) = opens_push V l D os (open_of opened) room.blocks (subst (λ d. Opens V l d b) n ready.1.3) (ready.1.1, ready.1.2) in
-        let held : AreHeld (with_lock k true (branch_of h.branch)) (os ++ open_of opened ∷ []) = held_taken (branch_of h.branch) os b k ready.1.0 room.locks in
+        let n : D - length h.frames.items ≡ D - length os = ap (λ i. D - i) (sym (length-map h.frames.items (open_in h))) in
+        let fit : OpenFit V h.checked.now.script h.scope D (os ++ open_in h opened ∷ []) = opens_push V h.checked.now.script h.scope D os (open_in h opened) room.blocks (subst (λ d. Opens (reach h) d b) n ready.1.3) (ready.1.1, ready.1.2) in
+        let held : AreHeld (with_lock k true (branch_of h.branch)) (os ++ open_in h opened ∷ []) = held_taken (branch_of h.branch) os b k ready.1.0 room.locks in
         let few : locked_among (branch_of mid.branch) 7 ≤ 7 = among_few (branch_of mid.branch) 7 in
         let none : length h.unlocks.items ≡ 0 = ap length quiet in
         let more = room.missed in
         record {
           variables = room.variables;
           registers = room.registers;
-          blocks = subst (OpenFit V l D) (sym pushed_opens) fit;
+          fits = room.fits;
+          scope = room.scope;
+          blocks = subst (OpenFit V h.checked.now.script h.scope D) (sym pushed_opens) fit;
           words = room.words;
           steps = room.steps;
           cycles = room.cycles;
           few_missed = room.few_missed;
           missed = omega (arith, more);
-          locks = subst (λ (d : Branch). AreHeld d (opens_of fs.items)) (sym m.branch) (subst (AreHeld (with_lock k true (branch_of h.branch))) (sym pushed_opens) held);
+          locks = subst (λ (d : Branch). AreHeld d (map (open_in h) fs.items)) (sym m.branch) (subst (AreHeld (with_lock k true (branch_of h.branch))) (sym pushed_opens) held);
           unlocks = omega (arith, few, none);
         }
 
@@ -124,16 +123,18 @@ module _ {V D C : ℕ} (h : Machine V D C) (k : ℕ) (body : Bor (List Stmt)) (a
     state_taken answers = ap (λ d. record (state_of after answers) { branch = d }) m.branch
 
     takes : Takes h (Lock k body) a (item.Lock k w) after
+    unfolding follows
     takes = record {
       room = room_taken;
       checked = refl;
       service = refl;
       unlocks = refl;
+      can_follow = tt;
       goes = λ answers.
           goes answers m.permitted
-          ∙ ap (λ n. does (lock_taken k n) (rest_in (context_in h.checked.now) (opens_of (h.frames.items ++ opened ∷ [])) (after_lock k n answers (state_of h (a ∷ answers))))) (sym m.waited)
-          ∙ ap (λ s. does (lock_taken k w) (rest_in (context_in h.checked.now) (opens_of (h.frames.items ++ opened ∷ [])) s)) (sym (state_taken answers))
-          ∙ ap (λ (gs : List Frame). does (lock_taken k w) (rest_in (context_in h.checked.now) (opens_of gs) (state_of after answers))) (sym pushed);
+          ∙ ap (λ n. does (lock_taken k n) (rest_in (context_in h.checked.now) (map (open_in h) (h.frames.items ++ opened ∷ [])) (after_lock k n answers (state_of h (a ∷ answers))))) (sym m.waited)
+          ∙ ap (λ s. does (lock_taken k w) (rest_in (context_in h.checked.now) (map (open_in h) (h.frames.items ++ opened ∷ [])) s)) (sym (state_taken answers))
+          ∙ ap (λ (gs : List Frame). does (lock_taken k w) (rest_in (context_in h.checked.now) (map (open_in h) gs) (state_of after answers))) (sym pushed);
     }
 
     pub takes_lock : Takes h (Lock k body) a (item.Lock k w) (record mid { frames = fs })

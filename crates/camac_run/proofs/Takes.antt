@@ -1,7 +1,8 @@
 -- What an answer does to a machine that wants it.
-use Rattle.std.proofs.Common.{◌≡◌, ℕ, ◌+◌, ◌^◌, ◌%◌, ◌<◌, ◌≤◌, List, [], ◌∷◌, length, set, Bool, true, false, Option, Some, None, Result, Ok, Err, refl, sym, ap, subst, ◌∙◌, arith}
+use Rattle.std.proofs.Common.{◌≡◌, ℕ, ◌+◌, ◌^◌, ◌%◌, ◌<◌, ◌≤◌, List, [], ◌∷◌, Bool, true, false, Option, Some, None, Result, Ok, Err, refl, sym, ap, subst, ◌∙◌, arith}
 use Rattle.std.proofs.lemmas.Bool.{false≢true}
-use Rattle.std.proofs.lemmas.List.{length-set}
+use Rattle.std.specs.Borrow.{Bor}
+use Rattle.camac_check.specs.Checked.{CheckedScript}
 use Rattle.std.specs.Prelude.{IsSome, IfOk, IfErr, unwrap_or}
 use Rattle.camac_lang.specs.View.{statements_of}
 use Rattle.camac_func.specs.declared.data.DataMove.{DataMove}
@@ -23,12 +24,15 @@ use Rattle.camac_model.proofs.Locks.{cycle_locks}
 use Rattle.camac_run.specs.declared.machine.Machine.{Machine}
 use Rattle.camac_run.specs.declared.machine.Wanting.{Wanting}
 use Rattle.camac_run.specs.declared.item.Item.TheVariants as item
-use Rattle.camac_run.specs.declared.machine.Wanting.TheVariants.{Cycle, Read, Lock}
-use Rattle.camac_run.specs.Held.{context_in, opens_of, want_of, made, state_of, bounds_of, left_in, stands, IsFineHere, HasRoom, IsWanting, Makes, IsRefused, Takes, Overruns}
-use Rattle.camac_run.specs.Rest.{address_of, awaited}
+use Rattle.camac_run.specs.declared.machine.Wanting.TheVariants.{Cycle, Read, Lock, Transfer}
+use Rattle.camac_run.specs.Held.{reach, with_value, context_in, opens_in, want_of, made, state_of, bounds_of, left_in, stands, IsFineHere, HasRoom, IsWanting, Makes, IsRefused, Takes, Overruns}
+use Rattle.camac_esone.specs.Transfers.{tally}
+use Rattle.camac_run.specs.Course.{left_at, words_from, words_sent}
+use Rattle.camac_run.specs.Rest.{address_of, awaited, follows, rest_in}
 use Rattle.camac_run.proofs.Fine.{keeps_rest}
 use Rattle.camac_run.proofs.Locks.{held_along, among_along}
-use Rattle.camac_run.proofs.Stores.{set_is}
+use Rattle.camac_run.proofs.Scopes.{opens_written, room_written, state_written}
+use Rattle.camac_run.proofs.Transfers.{transfer_waits}
 
 pub same_done : (d : CycleDone) (k : Command) (r : Reply) (w : ℕ) → d.command ≡ k → d.reply ≡ r → d.wait ≡ w → d ≡ record { command = k; reply = r; wait = w }
 same_done d k r w e1 e2 e3 = rw (← e1, ← e2, ← e3) refl
@@ -65,43 +69,41 @@ module _ (plan : Layout) (at : Address) (f : ℕ) (d : DataMove) (go : Reply →
   pub cycle_halts : is_permitted plan s.branch at.crate_no a.wait ≡ false → cycle plan at f d (a ∷ answers) go s ≡ stops (overrun at.crate_no a.wait) s
   cycle_halts p = halts (crate_waits plan at.crate_no) planned p
 
-module _ {V D C : ℕ} (h : Machine V D C) (k : Command) (a : Answer) (planned : IsSome (crate_waits h.checked.now.plan k.c)) (F : Reply → State → State) where
+module _ {V D C : ℕ} (h : Machine V D C) (k : Command) (a : Answer) (planned : IsSome (crate_waits h.checked.now.plan k.c)) (G : List Answer → Reply → Action) where
   abbrev action : List Answer → Behaviour State
-  action answers = cycle h.checked.now.plan (address_of k) k.f k.mv (a ∷ answers) (λ r t. ends (F r t)) (state_of h (a ∷ answers))
+  action answers = cycle h.checked.now.plan (address_of k) k.f k.mv (a ∷ answers) (G answers) (state_of h (a ∷ answers))
 
   abbrev reply : Reply
   reply = reply_to h.checked.now.plan (branch_of h.branch) (address_of k) k.f a
 
   abbrev later : List Answer → State
-  later answers = F reply (after_cycle (address_of k) k.f reply a.wait answers (state_of h (a ∷ answers)))
+  later answers = after_cycle (address_of k) k.f reply a.wait answers (state_of h (a ∷ answers))
 
-  taken : (answers : List Answer) → is_permitted h.checked.now.plan (branch_of h.branch) k.c a.wait ≡ true → then_do (action answers) (left_in h) ≡ does (cycled (address_of k) k.f k.mv reply a.wait) (left_in h (later answers))
+  taken : (answers : List Answer) → is_permitted h.checked.now.plan (branch_of h.branch) k.c a.wait ≡ true → then_do (action answers) (left_in h) ≡ does (cycled (address_of k) k.f k.mv reply a.wait) (then_do (G answers reply (later answers)) (left_in h))
   taken answers p =
-      ap (λ b. then_do b (left_in h)) (cycle_goes h.checked.now.plan (address_of k) k.f k.mv (λ r t. ends (F r t)) (state_of h (a ∷ answers)) a answers planned p)
+      ap (λ b. then_do b (left_in h)) (cycle_goes h.checked.now.plan (address_of k) k.f k.mv (G answers) (state_of h (a ∷ answers)) a answers planned p)
+
+  -- what follows it is fine
+  pub fine_taken : ((answers : List Answer) → IsFineHere h (then_do (action answers) (left_in h))) → is_permitted h.checked.now.plan (branch_of h.branch) k.c a.wait ≡ true → (answers : List Answer) → IsFineHere h (then_do (G answers reply (later answers)) (left_in h))
+  fine_taken fine p answers =
+      let ok = subst (λ b. IsFineHere h b) (taken answers p) (fine answers) in ok.1
 
   pub refused : (answers : List Answer) → is_permitted h.checked.now.plan (branch_of h.branch) k.c a.wait ≡ false → then_do (action answers) (left_in h) ≡ stops (overrun k.c a.wait) (state_of h (a ∷ answers))
   refused answers p =
-      ap (λ b. then_do b (left_in h)) (cycle_halts h.checked.now.plan (address_of k) k.f k.mv (λ r t. ends (F r t)) (state_of h (a ∷ answers)) a answers planned p)
+      ap (λ b. then_do b (left_in h)) (cycle_halts h.checked.now.plan (address_of k) k.f k.mv (G answers) (state_of h (a ∷ answers)) a answers planned p)
 
   -- its cost has room
-  pub cost_fits : ((answers : List Answer) → IsFineHere h (then_do (action answers) (left_in h))) → ((t : State) → F reply t ≡ record (F reply t) { cycles = t.cycles }) → (bounds_of h).cycles ≤ greatest → is_permitted h.checked.now.plan (branch_of h.branch) k.c a.wait ≡ true → h.cycles + (1 + a.wait) < 2 ^ 32
-  cost_fits fine same most p =
-      let t : State = after_cycle (address_of k) k.f reply a.wait [] (state_of h (a ∷ [])) in
-      let ok = subst (λ b. IsFineHere h b) (taken [] p) (fine []) in
-      let within = keeps_rest h.checked.now.plan (bounds_of h) h.checked.now.script _ (F reply t) ok.1 in
-      let e : (F reply t).cycles ≡ h.cycles + (1 + a.wait) = ap (λ (u : State). u.cycles) (same t) in
-      let c = within.cycles in omega (arith, e, c, most)
+  pub cost_fits : ((answers : List Answer) → IsFineHere h (then_do (action answers) (left_in h))) → ((t : State) → IsFineHere h (then_do (G [] reply t) (left_in h)) → t.cycles ≤ (bounds_of h).cycles) → (bounds_of h).cycles ≤ greatest → is_permitted h.checked.now.plan (branch_of h.branch) k.c a.wait ≡ true → h.cycles + (1 + a.wait) < 2 ^ 32
+  cost_fits fine keeps most p =
+      let c : h.cycles + (1 + a.wait) ≤ (bounds_of h).cycles = keeps (later []) (fine_taken fine p []) in omega (arith, c, most)
 
-  pub goes_on : (d : CycleDone) (new : Machine V D C) (answers : List Answer) → is_permitted h.checked.now.plan (branch_of h.branch) k.c a.wait ≡ true → d ≡ record { command = k; reply = reply; wait = a.wait } → new.checked ≡ h.checked → new.frames ≡ h.frames → state_of new answers ≡ F d.reply (after_cycle (address_of k) k.f d.reply d.wait answers (state_of h (a ∷ answers))) → then_do (action answers) (left_in h) ≡ does (made d) (stands None new answers)
-  goes_on d new answers p e checked frames same =
+  pub goes_on : (d : CycleDone) (answers : List Answer) → is_permitted h.checked.now.plan (branch_of h.branch) k.c a.wait ≡ true → d ≡ record { command = k; reply = reply; wait = a.wait } → then_do (action answers) (left_in h) ≡ does (made d) (then_do (G answers d.reply (after_cycle (address_of k) k.f d.reply d.wait answers (state_of h (a ∷ answers)))) (left_in h))
+  goes_on d answers p e =
       taken answers p
-      ∙ ap (λ (x : CycleDone). does (made x) (left_in h (F x.reply (after_cycle (address_of k) k.f x.reply x.wait answers (state_of h (a ∷ answers)))))) (sym e)
-      ∙ ap (λ s. does (made d) (left_in h s)) (sym same)
-      ∙ ap (λ fs. does (made d) (left_in (record h { frames = fs }) (state_of new answers))) (sym frames)
-      ∙ ap (λ c. does (made d) (left_in (record h { frames = new.frames; checked = c }) (state_of new answers))) (sym checked)
+      ∙ ap (λ (x : CycleDone). does (made x) (then_do (G answers x.reply (after_cycle (address_of k) k.f x.reply x.wait answers (state_of h (a ∷ answers)))) (left_in h))) (sym e)
 
 -- the room after a cycle
-room_after : {V D C : ℕ} (h : Machine V D C) (k : Command) (b : Crates) (q x : Bool) (w : ℕ) → branch_of b ≡ branch_after (address_of k) k.f (branch_of h.branch) → HasRoom h → HasRoom (record h { branch = b; q = q; x = x; cycles = h.cycles + (1 + w); missed = missed_with x h.missed })
+pub room_after : {V D C : ℕ} (h : Machine V D C) (k : Command) (b : Crates) (q x : Bool) (w : ℕ) → branch_of b ≡ branch_after (address_of k) k.f (branch_of h.branch) → HasRoom h → HasRoom (record h { branch = b; q = q; x = x; cycles = h.cycles + (1 + w); missed = missed_with x h.missed })
 room_after h k b q x w e r =
     let few = few_missed x h.missed h.cycles w r.few_missed r.missed in
     let same : (c : ℕ) → (branch_of b c).locked ≡ (branch_of h.branch c).locked = λ c. ap (λ (d : Branch). (d c).locked) e ∙ (cycle_locks (branch_of h.branch) (address_of k) k.f).at c in
@@ -110,29 +112,17 @@ room_after h k b q x w e r =
     record {
       variables = r.variables;
       registers = r.registers;
+      fits = r.fits;
+      scope = r.scope;
       blocks = r.blocks;
       words = r.words;
       steps = r.steps;
       cycles = r.cycles;
       few_missed = few.0;
       missed = few.1;
-      locks = held_along (branch_of h.branch) (branch_of b) (opens_of h.frames.items) same r.locks;
+      locks = held_along (branch_of h.branch) (branch_of b) (opens_in h) same r.locks;
       unlocks = omega (arith, room, among);
     }
-
-pub room_variables : {V D C : ℕ} (h : Machine V D C) (vs : List ℕ) → length vs ≡ V → HasRoom h → HasRoom (record h { variables = vs })
-room_variables h vs e r = record {
-  variables = e;
-  registers = r.registers;
-  blocks = r.blocks;
-  words = r.words;
-  steps = r.steps;
-  cycles = r.cycles;
-  few_missed = r.few_missed;
-  missed = r.missed;
-  locks = r.locks;
-  unlocks = r.unlocks;
-}
 
 module _ {V D C : ℕ} (h new : Machine V D C) (k : Command) (a : Answer) (d : CycleDone) (room : HasRoom h) (planned : IsSome (crate_waits h.checked.now.plan k.c)) (m : Makes h k a d new) where
   abbrev after : Machine V D C
@@ -142,32 +132,36 @@ module _ {V D C : ℕ} (h new : Machine V D C) (k : Command) (a : Answer) (d : C
   state_after answers = ap (λ b. record (state_of after answers) { branch = b }) m.branch
 
   pub takes_cycle : Takes h (Cycle k) a (item.Cycle d) new
-  unfolding awaited
+  unfolding awaited follows
   takes_cycle =
       subst (λ n. Takes h (Cycle k) a (item.Cycle d) n) (sym m.same) (record {
         room = room_after h k new.branch d.reply.q d.reply.x d.wait m.branch room;
         checked = refl;
         service = refl;
         unlocks = refl;
-        goes = λ answers. goes_on h k a planned (λ r t. t) d after answers m.permitted m.done refl refl (state_after answers);
+        can_follow = tt;
+        goes = λ answers.
+            goes_on h k a planned (λ l r t. ends t) d answers m.permitted m.done
+            ∙ ap (λ s. does (made d) (left_in h s)) (sym (state_after answers));
       })
 
-  pub takes_read : (x bits : ℕ) (last : Machine V D C) → x < V → last ≡ record new { variables = set new.variables x (d.reply.word % 2 ^ bits) } → Takes h (Read k x bits) a (item.Cycle d) last
-  unfolding awaited
+  pub takes_read : (x bits : ℕ) (last : Machine V D C) → x < (reach h).variables → last ≡ with_value new x (d.reply.word % 2 ^ bits) → Takes h (Read k x bits) a (item.Cycle d) last
+  unfolding awaited follows
   takes_read x bits last below e =
       let v : ℕ = d.reply.word % 2 ^ bits in
-      let vs : List ℕ = set h.variables x v in
-      let n : Machine V D C = record after { variables = vs } in
-      let same : last ≡ n = e ∙ ap (λ (g : Machine V D C). record g { variables = set g.variables x v }) m.same in
+      let n : Machine V D C = with_value after x v in
+      let same : last ≡ n = e ∙ ap (λ (g : Machine V D C). with_value g x v) m.same in
+      let r : HasRoom after = room_after h k new.branch d.reply.q d.reply.x d.wait m.branch room in
       subst (λ n. Takes h (Read k x bits) a (item.Cycle d) n) (sym same) (record {
-        room = room_variables after vs (length-set h.variables x v ∙ room.variables) (room_after h k new.branch d.reply.q d.reply.x d.wait m.branch room);
+        room = room_written after x v r;
         checked = refl;
         service = refl;
         unlocks = refl;
+        can_follow = tt;
         goes = λ answers.
-            goes_on h k a planned (λ r t. with_variable x (kept bits r) t) d n answers m.permitted m.done refl refl
-            (ap (λ g. record (state_of after answers) { variables = g }) (set_is 0 h.variables x v (omega (arith, below, room.variables)))
-            ∙ ap (with_variable x v) (state_after answers));
+            goes_on h k a planned (λ l r t. ends (with_variable x (kept bits r) t)) d answers m.permitted m.done
+            ∙ ap (λ s. does (made d) (left_in h s)) (sym (state_written after x v below r answers ∙ ap (with_variable x v) (state_after answers)))
+            ∙ ap (λ os. does (made d) (rest_in (context_in h.checked.now) os (state_of n answers))) (opens_written after x v r);
       })
 
 first_short : (plan : Layout) (at : Address) (f : ℕ) (d : DataMove) (go : Reply → Action) (s : State) (o : Option ℕ) → IsSome o → given o (λ waits. next_answer at.crate_no waits (s.branch at.crate_no).locked [] (make_cycle plan at f d go)) s ≡ stops short s
@@ -188,24 +182,29 @@ waits_first h (Read k x bits) p =
     first_short h.checked.now.plan (address_of k) k.f k.mv (λ r t. ends (with_variable x (kept bits r) t)) (state_of h []) (crate_waits h.checked.now.plan k.c) p.0
 waits_first h (Lock k body) p =
     lock_short k (λ u. then_do (block_meaning (context_in h.checked.now) most_turns (statements_of body.now) u) (release k)) (state_of h []) (crate_waits h.checked.now.plan k) refl p.1.0 p.0
+waits_first h (Transfer k t table x) p =
+    let n : ℕ = (left_at t).tally in
+    transfer_waits h.checked.now.plan k.f (words_from n (words_sent table)) (left_at t).wanted (λ rs u. ends (with_variable x (n + tally rs) u)) [] (address_of k) k.mv p.1.1 p.1.2 (state_of h [])
+    ∙ first_short h.checked.now.plan (address_of k) k.f k.mv (λ r. stops short) (state_of h []) (crate_waits h.checked.now.plan k.c) p.0
 
 module _ {V D C : ℕ} (h : Machine V D C) (k : Command) (a : Answer) where
   pub cycle_cost : IsWanting h (Cycle k) → ((answers : List Answer) → IsFineHere h (stands (Some (Cycle k)) h answers)) → (bounds_of h).cycles ≤ greatest → is_permitted h.checked.now.plan (branch_of h.branch) k.c a.wait ≡ true → h.cycles + (1 + a.wait) < 2 ^ 32
   unfolding awaited
-  cycle_cost p fine most = cost_fits h k a p.0 (λ r t. t) (λ answers. fine (a ∷ answers)) (λ t. refl) most
+  cycle_cost p fine most =
+      cost_fits h k a p.0 (λ l r t. ends t) (λ answers. fine (a ∷ answers)) (λ t f. (keeps_rest h.checked.now.plan (bounds_of h) h.checked.now.script _ t f).cycles) most
 
   pub read_cost : (x bits : ℕ) → IsWanting h (Read k x bits) → ((answers : List Answer) → IsFineHere h (stands (Some (Read k x bits)) h answers)) → (bounds_of h).cycles ≤ greatest → is_permitted h.checked.now.plan (branch_of h.branch) k.c a.wait ≡ true → h.cycles + (1 + a.wait) < 2 ^ 32
   unfolding awaited
   read_cost x bits p fine most =
-      cost_fits h k a p.0 (λ r t. with_variable x (kept bits r) t) (λ answers. fine (a ∷ answers)) (λ t. refl) most
+      cost_fits h k a p.0 (λ l r t. ends (with_variable x (kept bits r) t)) (λ answers. fine (a ∷ answers)) (λ t f. (keeps_rest h.checked.now.plan (bounds_of h) h.checked.now.script _ (with_variable x (kept bits (reply_to h.checked.now.plan (branch_of h.branch) (address_of k) k.f a)) t) f).cycles) most
 
   pub cycle_overruns : (o : Overrun) → IsWanting h (Cycle k) → IsRefused h k.c a o → Overruns h (Cycle k) a o
   unfolding awaited
   cycle_overruns o p r = λ answers.
-      refused h k a p.0 (λ r t. t) answers r.refused ∙ ap (λ (x : Overrun). stops (overrun x.c x.wait) (state_of h (a ∷ answers))) (sym r.overrun)
+      refused h k a p.0 (λ l r t. ends t) answers r.refused ∙ ap (λ (x : Overrun). stops (overrun x.c x.wait) (state_of h (a ∷ answers))) (sym r.overrun)
 
   pub read_overruns : (x bits : ℕ) (o : Overrun) → IsWanting h (Read k x bits) → IsRefused h k.c a o → Overruns h (Read k x bits) a o
   unfolding awaited
   read_overruns x bits o p r = λ answers.
-      refused h k a p.0 (λ r t. with_variable x (kept bits r) t) answers r.refused
+      refused h k a p.0 (λ l r t. ends (with_variable x (kept bits r) t)) answers r.refused
       ∙ ap (λ (y : Overrun). stops (overrun y.c y.wait) (state_of h (a ∷ answers))) (sym r.overrun)

@@ -9,17 +9,19 @@ use Rattle.camac_branch.specs.Branch.{Answer}
 use Rattle.arrayvec.specs.ArrayVec.{ArrayVec}
 use Rattle.camac_branch.specs.declared.answer.Overrun.{Overrun}
 use Rattle.camac_check.specs.Checked.{CheckedScript, IsChecked}
-use Rattle.camac_run.specs.Plays.{plays}
+use Rattle.camac_size.specs.Fits.{fits}
 use Rattle.camac_model.specs.State.{State}
-use Rattle.camac_model.specs.Behaviour.{Behaviour, ends, stops, short, then_do}
+use Rattle.camac_model.specs.Behaviour.{Behaviour, ends, stops, short, Action, then_do}
 use Rattle.camac_model.specs.Fine.{IsFine, most_turns}
+use Rattle.camac_model.specs.Meaning.{Context}
 use Rattle.camac_model.specs.Run.{service_meaning}
 use Rattle.camac_run.specs.declared.item.Item.{Item}
 use Rattle.camac_run.specs.declared.machine.Machine.{Machine}
 use Rattle.camac_run.specs.declared.machine.Wanting.{Wanting}
+use Rattle.camac_run.specs.declared.machine.Wanting.TheVariants as wanting
 use Rattle.camac_run.specs.declared.machine.Wanting.TheVariants.{Cycle, Read, Lock}
-use Rattle.camac_run.specs.Held.{bounds_at, bounds_of, opens_of, locked_among, context_in, state_of, stands, IsFineHere, HasRoom, IsWanting, Takes, Settles, Serves}
-use Rattle.camac_run.specs.Rest.{rest_in, says, served}
+use Rattle.camac_run.specs.Held.{bounds_at, bounds_of, opens_in, locked_among, context_in, state_of, left_in, stands, want_of, FineThen, IsFineHere, HasRoom, IsWanting, Takes, Settles, Serves}
+use Rattle.camac_run.specs.Rest.{follows, rest_in, says, served}
 use Rattle.camac_run.specs.Runner.{Left, bit_at, rest, last_words_in, with_event}
 use Rattle.camac_run.specs.Sound.{held, event_here, IsSound}
 use Rattle.camac_run.proofs.Bounds.{fine_at}
@@ -62,6 +64,8 @@ module _ {V D C : ℕ} where
       record {
         variables = r.variables;
         registers = r.registers;
+        fits = r.fits;
+        scope = r.scope;
         blocks = r.blocks;
         words = r.words;
         steps = r.steps;
@@ -80,7 +84,7 @@ module _ {V D C : ℕ} where
     quiet = quiet;
     checked = subst (λ (b : Bor CheckedScript). IsChecked b.now) (sym e) s.checked;
     formed = subst (λ (b : Bor CheckedScript). IsTrue (is_well_formed b.now.script)) (sym e) s.formed;
-    fits = subst (λ (b : Bor CheckedScript). plays b.now.script V D C ≡ true) (sym e) s.fits;
+    fits = subst (λ (b : Bor CheckedScript). fits b.now.script V D C ≡ true) (sym e) s.fits;
     wants = ready next' wants;
     idle = over;
     service = there next';
@@ -99,6 +103,7 @@ module _ {V D C : ℕ} where
       ready (Some (Cycle k)) f = f
       ready (Some (Read k x bits)) f = f
       ready (Some (Lock k body)) f = f
+      ready (Some (wanting.Transfer k t table x)) f = f
 
       is_fine : (o : Option Wanting) → ((answers : List Answer) → IsFineHere new (stands o new answers)) → IfSome o (λ w. (answers : List Answer) → IsFineHere (record new { unlocks = none }) (stands (Some w) (record new { unlocks = none }) answers))
       is_fine None f = tt
@@ -136,23 +141,23 @@ module _ {V D C : ℕ} where
       (fine_along new (record old { service = i }) s.checked s.service (says new.unlocks.items (stands next' new answers)) meaning (s.goes answers) fine)
 
   -- what is left after an answer that was taken is fine
-  pub take_fine : (old mid : Machine V D C) (w : Wanting) (a : Answer) (d : Item) → ((answers : List Answer) → IsFineHere old (stands (Some w) old answers)) → Takes old w a d mid → (answers : List Answer) → IsFineHere mid (stands None mid answers)
+  pub take_fine : (old mid : Machine V D C) (w : Wanting) (a : Answer) (d : Item) → ((answers : List Answer) → IsFineHere old (stands (Some w) old answers)) → Takes old w a d mid → FineThen mid (λ c. follows c (want_of w))
   take_fine old mid w a d fine t answers =
-      let b = stands None mid answers in
+      let b = then_do (follows (context_in mid.checked.now) (want_of w) (state_of mid answers)) (left_in mid) in
       let all = subst (λ x. IsFineHere old x) (t.goes answers) (fine (a ∷ answers)) in
       fine_along mid old t.checked t.service b b refl all.1
 
-  pub settle_fine : (mid new : Machine V D C) (next' : Option Wanting) → ((answers : List Answer) → IsFineHere mid (stands None mid answers)) → Settles mid next' new → (answers : List Answer) → IsFineHere new (stands next' new answers)
-  settle_fine mid new next' fine s answers =
+  pub settle_fine : (mid new : Machine V D C) (go : Context → Action) (next' : Option Wanting) → FineThen mid go → Settles mid go next' new → (answers : List Answer) → IsFineHere new (stands next' new answers)
+  settle_fine mid new go next' fine s answers =
       fine_told new (stands next' new answers)
-      (fine_along new mid s.checked s.service (says new.unlocks.items (stands next' new answers)) (stands None mid answers) (s.goes answers) (fine answers))
+      (fine_along new mid s.checked s.service (says new.unlocks.items (stands next' new answers)) (then_do (go (context_in mid.checked.now) (state_of mid answers)) (left_in mid)) (s.goes answers) (fine answers))
 
   -- with no answer, a run is short in the service in progress, or over
   pub rest_short : (h : Machine V D C) (wanting : Option Wanting) (w : Wanting) (fed n : ℕ) (has : Bool) (o : Option Overrun) → wanting ≡ Some w → IfSome wanting (IsWanting h) → rest (held h wanting fed n has o) [] ≡ stops short (state_of h [])
   rest_short h wanting w fed n has o e p =
       let q : IsWanting h w = rw e at p in
       let c = context_in h.checked.now in
-      rw e (ap (λ b. served c h.checked.now.script.services (bit_at h.checked.now h.service) (then_do b (rest_in c (opens_of h.frames.items)))) (waits_first h w q)
+      rw e (ap (λ b. served c h.checked.now.script.services (bit_at h.checked.now h.service) (then_do b (rest_in c (opens_in h)))) (waits_first h w q)
       ∙ served_stops c h.checked.now.script.services (bit_at h.checked.now h.service) short (state_of h []))
 
   pub rest_over : (h : Machine V D C) (wanting : Option Wanting) (fed n : ℕ) (has : Bool) (o : Option Overrun) → wanting ≡ None → rest (held h wanting fed n has o) [] ≡ ends tt
@@ -181,4 +186,4 @@ none_wanted f (Some a) e = absurd (cc)
 -- a service in progress is within its bounds
 pub steps_within : {V D C : ℕ} (h : Machine V D C) (w : Wanting) → IsWanting h w → ((answers : List Answer) → IsFineHere h (stands (Some w) h answers)) → h.steps ≤ (bounds_of h).steps
 steps_within h w p fine =
-    let f = subst (λ b. IsFineHere h (then_do b (rest_in (context_in h.checked.now) (opens_of h.frames.items)))) (waits_first h w p) (fine []) in f.1.steps
+    let f = subst (λ b. IsFineHere h (then_do b (rest_in (context_in h.checked.now) (opens_in h)))) (waits_first h w p) (fine []) in f.1.steps

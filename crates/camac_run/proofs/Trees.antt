@@ -1,5 +1,5 @@
 -- Statements as definitions see them.
-use Rattle.std.proofs.Common.{◌≡◌, ℕ, Vec, map, sym, ap, ◌∙◌}
+use Rattle.std.proofs.Common.{◌≡◌, ℕ, Option, Vec, map, sym, ap, ◌∙◌}
 use Rattle.std.specs.declared.alloc.Global.{Global}
 use Rattle.camac_lang.specs.declared.tree.Cond.{Cond}
 use Rattle.camac_lang.specs.declared.tree.Expr.{Expr}
@@ -13,7 +13,7 @@ use Rattle.camac_lang.specs.declared.tree.Stmt.TheOpen.{Stmt-F}
 use Rattle.camac_lang.specs.declared.word.CrateCall.{CrateCall}
 use Rattle.camac_lang.specs.declared.word.LamCall.{LamCall}
 use Rattle.camac_lang.specs.declared.word.WordSize.{WordSize}
-use Rattle.camac_lang.specs.Tree.{Statement, assign, set_register, single, put, crate_call, lam_call, choose, choose_else, count, repeat, locked}
+use Rattle.camac_lang.specs.Tree.{Statement, assign, set_register, single, address_scan, q_stop, q_repeat, put, crate_call, lam_call, choose, choose_else, count, repeat, locked, call}
 use Rattle.camac_lang.specs.View.{condition_of, keep_of, expression_of, move_of, statement_of, statements_of, statement_step}
 
 pub assign_is : (line x : ℕ) (e : Expr) → statement_of (rust.Assign line x e) ≡ assign line x (expression_of e)
@@ -24,6 +24,15 @@ register_is line r c n a = ap statement_of (sym (rust.rolls-SetRegister line r c
 
 pub single_is : (line : ℕ) (size : WordSize) (f r : ℕ) (m : Move) → statement_of (rust.Single line size f r m) ≡ single line size f r (move_of m)
 single_is line size f r m = ap statement_of (sym (rust.rolls-Single line size f r m)) ∙ fold-roll-Stmt Statement statement_step (Stmt-F.Single line size f r m)
+
+pub scan_is : (line f first last : ℕ) (e : Expr) (x : ℕ) → statement_of (rust.Scan line f first last e x) ≡ address_scan line f first last (expression_of e) x
+scan_is line f first last e x = ap statement_of (sym (rust.rolls-Scan line f first last e x)) ∙ fold-roll-Stmt Statement statement_step (Stmt-F.Scan line f first last e x)
+
+pub q_stop_is : (line f r : ℕ) (g : Option ℕ) (e : Expr) (x : ℕ) → statement_of (rust.QStop line f r g e x) ≡ q_stop line f r g (expression_of e) x
+q_stop_is line f r g e x = ap statement_of (sym (rust.rolls-QStop line f r g e x)) ∙ fold-roll-Stmt Statement statement_step (Stmt-F.QStop line f r g e x)
+
+pub q_repeat_is : (line f r : ℕ) (g : Option ℕ) (e l : Expr) (x : ℕ) → statement_of (rust.QRepeat line f r g e l x) ≡ q_repeat line f r g (expression_of e) (expression_of l) x
+q_repeat_is line f r g e l x = ap statement_of (sym (rust.rolls-QRepeat line f r g e l x)) ∙ fold-roll-Stmt Statement statement_step (Stmt-F.QRepeat line f r g e l x)
 
 pub put_is : (line : ℕ) (e : Expr) → statement_of (rust.Put line e) ≡ put line (expression_of e)
 put_is line e = ap statement_of (sym (rust.rolls-Put line e)) ∙ fold-roll-Stmt Statement statement_step (Stmt-F.Put line e)
@@ -48,3 +57,6 @@ count_is line x e f keeps a = ap statement_of (sym (rust.rolls-For line x e f ke
 
 pub repeat_is : (line : ℕ) (t : Cond) (most measure : ℕ) (keeps : Vec Keep Global) (a : Vec Stmt Global) → statement_of (rust.While line t most measure keeps a) ≡ repeat line (condition_of t) most measure (map keep_of keeps.items) (statements_of a.items)
 repeat_is line t most measure keeps a = ap statement_of (sym (rust.rolls-While line t most measure keeps a)) ∙ fold-roll-Stmt Statement statement_step (layer.While line t most measure keeps a)
+
+pub call_is : (line p : ℕ) (es : Vec Expr Global) → statement_of (rust.Call line p es) ≡ call line p (map expression_of es.items)
+call_is line p es = ap statement_of (sym (rust.rolls-Call line p es)) ∙ fold-roll-Stmt Statement statement_step (Stmt-F.Call line p es)

@@ -1,10 +1,9 @@
 pub mod Store
 pub mod Called
+pub mod Course
 pub mod Rest
 pub mod Codes
-pub mod Fits
 pub mod Within
-pub mod Plays
 pub mod Held
 pub mod Runner
 pub mod Sound

@@ -24,6 +24,7 @@ pub record Held : Type 0 where
   pub blocks : List Open
   pub wanting : Option Want
   pub crates : Crates
+  -- of the innermost body
   pub variables : List ℕ
   pub registers : List (Option Address)
   pub q : Bool

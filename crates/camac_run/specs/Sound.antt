@@ -4,10 +4,11 @@ use Rattle.camac_lang.specs.Scope.{is_well_formed}
 use Rattle.camac_branch.specs.Branch.{Answer}
 use Rattle.camac_branch.specs.declared.answer.Overrun.{Overrun}
 use Rattle.camac_check.specs.Checked.{IsChecked}
-use Rattle.camac_run.specs.Plays.{plays}
+use Rattle.camac_size.specs.Fits.{fits}
 use Rattle.camac_run.specs.declared.machine.Machine.{Machine}
 use Rattle.camac_run.specs.declared.machine.Wanting.{Wanting}
-use Rattle.camac_run.specs.Held.{opens_of, want_of, stands, IsFineHere, HasRoom, IsWanting}
+use Rattle.camac_run.specs.Held.{opens_in, want_of, stands, IsFineHere, HasRoom, IsWanting}
+use Rattle.camac_run.specs.Store.{held_at}
 use Rattle.camac_run.specs.Runner.{Held, Left, bit_at}
 
 module _ {V D C : ℕ} where
@@ -15,11 +16,11 @@ module _ {V D C : ℕ} where
   held h wanting fed events has_event overrun = record {
     checked = h.checked.now;
     service = h.service;
-    blocks = opens_of h.frames.items;
+    blocks = opens_in h;
     wanting = option_map want_of wanting;
     crates = h.branch;
-    variables = h.variables;
-    registers = h.registers;
+    variables = held_at h.scope.variables h.variables;
+    registers = held_at h.scope.registers h.registers;
     q = h.q;
     x = h.x;
     words = h.words;
@@ -41,7 +42,7 @@ module _ {V D C : ℕ} where
     pub quiet : h.unlocks.items ≡ []
     pub checked : IsChecked h.checked.now
     pub formed : IsTrue (is_well_formed h.checked.now.script)
-    pub fits : plays h.checked.now.script V D C ≡ true
+    pub fits : fits h.checked.now.script V D C ≡ true
     pub wants : IfSome wanting (IsWanting h)
     pub idle : IfNone wanting (h.frames.items ≡ [])
     pub service : IfSome wanting (λ w. h.service < length h.checked.now.script.services)

@@ -3,7 +3,7 @@
 ghost use Rattle.std.specs.Prelude.{◌≡◌, ◌+◌, ◌<◌, ◌≤◌, ◌^◌, List, [], length, true, Some, None, false, IsSome, IfNone, OnSome, if◌then◌else◌};
 ghost use Rattle.camac_branch.specs.Branch.{Answer};
 ghost use Rattle.camac_run.specs.Held.{bounds_at};
-ghost use Rattle.camac_run.specs.Plays.{plays};
+ghost use Rattle.camac_size.specs.Fits.{fits};
 ghost use Rattle.camac_model.specs.Behaviour.{stops, short, ends};
 ghost use Rattle.camac_model.specs.Run.{the_run};
 ghost use Rattle.camac_run.specs.Runner.{state_in, rest, last_words_in, Progresses, steps_of, words_of};
@@ -50,15 +50,15 @@ impl<'a, const V: usize, const DEPTH: usize, const CAP: usize> Model for Runner<
 }
 
 impl<'a, const V: usize, const DEPTH: usize, const CAP: usize> Runner<'a, V, DEPTH, CAP> {
-    /// Stands before the first graded-L operation. It takes no memory. The script fits the sizes, and has no statements but those that are
-    /// played today: no transfers and calls of procedures.
+    /// Stands before the first graded-L operation. It takes no memory. The script fits the sizes.
     pub fn start(checked: &'a Checked) -> Self
-        requires { plays checked.now.script V DEPTH CAP ≡ true }
+        requires { fits checked.now.script V DEPTH CAP ≡ true }
         ensures rest { (answers : List Answer) → rest result answers ≡ the_run checked.now.plan checked.now.script answers }
         ensures checked { result.checked ≡ checked.now }
         ensures fed { result.fed ≡ 0 }
         ensures events { result.events ≡ 0 }
         ensures overrun { result.overrun ≡ None }
+        ensures quiet { last_words_in result ≡ [] }
     {
         checked.is_checked();
         checked.script().well_formed();
@@ -135,7 +135,7 @@ impl<'a, const V: usize, const DEPTH: usize, const CAP: usize> Runner<'a, V, DEP
             None => unreachable!(),
             Some(wanting) => match self.machine.take(&wanting, answer) {
                 Ok(item) => {
-                    let next = self.machine.settle();
+                    let next = self.machine.go_further(&wanting);
                     let over = is_over(&next);
                     let events = events_after(over, self.events);
                     let event = self.machine.event(events);

@@ -26,7 +26,6 @@ refuses (Err fault.Write) why l m e h = front_listing l m e (refusal_text why) h
 refuses (Err fault.Read) why l m e h = absurd h
 refuses (Err fault.Memory) why l m e h = absurd h
 refuses (Err fault.TooLong) why l m e h = absurd h
-refuses (Err fault.NotServed) why l m e h = absurd h
 
 -- the plan is refused
 pub plan_refused : {R : Type 0} (r : Result Outcome ToolFault) (of : R → Option (List ℕ)) (plan plan' : PlanSource R) (s : Option (List ℕ)) (left : Option Reading) (a b : Held) (rule : PlanRule)
@@ -36,4 +35,3 @@ plan_refused (Err fault.Write) of plan plan' s left a b rule says h = (Err rule,
 plan_refused (Err fault.Read) of plan plan' s left a b rule says h = absurd h
 plan_refused (Err fault.Memory) of plan plan' s left a b rule says h = absurd h
 plan_refused (Err fault.TooLong) of plan plan' s left a b rule says h = absurd h
-plan_refused (Err fault.NotServed) of plan plan' s left a b rule says h = absurd h

@@ -39,7 +39,6 @@ ShowsPlan left plan plan' o p (Err fault.Write) = (says : Result Layout PlanRule
 ShowsPlan left plan plan' o p (Err fault.Read) = Keeps o p
 ShowsPlan left plan plan' o p (Err fault.Memory) = Keeps o p
 ShowsPlan left plan plan' o p (Err fault.TooLong) = IsPlanTooLong left plan plan' × Keeps o p
-ShowsPlan left plan plan' o p (Err fault.NotServed) = ⊥
 
 -- What was read of a script for a plan, and written: the report on the text, and nothing after a fault before it.
 abbrev pub ChecksOn : Layout → (a b : Option (List ℕ)) → (o p : Option (List ℕ)) → Result Outcome ToolFault → Type 0
@@ -48,7 +47,6 @@ ChecksOn plan a b o p (Err fault.Write) = (text : List ℕ) × WasRead TEXT_LIMI
 ChecksOn plan a b o p (Err fault.Read) = Keeps o p
 ChecksOn plan a b o p (Err fault.Memory) = Keeps o p
 ChecksOn plan a b o p (Err fault.TooLong) = ConsumesSome a b (TEXT_LIMIT + 1) × Keeps o p
-ChecksOn plan a b o p (Err fault.NotServed) = ⊥
 
 -- the same where the plan may be refused: of the script nothing is read then
 abbrev pub ChecksIf : Result Layout PlanRule → (a b : Option (List ℕ)) → (o p : Option (List ℕ)) → Result Outcome ToolFault → Type 0
@@ -78,7 +76,6 @@ ShowsEvents a b o p (Err fault.Write) = (bytes : List ℕ) × WasRead EVENTS_LIM
 ShowsEvents a b o p (Err fault.Read) = Keeps o p
 ShowsEvents a b o p (Err fault.Memory) = Keeps o p
 ShowsEvents a b o p (Err fault.TooLong) = ConsumesSome a b (EVENTS_LIMIT + 1) × Keeps o p
-ShowsEvents a b o p (Err fault.NotServed) = ⊥
 
 abbrev pub is_write_fault : {T : Type 0} → Result T ToolFault → Bool
 is_write_fault (Err fault.Write) = true

@@ -13,7 +13,6 @@ use Rattle.camac_play.specs.declared.ending.Ending.TheVariants as how
 use Rattle.camac_report.specs.Refusal.{refusal_text}
 use Rattle.camac_report.specs.declared.refusal.Refusal.{Refusal}
 use Rattle.camac_report.specs.declared.refusal.Refusal.TheVariants as refusal
-use Rattle.camac_run.specs.Plays.{plays}
 use Rattle.camac_run.specs.declared.item.End.TheVariants as end
 use Rattle.camac_tool.specs.Accepted.{Accepted, accepted}
 use Rattle.camac_tool.specs.Codes.{plan_code}
@@ -53,7 +52,6 @@ RunsScript plan script left a b (Ok outcome) =
 RunsScript plan script left a b (Err fault.Write) = (r : Reading) × Gives left r × SendsFront a b (played plan script r)
 RunsScript plan script left a b (Err fault.Read) =
     (taken : List Answer) × GivesFirst left taken × Sends a b (told plan script taken)
-RunsScript plan script left a b (Err fault.NotServed) = (plays script 64 16 4096 ≡ false) × SendsNothing a b
 RunsScript plan script left a b (Err _) = ⊥
 
 -- a text of a script was judged
@@ -79,7 +77,6 @@ RunsOn plan s t left a b (Err fault.Write) = RunsText plan s t left a b (Err fau
 RunsOn plan s t left a b (Err fault.Read) = SendsNothing a b ⊎ RunsText plan s t left a b (Err fault.Read)
 RunsOn plan s t left a b (Err fault.Memory) = SendsNothing a b
 RunsOn plan s t left a b (Err fault.TooLong) = ConsumesSome s t (TEXT_LIMIT + 1) × SendsNothing a b
-RunsOn plan s t left a b (Err fault.NotServed) = SendsNothing a b
 
 -- the same where the plan may be refused: of the script nothing is read then
 abbrev pub RunsIf : Result Layout PlanRule → (s t : Option (List ℕ)) → Option Reading → Held → Held → Result Outcome ToolFault → Type 0
@@ -98,4 +95,3 @@ Runs of plan plan' s t left a b (Err fault.Read) = SendsNothing a b ⊎ RunsPlan
 Runs of plan plan' s t left a b (Err fault.Memory) = SendsNothing a b
 Runs of plan plan' s t left a b (Err fault.TooLong) =
     (IsPlanTooLong of plan plan' × (t ≡ s) × SendsNothing a b) ⊎ RunsPlan of plan plan' s t left a b (Err fault.TooLong)
-Runs of plan plan' s t left a b (Err fault.NotServed) = SendsNothing a b

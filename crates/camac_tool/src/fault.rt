@@ -22,9 +22,6 @@ pub enum ToolFault {
     /// G4: an input is longer than its limit.
     #[error("fault input too long")]
     TooLong,
-    /// What is asked for is not served yet.
-    #[error("fault not served yet")]
-    NotServed,
 }
 
 impl From<AllocError> for ToolFault {

@@ -20,7 +20,7 @@ use crate::plan::{PlanSource, read_plan};
 use crate::reading::{TEXT_LIMIT, read_whole};
 use camac_branch::Plan;
 use camac_check::Checked;
-use camac_play::{Ending, PlayFault, is_playable, play};
+use camac_play::{Ending, PlayFault, play};
 use camac_report::Refusal;
 use camac_run::End;
 use camac_word::Watched;
@@ -107,9 +107,6 @@ fn run_checked<A: Read, W: Write, E: Write>(
     ensures in_failed { has_failed answers.new ≡ (has_failed answers.old || is_read_fault result) }
 {
     checked.is_checked();
-    if !is_playable(checked) {
-        return Err(ToolFault::NotServed);
-    }
     match play(alloc, checked, answers, out, events) {
         Ok(ending) => Ok(outcome_of(ending)),
         Err(PlayFault::Read) => Err(ToolFault::Read),

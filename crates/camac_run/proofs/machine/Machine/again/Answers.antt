@@ -1,10 +1,11 @@
-use Rattle.std.proofs.Common.{◌+◌, ◌<◌, ◌≤◌, Some, map, ap, ◌∙◌, arith}
+use Rattle.std.proofs.Common.{Some, map, ap, ◌∙◌, arith, rules}
 use Rattle.camac_lang.specs.View.{part_of, statements_of}
 use Rattle.camac_run.proofs.Loops.{again_has, again_fine, again_stops, again_advances}
 use Rattle.camac_run.proofs.machine.Machine.again.Goals as goal
 
-pub holds-requires-clause-has_value : goal.holds-requires-clause-has_value
-holds-requires-clause-has_value g c = again_has c.args.self.now (map part_of c.args.test.now) (statements_of c.args.body.now) c.args.turns c.requires.fine
+pub holds-requires : goal.holds-requires
+holds-requires g c =
+    (search rules, (c.requires.room, (c.requires.declared, again_has c.args.self.now (map part_of c.args.test.now) (statements_of c.args.body.now) c.args.turns c.requires.fine)))
 
 pub overflow_add-self : goal.overflow_add-self
 overflow_add-self g c =

@@ -2,20 +2,22 @@ use Rattle.camac_run.proofs.Loops.{while_begins}
 use Rattle.camac_run.proofs.Serving.{turns_are}
 use Rattle.camac_model.specs.Meaning.{turns, block_meaning}
 use Rattle.camac_model.specs.Fine.{most_turns}
-use Rattle.std.proofs.Common.{◌+◌, length, arith, rules, ℕ, [], sym, subst}
+use Rattle.std.proofs.Common.{◌+◌, arith, rules, ℕ, [], map, sym, subst}
 use Rattle.std.specs.Prelude.{None}
-use Rattle.camac_run.specs.Held.{free, FineThen, Advances}
-use Rattle.camac_lang.specs.Tree.{assign, set_register, single, put, crate_call, lam_call, choose, choose_else, locked, count, repeat}
+use Rattle.camac_run.specs.Held.{free, reach, Advances}
+use Rattle.camac_lang.specs.Tree.{assign, set_register, single, address_scan, q_stop, q_repeat, put, crate_call, lam_call, choose, choose_else, locked, count, repeat, call}
 use Rattle.camac_lang.specs.View.{condition_of, expression_of, move_of, statement_of, statements_of}
 use Rattle.camac_run.proofs.Actions.{begun}
+use Rattle.camac_run.proofs.Calls.{call_advances}
+use Rattle.camac_run.proofs.Courses.{proceeds_advance, proceeds_pace}
 use Rattle.camac_run.proofs.Frames.{room_stepped, wants_advance, block_advances, step_advances}
-use Rattle.camac_run.proofs.Trees.{assign_is, register_is, single_is, put_is, crate_is, lam_is, choose_is, choose_else_is, lock_is, count_is, repeat_is}
+use Rattle.camac_run.proofs.Trees.{assign_is, register_is, single_is, scan_is, q_stop_is, q_repeat_is, put_is, crate_is, lam_is, choose_is, choose_else_is, lock_is, count_is, repeat_is, call_is}
 use Rattle.camac_run.proofs.machine.Machine.begin.Goals as goal
 
 pub overflow_add-self : goal.overflow_add-self
 overflow_add-self g c =
     let h = c.args.self.now in
-    let s = begun h (statement_of c.args.statement.now) g.row.V (length h.checked.now.script.lams) (free h) c.requires.fits c.requires.fine in
+    let s = begun h (statement_of c.args.statement.now) (reach h) (free h) c.requires.fits c.requires.fine in
     let r = c.requires.room.steps in omega arith
 
 pub assign-requires : goal.assign-requires
@@ -138,3 +140,54 @@ returns-in-While-clause-advances g c =
     let few : A 65535 = rw (c.deref-in-While.ensures.value, c.deref-in-While-2.ensures.value) at c.again.ensures in
     rw (c.in-While.is, repeat_is c.in-While.line c.in-While.test c.in-While.turns c.in-While.measure c.in-While.keeps c.in-While.body)
     (step_advances h (repeat 0 (condition_of c.in-While.test) 0 0 [] b) None c.again.new.self (subst A (sym turns_are) few))
+
+pub scan-requires : goal.scan-requires
+scan-requires g c =
+    let e = scan_is c.in-Scan.line c.in-Scan.function c.in-Scan.first c.in-Scan.last c.in-Scan.max c.in-Scan.tally in
+    let fits = rw (c.in-Scan.is, e) at c.requires.fits in
+    (search rules, (room_stepped c.args.self.now (c.args.self.now.steps + 1) c.requires.room, (fits.0, (fits.1, (fits.2, (fits.3, rw (c.in-Scan.is, e) at c.requires.fine))))))
+
+pub returns-in-Scan-clause-advances : goal.returns-in-Scan-clause-advances
+returns-in-Scan-clause-advances g c =
+    rw (c.in-Scan.is, scan_is c.in-Scan.line c.in-Scan.function c.in-Scan.first c.in-Scan.last c.in-Scan.max c.in-Scan.tally) (proceeds_advance c.args.self.now (address_scan 0 c.in-Scan.function c.in-Scan.first c.in-Scan.last (expression_of c.in-Scan.max) c.in-Scan.tally) c.scan.result c.scan.new.self c.scan.ensures)
+
+pub returns-in-Scan-clause-pace : goal.returns-in-Scan-clause-pace
+returns-in-Scan-clause-pace g c = proceeds_pace c.args.self.now (address_scan 0 c.in-Scan.function c.in-Scan.first c.in-Scan.last (expression_of c.in-Scan.max) c.in-Scan.tally) c.scan.result c.scan.new.self c.scan.ensures
+
+pub q_stop-requires : goal.q_stop-requires
+q_stop-requires g c =
+    let e = q_stop_is c.in-QStop.line c.in-QStop.function c.in-QStop.register c.in-QStop.table c.in-QStop.max c.in-QStop.tally in
+    let fits = rw (c.in-QStop.is, e) at c.requires.fits in
+    (search rules, (room_stepped c.args.self.now (c.args.self.now.steps + 1) c.requires.room, (fits.0, (fits.1, (fits.2, rw (c.in-QStop.is, e) at c.requires.fine)))))
+
+pub returns-in-QStop-clause-advances : goal.returns-in-QStop-clause-advances
+returns-in-QStop-clause-advances g c =
+    rw (c.in-QStop.is, q_stop_is c.in-QStop.line c.in-QStop.function c.in-QStop.register c.in-QStop.table c.in-QStop.max c.in-QStop.tally) (proceeds_advance c.args.self.now (q_stop 0 c.in-QStop.function c.in-QStop.register c.in-QStop.table (expression_of c.in-QStop.max) c.in-QStop.tally) c.q_stop.result c.q_stop.new.self c.q_stop.ensures)
+
+pub returns-in-QStop-clause-pace : goal.returns-in-QStop-clause-pace
+returns-in-QStop-clause-pace g c = proceeds_pace c.args.self.now (q_stop 0 c.in-QStop.function c.in-QStop.register c.in-QStop.table (expression_of c.in-QStop.max) c.in-QStop.tally) c.q_stop.result c.q_stop.new.self c.q_stop.ensures
+
+pub q_repeat-requires : goal.q_repeat-requires
+q_repeat-requires g c =
+    let e = q_repeat_is c.in-QRepeat.line c.in-QRepeat.function c.in-QRepeat.register c.in-QRepeat.table c.in-QRepeat.max c.in-QRepeat.limit c.in-QRepeat.tally in
+    let fits = rw (c.in-QRepeat.is, e) at c.requires.fits in
+    (search rules, (room_stepped c.args.self.now (c.args.self.now.steps + 1) c.requires.room, (fits.0, (fits.1, (fits.2, (fits.3, rw (c.in-QRepeat.is, e) at c.requires.fine))))))
+
+pub returns-in-QRepeat-clause-advances : goal.returns-in-QRepeat-clause-advances
+returns-in-QRepeat-clause-advances g c =
+    rw (c.in-QRepeat.is, q_repeat_is c.in-QRepeat.line c.in-QRepeat.function c.in-QRepeat.register c.in-QRepeat.table c.in-QRepeat.max c.in-QRepeat.limit c.in-QRepeat.tally) (proceeds_advance c.args.self.now (q_repeat 0 c.in-QRepeat.function c.in-QRepeat.register c.in-QRepeat.table (expression_of c.in-QRepeat.max) (expression_of c.in-QRepeat.limit) c.in-QRepeat.tally) c.q_repeat.result c.q_repeat.new.self c.q_repeat.ensures)
+
+pub returns-in-QRepeat-clause-pace : goal.returns-in-QRepeat-clause-pace
+returns-in-QRepeat-clause-pace g c = proceeds_pace c.args.self.now (q_repeat 0 c.in-QRepeat.function c.in-QRepeat.register c.in-QRepeat.table (expression_of c.in-QRepeat.max) (expression_of c.in-QRepeat.limit) c.in-QRepeat.tally) c.q_repeat.result c.q_repeat.new.self c.q_repeat.ensures
+
+pub call-requires : goal.call-requires
+call-requires g c =
+    let e = call_is c.in-Call.line c.in-Call.procedure c.in-Call.arguments in
+    let fits = rw (c.in-Call.is, e) at c.requires.fits in
+    let fine = rw (c.in-Call.is, e) at c.requires.fine in
+    (search rules, (room_stepped c.args.self.now (c.args.self.now.steps + 1) c.requires.room, (rw c.deref-in-Call.ensures.value fits, rw c.deref-in-Call.ensures.value fine)))
+
+pub returns-in-Call-clause-advances : goal.returns-in-Call-clause-advances
+returns-in-Call-clause-advances g c =
+    rw (c.in-Call.is, call_is c.in-Call.line c.in-Call.procedure c.in-Call.arguments)
+    (call_advances c.args.self.now c.call.new.self (call 0 c.in-Call.procedure (map expression_of c.in-Call.arguments.items)) (rw c.deref-in-Call.ensures.value at c.call.ensures))

@@ -1,4 +1,4 @@
-use Rattle.std.proofs.Common.{◌≡◌, ◌≤◌, ℕ, Some, sym, ap, subst, ◌∙◌}
+use Rattle.std.proofs.Common.{◌≡◌, ◌≤◌, ℕ, Some, sym, ap, subst, ◌∙◌, rules}
 use Rattle.std.proofs.lemmas.Bool.{false≢true}
 use Rattle.camac_branch.specs.Allowed.{AllowsCommands}
 use Rattle.camac_branch.specs.Plan.{Layout}
@@ -6,13 +6,14 @@ use Rattle.camac_esone.specs.Calls.{crate_address, crate_function}
 use Rattle.camac_func.specs.declared.data.DataMove.TheVariants as moved
 use Rattle.camac_lang.specs.View.{expression_of}
 use Rattle.camac_model.specs.Value.{value}
-use Rattle.camac_run.specs.Store.{variables_in}
+use Rattle.camac_run.specs.Held.{variables_here}
 use Rattle.camac_run.proofs.Actions.{crate_has, crate_can, crate_wants, crate_of}
 use Rattle.camac_run.proofs.Commands.{on_branch}
 use Rattle.camac_run.proofs.machine.Machine.call_crate.Goals as goal
 
-pub value_of-requires-clause-has_value : goal.value_of-requires-clause-has_value
-value_of-requires-clause-has_value g c = crate_has c.args.self.now c.args.call (expression_of c.args.crate_no.now) c.requires.fine
+pub value_of-requires : goal.value_of-requires
+value_of-requires g c =
+    (search rules, (c.requires.room, (c.requires.declared, crate_has c.args.self.now c.args.call (expression_of c.args.crate_no.now) c.requires.fine)))
 
 pub unreachable-requires : goal.unreachable-requires
 unreachable-requires g c =
@@ -27,5 +28,5 @@ pub returns : goal.returns
 returns g c =
     let h = c.args.self.now in
     let e = expression_of c.args.crate_no.now in
-    let is : value e (variables_in h.variables) ≡ Some c.in-Some.c = c.value_of.ensures ∙ ap (λ n. Some n) (sym c.in-Some.ensures.kept) in
+    let is : value e (variables_here h) ≡ Some c.in-Some.c = c.value_of.ensures ∙ ap (λ n. Some n) (sym c.in-Some.ensures.kept) in
     crate_wants h c.args.call e c.in-Some.c c.crate_call.result is c.crate_call.ensures (crate_can h c.args.call e c.in-Some.c is c.requires.fine)

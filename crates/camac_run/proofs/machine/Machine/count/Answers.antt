@@ -1,23 +1,25 @@
-use Rattle.std.proofs.Common.{◌≡◌, ◌-◌, ◌<◌, ◌≤◌, suc, [], Some, sym, ap, ◌∙◌, rules}
+use Rattle.std.proofs.Common.{◌-◌, suc, [], sym, rules}
 use Rattle.std.specs.Prelude.{None}
 use Rattle.camac_lang.specs.Tree.{count}
 use Rattle.camac_lang.specs.View.{expression_of, statements_of}
 use Rattle.camac_model.specs.Fine.{most_turns}
 use Rattle.camac_model.specs.Meaning.{effect, count_turns, block_meaning}
 use Rattle.camac_model.specs.Value.{value}
-use Rattle.camac_run.specs.Store.{variables_in}
+use Rattle.camac_run.specs.Held.{variables_here}
 use Rattle.camac_run.proofs.Actions.{has_value, known}
 use Rattle.camac_run.proofs.Loops.{fine_as, advances_as, unchanged, count_goes, count_none}
 use Rattle.camac_run.proofs.machine.Machine.count.Goals as goal
 
-pub value_of-first-requires-clause-has_value : goal.value_of-first-requires-clause-has_value
-value_of-first-requires-clause-has_value g c = has_value c.args.self.now (expression_of c.args.from.now) _ (c.requires.fine [])
+pub value_of-first-requires : goal.value_of-first-requires
+value_of-first-requires g c =
+    (search rules, (c.requires.room, (c.requires.from, has_value c.args.self.now (expression_of c.args.from.now) _ (c.requires.fine []))))
 
-pub value_of-last-requires-clause-has_value : goal.value_of-last-requires-clause-has_value
-value_of-last-requires-clause-has_value g c =
+pub value_of-last-requires : goal.value_of-last-requires
+value_of-last-requires g c =
     let h = c.args.self.now in
-    has_value h (expression_of c.args.to.now) _
-    (known h (value (expression_of c.args.from.now) (variables_in h.variables)) c.value_of-first.result _ [] c.value_of-first.ensures (c.requires.fine []))
+    let has = has_value h (expression_of c.args.to.now) _
+    (known h (value (expression_of c.args.from.now) (variables_here h)) c.value_of-first.result _ [] c.value_of-first.ensures (c.requires.fine [])) in
+    (search rules, (c.requires.room, (c.requires.to, has)))
 
 pub turn-requires : goal.turn-requires
 turn-requires g c =

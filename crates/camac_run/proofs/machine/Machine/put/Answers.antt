@@ -6,8 +6,9 @@ use Rattle.camac_run.specs.Held.{bounds_of}
 use Rattle.camac_run.proofs.Actions.{has_value, put_fits, put_goes}
 use Rattle.camac_run.proofs.machine.Machine.put.Goals as goal
 
-pub value_of-requires-clause-has_value : goal.value_of-requires-clause-has_value
-value_of-requires-clause-has_value g c = has_value c.args.self.now (expression_of c.args.value.now) _ (c.requires.fine [])
+pub value_of-requires : goal.value_of-requires
+value_of-requires g c =
+    (search rules, (c.requires.room, (c.requires.declared, has_value c.args.self.now (expression_of c.args.value.now) _ (c.requires.fine []))))
 
 pub push-requires : goal.push-requires
 push-requires g c =
@@ -28,6 +29,8 @@ returns g c =
       room = record {
         variables = r.variables;
         registers = r.registers;
+        fits = r.fits;
+        scope = r.scope;
         blocks = r.blocks;
         words = r.words;
         steps = r.steps;

@@ -1,4 +1,4 @@
-use Rattle.std.proofs.Common.{◌≡◌, ◌+◌, ◌<◌, ◌++◌, ◌∷◌, [], length, false, ap, sym, ◌∙◌, arith, rules}
+use Rattle.std.proofs.Common.{◌++◌, ◌∷◌, [], false, ap, ◌∙◌, arith, rules}
 use Rattle.std.proofs.lemmas.Bool.{false≢true}
 use Rattle.camac_branch.specs.Branch.{with_lock}
 use Rattle.camac_branch.specs.Crates.{branch_of}

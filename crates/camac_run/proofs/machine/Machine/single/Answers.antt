@@ -1,4 +1,4 @@
-use Rattle.std.proofs.Common.{◌≡◌, Some, sym, ap, subst, ◌∙◌}
+use Rattle.std.proofs.Common.{◌≡◌, Some, sym, ap, subst, ◌∙◌, rules}
 use Rattle.std.proofs.lemmas.Bool.{false≢true}
 use Rattle.camac_branch.specs.Allowed.{AllowsCommands, width}
 use Rattle.camac_branch.specs.Plan.{Layout}
@@ -6,14 +6,15 @@ use Rattle.camac_func.specs.declared.data.DataMove.TheVariants as moved
 use Rattle.camac_lang.specs.View.{expression_of, move_of}
 use Rattle.camac_model.specs.Cycle.{sized}
 use Rattle.camac_model.specs.Value.{value}
+use Rattle.camac_run.specs.Held.{variables_here}
 use Rattle.camac_run.specs.Rest.{address_of}
-use Rattle.camac_run.specs.Store.{variables_in}
 use Rattle.camac_run.proofs.Actions.{address_set, control_can, read_can, write_has, write_can, control_wants, read_wants, write_wants}
 use Rattle.camac_run.proofs.Commands.{on_branch, word_fits}
 use Rattle.camac_run.proofs.machine.Machine.single.Goals as goal
 
-pub address_in-at-requires-clause-set : goal.address_in-at-requires-clause-set
-address_in-at-requires-clause-set g c = address_set c.args.self.now c.args.size c.args.f c.args.register (move_of c.args.moved.now) c.requires.fine
+pub address_in-at-requires : goal.address_in-at-requires
+address_in-at-requires g c =
+    (search rules, (c.requires.room, (c.requires.register, address_set c.args.self.now c.args.size c.args.f c.args.register (move_of c.args.moved.now) c.requires.fine)))
 
 pub command-requires : goal.command-requires
 command-requires g c =
@@ -29,9 +30,10 @@ command-command-requires g c =
     on_branch h.checked.now.plan (subst P c.plan-plan.ensures c.allows_commands.ensures) c.address_in-at.result c.args.f moved.In
     (read_can h c.args.size c.args.f c.args.register _ c.address_in-at.result c.address_in-at.ensures (rw c.in-Into.is at c.requires.fine)).1
 
-pub value_of-requires-clause-has_value : goal.value_of-requires-clause-has_value
-value_of-requires-clause-has_value g c =
-    write_has c.args.self.now c.args.size c.args.f c.args.register (expression_of c.in-From.value) c.address_in-at.result c.address_in-at.ensures (rw c.in-From.is at c.requires.fine)
+pub value_of-requires : goal.value_of-requires
+value_of-requires g c =
+    let has = write_has c.args.self.now c.args.size c.args.f c.args.register (expression_of c.in-From.value) c.address_in-at.result c.address_in-at.ensures (rw c.in-From.is at c.requires.fine) in
+    (search rules, (c.requires.room, (rw c.in-From.is at c.requires.moved, has)))
 
 pub command-requires-in-Some : goal.command-requires-in-Some
 command-requires-in-Some g c =
@@ -71,7 +73,7 @@ returns-in-Some g c =
     let at = c.address_in-at.result in
     let e = expression_of c.in-From.value in
     let w = c.in-Some.word in
-    let is : value e (variables_in h.variables) ≡ Some w = c.value_of.ensures ∙ ap (λ n. Some n) (sym c.in-Some.ensures.kept) in
+    let is : value e (variables_here h) ≡ Some w = c.value_of.ensures ∙ ap (λ n. Some n) (sym c.in-Some.ensures.kept) in
     rw c.in-From.is
     (write_wants h c.args.size c.args.f c.args.register e at w c.command-in-Some.result c.address_in-at.ensures is c.command-in-Some.ensures
     (write_can h c.args.size c.args.f c.args.register e at w c.address_in-at.ensures is (rw c.in-From.is at c.requires.fine)))

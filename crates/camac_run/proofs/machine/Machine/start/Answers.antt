@@ -18,6 +18,8 @@ returns-clause-room g c =
     record {
       variables = length-replicate g.row.V 0;
       registers = length-replicate g.row.V None;
+      fits = c.requires;
+      scope = rw c.empty.ensures (record { variables = omega arith; registers = omega arith; more_variables = omega arith; more_registers = omega arith });
       blocks = rw c.new.ensures tt;
       words = small.words;
       steps = small.steps;

@@ -1,4 +1,4 @@
-use Rattle.std.proofs.Common.{ℕ, ◌%◌, ◌^◌, List, set, rules, ap, ◌∙◌}
+use Rattle.std.proofs.Common.{ℕ, ◌+◌, ◌%◌, ◌^◌, List, set, rules, ap, ◌∙◌}
 use Rattle.std.proofs.lemmas.Result.{err_from_is_err_and}
 use Rattle.camac_run.proofs.Takes.{takes_read, read_cost, read_overruns}
 use Rattle.camac_run.proofs.machine.Machine.take_read.Goals as goal
@@ -13,7 +13,7 @@ returns-clause-took g c =
     let new = c.make.new.self in
     let x = c.args.variable in
     let bits = c.args.bits in
-    let e = ap (λ (vs : List ℕ). record new { variables = vs }) (c.keep.ensures ∙ ap (λ w. set new.variables x (w % 2 ^ bits)) c.word_of.ensures) in
+    let e = ap (λ (vs : List ℕ). record new { variables = vs }) (c.keep.ensures ∙ ap (λ w. set new.variables (new.scope.variables.start + x) (w % 2 ^ bits)) c.word_of.ensures) in
     takes_read h new c.args.command c.args.answer c.in_ok-done.done c.requires.room c.requires.wanting.0 c.in_ok-done.ensures.made x bits (record new { variables = c.keep.new.variables }) c.requires.wanting.1.0 e
 
 pub returns-in_err-done-clause-overrun : goal.returns-in_err-done-clause-overrun

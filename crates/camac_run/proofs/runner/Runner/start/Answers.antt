@@ -6,7 +6,7 @@ use Rattle.camac_lang.specs.Tree.{Script}
 use Rattle.camac_branch.specs.Branch.{Branch}
 use Rattle.camac_branch.specs.Crates.{branch_of}
 use Rattle.camac_check.specs.Checked.{CheckedScript, IsChecked}
-use Rattle.camac_run.specs.Plays.{plays}
+use Rattle.camac_size.specs.Fits.{fits}
 use Rattle.camac_model.specs.Meaning.{context}
 use Rattle.camac_model.specs.Run.{rounds}
 use Rattle.camac_run.specs.Held.{context_in}
@@ -28,7 +28,7 @@ invariant_of-result g c =
       quiet = m.quiet;
       checked = subst (λ (b : Bor CheckedScript). IsChecked b.now) (sym m.checked) c.is_checked.ensures;
       formed = subst (λ (b : Bor CheckedScript). IsTrue (is_well_formed b.now.script)) (sym m.checked) formed;
-      fits = subst (λ (b : Bor CheckedScript). plays b.now.script g.row.V g.row.DEPTH g.row.CAP ≡ true) (sym m.checked) c.requires;
+      fits = subst (λ (b : Bor CheckedScript). fits b.now.script g.row.V g.row.DEPTH g.row.CAP ≡ true) (sym m.checked) c.requires;
       wants = tt;
       idle = m.idle;
       service = tt;
