@@ -24,8 +24,6 @@ mod listing;
 #[cfg(test)]
 mod locks;
 #[cfg(test)]
-mod log;
-#[cfg(test)]
 mod loops;
 #[cfg(test)]
 mod plan_faults;

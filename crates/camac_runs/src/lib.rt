@@ -8,6 +8,8 @@ mod faults;
 #[cfg(test)]
 mod locks;
 #[cfg(test)]
+mod log;
+#[cfg(test)]
 mod loops;
 #[cfg(test)]
 mod procedures;
