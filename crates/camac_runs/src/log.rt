@@ -5,7 +5,7 @@ use camac_branch::Answer;
 use camac_check::{Checked, check};
 use camac_event::{decode, encode};
 use camac_fixtures::scripts::STRAIGHT_LINE;
-use camac_log::{Log, run, runs_by_headline};
+use camac_log::{run, runs_by_headline};
 use camac_names::resolve;
 use camac_play::event_file_is_sent;
 use camac_run::{End, Item};
@@ -34,17 +34,10 @@ fn read(wait: u8) -> Result<Answer, Fail> {
     Ok(Answer::new(true, true, word(0x12_3fff)?, wait, word(0)?).ok_or("read")?)
 }
 
-fn log_of(alloc: Global, checked: &Checked, answers: &[Answer]) -> Result<Log, Fail> {
-    if answers.len() > 2 {
-        return Err("too many answers".into());
-    }
-    Ok(run(alloc, checked, answers)?)
-}
-
 #[test]
 fn straight_line_log(rt: HostRuntime) -> Result<(), Fail> {
     let checked = straight_line(rt.alloc())?;
-    let log = log_of(rt.alloc(), &checked, &[demand()?, read(2)?])?;
+    let log = run(rt.alloc(), &checked, &[demand()?, read(2)?])?;
     assert_eq!(rt; log.end, End::Ended);
     let items = log.items.as_slice();
     assert_eq!(rt; items.len(), 2);
@@ -61,12 +54,12 @@ fn straight_line_log(rt: HostRuntime) -> Result<(), Fail> {
 #[test]
 fn short_and_overrun_logs(rt: HostRuntime) -> Result<(), Fail> {
     let checked = straight_line(rt.alloc())?;
-    let short = log_of(rt.alloc(), &checked, &[demand()?])?;
+    let short = run(rt.alloc(), &checked, &[demand()?])?;
     assert_eq!(rt;
         (short.end, short.items.as_slice().len(), short.events.len()),
         (End::Short, 1, 0)
     );
-    let overrun = log_of(rt.alloc(), &checked, &[demand()?, read(3)?])?;
+    let overrun = run(rt.alloc(), &checked, &[demand()?, read(3)?])?;
     assert!(rt; matches!(&overrun.end, End::Overrun(o) if o.c.get() == 1 && o.wait == 3));
     assert_eq!(rt;
         (overrun.items.as_slice().len(), overrun.events.len()),
