@@ -9,7 +9,7 @@ use std::process::Abort;
 use std::test::Fail;
 
 // The outcome and what was written.
-fn checked(alloc: Global, script: &[u8]) -> Result<(Outcome, Vec<u8>), ToolFault> {
+pub fn checked(alloc: Global, script: &[u8]) -> Result<(Outcome, Vec<u8>), ToolFault> {
     let mut plan = PlanSource::<&[u8]>::Sample;
     let mut script = Watched::new(script);
     let mut out = Watched::new(Vec::new(alloc));

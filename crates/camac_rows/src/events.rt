@@ -8,7 +8,7 @@ use std::process::Abort;
 use std::test::Fail;
 
 // The outcome and what was written.
-fn listed(alloc: Global, file: &[u8]) -> Result<(Outcome, Vec<u8>), ToolFault> {
+pub fn listed(alloc: Global, file: &[u8]) -> Result<(Outcome, Vec<u8>), ToolFault> {
     let mut input = Watched::new(file);
     let mut out = Watched::new(Vec::new(alloc));
     let outcome = engine_events(alloc, &mut input, &mut out)?;

@@ -9,7 +9,7 @@ use std::str;
 use std::test::Fail;
 
 // The outcome and what was written.
-fn listed(alloc: Global, mut plan: PlanSource<&[u8]>) -> Result<(Outcome, Vec<u8>), ToolFault> {
+pub fn listed(alloc: Global, mut plan: PlanSource<&[u8]>) -> Result<(Outcome, Vec<u8>), ToolFault> {
     let mut out = Watched::new(Vec::new(alloc));
     let outcome = engine_plan(alloc, &mut plan, &mut out)?;
     Ok((outcome, out.into_inner()))
