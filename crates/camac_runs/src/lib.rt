@@ -10,4 +10,8 @@ mod locks;
 #[cfg(test)]
 mod loops;
 #[cfg(test)]
+mod procedures;
+#[cfg(test)]
 mod run;
+#[cfg(test)]
+mod transfers;
