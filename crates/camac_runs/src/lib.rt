@@ -16,4 +16,6 @@ mod procedures;
 #[cfg(test)]
 mod run;
 #[cfg(test)]
+mod runner;
+#[cfg(test)]
 mod transfers;
