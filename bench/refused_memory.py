@@ -75,8 +75,12 @@ SAMPLE_PLAN = open(os.path.join(TOP, "examples/sample_plan.toml"), "rb").read()
 EVENTS_ONE = bytes.fromhex("43414d4143455631 ca4d 0003 00000001 0001 00000fff")
 EVENTS_TWO = bytes.fromhex("43414d4143455632 ca4d 0003 00000001 00000003 0000 0001 00000fff")
 
+ANSWERS = b"0 0 000000 0 000004\n1 1 123fff 2 000000\n"
+
+# {script} and {events} stand for files.
 JOBS = [
     ("check @sample @in", STRAIGHT_LINE),
+    ("run @sample {script} @in {events}", ANSWERS),
     ("plan @sample", b""),
     ("plan @in", SAMPLE_PLAN),
     ("events @in", EVENTS_ONE),
@@ -84,25 +88,36 @@ JOBS = [
 ]
 
 
-def ended(program, words, given, environment):
+def ended(program, words, given, environment, events):
+    """The status, what was written to both outputs, and the event file."""
     run = subprocess.run([program] + words, input=given, env={"PATH": "/usr/bin:/bin", **environment}, capture_output=True)
-    return run.returncode, run.stdout, run.stderr
+    written = b""
+    if os.path.exists(events):
+        with open(events, "rb") as file:
+            written = file.read()
+    return run.returncode, run.stdout, run.stderr, written
 
 
 def refuse_each(program, line, given, library, folder):
     """Counts the calls of a run with ample memory, and then refuses each of them in a run of its own."""
-    words, told = line.split(), os.path.join(folder, "calls")
-    ample = ended(program, words, given, {"LD_PRELOAD": library, "TELL_CALLS": told})
+    told, events = os.path.join(folder, "calls"), os.path.join(folder, "run.events")
+    script = os.path.join(TOP, "examples/straight_line.script")
+    words = [word.format(script=script, events=events) for word in line.split()]
+    ample = ended(program, words, given, {"LD_PRELOAD": library, "TELL_CALLS": told}, events)
     with open(told) as file:
         calls = int(file.read())
     without, wrong = 0, 0
     for number in range(1, calls + 1):
-        answer = ended(program, words, given, {"LD_PRELOAD": library, "REFUSED_CALL": str(number)})
+        if os.path.exists(events):
+            os.remove(events)
+        answer = ended(program, words, given, {"LD_PRELOAD": library, "REFUSED_CALL": str(number)}, events)
         if answer == ample:
             without += 1
-        elif answer != (3, b"", b"fault memory\n"):
+        elif answer != (3, b"", b"fault memory\n", b""):
             wrong += 1
             print(f"camac {line}: allocation {number}: {answer}")
+    if os.path.exists(events):
+        os.remove(events)
     print(f"camac {line}: {calls} allocations refused in turn, {without} done without, {wrong} wrong answers")
     return wrong
 
