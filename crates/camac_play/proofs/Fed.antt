@@ -1,5 +1,5 @@
 -- A run that is fed, and what it has sent.
-use Rattle.std.proofs.Common.{◌≡◌, ℕ, ◌+◌, List, [], ◌∷◌, ◌++◌, length, Option, Some, None, refl, sym, ap, subst, ◌∙◌, append_assoc, append-nil, drop, false, arith}
+use Rattle.std.proofs.Common.{◌≡◌, ℕ, ◌+◌, ◌<◌, ◌^◌, List, [], ◌∷◌, ◌++◌, length, Option, Some, None, refl, sym, ap, subst, ◌∙◌, append_assoc, append-nil, drop, false, arith}
 use Rattle.std.specs.Prelude.{slice_get, unwrap_or, Result, Ok, Err}
 use Rattle.std.specs.Result.{IsErr}
 use Rattle.camac_lang.specs.Tree.{Script}
@@ -152,11 +152,14 @@ module _ (plan : Layout) (script : Script) (left now : Option Reading) (a b : He
     sends_now quiet,
   )
 
+  few_now : count < 2 ^ 32 → pieces (rest runner []) ≡ [] → length (events (the_run plan script taken)) < 2 ^ 32
+  few_now few quiet = let n = counts_now quiet in omega (arith, n, few)
+
   -- the text has a fault where the next answer is wanted
-  pub faults_here : (new : Option Reading) (f : AnswerFault) → Steps now (Err f) new → is_memory_failure (failed_by f) ≡ false → IsOut (stop_of (rest runner [])) → pieces (rest runner []) ≡ [] → Feeds plan script left a b (faulted f count)
-  faults_here new OutOfMemory s fine out quiet = (taken, given_first left now new fed.taken fed.given, sends_now quiet)
-  faults_here new Read s fine out quiet = (taken, given_first left now new fed.taken fed.given, sends_now quiet)
-  faults_here new (Broken rule line) s fine out quiet = (
+  pub faults_here : (new : Option Reading) (f : AnswerFault) → count < 2 ^ 32 → Steps now (Err f) new → is_memory_failure (failed_by f) ≡ false → IsOut (stop_of (rest runner [])) → pieces (rest runner []) ≡ [] → Feeds plan script left a b (faulted f count)
+  faults_here new OutOfMemory few s fine out quiet = (taken, given_first left now new fed.taken fed.given, few_now few quiet, sends_now quiet)
+  faults_here new Read few s fine out quiet = (taken, given_first left now new fed.taken fed.given, few_now few quiet, sends_now quiet)
+  faults_here new (Broken rule line) few s fine out quiet = (
     record { answers = taken; fault = Some (Broken rule line) },
     given_fault left now new fed.taken fed.given rule line s,
     sym (refused_by (stop_of (rest runner [])) rule line out) ∙ ap (λ (x : Option Stop). ending_of x (Some (Broken rule line))) (sym stop_now),

@@ -1,5 +1,5 @@
 -- One answer, as what it did and what is left.
-use Rattle.std.proofs.Common.{◌≡◌, ℕ, ◌+◌, ◌≤◌, List, [], ◌∷◌, ◌++◌, Option, Some, None, sym, ap, subst, ◌∙◌}
+use Rattle.std.proofs.Common.{◌≡◌, ℕ, ◌+◌, ◌≤◌, List, ◌∷◌, ◌++◌, Option, Some, None, sym, ap, subst, ◌∙◌}
 use Rattle.std.specs.Prelude.{IfSome, IfNone, Result, Ok, Err}
 use Rattle.std.specs.Result.{IsErr}
 use Rattle.camac_word.specs.declared.writing.WriteFault.{WriteFault}

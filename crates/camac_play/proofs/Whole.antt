@@ -39,7 +39,7 @@ module _ (plan : Layout) (script : Script) (left : Option Reading) where
   module _ (a b : Held) (begun : Sends a b start) where
     stops_by : (c : Held) (f : PlayFault) → Feeds plan script left b c (Err f) → Plays plan script left a c (Err f)
     stops_by c fault.Write (r, gives, front) = (r, gives, front_of_told a c r (SendsFront-after a b c start (run_sent plan script r.answers) begun front))
-    stops_by c fault.Read (taken, first, sends) = (taken, first, Sends-trans a b c start (run_sent plan script taken) begun sends)
+    stops_by c fault.Read (taken, first, few, sends) = (taken, first, Sends-trans a b c start (run_sent plan script taken) begun sends)
 
     -- the run stopped
     pub stops_in_run : (c : Held) (f : PlayFault) (r : Result Ending PlayFault) → r ≡ Err f → Feeds plan script left b c (Err f) → Plays plan script left a c r

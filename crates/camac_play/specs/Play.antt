@@ -1,5 +1,5 @@
 -- What a play takes from its answers, and writes.
-use Rattle.std.specs.Prelude.{◌≡◌, ℕ, Bool, true, false, List, ◌++◌, length, Option, Some, Result, Ok, Err}
+use Rattle.std.specs.Prelude.{◌≡◌, ◌<◌, ◌^◌, ℕ, Bool, true, false, List, ◌++◌, length, Option, Some, Result, Ok, Err}
 use Rattle.camac_lang.specs.Tree.{Script}
 use Rattle.camac_branch.specs.Branch.{Answer}
 use Rattle.camac_branch.specs.Plan.{Layout}
@@ -36,7 +36,7 @@ Plays plan script left old new (Err fault.Read) =
 abbrev pub run_sent : Layout → Script → List Answer → List Sent
 run_sent plan script answers = pieces_sent script 1 (pieces (the_run plan script answers))
 
--- the same after the header and before the last line, with the number of events
+-- the same after the header and before the last line, with the number of events; after a read fault they can be numbered
 abbrev pub Feeds : Layout → Script → Option Reading → Held → Held → Result (Ending × ℕ) PlayFault → Type 0
 Feeds plan script left old new (Ok v) =
     (r : Reading) × Gives left r × (v.0 ≡ ending plan script r) × (v.1 ≡ length (events (the_run plan script r.answers)))
@@ -44,7 +44,8 @@ Feeds plan script left old new (Ok v) =
 Feeds plan script left old new (Err fault.Write) =
     (r : Reading) × Gives left r × SendsFront old new (run_sent plan script r.answers)
 Feeds plan script left old new (Err fault.Read) =
-    (taken : List Answer) × GivesFirst left taken × Sends old new (run_sent plan script taken)
+    (taken : List Answer) × GivesFirst left taken × (length (events (the_run plan script taken)) < 2 ^ 32)
+    × Sends old new (run_sent plan script taken)
 
 abbrev pub is_write_fault : {T : Type 0} → Result T PlayFault → Bool
 is_write_fault (Err fault.Write) = true

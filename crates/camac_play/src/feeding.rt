@@ -1,6 +1,6 @@
 // The loop that feeds a run its answers.
 
-ghost use Rattle.std.specs.Prelude.{◌≡◌, ◌||◌, ◌+◌, true, false, []};
+ghost use Rattle.std.specs.Prelude.{◌≡◌, ◌<◌, ◌||◌, ◌+◌, ◌^◌, true, false, []};
 ghost use Rattle.camac_answer.specs.Answers.{left_of, stage_of, given_by, reader_failed, is_memory_failure, is_read_failure};
 ghost use Rattle.camac_answer.specs.declared.answers.Stage.TheVariants.{Running};
 ghost use Rattle.camac_listing.specs.Ends.{stop_in};
@@ -79,6 +79,7 @@ fn wants_answer(runner: &Runner<'_, 64, 16, 4096>)
 fn at_fault(fault: AnswerFault, count: u32) -> Result<(Ending, u32), PlayFault>
     requires { is_memory_failure (failed_by fault) ≡ false }
     ensures faults { result ≡ faulted fault count }
+    ensures few { count < 2 ^ 32 }
     ensures write { is_write_fault result ≡ false }
     ensures read { is_read_fault result ≡ is_read_failure (failed_by fault) }
 {

@@ -3,7 +3,7 @@
 ghost use Rattle.std.specs.Prelude.{◌≡◌, ◌||◌, ◌<◌, ◌^◌, true, is_err, IfOk, IfErr};
 ghost use Rattle.camac_answer.specs.Answers.{left_in, left_of, stage_of, given_by, reader_failed};
 ghost use Rattle.camac_answer.specs.declared.answers.Stage.TheVariants.{Running};
-ghost use Rattle.camac_play.specs.Headline.{PlaysByHeadline};
+ghost use Rattle.camac_play.specs.Headline.{PlayKeepsHeadline};
 ghost use Rattle.camac_play.specs.Play.{Plays, is_read_fault, is_write_fault};
 ghost use Rattle.camac_play.specs.Played.{ending_text};
 ghost use Rattle.camac_play.specs.Sent.{held};
@@ -35,8 +35,8 @@ pub fn play<R: Read, W: Write, E: Write>(
 ) -> Result<Ending, PlayFault>
     ensures plays { Plays checked.now.plan checked.now.script (left_in Running 0 (R.remaining (inner_of answers.old)))
         (held (W.contents (inner_of out.old)) (E.contents (inner_of events.old))) (held (W.contents (inner_of out.new)) (E.contents (inner_of events.new))) result }
-    ensures headline { IfOk result (λ _. PlaysByHeadline checked.now.plan checked.now.script checked.now.bounds (left_in Running 0 (R.remaining (inner_of answers.old)))
-        (E.contents (inner_of events.old)) (E.contents (inner_of events.new))) }
+    ensures headline { PlayKeepsHeadline checked.now.plan checked.now.script checked.now.bounds (left_in Running 0 (R.remaining (inner_of answers.old)))
+        (E.contents (inner_of events.old)) (E.contents (inner_of events.new)) result }
     ensures out_failed { (has_failed out.new || has_failed events.new) ≡ ((has_failed out.old || has_failed events.old) || is_write_fault result) }
     ensures in_failed { has_failed answers.new ≡ (has_failed answers.old || is_read_fault result) }
 {
@@ -55,8 +55,8 @@ fn play_on<R: Read, W: Write, E: Write>(
     requires given { given_by answers.old ≡ 0 }
     ensures plays { Plays checked.now.plan checked.now.script (left_of R.remaining answers.old)
         (held (W.contents (inner_of out.old)) (E.contents (inner_of events.old))) (held (W.contents (inner_of out.new)) (E.contents (inner_of events.new))) result }
-    ensures headline { IfOk result (λ _. PlaysByHeadline checked.now.plan checked.now.script checked.now.bounds (left_of R.remaining answers.old)
-        (E.contents (inner_of events.old)) (E.contents (inner_of events.new))) }
+    ensures headline { PlayKeepsHeadline checked.now.plan checked.now.script checked.now.bounds (left_of R.remaining answers.old)
+        (E.contents (inner_of events.old)) (E.contents (inner_of events.new)) result }
     ensures out_failed { (has_failed out.new || has_failed events.new) ≡ ((has_failed out.old || has_failed events.old) || is_write_fault result) }
     ensures in_failed { reader_failed answers.new ≡ (reader_failed answers.old || is_read_fault result) }
     ensures same_reader { answers.new.reader.ghost_name ≡ answers.old.reader.ghost_name }

@@ -1,11 +1,10 @@
 -- Entering a procedure.
-use Rattle.std.proofs.Common.{◌≡◌, ℕ, zero, suc, ◌+◌, ◌-◌, ◌<◌, ◌≤◌, List, [], ◌∷◌, ◌++◌, length, length-append, take, replicate, Option, Some, None, true, refl, sym, ap, subst, ◌∙◌, arith}
-use Rattle.std.proofs.lemmas.Bool.{and_parts}
-use Rattle.std.proofs.lemmas.List.{append-nil, map-append, length-map, take-take}
+use Rattle.std.proofs.Common.{◌≡◌, ℕ, suc, ◌+◌, ◌-◌, ◌<◌, ◌≤◌, List, [], ◌∷◌, ◌++◌, length, length-append, take, replicate, Option, Some, None, refl, sym, ap, subst, ◌∙◌, arith}
+use Rattle.std.proofs.lemmas.List.{map-append, length-map, take-take}
 use Rattle.std.proofs.lemmas.Option.{same_Some}
 use Rattle.std.proofs.Math.Path.{fun_ext}
 use Rattle.std.specs.Borrow.{Bor}
-use Rattle.std.specs.Prelude.{IsTrue, ◌&&◌, slice_get, slice_range}
+use Rattle.std.specs.Prelude.{IsTrue, slice_get, slice_range}
 use Rattle.arrayvec.specs.ArrayVec.{ArrayVec}
 use Rattle.camac_branch.specs.Address.{Address}
 use Rattle.camac_branch.specs.Branch.{Answer}
@@ -15,10 +14,10 @@ use Rattle.camac_lang.specs.Depth.{inner_depth, callables_after}
 use Rattle.camac_lang.specs.Expressions.{Callable}
 use Rattle.camac_lang.specs.Laws.{inside, ProcedureStands}
 use Rattle.camac_lang.specs.Scope.{is_well_formed}
-use Rattle.camac_lang.specs.Tree.{Expression, Statement, call, Procedure, Script}
+use Rattle.camac_lang.specs.Tree.{Expression, call, Procedure, Script}
 use Rattle.camac_lang.specs.View.{statements_of}
 use Rattle.camac_lang.proofs.Standing.{procedures_stand}
-use Rattle.camac_model.specs.State.{State, Variables, Registers, stepped}
+use Rattle.camac_model.specs.State.{State, Variables, Registers}
 use Rattle.camac_model.specs.Behaviour.{ends, Action, then_do, given}
 use Rattle.camac_model.specs.Fine.{most_turns}
 use Rattle.camac_model.specs.Meaning.{Context, context, entered, returned, enter, effect, block_meaning}
@@ -27,7 +26,7 @@ use Rattle.camac_run.specs.declared.machine.Frame.{Frame}
 use Rattle.camac_run.specs.declared.machine.Machine.{Machine}
 use Rattle.camac_run.specs.declared.machine.Owner.TheVariants.{Return}
 use Rattle.camac_run.specs.declared.scope.Scope.{Scope}
-use Rattle.camac_run.specs.Held.{context_in, open_of, opens_of, opens_in, AreHeld, variables_here, reach, state_of, left_in, free, HasRoom, Enters, Advances}
+use Rattle.camac_run.specs.Held.{context_in, open_of, opens_of, opens_in, AreHeld, variables_here, reach, state_of, left_in, free, HasRoom, Enters}
 use Rattle.camac_run.specs.Rest.{owed, Open, left_of, rest_in}
 use Rattle.camac_run.specs.Store.{size, held_at, variables_in, registers_in, seen_by_procedure}
 use Rattle.camac_run.specs.Within.{reach_of, ScopeFits, CallFits, Opens, OpenFit}
@@ -238,16 +237,3 @@ module _ {V D C : ℕ} (h : Machine V D C) (i : ℕ) (es : List Expression) (roo
       λ f. enters h i es room may p own formed body is_body ws qs fs (held_at own'.variables ws)
       (f.values ∙ ap (λ n. Some (slice_range ws h.scope.variables.end (h.scope.variables.end + n))) as_many) refl f.variables_before f.variables f.unset f.registers_before f.registers pushed in
       subst (λ (u : Scope). Filled h es u ws qs → Enters h (λ c. effect c most_turns (call 0 i es)) (record h { variables = ws; registers = qs; scope = u; frames = fs })) (sym is) go filled
-
--- a call that is begun
-pub call_advances : {V D C : ℕ} (h new : Machine V D C) (st : Statement) → Enters (record h { steps = h.steps + 1 }) (λ c. effect c most_turns st) new → Advances h (λ c s. effect c most_turns st (stepped s)) None new
-call_advances h new st k = record {
-  room = k.room;
-  checked = k.checked;
-  service = k.service;
-  wants = tt;
-  pace = let n = k.blocks in let m = k.steps in omega (arith, n, m);
-  told = [];
-  unlocks = ap (λ (us : ArrayVec ℕ). us.items) k.unlocks ∙ sym (append-nil h.unlocks.items);
-  goes = k.goes;
-}

@@ -1,15 +1,15 @@
 -- A machine that makes a transfer: its begin, its cycles and its end.
-use Rattle.std.proofs.Common.{◌≡◌, ℕ, ◌+◌, ◌*◌, ◌^◌, ◌<◌, ◌≤◌, List, [], ◌∷◌, ◌++◌, length, set, Option, Some, None, Bool, true, refl, sym, ap, subst, ◌∙◌, arith}
+use Rattle.std.proofs.Common.{◌≡◌, ℕ, ◌+◌, ◌*◌, ◌^◌, ◌<◌, ◌≤◌, List, [], ◌∷◌, length, Option, Some, None, Bool, true, refl, sym, ap, subst, ◌∙◌, arith}
 use Rattle.std.proofs.lemmas.Bool.{eqb-true}
-use Rattle.std.proofs.lemmas.List.{append-nil, length-set}
+use Rattle.std.proofs.lemmas.List.{append-nil}
 use Rattle.std.specs.Borrow.{Bor}
-use Rattle.std.specs.Prelude.{IsSome, IfSome, option_map, slice_get, nat_eq}
+use Rattle.std.specs.Prelude.{IsSome, IfSome, nat_eq}
 use Rattle.camac_func.specs.declared.data.DataMove.{DataMove}
 use Rattle.camac_lang.specs.declared.tree.Stmt.{Stmt}
 use Rattle.camac_lang.specs.Tree.{Expression, Statement, address_scan, q_stop, q_repeat}
 use Rattle.camac_branch.specs.Address.{Address}
 use Rattle.camac_branch.specs.Allowed.{AllowsCommands, width}
-use Rattle.camac_branch.specs.Branch.{Branch, Answer, Reply}
+use Rattle.camac_branch.specs.Branch.{Answer, Reply}
 use Rattle.camac_branch.specs.Crates.{branch_of, is_permitted}
 use Rattle.camac_branch.specs.Plan.{Layout, crate_waits}
 use Rattle.camac_branch.specs.declared.answer.Command.{Command}
@@ -18,20 +18,19 @@ use Rattle.camac_branch.specs.declared.answer.Overrun.{Overrun}
 use Rattle.camac_esone.specs.Calls.{IsOnBranch}
 use Rattle.camac_esone.specs.Progress.{Left, Continues}
 use Rattle.camac_esone.specs.Transfers.{Wanted, stop_wanted, repeat_wanted, scan_wanted, tally}
-use Rattle.camac_model.specs.State.{State, Variables, stepped, missed_with, with_variable}
-use Rattle.camac_model.specs.Behaviour.{Behaviour, does, ends, stops, short, overrun, Action, then_do, given, unless_wrong}
+use Rattle.camac_model.specs.State.{State, stepped, missed_with, with_variable}
+use Rattle.camac_model.specs.Behaviour.{does, ends, stops, overrun, Action, then_do, given, unless_wrong}
 use Rattle.camac_model.specs.Cycle.{cycle, after_cycle}
 use Rattle.camac_model.specs.Fine.{IsWithin, most_turns}
-use Rattle.camac_model.specs.Meaning.{Context, sent, transfer_to, effect}
+use Rattle.camac_model.specs.Meaning.{sent, transfer_to, effect}
 use Rattle.camac_model.specs.Safe.{IsSafe}
 use Rattle.camac_model.specs.Transfer.{keep_word, transfer}
-use Rattle.camac_model.specs.Value.{value, greatest}
+use Rattle.camac_model.specs.Value.{value}
 use Rattle.camac_run.specs.declared.item.Item.TheVariants as item
 use Rattle.camac_run.specs.declared.machine.Machine.{Machine}
 use Rattle.camac_run.specs.declared.machine.Wanting.{Wanting}
 use Rattle.camac_run.specs.declared.machine.Wanting.TheVariants.{Cycle, Read, Lock, Transfer}
 use Rattle.camac_run.specs.declared.transfer.Course.{Course}
-use Rattle.camac_run.specs.declared.transfer.Course.TheVariants as course
 use Rattle.camac_run.specs.declared.transfer.Transfer as held
 use Rattle.camac_run.specs.Course.{left_at, words_from, words_sent, data_of, words_after}
 use Rattle.camac_run.specs.Held.{variables_here, registers_here, reach, with_value, context_in, state_of, bounds_of, left_in, stands, made, want_of, transferred, IsFineHere, FineThen, HasRoom, IsWanting, Advances, Proceeds, Settles, Makes, IsRefused, Takes, Overruns}

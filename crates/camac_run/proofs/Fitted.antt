@@ -1,7 +1,7 @@
 -- A statement of a body that is well formed fits a store that is large enough.
-use Rattle.std.proofs.Common.{◌≡◌, ℕ, zero, suc, ◌<◌, ◌≤◌, List, [], ◌∷◌, Some, true, sym, ap, subst, arith}
+use Rattle.std.proofs.Common.{◌≡◌, ℕ, suc, ◌<◌, ◌≤◌, List, [], ◌∷◌, Some, true, sym, ap, subst, arith}
 use Rattle.std.specs.Prelude.{◌-◌, ◌&&◌, not, max, length, slice_get, nat_eq, nat_le, nat_lt}
-use Rattle.std.proofs.lemmas.Bool.{and_parts, eqb-true, false≢true, ltb-true}
+use Rattle.std.proofs.lemmas.Bool.{and_parts, eqb-true, ltb-true}
 use Rattle.camac_lang.specs.Depth.{depth_of, statement_depth, inner_depth}
 use Rattle.camac_lang.specs.Expressions.{Scope, refers, expression_fits, test_fits, part_fits, condition_fits}
 use Rattle.camac_lang.specs.Statements.{table_fits, move_fits, keeps_fit, after, after_block}

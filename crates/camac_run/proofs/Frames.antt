@@ -23,7 +23,7 @@ use Rattle.camac_run.specs.declared.machine.Wanting.{Wanting}
 use Rattle.camac_run.specs.declared.scope.Scope.{Scope}
 use Rattle.camac_run.specs.Rest.{nothing, owed, Open, left_of, rest_in, says}
 use Rattle.camac_run.specs.Within.{StatementFits, Opens, OwnerFits, outer, OpenFit}
-use Rattle.camac_run.specs.Held.{bounds_at, bounds_of, open_in, opens_in, holds, AreHeld, free, reach, context_in, state_of, left_in, stands, IsFineHere, HasRoomFor, HasRoom, Wants, Advances}
+use Rattle.camac_run.specs.Held.{bounds_at, bounds_of, open_in, opens_in, holds, AreHeld, free, reach, context_in, state_of, left_in, stands, IsFineHere, HasRoomFor, HasRoom, Wants, Enters, Advances}
 use Rattle.camac_run.proofs.Blocks.{then_ends, rest_push, opens_push, opens_pop, says_more, measure_falls}
 use Rattle.camac_run.proofs.Locks.{held_push, held_same}
 
@@ -147,22 +147,33 @@ module _ {V D C : ℕ} (h : Machine V D C) where
   block_length body new pushed = ap length pushed ∙ length-append h.frames.items (record { rest = body; owner = Plain } ∷ [])
 
   -- one that opens a block
-  pub block_advances : (st : Statement) (body : Bor (List Stmt)) (new : Machine V D C) → new ≡ record h { steps = h.steps + 1; frames = new.frames } → new.frames.items ≡ h.frames.items ++ record { rest = body; owner = Plain } ∷ [] → HasRoom new
-      → ((answers : List Answer) → block_meaning (context_in h.checked.now) most_turns (statements_of body.now) (stepped (state_of h answers)) ≡ effect (context_in h.checked.now) most_turns st (stepped (state_of h answers)))
-      → Advances h (λ c s. effect c most_turns st (stepped s)) None new
-  block_advances st body new same pushed room goes = subst (λ n. HasRoom n → Advances h (λ c s. effect c most_turns st (stepped s)) None n) (sym same) (λ r. record {
+  pub block_enters : (st : Statement) (body : Bor (List Stmt)) (new : Machine V D C) → new ≡ record h { frames = new.frames } → new.frames.items ≡ h.frames.items ++ record { rest = body; owner = Plain } ∷ [] → HasRoom new
+      → ((answers : List Answer) → block_meaning (context_in h.checked.now) most_turns (statements_of body.now) (state_of h answers) ≡ effect (context_in h.checked.now) most_turns st (state_of h answers))
+      → Enters h (λ c. effect c most_turns st) new
+  block_enters st body new same pushed room goes = subst (λ n. HasRoom n → Enters h (λ c. effect c most_turns st) n) (sym same) (λ r. record {
     room = r;
     checked = refl;
     service = refl;
-    wants = tt;
-    pace = let n = block_length body new pushed in omega (arith, n);
-    told = [];
-    unlocks = sym (append-nil h.unlocks.items);
+    steps = refl;
+    blocks = block_length body new pushed;
+    unlocks = refl;
     goes = λ answers.
-        ap (λ (gs : List Frame). rest_in (context_in h.checked.now) (map (open_in h) gs) (stepped (state_of h answers))) pushed
-        ∙ left_pushed (context_in h.checked.now) (open_in h) h.frames.items (record { rest = body; owner = Plain }) (stepped (state_of h answers))
-        ∙ ap (λ b. then_do b (left_in h)) (plain_left (context_in h.checked.now) (statements_of body.now) (stepped (state_of h answers)) ∙ goes answers);
+        ap (λ (gs : List Frame). rest_in (context_in h.checked.now) (map (open_in h) gs) (state_of h answers)) pushed
+        ∙ left_pushed (context_in h.checked.now) (open_in h) h.frames.items (record { rest = body; owner = Plain }) (state_of h answers)
+        ∙ ap (λ b. then_do b (left_in h)) (plain_left (context_in h.checked.now) (statements_of body.now) (state_of h answers) ∙ goes answers);
   }) room
+
+  pub enter_advances : (st : Statement) (new : Machine V D C) → Enters (record h { steps = h.steps + 1 }) (λ c. effect c most_turns st) new → Advances h (λ c s. effect c most_turns st (stepped s)) None new
+  enter_advances st new k = record {
+    room = k.room;
+    checked = k.checked;
+    service = k.service;
+    wants = tt;
+    pace = let n = k.blocks in let m = k.steps in omega (arith, n, m);
+    told = [];
+    unlocks = ap (λ (us : ArrayVec ℕ). us.items) k.unlocks ∙ sym (append-nil h.unlocks.items);
+    goes = k.goes;
+  }
 
   -- one that is done at once
   pub step_advances : (st : Statement) (w : Option Wanting) (new : Machine V D C) → Advances (record h { steps = h.steps + 1 }) (λ c. effect c most_turns st) w new → Advances h (λ c s. effect c most_turns st (stepped s)) w new

@@ -22,6 +22,7 @@ pub mod Bounds
 pub mod Serving
 pub mod Told
 pub mod Trees
+pub mod Forms
 pub mod Lists
 pub mod Starts
 pub mod Sizes

@@ -1,8 +1,6 @@
 -- What an answer does to a machine that wants it.
 use Rattle.std.proofs.Common.{◌≡◌, ℕ, ◌+◌, ◌^◌, ◌%◌, ◌<◌, ◌≤◌, List, [], ◌∷◌, Bool, true, false, Option, Some, None, Result, Ok, Err, refl, sym, ap, subst, ◌∙◌, arith}
 use Rattle.std.proofs.lemmas.Bool.{false≢true}
-use Rattle.std.specs.Borrow.{Bor}
-use Rattle.camac_check.specs.Checked.{CheckedScript}
 use Rattle.std.specs.Prelude.{IsSome, IfOk, IfErr, unwrap_or}
 use Rattle.camac_lang.specs.View.{statements_of}
 use Rattle.camac_func.specs.declared.data.DataMove.{DataMove}

@@ -1,5 +1,5 @@
 -- Transfers in progress: what is left of one after a cycle, and what is known where it is fine.
-use Rattle.std.proofs.Common.{◌≡◌, ℕ, zero, suc, ◌+◌, ◌≤◌, List, [], ◌∷◌, ◌++◌, length, Option, Some, None, Bool, true, false, refl, sym, ap, subst, ◌∙◌, arith}
+use Rattle.std.proofs.Common.{◌≡◌, ℕ, zero, suc, ◌+◌, List, [], ◌∷◌, ◌++◌, Option, Some, None, Bool, true, false, refl, sym, ap, subst, ◌∙◌, arith}
 use Rattle.std.proofs.Math.Path.{fun_ext}
 use Rattle.std.specs.Prelude.{option_map, slice_get, drop, IsSome, if◌then◌else◌}
 use Rattle.camac_func.specs.declared.data.DataMove.{DataMove}
@@ -11,7 +11,7 @@ use Rattle.camac_branch.specs.Plan.{Layout, crate_waits}
 use Rattle.camac_esone.specs.Progress.{Left, Continues}
 use Rattle.camac_esone.specs.Transfers.{Wanted, tally}
 use Rattle.camac_model.specs.State.{State, stepped, with_variable, with_word}
-use Rattle.camac_model.specs.Behaviour.{Behaviour, ends, stops, short, Action, then_do, given}
+use Rattle.camac_model.specs.Behaviour.{ends, stops, short, Action, then_do, given}
 use Rattle.camac_model.specs.Cycle.{cycle, next_answer, make_cycle, kept}
 use Rattle.camac_model.specs.Fine.{Bounds, IsWithin, IsFine}
 use Rattle.camac_model.specs.Meaning.{transfer_to}

@@ -230,7 +230,7 @@ module _ {V D C : ℕ} where
         (answers : List Answer)
         → stands next new answers ≡ then_do (go (context_in old.checked.now) (state_of old answers)) (left_in old)
 
-  -- a procedure was entered: what the new machine has left is to do this, and then what the old one had left
+  -- a block was opened: what the new machine has left is to do this, and then what the old one had left
   pub record Enters (old : Machine V D C) (go : Context → Action) (new : Machine V D C) : Type 0 where
     pub room : HasRoom new
     pub checked : new.checked ≡ old.checked

@@ -1,10 +1,11 @@
 // What a service in progress holds: the open blocks, innermost last, and its store.
 
-ghost use Rattle.std.specs.Prelude.{◌≡◌, ℕ, suc, ◌+◌, ◌*◌, ◌-◌, ◌<◌, ◌≤◌, ◌∷◌, ◌++◌, [], List, length, map, true, false, None, Some, IsSome, IfOk, IfErr, OnErr, slice_get, slice_set, ◌^◌, ◌%◌};
+ghost use Rattle.std.specs.Prelude.{◌≡◌, IsTrue, ◌||◌, ℕ, suc, ◌+◌, ◌*◌, ◌-◌, ◌<◌, ◌≤◌, ◌∷◌, ◌++◌, [], List, length, map, true, false, None, Some, IsSome, IfOk, IfErr, OnErr, slice_get, slice_set, ◌^◌, ◌%◌};
 ghost use Rattle.camac_branch.specs.Address.{Address};
 ghost use Rattle.camac_branch.specs.Allowed.{AllowsCommands, width};
 ghost use Rattle.camac_branch.specs.Branch.{Answer, start};
 ghost use Rattle.camac_check.specs.Checked.{IsChecked};
+ghost use Rattle.camac_check.specs.Kinds.{is_plain, is_cycle, is_transfer, is_choice, is_count, is_repeat};
 ghost use Rattle.camac_lang.specs.View.{condition_of, expression_of, move_of, part_of, statement_of, statements_of};
 ghost use Rattle.camac_branch.specs.Crates.{branch_of, is_permitted};
 ghost use Rattle.camac_branch.specs.Plan.{crate_waits};
@@ -648,45 +649,63 @@ impl<'a, const V: usize, const DEPTH: usize, const CAP: usize> Machine<'a, V, DE
         });
     }
 
-    // Begins a statement.
-    fn begin(&mut self, statement: &'a Stmt) -> Option<Wanting<'a>>
+    // A statement without a dataway cycle, and without statements in it.
+    fn plain_statement(&mut self, statement: &Stmt)
         requires room { HasRoom self.old }
+        requires kind { IsTrue (is_plain (statement_of statement.now)) }
         requires fits { StatementFits (reach self.old) (free self.old) (statement_of statement.now) }
-        requires fine { FineThen self.old (λ c s. effect c most_turns (statement_of statement.now) (stepped s)) }
-        ensures advances { Advances self.old (λ c s. effect c most_turns (statement_of statement.now) (stepped s)) result self.new }
-        ensures pace { length self.new.frames.items + 2 * self.old.steps < 2 * self.new.steps + length self.old.frames.items }
+        requires fine { FineThen self.old (λ c. effect c most_turns (statement_of statement.now)) }
+        ensures { Advances self.old (λ c. effect c most_turns (statement_of statement.now)) None self.new }
     {
-        self.steps += 1;
         match statement {
             Stmt::Assign {
                 variable,
                 value,
                 ..
-            } => {
-                self.assign(*variable, value);
-                None
-            }
+            } => self.assign(*variable, value),
             Stmt::SetRegister {
                 register,
                 crate_no,
                 station,
                 sub_address,
                 ..
-            } => {
-                self.set_register(*register, crate_no, station, sub_address);
-                None
-            }
-            Stmt::Put { value, .. } => {
-                self.put(value);
-                None
-            }
+            } => self.set_register(*register, crate_no, station, sub_address),
+            Stmt::Put { value, .. } => self.put(value),
+            _ => unreachable!(),
+        }
+    }
+
+    // A statement of one dataway cycle.
+    fn cycle_statement(&self, statement: &Stmt) -> Wanting<'a>
+        requires room { HasRoom self.now }
+        requires kind { IsTrue (is_cycle (statement_of statement.now)) }
+        requires fits { StatementFits (reach self.now) (free self.now) (statement_of statement.now) }
+        requires fine { FineThen self.now (λ c. effect c most_turns (statement_of statement.now)) }
+        ensures { Wants self.now (λ c. effect c most_turns (statement_of statement.now)) result }
+    {
+        match statement {
             Stmt::Single {
                 size,
                 function,
                 register,
                 data,
                 ..
-            } => Some(self.single(*size, *function, *register, data)),
+            } => self.single(*size, *function, *register, data),
+            Stmt::CrateCall { call, crate_no, .. } => self.call_crate(*call, crate_no),
+            Stmt::LamCall { call, lam, .. } => self.call_lam(*call, *lam),
+            _ => unreachable!(),
+        }
+    }
+
+    // A transfer: to its first cycle, or else to its tally.
+    fn transfer_statement(&mut self, statement: &Stmt) -> Option<Wanting<'a>>
+        requires room { HasRoom self.old }
+        requires kind { IsTrue (is_transfer (statement_of statement.now)) }
+        requires fits { StatementFits (reach self.old) (free self.old) (statement_of statement.now) }
+        requires fine { FineThen self.old (λ c. effect c most_turns (statement_of statement.now)) }
+        ensures { Proceeds self.old (λ c. effect c most_turns (statement_of statement.now)) result self.new }
+    {
+        match statement {
             Stmt::Scan {
                 function,
                 first,
@@ -712,12 +731,22 @@ impl<'a, const V: usize, const DEPTH: usize, const CAP: usize> Machine<'a, V, DE
                 tally,
                 ..
             } => self.q_repeat(*function, *register, *table, max, limit, *tally),
-            Stmt::CrateCall { call, crate_no, .. } => Some(self.call_crate(*call, crate_no)),
-            Stmt::LamCall { call, lam, .. } => Some(self.call_lam(*call, *lam)),
+            _ => unreachable!(),
+        }
+    }
+
+    // `if`, with or without `else`: opens the block that is to be done.
+    fn choice(&mut self, statement: &'a Stmt)
+        requires room { HasRoom self.old }
+        requires kind { IsTrue (is_choice (statement_of statement.now)) }
+        requires fits { StatementFits (reach self.old) (free self.old) (statement_of statement.now) }
+        requires fine { FineThen self.old (λ c. effect c most_turns (statement_of statement.now)) }
+        ensures { Enters self.old (λ c. effect c most_turns (statement_of statement.now)) self.new }
+    {
+        match statement {
             Stmt::If { test, then, .. } => {
                 let body = self.chosen(&test.parts, then, &[]);
                 self.open(body, Owner::Plain);
-                None
             }
             Stmt::IfElse {
                 test,
@@ -727,21 +756,59 @@ impl<'a, const V: usize, const DEPTH: usize, const CAP: usize> Machine<'a, V, DE
             } => {
                 let body = self.chosen(&test.parts, then, otherwise);
                 self.open(body, Owner::Plain);
-                None
             }
-            Stmt::Lock { crate_no, body, .. } => Some(self.want_lock(crate_no, body)),
+            _ => unreachable!(),
+        }
+    }
+
+    // A loop: its first turn, if it has one.
+    fn loop_statement(&mut self, statement: &'a Stmt)
+        requires room { HasRoom self.old }
+        requires kind { IsTrue (is_count (statement_of statement.now) || is_repeat (statement_of statement.now)) }
+        requires fits { StatementFits (reach self.old) (free self.old) (statement_of statement.now) }
+        requires fine { FineThen self.old (λ c. effect c most_turns (statement_of statement.now)) }
+        ensures { Advances self.old (λ c. effect c most_turns (statement_of statement.now)) None self.new }
+    {
+        match statement {
             Stmt::For {
                 variable,
                 from,
                 to,
                 body,
                 ..
-            } => {
-                self.count(*variable, from, to, body);
+            } => self.count(*variable, from, to, body),
+            Stmt::While { test, body, .. } => self.again(&test.parts, MOST_TURNS, body),
+            _ => unreachable!(),
+        }
+    }
+
+    // Begins a statement.
+    fn begin(&mut self, statement: &'a Stmt) -> Option<Wanting<'a>>
+        requires room { HasRoom self.old }
+        requires fits { StatementFits (reach self.old) (free self.old) (statement_of statement.now) }
+        requires fine { FineThen self.old (λ c s. effect c most_turns (statement_of statement.now) (stepped s)) }
+        ensures advances { Advances self.old (λ c s. effect c most_turns (statement_of statement.now) (stepped s)) result self.new }
+        ensures pace { length self.new.frames.items + 2 * self.old.steps < 2 * self.new.steps + length self.old.frames.items }
+    {
+        self.steps += 1;
+        match statement {
+            Stmt::Assign { .. } | Stmt::SetRegister { .. } | Stmt::Put { .. } => {
+                self.plain_statement(statement);
                 None
             }
-            Stmt::While { test, body, .. } => {
-                self.again(&test.parts, MOST_TURNS, body);
+            Stmt::Single { .. } | Stmt::CrateCall { .. } | Stmt::LamCall { .. } => {
+                Some(self.cycle_statement(statement))
+            }
+            Stmt::Scan { .. } | Stmt::QStop { .. } | Stmt::QRepeat { .. } => {
+                self.transfer_statement(statement)
+            }
+            Stmt::If { .. } | Stmt::IfElse { .. } => {
+                self.choice(statement);
+                None
+            }
+            Stmt::Lock { crate_no, body, .. } => Some(self.want_lock(crate_no, body)),
+            Stmt::For { .. } | Stmt::While { .. } => {
+                self.loop_statement(statement);
                 None
             }
             Stmt::Call {

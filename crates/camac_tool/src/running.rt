@@ -1,11 +1,11 @@
 // The engine of a run: from a plan, a script and the text of its answers to a listing and an event file.
 
-ghost use Rattle.std.specs.Prelude.{◌≡◌, ◌||◌, false, ℕ, List, Option, IfOk};
+ghost use Rattle.std.specs.Prelude.{◌≡◌, ◌||◌, false, ℕ, List, Option};
 ghost use Rattle.camac_answer.specs.Answers.{left_in};
 ghost use Rattle.camac_answer.specs.declared.answers.Stage.TheVariants.{Running};
 ghost use Rattle.camac_play.specs.Sent.{held};
 ghost use Rattle.camac_tool.specs.Engine.{is_write_fault};
-ghost use Rattle.camac_tool.specs.Headline.{CheckedKeeps, JudgedKeeps, TextKeeps, KeepsHeadline};
+ghost use Rattle.camac_tool.specs.Headline.{CheckedKeeps, JudgedKeeps, TextKeepsOn, KeepsHeadline};
 ghost use Rattle.camac_tool.specs.Plan.{plan_failed};
 ghost use Rattle.camac_tool.specs.Reading.{is_read_fault};
 ghost use Rattle.camac_tool.specs.Run.{Refuses, Runs, RunsJudged, RunsOn, RunsScript, outcome_of};
@@ -41,8 +41,8 @@ pub fn engine_run<P: Read, S: Read, A: Read, W: Write, E: Write>(
 ) -> Result<Outcome, ToolFault>
     ensures runs { Runs P.remaining plan.old plan.new (S.remaining (inner_of script.old)) (S.remaining (inner_of script.new)) (left_in Running 0 (A.remaining (inner_of answers.old)))
         (held (W.contents (inner_of out.old)) (E.contents (inner_of events.old))) (held (W.contents (inner_of out.new)) (E.contents (inner_of events.new))) result }
-    ensures headline { IfOk result (λ _. KeepsHeadline P.remaining plan.old plan.new (S.remaining (inner_of script.old)) (S.remaining (inner_of script.new))
-        (left_in Running 0 (A.remaining (inner_of answers.old))) (E.contents (inner_of events.old)) (E.contents (inner_of events.new))) }
+    ensures headline { KeepsHeadline P.remaining plan.old plan.new (S.remaining (inner_of script.old)) (S.remaining (inner_of script.new))
+        (left_in Running 0 (A.remaining (inner_of answers.old))) (E.contents (inner_of events.old)) (E.contents (inner_of events.new)) result }
     ensures out_failed { (has_failed out.new || has_failed events.new) ≡ ((has_failed out.old || has_failed events.old) || is_write_fault result) }
     ensures in_failed { ((plan_failed plan.new || has_failed script.new) || has_failed answers.new)
         ≡ (((plan_failed plan.old || has_failed script.old) || has_failed answers.old) || is_read_fault result) }
@@ -64,8 +64,8 @@ fn run_on<S: Read, A: Read, W: Write, E: Write>(
 ) -> Result<Outcome, ToolFault>
     ensures runs { RunsOn plan.now (S.remaining (inner_of script.old)) (S.remaining (inner_of script.new)) (left_in Running 0 (A.remaining (inner_of answers.old)))
         (held (W.contents (inner_of out.old)) (E.contents (inner_of events.old))) (held (W.contents (inner_of out.new)) (E.contents (inner_of events.new))) result }
-    ensures headline { IfOk result (λ _. TextKeeps plan.now (S.remaining (inner_of script.old)) (S.remaining (inner_of script.new))
-        (left_in Running 0 (A.remaining (inner_of answers.old))) (E.contents (inner_of events.old)) (E.contents (inner_of events.new))) }
+    ensures headline { TextKeepsOn plan.now (S.remaining (inner_of script.old)) (S.remaining (inner_of script.new))
+        (left_in Running 0 (A.remaining (inner_of answers.old))) (E.contents (inner_of events.old)) (E.contents (inner_of events.new)) result }
     ensures out_failed { (has_failed out.new || has_failed events.new) ≡ ((has_failed out.old || has_failed events.old) || is_write_fault result) }
     ensures in_failed { (has_failed script.new || has_failed answers.new) ≡ ((has_failed script.old || has_failed answers.old) || is_read_fault result) }
 {
@@ -83,7 +83,7 @@ fn run_judged<A: Read, W: Write, E: Write>(
 ) -> Result<Outcome, ToolFault>
     ensures runs { RunsJudged judged.now (left_in Running 0 (A.remaining (inner_of answers.old)))
         (held (W.contents (inner_of out.old)) (E.contents (inner_of events.old))) (held (W.contents (inner_of out.new)) (E.contents (inner_of events.new))) result }
-    ensures headline { IfOk result (λ _. JudgedKeeps judged.now (left_in Running 0 (A.remaining (inner_of answers.old))) (E.contents (inner_of events.old)) (E.contents (inner_of events.new))) }
+    ensures headline { JudgedKeeps judged.now (left_in Running 0 (A.remaining (inner_of answers.old))) (E.contents (inner_of events.old)) (E.contents (inner_of events.new)) result }
     ensures out_failed { (has_failed out.new || has_failed events.new) ≡ ((has_failed out.old || has_failed events.old) || is_write_fault result) }
     ensures in_failed { has_failed answers.new ≡ (has_failed answers.old || is_read_fault result) }
 {
@@ -102,7 +102,7 @@ fn run_checked<A: Read, W: Write, E: Write>(
 ) -> Result<Outcome, ToolFault>
     ensures runs { RunsScript checked.now.plan checked.now.script (left_in Running 0 (A.remaining (inner_of answers.old)))
         (held (W.contents (inner_of out.old)) (E.contents (inner_of events.old))) (held (W.contents (inner_of out.new)) (E.contents (inner_of events.new))) result }
-    ensures headline { IfOk result (λ _. CheckedKeeps checked.now (left_in Running 0 (A.remaining (inner_of answers.old))) (E.contents (inner_of events.old)) (E.contents (inner_of events.new))) }
+    ensures headline { CheckedKeeps checked.now (left_in Running 0 (A.remaining (inner_of answers.old))) (E.contents (inner_of events.old)) (E.contents (inner_of events.new)) result }
     ensures out_failed { (has_failed out.new || has_failed events.new) ≡ ((has_failed out.old || has_failed events.old) || is_write_fault result) }
     ensures in_failed { has_failed answers.new ≡ (has_failed answers.old || is_read_fault result) }
 {

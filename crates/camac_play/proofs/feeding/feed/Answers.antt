@@ -24,7 +24,7 @@ returns-in-Ok-None-clause-feeds g c =
 pub returns-in-Err-clause-feeds : goal.returns-in-Err-clause-feeds
 returns-in-Err-clause-feeds g c =
     rw c.at_fault.ensures.faults
-    (faults_here c.args.checked.now.plan c.args.checked.now.script _ _ _ _ c.answers.runner c.answers.count c.answers.invariant.fed _ c.in-Err.fault c.in-Err.ensures.left (search rules) c.wants_answer.ensures.stop c.wants_answer.ensures.quiet)
+    (faults_here c.args.checked.now.plan c.args.checked.now.script _ _ _ _ c.answers.runner c.answers.count c.answers.invariant.fed _ c.in-Err.fault c.at_fault.ensures.few c.in-Err.ensures.left (search rules) c.wants_answer.ensures.stop c.wants_answer.ensures.quiet)
 
 pub returns-in_err-events-clause-feeds : goal.returns-in_err-events-clause-feeds
 returns-in_err-events-clause-feeds g c =

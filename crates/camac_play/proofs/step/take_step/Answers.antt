@@ -1,4 +1,3 @@
-use Rattle.std.proofs.Common.{refl}
 use Rattle.camac_word.specs.Watched.{inner_of}
 use Rattle.camac_play.specs.Sent.{held}
 use Rattle.camac_play.proofs.Sending.{sends_nothing}

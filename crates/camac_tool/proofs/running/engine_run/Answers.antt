@@ -10,8 +10,8 @@ returns-in-Err-clause-runs g c =
 
 pub returns-in-Ok-clause-headline : goal.returns-in-Ok-clause-headline
 returns-in-Ok-clause-headline g c =
-    plan_keeps _ _ _ c.run_on.result g.P.Read.remaining c.args.plan.now c.read_plan.new.source c.in-Ok.plan _ _ (rw c.in-Ok.is at c.in_ok-says.ensures.reads) c.run_on.ensures.headline
+    plan_keeps _ _ _ g.P.Read.remaining c.args.plan.now c.read_plan.new.source c.run_on.result c.in-Ok.plan _ _ (rw c.in-Ok.is at c.in_ok-says.ensures.reads) c.run_on.ensures.headline
 
 pub returns-in-Err-clause-headline : goal.returns-in-Err-clause-headline
 returns-in-Err-clause-headline g c =
-    refused_keeps _ _ _ c.refuse_run.result g.P.Read.remaining c.args.plan.now c.read_plan.new.source c.in-Err.rule _ _ (rw c.in-Err.is at c.in_ok-says.ensures.reads)
+    refused_keeps _ _ _ g.P.Read.remaining c.args.plan.now c.read_plan.new.source c.refuse_run.result c.in-Err.rule _ _ (rw c.in-Err.is at c.in_ok-says.ensures.reads)

@@ -1,5 +1,4 @@
 use Rattle.camac_word.specs.Watched.{inner_of}
-use Rattle.camac_tool.proofs.Keeps.{nothing_kept}
 use Rattle.camac_tool.proofs.running.run_judged.Goals as goal
 
 pub returns-in-Refused-clause-runs : goal.returns-in-Refused-clause-runs
@@ -9,4 +8,4 @@ pub returns-in-Accepted-clause-headline : goal.returns-in-Accepted-clause-headli
 returns-in-Accepted-clause-headline g c = rw c.in-Accepted.is c.run_checked.ensures.headline
 
 pub returns-in-Refused-clause-headline : goal.returns-in-Refused-clause-headline
-returns-in-Refused-clause-headline g c = rw c.in-Refused.is (nothing_kept c.refuse_run.result)
+returns-in-Refused-clause-headline g c = rw c.in-Refused.is tt
