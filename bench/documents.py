@@ -1,6 +1,6 @@
 #!/usr/bin/env python3
 """Runs each script of docs/*.md that stands in a block ```camac VERDICT against the built-in plan, and compares the verdict:
-`accepted`, or a code and line such as `E2 line 7`. Build the program first (cd crates/camac && rt run)."""
+`accepted`, or a code and line such as `E2 line 7`. The launcher runs the program, and builds it where it is not there yet."""
 import pathlib
 import re
 import subprocess

@@ -5,8 +5,6 @@ mod answers;
 mod fault;
 mod filling;
 mod line;
-#[cfg(test)]
-mod tests;
 
 pub use answers::{Answers, answers_are_few};
 pub use fault::{AnswerFault, AnswerRule};

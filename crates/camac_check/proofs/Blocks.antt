@@ -2,18 +2,18 @@
 use Rattle.std.proofs.Common.{◌≡◌, ℕ, suc, ◌+◌, ◌<◌, List, length, get_or, drop, drop-cons, add-one, Option, Some, None, Result, Ok, Err, refl, sym, ap, ◌∙◌, arith}
 use Rattle.camac_lang.specs.Tree.{Statement, Block, done, next}
 use Rattle.camac_model.specs.Fine.{Bounds}
-use Rattle.camac_rules.specs.Fault.{Fault, broken}
-use Rattle.camac_rules.specs.Refusal.{go_on, if_reached}
-use Rattle.camac_rules.specs.Known.{Facts}
-use Rattle.camac_rules.specs.Costs.{costs, no_costs, plus, Verdict, verdict, unreached}
-use Rattle.camac_rules.specs.Capped.{capped}
-use Rattle.camac_rules.specs.Cycles.{Around}
-use Rattle.camac_rules.specs.Statements.{accept_statement, accept_block}
+use Rattle.camac_check_rules.specs.Fault.{Fault, broken}
+use Rattle.camac_check_rules.specs.Refusal.{go_on, if_reached}
+use Rattle.camac_check_rules.specs.Known.{Facts}
+use Rattle.camac_check_rules.specs.Costs.{costs, no_costs, plus, Verdict, verdict, unreached}
+use Rattle.camac_check_rules.specs.Capped.{capped}
+use Rattle.camac_check_rules.specs.Cycles.{Around}
+use Rattle.camac_check_rules.specs.Statements.{accept_statement, accept_block}
 use Rattle.camac_lang.specs.View.{statement_of, statements_of}
 use Rattle.camac_lang.specs.declared.tree.Stmt.{Stmt}
 use Rattle.camac_check.specs.declared.context.Context as code
-use Rattle.camac_known.specs.declared.fault.CheckFault.{CheckFault}
-use Rattle.camac_known.specs.declared.fault.CheckFault.TheVariants.{OutOfMemory, Broken}
+use Rattle.camac_check_known.specs.declared.fault.CheckFault.{CheckFault}
+use Rattle.camac_check_known.specs.declared.fault.CheckFault.TheVariants.{OutOfMemory, Broken}
 use Rattle.camac_check.specs.Gives.{Fails, by_code}
 
 same_costs : (a b c d e f : ℕ) → a ≡ d → b ≡ e → c ≡ f → costs a b c ≡ costs d e f

@@ -11,9 +11,9 @@ use Rattle.camac_names.specs.declared.fault.LinkRule.TheVariants.{StationWithout
 use Rattle.camac_names.specs.Link.{unless, lams_fault, lam_bit, is_served, service_fault, served_fault, or_else, services_fault, link_fault}
 use Rattle.camac_model.specs.Fine.{Bounds, AreFine}
 use Rattle.camac_model.proofs.Headline.{fine_services_run}
-use Rattle.camac_rules.specs.Accept.{accept}
-use Rattle.camac_rules.specs.Laws.{EventsFit}
-use Rattle.camac_rules.proofs.Accepted.{accepted_fine, accepted_procedures_fine, accepted_within}
+use Rattle.camac_check_rules.specs.Accept.{accept}
+use Rattle.camac_check_rules.specs.Laws.{EventsFit}
+use Rattle.camac_check_rules.proofs.Accepted.{accepted_fine, accepted_procedures_fine, accepted_within}
 use Rattle.camac_check.specs.Checked.{CheckedScript, IsChecked}
 
 -- as many bounds as services

@@ -7,10 +7,10 @@ use Rattle.camac_branch.specs.Plan.{Layout}
 use Rattle.camac_names.specs.Linked.{LinkedScript, layout_coded}
 use Rattle.camac_model.specs.Fine.{Bounds, AreFineServices, AreFineProcedures}
 use Rattle.camac_model.specs.Headline.{RunsSafely, WithinHeadings}
-use Rattle.camac_rules.specs.Accept.{accept}
-use Rattle.camac_rules.specs.Fault.{broken}
-use Rattle.camac_known.specs.declared.fault.CheckFault.{CheckFault}
-use Rattle.camac_known.specs.declared.fault.CheckFault.TheVariants.{OutOfMemory, Broken}
+use Rattle.camac_check_rules.specs.Accept.{accept}
+use Rattle.camac_check_rules.specs.Fault.{broken}
+use Rattle.camac_check_known.specs.declared.fault.CheckFault.{CheckFault}
+use Rattle.camac_check_known.specs.declared.fault.CheckFault.TheVariants.{OutOfMemory, Broken}
 
 -- with the bounds of each service, in text order
 pub record CheckedScript : Type 0 where

@@ -1,13 +1,13 @@
 -- What follows a turn of a loop by the rules, as code follows them.
 use Rattle.std.specs.Prelude.{ℕ, List, Result, Ok}
 use Rattle.camac_lang.specs.Tree.{Keep, Block}
-use Rattle.camac_rules.specs.declared.rule.CheckRule.TheVariants.{KeepFailsAfterTurn}
-use Rattle.camac_rules.specs.Capped.{capped}
-use Rattle.camac_rules.specs.Costs.{loop_costs, Verdict, verdict}
-use Rattle.camac_rules.specs.Fault.{Fault}
-use Rattle.camac_rules.specs.Known.{Facts, Known}
-use Rattle.camac_rules.specs.Loops.{Limits, keeps_hold_after, for_after, turns_between}
-use Rattle.camac_rules.specs.Refusal.{◌>>◌, required}
+use Rattle.camac_check_rules.specs.declared.rule.CheckRule.TheVariants.{KeepFailsAfterTurn}
+use Rattle.camac_check_rules.specs.Capped.{capped}
+use Rattle.camac_check_rules.specs.Costs.{loop_costs, Verdict, verdict}
+use Rattle.camac_check_rules.specs.Fault.{Fault}
+use Rattle.camac_check_rules.specs.Known.{Facts, Known}
+use Rattle.camac_check_rules.specs.Loops.{Limits, keeps_hold_after, for_after, turns_between}
+use Rattle.camac_check_rules.specs.Refusal.{◌>>◌, required}
 
 abbrev pub for_end : ℕ → ℕ → Limits → List Keep → Block → Facts → Verdict → Result Verdict Fault
 for_end line x l keeps body k turn = do

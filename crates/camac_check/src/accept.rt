@@ -2,7 +2,7 @@
 
 ghost use Rattle.std.specs.Prelude.{◌≡◌, ◌≤◌, drop, length, map};
 ghost use Rattle.camac_lang.specs.View.{item_of, procedure_of, service_of};
-ghost use Rattle.camac_rules.specs.Accept.{within, accept_procedure, accept_service, accept_items, accept};
+ghost use Rattle.camac_check_rules.specs.Accept.{within, accept_procedure, accept_service, accept_items, accept};
 ghost use Rattle.camac_check.specs.Gives.{Gives, by_code, by_rules, rules_before};
 
 use crate::checked::Bounds;
@@ -10,9 +10,9 @@ use crate::context::Context;
 use crate::procedure::at_entry;
 use crate::statement::accept_block;
 use camac_branch::Plan;
-use camac_known::{Around, CheckFault, Costs, Facts};
+use camac_check_known::{Around, CheckFault, Costs, Facts};
+use camac_check_rules::CheckRule;
 use camac_lang::{Item, Procedure, Script, Service};
-use camac_rules::CheckRule;
 use std::alloc::Global;
 
 /// What each service can cost.
@@ -29,7 +29,7 @@ pub fn accept_script(alloc: Global, plan: &Plan, script: &Script) -> Result<Vec<
 }
 
 // What these services can cost, in the order of these items, after so many procedures.
-#[tactic(auto, unfolding(camac_rules::specs::Refusal::go_on))]
+#[tactic(auto, unfolding(camac_check_rules::specs::Refusal::go_on))]
 fn accept_items(
     alloc: Global,
     whole: &Context,
@@ -96,7 +96,7 @@ fn accept_procedure(
 }
 
 // The same with costs in 64 bits.
-#[tactic(auto, unfolding(camac_rules::specs::Refusal::go_on, camac_rules::specs::Refusal::if_reached))]
+#[tactic(auto, unfolding(camac_check_rules::specs::Refusal::go_on, camac_check_rules::specs::Refusal::if_reached))]
 fn procedure_capped(
     alloc: Global,
     context: &Context,
@@ -129,7 +129,7 @@ fn accept_service(alloc: Global, context: &Context, service: &Service) -> Result
 }
 
 // The same with costs in 64 bits.
-#[tactic(auto, unfolding(camac_rules::specs::Refusal::go_on, camac_rules::specs::Refusal::if_reached))]
+#[tactic(auto, unfolding(camac_check_rules::specs::Refusal::go_on, camac_check_rules::specs::Refusal::if_reached))]
 fn accept_capped(
     alloc: Global,
     context: &Context,
@@ -153,7 +153,7 @@ fn accept_capped(
 }
 
 // The costs of a body within the numbers of its heading, on this line.
-#[tactic(auto, using(camac_known::proofs::Steps::steps), unfolding(camac_rules::specs::Refusal::go_on, camac_rules::specs::Refusal::required))]
+#[tactic(auto, using(camac_check_known::proofs::Steps::steps), unfolding(camac_check_rules::specs::Refusal::go_on, camac_check_rules::specs::Refusal::required))]
 fn within(most: Bounds, found: Costs, line: u32) -> Result<Bounds, CheckFault>
     ensures { Gives (λ b. b) result (within most found line) }
 {

@@ -7,20 +7,20 @@ ghost use Rattle.camac_lang.specs.View.{expression_of, move_of};
 ghost use Rattle.camac_model.specs.Cycle.{sized};
 ghost use Rattle.camac_model.specs.Meaning.{fits_size};
 ghost use Rattle.camac_range.specs.Interval.{interval};
-ghost use Rattle.camac_rules.specs.Cycles.{same_class, one_cycle, control_rule, read_rule, write_rule, single_rule};
-ghost use Rattle.camac_rules.specs.Known.{region_at};
-ghost use Rattle.camac_rules.specs.Refusal.{given};
+ghost use Rattle.camac_check_rules.specs.Cycles.{same_class, one_cycle, control_rule, read_rule, write_rule, single_rule};
+ghost use Rattle.camac_check_rules.specs.Known.{region_at};
+ghost use Rattle.camac_check_rules.specs.Refusal.{given};
 ghost use Rattle.camac_check.specs.Gives.{Gives, by_code, verdict_of};
 
 use crate::context::Context;
 use crate::statement::Findings;
-use camac_func::{FunctionClass, class};
-use camac_known::{
+use camac_check_known::{
     Around, CheckFault, Costs, Facts, Region, command_widths, cycle_cost, range_of, required,
 };
+use camac_check_rules::CheckRule;
+use camac_func::{FunctionClass, class};
 use camac_lang::{Expr, Move, WordSize};
 use camac_range::Range;
-use camac_rules::CheckRule;
 use camac_word::Function;
 use std::alloc::Global;
 
@@ -50,7 +50,7 @@ pub fn single(
 }
 
 // A cycle without data.
-#[tactic(auto, unfolding(camac_rules::specs::Refusal::go_on))]
+#[tactic(auto, unfolding(camac_check_rules::specs::Refusal::go_on))]
 fn control(
     alloc: Global,
     context: &Context,
@@ -72,7 +72,7 @@ fn control(
 }
 
 // A read.
-#[tactic(auto, unfolding(camac_rules::specs::Refusal::go_on))]
+#[tactic(auto, unfolding(camac_check_rules::specs::Refusal::go_on))]
 fn read(
     alloc: Global,
     context: &Context,
@@ -102,7 +102,7 @@ fn read(
 }
 
 // A write.
-#[tactic(auto, unfolding(camac_rules::specs::Refusal::go_on))]
+#[tactic(auto, unfolding(camac_check_rules::specs::Refusal::go_on))]
 fn write(
     alloc: Global,
     context: &Context,
@@ -128,7 +128,7 @@ fn write(
 }
 
 /// The addresses of a register. E6 where it may be unset.
-#[tactic(auto, unfolding(camac_rules::specs::Refusal::given))]
+#[tactic(auto, unfolding(camac_check_rules::specs::Refusal::given))]
 pub fn addresses_of(known: &Facts, register: usize, line: u32) -> Result<Region, CheckFault>
     ensures { Gives (λ g. g) result (given (region_at known.now.registers register) CheckRule.RegisterUnset line) }
 {

@@ -5,7 +5,7 @@ ghost use Rattle.camac_check.specs.Checked.{IsChecked, Judges};
 
 use crate::accept::accept_script;
 use crate::checked::Checked;
-use camac_known::CheckFault;
+use camac_check_known::CheckFault;
 use camac_names::Linked;
 use std::alloc::Global;
 

@@ -12,6 +12,6 @@ mod procedure;
 mod statement;
 mod transfer;
 
-pub use camac_known::CheckFault;
+pub use camac_check_known::CheckFault;
 pub use checked::{Bounds, Checked};
 pub use judge::check;

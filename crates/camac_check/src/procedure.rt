@@ -2,21 +2,21 @@
 
 ghost use Rattle.std.specs.Prelude.{◌≡◌, IfOk, map, option_map, slice_get, if◌then◌else◌};
 ghost use Rattle.camac_lang.specs.View.{expression_of, parameter_of, procedure_of};
-ghost use Rattle.camac_rules.specs.Procedures.{ranges_of, parameter_range, arguments_fit, call_rule, can_be_called, at_entry};
-ghost use Rattle.camac_rules.specs.Refusal.{given};
+ghost use Rattle.camac_check_rules.specs.Procedures.{ranges_of, parameter_range, arguments_fit, call_rule, can_be_called, at_entry};
+ghost use Rattle.camac_check_rules.specs.Refusal.{given};
 ghost use Rattle.camac_range.specs.Interval.{is_inside};
 ghost use Rattle.camac_check.specs.Gives.{Gives, by_code, verdict_of};
 
 use crate::context::Context;
 use crate::statement::Findings;
-use camac_known::{CheckFault, Costs, Facts, range_of, required};
+use camac_check_known::{CheckFault, Costs, Facts, range_of, required};
+use camac_check_rules::CheckRule;
 use camac_lang::{Expr, Parameter, Procedure};
 use camac_range::Range;
-use camac_rules::CheckRule;
 use std::alloc::{AllocError, Global};
 
 /// Checks a call, by the heading of the procedure.
-#[tactic(auto, unfolding(camac_rules::specs::Refusal::go_on))]
+#[tactic(auto, unfolding(camac_check_rules::specs::Refusal::go_on))]
 pub fn call(
     alloc: Global,
     context: &Context,
@@ -41,7 +41,7 @@ pub fn call(
 }
 
 // The ranges of these arguments.
-#[tactic(auto, unfolding(camac_rules::specs::Refusal::go_on))]
+#[tactic(auto, unfolding(camac_check_rules::specs::Refusal::go_on))]
 fn ranges_of(
     alloc: Global,
     line: u32,
@@ -62,7 +62,7 @@ fn ranges_of(
 }
 
 // A procedure by its number. E21 where there is none.
-#[tactic(auto, using(crate::proofs::Lams::procedures_by_number), unfolding(camac_rules::specs::Refusal::given))]
+#[tactic(auto, using(crate::proofs::Lams::procedures_by_number), unfolding(camac_check_rules::specs::Refusal::given))]
 fn procedure_at(
     procedures: &[Procedure],
     number: usize,

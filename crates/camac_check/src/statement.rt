@@ -2,11 +2,11 @@
 
 ghost use Rattle.std.specs.Prelude.{◌≡◌, IsTrue, map};
 ghost use Rattle.camac_lang.specs.View.{expression_of, keep_of, statement_of, statements_of};
-ghost use Rattle.camac_rules.specs.Costs.{unreached};
-ghost use Rattle.camac_rules.specs.Cycles.{Context as Rules};
-ghost use Rattle.camac_rules.specs.Refusal.{if_reached};
-ghost use Rattle.camac_rules.specs.Statements.{assign_rule, register_rule, put_rule, accept_statement, accept_block};
-ghost use Rattle.camac_loops.specs.Ordered.{are_ordered};
+ghost use Rattle.camac_check_rules.specs.Costs.{unreached};
+ghost use Rattle.camac_check_rules.specs.Cycles.{Context as Rules};
+ghost use Rattle.camac_check_rules.specs.Refusal.{if_reached};
+ghost use Rattle.camac_check_rules.specs.Statements.{assign_rule, register_rule, put_rule, accept_statement, accept_block};
+ghost use Rattle.camac_check_loops.specs.Ordered.{are_ordered};
 ghost use Rattle.camac_check.specs.Ends.{for_end, while_end};
 ghost use Rattle.camac_check.specs.Gives.{Gives, by_code, verdict_of};
 ghost use Rattle.camac_check.specs.Kinds.{is_plain, is_cycle, is_transfer, is_choice, is_lock, is_count, is_repeat};
@@ -16,12 +16,12 @@ use crate::context::Context;
 use crate::cycle::single;
 use crate::procedure::call;
 use crate::transfer::{q_repeat, q_stop, scan};
-use camac_known::{
+use camac_check_known::{
     Around, CheckFault, Costs, Facts, Region, join, range_of, required, split, waits_of,
 };
+use camac_check_loops::{Limits, for_limits, keeps_after, turn_bound, while_head};
+use camac_check_rules::CheckRule;
 use camac_lang::{Expr, Keep, Stmt};
-use camac_loops::{Limits, for_limits, keeps_after, turn_bound, while_head};
-use camac_rules::CheckRule;
 use std::alloc::Global;
 
 /// What is known after a statement, none where it can't be reached, and what it can cost.
@@ -61,7 +61,7 @@ pub fn accept_block(
 
 // Checks a statement, if it can be reached.
 #[cycle(statements)]
-#[tactic(auto, unfolding(camac_rules::specs::Refusal::if_reached))]
+#[tactic(auto, unfolding(camac_check_rules::specs::Refusal::if_reached))]
 fn accept_statement(
     alloc: Global,
     context: &Context,
@@ -117,7 +117,7 @@ fn accept_reached(
 
 // Checks an `if`, with or without `else`.
 #[cycle(statements)]
-#[tactic(auto, unfolding(camac_rules::specs::Refusal::go_on, camac_rules::specs::Refusal::if_reached))]
+#[tactic(auto, unfolding(camac_check_rules::specs::Refusal::go_on, camac_check_rules::specs::Refusal::if_reached))]
 fn accept_choice(
     alloc: Global,
     context: &Context,
@@ -157,7 +157,7 @@ fn accept_choice(
 
 // Checks a `lock` with its block.
 #[cycle(statements)]
-#[tactic(auto, unfolding(camac_rules::specs::Refusal::go_on, camac_rules::specs::Refusal::if_reached))]
+#[tactic(auto, unfolding(camac_check_rules::specs::Refusal::go_on, camac_check_rules::specs::Refusal::if_reached))]
 fn accept_lock(
     alloc: Global,
     context: &Context,
@@ -188,7 +188,7 @@ fn accept_lock(
 
 // Checks a `for`.
 #[cycle(statements)]
-#[tactic(auto, unfolding(camac_rules::specs::Refusal::go_on, camac_rules::specs::Refusal::if_reached))]
+#[tactic(auto, unfolding(camac_check_rules::specs::Refusal::go_on, camac_check_rules::specs::Refusal::if_reached))]
 fn accept_count(
     alloc: Global,
     context: &Context,
@@ -219,7 +219,7 @@ fn accept_count(
 
 // Checks a `while`.
 #[cycle(statements)]
-#[tactic(auto, unfolding(camac_rules::specs::Refusal::go_on, camac_rules::specs::Refusal::if_reached))]
+#[tactic(auto, unfolding(camac_check_rules::specs::Refusal::go_on, camac_check_rules::specs::Refusal::if_reached))]
 fn accept_repeat(
     alloc: Global,
     context: &Context,
@@ -249,7 +249,7 @@ fn accept_repeat(
 }
 
 // What a `for` leaves and costs, where this was found of a turn.
-#[tactic(auto, unfolding(camac_rules::specs::Refusal::go_on))]
+#[tactic(auto, unfolding(camac_check_rules::specs::Refusal::go_on))]
 fn counted(
     alloc: Global,
     line: u32,
@@ -271,7 +271,7 @@ fn counted(
 }
 
 // What a `while` of at most so many turns leaves and costs, where this was found of a turn.
-#[tactic(auto, unfolding(camac_rules::specs::Refusal::go_on))]
+#[tactic(auto, unfolding(camac_check_rules::specs::Refusal::go_on))]
 fn repeated(
     line: u32,
     keeps: &[Keep],
@@ -403,7 +403,7 @@ fn transfer_statement(
 }
 
 // A variable and its value.
-#[tactic(auto, unfolding(camac_rules::specs::Refusal::go_on))]
+#[tactic(auto, unfolding(camac_check_rules::specs::Refusal::go_on))]
 fn assign(
     alloc: Global,
     around: &Around,
@@ -427,7 +427,7 @@ fn assign(
 }
 
 // `cdreg`.
-#[tactic(auto, unfolding(camac_rules::specs::Refusal::go_on))]
+#[tactic(auto, unfolding(camac_check_rules::specs::Refusal::go_on))]
 fn set_register(
     alloc: Global,
     line: u32,
@@ -449,7 +449,7 @@ fn set_register(
 }
 
 // `put`.
-#[tactic(auto, unfolding(camac_rules::specs::Refusal::go_on))]
+#[tactic(auto, unfolding(camac_check_rules::specs::Refusal::go_on))]
 fn put(alloc: Global, line: u32, value: &Expr, known: &Facts) -> Result<Findings, CheckFault>
     ensures { Gives verdict_of result (put_rule line (expression_of value.now) known.now) }
 {

@@ -3,28 +3,28 @@
 ghost use Rattle.std.specs.Prelude.{◌≡◌, ◌&&◌, IfOk};
 ghost use Rattle.camac_func.specs.Class.{class_of};
 ghost use Rattle.camac_lang.specs.View.{expression_of};
-ghost use Rattle.camac_rules.specs.Cycles.{same_class};
-ghost use Rattle.camac_rules.specs.Transfers.{has_sub_addresses, scan_verdict, scan_rule, block_class, event_words, block_region, block_verdict, q_stop_rule, repeat_cycles, q_repeat_rule};
-ghost use Rattle.camac_rules.specs.Windows.{window_of, is_installed, is_declared};
+ghost use Rattle.camac_check_rules.specs.Cycles.{same_class};
+ghost use Rattle.camac_check_rules.specs.Transfers.{has_sub_addresses, scan_verdict, scan_rule, block_class, event_words, block_region, block_verdict, q_stop_rule, repeat_cycles, q_repeat_rule};
+ghost use Rattle.camac_check_rules.specs.Windows.{window_of, is_installed, is_declared};
 ghost use Rattle.camac_check.specs.Gives.{Gives, by_code, verdict_of};
 
 use crate::context::Context;
 use crate::cycle::{addresses_of, is_read, is_write};
 use crate::statement::Findings;
 use camac_branch::Plan;
-use camac_known::{
+use camac_check_known::{
     Around, CheckFault, Costs, Facts, Region, between, command_widths, cycle_cost, range_of,
     required,
 };
+use camac_check_rules::CheckRule;
+use camac_check_transfers::{Window, has_sub_addresses, has_words, is_one_crate, words_fit};
 use camac_lang::Expr;
 use camac_range::Range;
-use camac_rules::CheckRule;
-use camac_transfers::{Window, has_sub_addresses, has_words, is_one_crate, words_fit};
 use camac_word::Function;
 use std::alloc::{AllocError, Global};
 
 /// Checks an address scan.
-#[tactic(auto, unfolding(camac_rules::specs::Refusal::go_on))]
+#[tactic(auto, unfolding(camac_check_rules::specs::Refusal::go_on))]
 pub fn scan(
     alloc: Global,
     context: &Context,
@@ -101,7 +101,7 @@ fn scan_findings(
 }
 
 /// Checks a block transfer up to the first Q=0.
-#[tactic(auto, unfolding(camac_rules::specs::Refusal::go_on))]
+#[tactic(auto, unfolding(camac_check_rules::specs::Refusal::go_on))]
 pub fn q_stop(
     alloc: Global,
     context: &Context,
@@ -124,7 +124,7 @@ pub fn q_stop(
 }
 
 /// Checks a block transfer that repeats cycles with Q=0.
-#[tactic(auto, unfolding(camac_rules::specs::Refusal::go_on))]
+#[tactic(auto, unfolding(camac_check_rules::specs::Refusal::go_on))]
 pub fn q_repeat(
     alloc: Global,
     context: &Context,
@@ -166,7 +166,7 @@ fn repeat_cycles(most: u32, limit: u32) -> u32
 }
 
 // The addresses of a block transfer of at most so many words.
-#[tactic(auto, unfolding(camac_rules::specs::Refusal::go_on))]
+#[tactic(auto, unfolding(camac_check_rules::specs::Refusal::go_on))]
 fn block_region(
     context: &Context,
     around: &Around,

@@ -6,8 +6,6 @@ mod event;
 mod fault;
 mod laws;
 mod reading;
-#[cfg(test)]
-mod tests;
 mod writing;
 
 pub use buffer::EventBuffer;

@@ -13,6 +13,3 @@ pub use name::Name;
 pub use script::{Item, Lam, Parameter, Procedure, Script, Service, Table};
 pub use tree::{Cond, Divisor, Expr, Keep, Move, Part, Stmt, Test};
 pub use word::{CrateCall, LamCall, WordSize};
-
-#[cfg(test)]
-mod tests;

@@ -8,8 +8,6 @@ mod fault;
 mod field;
 mod module_type;
 mod station;
-#[cfg(test)]
-mod tests;
 
 pub use document::read;
 pub use fault::{PlanFault, PlanRule};

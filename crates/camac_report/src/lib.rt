@@ -1,16 +1,22 @@
-//! The lines that the program prints: verdicts, refusals, plans and events.
+//! The lines that the program prints: verdicts, refusals, plans, event files, and the items and the end of a run.
 #![tactic(auto)]
 
 mod code;
+mod cycle;
 mod digits;
+mod end;
 mod events;
+mod item;
 mod line;
 mod plan;
 mod refusal;
 mod verdict;
 
 pub use code::{AnswerCode, CheckCode, CodeText, EventCode, LinkCode, PlanCode, TextCode};
+pub use cycle::write_cycle;
+pub use end::write_end;
 pub use events::write_events;
+pub use item::{write_item, write_items};
 pub use line::{LONGEST_LINE, Line};
 pub use plan::write_plan;
 pub use refusal::{Refusal, write_refusal};

@@ -1,189 +1,161 @@
--- What an answer told of a runner, and what is left.
-use Rattle.std.proofs.Common.{◌≡◌, ℕ, ◌+◌, ◌<◌, ◌≤◌, List, [], ◌∷◌, length, Option, Some, None, Bool, true, false, refl, sym, ap, subst, ◌∙◌, arith}
-use Rattle.std.specs.Prelude.{slice_get, option_map, IfSome, IfNone, OnSome, IsTrue}
-use Rattle.std.specs.Borrow.{Bor}
-use Rattle.camac_lang.specs.Scope.{is_well_formed}
-use Rattle.camac_lang.specs.Tree.{Service}
-use Rattle.camac_branch.specs.Crates.{branch_of}
+-- What was told so far, and what the rest tells, is what the whole run tells.
+use Rattle.std.proofs.Common.{◌≡◌, ℕ, zero, suc, ◌+◌, ◌<◌, ◌≤◌, List, [], ◌∷◌, ◌++◌, map, length, drop, get_or, Option, Some, None, refl, sym, ap, subst, ◌∙◌, append_assoc, append-nil, length-append, arith}
+use Rattle.std.specs.Prelude.{IfNone}
+use Rattle.std.proofs.lemmas.List.{map-append}
+use Rattle.camac_lang.specs.Tree.{Script}
 use Rattle.camac_branch.specs.Branch.{Answer}
-use Rattle.arrayvec.specs.ArrayVec.{ArrayVec}
+use Rattle.camac_branch.specs.Plan.{Layout}
 use Rattle.camac_branch.specs.declared.answer.Overrun.{Overrun}
-use Rattle.camac_check.specs.Checked.{CheckedScript, IsChecked}
-use Rattle.camac_size.specs.Fits.{fits}
-use Rattle.camac_model.specs.State.{State}
-use Rattle.camac_model.specs.Behaviour.{Behaviour, ends, stops, short, Action, then_do}
-use Rattle.camac_model.specs.Fine.{IsFine, most_turns}
-use Rattle.camac_model.specs.Meaning.{Context}
-use Rattle.camac_model.specs.Run.{service_meaning}
-use Rattle.camac_run.specs.declared.item.Item.{Item}
-use Rattle.camac_run.specs.declared.machine.Machine.{Machine}
-use Rattle.camac_run.specs.declared.machine.Wanting.{Wanting}
-use Rattle.camac_run.specs.declared.machine.Wanting.TheVariants as wanting
-use Rattle.camac_run.specs.declared.machine.Wanting.TheVariants.{Cycle, Read, Lock}
-use Rattle.camac_run.specs.Held.{bounds_at, bounds_of, opens_in, locked_among, context_in, state_of, left_in, stands, want_of, FineThen, IsFineHere, HasRoom, IsWanting, Takes, Settles, Serves}
-use Rattle.camac_run.specs.Rest.{follows, rest_in, says, served}
-use Rattle.camac_run.specs.Runner.{Left, bit_at, rest, last_words_in, with_event}
-use Rattle.camac_run.specs.Sound.{held, event_here, IsSound}
-use Rattle.camac_run.proofs.Bounds.{fine_at}
-use Rattle.camac_run.proofs.Fine.{fine_says}
-use Rattle.camac_run.proofs.Frames.{fine_along}
-use Rattle.camac_run.proofs.Locks.{among_few}
-use Rattle.camac_run.proofs.Serving.{served_says, served_stops, onward_over}
-use Rattle.camac_run.proofs.Takes.{waits_first}
+use Rattle.camac_event.specs.Spelling.{Entry, Listing, spelling}
+use Rattle.camac_event.specs.declared.event.Version.TheVariants.{Two}
+use Rattle.camac_run_machine.specs.Ends.{stop_in}
+use Rattle.camac_model.specs.Behaviour.{Behaviour, does, stops, Event, Piece, item_of, event_in, lock_released, items, events, stop_of, Stop, overrun}
+use Rattle.camac_model.specs.Fine.{Bounds}
+use Rattle.camac_model.specs.Run.{the_run}
+use Rattle.camac_run_machine.specs.declared.item.Item.{Item}
+use Rattle.camac_run_machine.specs.declared.item.Item.TheVariants as item
+use Rattle.camac_run_machine.specs.Held.{piece_of}
+use Rattle.camac_run_machine.specs.Rest.{says}
+use Rattle.camac_run_machine.specs.Runner.{Held, Left, rest, state_in, with_event, last_words_in, GoesOn, Stops}
+use Rattle.camac_run.specs.Headline.{entry_of, entries_in, event_file, Headline, RunsByHeadline, LeavesFewEvents}
+use Rattle.camac_run.specs.Log.{IsLogOf, left_entries, unlock_items}
+use Rattle.camac_run.specs.declared.log.Log.{Log}
 
-module _ {V D C : ℕ} where
-  -- where nothing is wanted the event is told, and else what is left is that of the machine
-  pub told : (new : Machine V D C) (next' : Option Wanting) (event : Option Left) (fed n' : ℕ) (has : Bool) (o : Option Overrun) (answers : List Answer)
-      → IfNone next' (new.frames.items ≡ []) → IfNone next' (event ≡ Some (event_here new n')) → OnSome next' (event ≡ None) → IfNone next' (has ≡ true)
-      → served (context_in new.checked.now) new.checked.now.script.services (bit_at new.checked.now new.service) (stands next' new answers)
-      ≡ with_event event (last_words_in (held new next' fed n' has o)) (rest (held new next' fed n' has o) answers)
-  unfolding served rest_in
-  told new None event fed n' has o answers f a b t = rw (f, a, t) refl
-  told new (Some w) event fed n' has o answers f a b t = rw b refl
+abbrev Run : Type 0
+Run = Behaviour (Unit {0})
 
-  pub numbered : (new : Machine V D C) (next' : Option Wanting) (event : Option Left) (n n' : ℕ) → new.missed ≤ new.cycles → IfNone next' (event ≡ Some (event_here new n')) → OnSome next' (event ≡ None) → IfNone next' (n' ≡ n + 1) → OnSome next' (n' ≡ n) → IfNone event (n' ≡ n) × IfSome event (λ e. (e.0 ≡ n + 1) × (n' ≡ e.0) × (e.2.missed ≤ e.2.cycles)) × (n' ≤ n + 1)
-  numbered new None event n n' few a b x y = rw a (tt, (x, refl, few), omega arith)
-  numbered new (Some w) event n n' few a b x y = rw b (y, tt, omega arith)
+-- a list from an index on
+pub from_index : {A : Type 0} (xs : List A) (i : ℕ) (x : A) → i < length xs → x ≡ get_or xs i x → drop i xs ≡ x ∷ drop (i + 1) xs
+from_index [] i x lt is = absurd (omega arith)
+from_index (y ∷ xs) zero x lt is = ap (λ z. z ∷ xs) (sym is)
+from_index (y ∷ xs) (suc i) x lt is =
+    let same : suc (i + 1) ≡ suc i + 1 = omega arith in
+    from_index xs i x (omega arith) is ∙ ap (λ (j : ℕ). x ∷ drop j (y ∷ xs)) same
 
-  pub quiet : (new : Machine V D C) (next' : Option Wanting) (event : Option Left) (fed n' : ℕ) (has : Bool) (o : Option Overrun) → IfNone next' (event ≡ Some (event_here new n')) → OnSome next' (has ≡ false) → IfNone event (last_words_in (held new next' fed n' has o) ≡ [])
-  quiet new None event fed n' has o a t = rw a tt
-  quiet new (Some w) event fed n' has o a t = go event
-    where
-      silent : last_words_in (held new (Some w) fed n' has o) ≡ []
-      silent = rw t refl
+item_is : (told : Item) → item_of (piece_of told) ≡ piece_of told ∷ []
+item_is (item.Cycle d) = refl
+item_is (item.Lock c w) = refl
+item_is (item.Unlock c) = refl
+item_is (item.Demand p v) = refl
 
-      go : (e : Option Left) → IfNone e (last_words_in (held new (Some w) fed n' has o) ≡ [])
-      go None = silent
-      go (Some e) = tt
+no_event : (told : Item) → event_in (piece_of told) ≡ []
+no_event (item.Cycle d) = refl
+no_event (item.Lock c w) = refl
+no_event (item.Unlock c) = refl
+no_event (item.Demand p v) = refl
 
-  -- a machine whose releases are told
-  pub room_told : (h : Machine V D C) (none : ArrayVec ℕ) → none.items ≡ [] → HasRoom h → HasRoom (record h { unlocks = none })
-  room_told h none e r =
-      let few : locked_among (branch_of h.branch) 7 ≤ 7 = among_few (branch_of h.branch) 7 in
-      let n : length none.items ≡ 0 = ap length e in
-      record {
-        variables = r.variables;
-        registers = r.registers;
-        fits = r.fits;
-        scope = r.scope;
-        blocks = r.blocks;
-        words = r.words;
-        steps = r.steps;
-        cycles = r.cycles;
-        few_missed = r.few_missed;
-        missed = r.missed;
-        locks = r.locks;
-        unlocks = omega (arith, few, n);
-      }
+says_items : (ks : List ℕ) (event : Option Left) (words : List ℕ) (b : Run) → items (says ks (with_event event words b)) ≡ map lock_released ks ++ items b
+says_items [] None words b = refl
+says_items [] (Some e) words b = refl
+says_items (k ∷ ks) event words b = ap (λ (ps : List Piece). lock_released k ∷ ps) (says_items ks event words b)
 
-  pub sound_after : (old new : Machine V D C) (none : ArrayVec ℕ) (before next' : Option Wanting) (fed count count' i : ℕ) → none.items ≡ [] → IsSound old before fed count
-      → HasRoom new → new.checked ≡ old.checked → new.service ≡ i → i < length old.checked.now.script.services → IfSome next' (IsWanting new) → IfNone next' (new.frames.items ≡ [])
-      → ((answers : List Answer) → IsFineHere new (stands next' new answers)) → count' ≤ fed + 1 → IsSound (record new { unlocks = none }) next' (fed + 1) count'
-  sound_after old new none before next' fed count count' i quiet s room e service below wants over fine few = record {
-    room = room_told new none quiet room;
-    quiet = quiet;
-    checked = subst (λ (b : Bor CheckedScript). IsChecked b.now) (sym e) s.checked;
-    formed = subst (λ (b : Bor CheckedScript). IsTrue (is_well_formed b.now.script)) (sym e) s.formed;
-    fits = subst (λ (b : Bor CheckedScript). fits b.now.script V D C ≡ true) (sym e) s.fits;
-    wants = ready next' wants;
-    idle = over;
-    service = there next';
-    fine = is_fine next' fine;
-    events = few;
-  }
-    where
-      there : (o : Option Wanting) → IfSome o (λ w. new.service < length new.checked.now.script.services)
-      there None = tt
-      there (Some w) =
-          subst (λ (b : Bor CheckedScript). new.service < length b.now.script.services) (sym e)
-          (subst (λ j. j < length old.checked.now.script.services) (sym service) below)
+says_events : (ks : List ℕ) (event : Option Left) (words : List ℕ) (b : Run) → entries_in (says ks (with_event event words b)) ≡ left_entries event words ++ entries_in b
+says_events [] None words b = refl
+says_events [] (Some e) words b = refl
+says_events (k ∷ ks) event words b = says_events ks event words b
 
-      ready : (o : Option Wanting) → IfSome o (IsWanting new) → IfSome o (IsWanting (record new { unlocks = none }))
-      ready None f = tt
-      ready (Some (Cycle k)) f = f
-      ready (Some (Read k x bits)) f = f
-      ready (Some (Lock k body)) f = f
-      ready (Some (wanting.Transfer k t table x)) f = f
+says_stop : (ks : List ℕ) (event : Option Left) (words : List ℕ) (b : Run) → stop_of (says ks (with_event event words b)) ≡ stop_of b
+says_stop [] None words b = refl
+says_stop [] (Some e) words b = refl
+says_stop (k ∷ ks) event words b = says_stop ks event words b
 
-      is_fine : (o : Option Wanting) → ((answers : List Answer) → IsFineHere new (stands o new answers)) → IfSome o (λ w. (answers : List Answer) → IsFineHere (record new { unlocks = none }) (stands (Some w) (record new { unlocks = none }) answers))
-      is_fine None f = tt
-      is_fine (Some w) f = f
+released : (ks : List ℕ) → map piece_of (unlock_items ks) ≡ map lock_released ks
+released [] = refl
+released (k ∷ ks) = ap (λ (ps : List Piece). lock_released k ∷ ps) (released ks)
 
-  along_told : (new : Machine V D C) (ck : Bor CheckedScript) (i bit : ℕ) (next' : Option Wanting) (event : Option Left) (fed n' : ℕ) (has : Bool) (o : Option Overrun) (answers : List Answer)
-      → new.checked ≡ ck → new.service ≡ i → bit_at ck.now i ≡ bit
-      → IfNone next' (new.frames.items ≡ []) → IfNone next' (event ≡ Some (event_here new n')) → OnSome next' (event ≡ None) → IfNone next' (has ≡ true)
-      → served (context_in ck.now) ck.now.script.services bit (stands next' new answers) ≡ with_event event (last_words_in (held new next' fed n' has o)) (rest (held new next' fed n' has o) answers)
-  along_told new ck i bit next' event fed n' has o answers e1 e2 e3 f a b t =
-      ap (λ k. served (context_in ck.now) ck.now.script.services k (stands next' new answers)) (sym e3)
-      ∙ ap (λ j. served (context_in ck.now) ck.now.script.services (bit_at ck.now j) (stands next' new answers)) (sym e2)
-      ∙ ap (λ (z : Bor CheckedScript). served (context_in z.now) z.now.script.services (bit_at z.now new.service) (stands next' new answers)) (sym e1)
-      ∙ told new next' event fed n' has o answers f a b t
+-- an answer was used for an item; then these locks were released, and an event may have been left
+module _ (whole old new : Run) (told : Item) (ks : List ℕ) (event : Option Left) (words : List ℕ) (e : old ≡ does (piece_of told) (says ks (with_event event words new))) where
+  pub items_told : (xs ys zs : List Item) → items whole ≡ map piece_of xs ++ items old → ys ≡ xs ++ told ∷ [] → zs ≡ ys ++ unlock_items ks → items whole ≡ map piece_of zs ++ items new
+  items_told xs ys zs h p n =
+      let later : List Piece = map lock_released ks ++ items new in
+      let first : List Piece = map piece_of xs in
+      let pushed : map piece_of ys ≡ first ++ piece_of told ∷ [] = ap (map piece_of) p ∙ map-append piece_of xs (told ∷ []) in
+      let noted : map piece_of zs ≡ map piece_of ys ++ map lock_released ks =
+      ap (map piece_of) n ∙ map-append piece_of ys (unlock_items ks) ∙ ap (λ (ps : List Piece). map piece_of ys ++ ps) (released ks) in
+      let here : items old ≡ piece_of told ∷ later =
+      ap (λ (b : Run). items b) e ∙ ap (λ (ps : List Piece). ps ++ items (says ks (with_event event words new))) (item_is told) ∙ ap (λ (ps : List Piece). piece_of told ∷ ps) (says_items ks event words new) in
+      h ∙ ap (λ (ps : List Piece). first ++ ps) here
+      ∙ sym (append_assoc first (piece_of told ∷ []) later)
+      ∙ ap (λ (ps : List Piece). ps ++ later) (sym pushed)
+      ∙ sym (append_assoc (map piece_of ys) (map lock_released ks) (items new))
+      ∙ ap (λ (ps : List Piece). ps ++ items new) (sym noted)
 
-  -- the same along what an answer leaves as it was
-  pub told_along : (new : Machine V D C) (ck : Bor CheckedScript) (i bit : ℕ) (next' : Option Wanting) (event : Option Left) (fed n' : ℕ) (has : Bool) (o : Option Overrun) (answers : List Answer)
-      → new.checked ≡ ck → new.service ≡ i → bit_at ck.now i ≡ bit
-      → IfNone next' (new.frames.items ≡ []) → IfNone next' (event ≡ Some (event_here new n')) → OnSome next' (event ≡ None) → IfNone next' (has ≡ true)
-      → (us : List ℕ) → served (context_in ck.now) ck.now.script.services bit (says us (stands next' new answers)) ≡ says us (with_event event (last_words_in (held new next' fed n' has o)) (rest (held new next' fed n' has o) answers))
-  told_along new ck i bit next' event fed n' has o answers e1 e2 e3 f a b t us =
-      served_says (context_in ck.now) ck.now.script.services bit us (stands next' new answers)
-      ∙ ap (says us) (along_told new ck i bit next' event fed n' has o answers e1 e2 e3 f a b t)
+  pub events_told : (first kept : List Entry) → entries_in whole ≡ first ++ entries_in old → kept ≡ first ++ left_entries event words → entries_in whole ≡ kept ++ entries_in new
+  events_told first kept h p =
+      let here : entries_in old ≡ left_entries event words ++ entries_in new =
+      ap (λ (b : Run). entries_in b) e ∙ ap (λ (es : List Event). map entry_of (es ++ events (says ks (with_event event words new)))) (no_event told) ∙ says_events ks event words new in
+      h ∙ ap (λ (es : List Entry). first ++ es) here
+      ∙ sym (append_assoc first (left_entries event words) (entries_in new))
+      ∙ ap (λ (es : List Entry). es ++ entries_in new) (sym p)
 
-  fine_told : (new : Machine V D C) (b : Behaviour State) → IsFineHere new (says new.unlocks.items b) → IsFineHere new b
-  fine_told new b f = fine_says new.checked.now.plan (bounds_of new) new.unlocks.items b f
+  pub stop_told : stop_of whole ≡ stop_of old → stop_of whole ≡ stop_of new
+  stop_told h = h ∙ ap (λ (b : Run). stop_of b) e ∙ says_stop ks event words new
 
-  -- a service that is called is fine
-  pub serve_fine : (old new : Machine V D C) (i : ℕ) (v : Service) (next' : Option Wanting) → IsChecked old.checked.now → slice_get old.checked.now.script.services i ≡ Some v → Serves old i v next' new → (answers : List Answer) → IsFineHere new (stands next' new answers)
-  serve_fine old new i v next' checked there s answers =
-      let k = old.checked.now in
-      let meaning = service_meaning (context_in k) most_turns v (branch_of old.branch) answers in
-      let fine : IsFine k.plan (bounds_at k i) meaning = fine_at k k.bounds k.script.services i v (record { cycles = 0; words = 0; steps = 0 }) checked.services there most_turns (omega arith) (branch_of old.branch) answers in
-      fine_told new (stands next' new answers)
-      (fine_along new (record old { service = i }) s.checked s.service (says new.unlocks.items (stands next' new answers)) meaning (s.goes answers) fine)
+one_left : (event : Option Left) (words : List ℕ) → length (left_entries event words) ≤ 1
+one_left None words = omega arith
+one_left (Some e) words = omega arith
 
-  -- what is left after an answer that was taken is fine
-  pub take_fine : (old mid : Machine V D C) (w : Wanting) (a : Answer) (d : Item) → ((answers : List Answer) → IsFineHere old (stands (Some w) old answers)) → Takes old w a d mid → FineThen mid (λ c. follows c (want_of w))
-  take_fine old mid w a d fine t answers =
-      let b = then_do (follows (context_in mid.checked.now) (want_of w) (state_of mid answers)) (left_in mid) in
-      let all = subst (λ x. IsFineHere old x) (t.goes answers) (fine (a ∷ answers)) in
-      fine_along mid old t.checked t.service b b refl all.1
+pub few_left : (first kept : List Entry) (event : Option Left) (words : List ℕ) (n : ℕ) → kept ≡ first ++ left_entries event words → length first ≤ n → length kept ≤ n + 1
+few_left first kept event words n p le =
+    let one = one_left event words in
+    let lengths : length kept ≡ length first + length (left_entries event words) = ap length p ∙ length-append first (left_entries event words) in
+    omega arith
 
-  pub settle_fine : (mid new : Machine V D C) (go : Context → Action) (next' : Option Wanting) → FineThen mid go → Settles mid go next' new → (answers : List Answer) → IsFineHere new (stands next' new answers)
-  settle_fine mid new go next' fine s answers =
-      fine_told new (stands next' new answers)
-      (fine_along new mid s.checked s.service (says new.unlocks.items (stands next' new answers)) (then_do (go (context_in mid.checked.now) (state_of mid answers)) (left_in mid)) (s.goes answers) (fine answers))
+-- what an answer was used for
+pub goes_here : (old new : Held) (answer : Answer) (told : Item) (ks : List ℕ) (event : Option Left) → GoesOn old answer told ks event new → (answers : List Answer) (i : ℕ) → i < length answers → answer ≡ get_or answers i answer
+    → rest old (drop i answers) ≡ does (piece_of told) (says ks (with_event event (last_words_in new) (rest new (drop (i + 1) answers))))
+goes_here old new answer told ks event g answers i lt is = ap (rest old) (from_index answers i answer lt is) ∙ g.goes (drop (i + 1) answers)
 
-  -- with no answer, a run is short in the service in progress, or over
-  pub rest_short : (h : Machine V D C) (wanting : Option Wanting) (w : Wanting) (fed n : ℕ) (has : Bool) (o : Option Overrun) → wanting ≡ Some w → IfSome wanting (IsWanting h) → rest (held h wanting fed n has o) [] ≡ stops short (state_of h [])
-  rest_short h wanting w fed n has o e p =
-      let q : IsWanting h w = rw e at p in
-      let c = context_in h.checked.now in
-      rw e (ap (λ b. served c h.checked.now.script.services (bit_at h.checked.now h.service) (then_do b (rest_in c (opens_in h)))) (waits_first h w q)
-      ∙ served_stops c h.checked.now.script.services (bit_at h.checked.now h.service) short (state_of h []))
+stops_now : (o : Option Overrun) (P : Type 0) → o ≡ None → IfNone o P → P
+stops_now None P e h = h
+stops_now (Some x) P e h = cc
 
-  pub rest_over : (h : Machine V D C) (wanting : Option Wanting) (fed n : ℕ) (has : Bool) (o : Option Overrun) → wanting ≡ None → rest (held h wanting fed n has o) [] ≡ ends tt
-  rest_over h wanting fed n has o e = rw e (onward_over (context_in h.checked.now) h.checked.now.script.services (branch_of h.branch))
+-- a run that stops, and tells nothing more
+pub record Over (left : Run) (stop : Option Stop) : Type 0 where
+  pub no_items : items left ≡ []
+  pub no_events : entries_in left ≡ []
+  pub stop_is : stop_of left ≡ stop
 
-pub none_mapped : {A : Type 0} (o : Option A) (P Q : Type 0) → IfNone o P → (P → Q) → IfNone o Q
-none_mapped None P Q h f = f h
-none_mapped (Some a) P Q h f = tt
+over_at : (left now : Run) (stop : Option Stop) → left ≡ now → Over now stop → Over left stop
+over_at left now stop e h = record {
+  no_items = ap (λ (b : Run). items b) e ∙ h.no_items;
+  no_events = ap (λ (b : Run). entries_in b) e ∙ h.no_events;
+  stop_is = ap (λ (b : Run). stop_of b) e ∙ h.stop_is;
+}
 
-pub some_mapped : {A : Type 0} (o : Option A) (P Q : Type 0) → OnSome o P → (P → Q) → OnSome o Q
-some_mapped None P Q h f = tt
-some_mapped (Some a) P Q h f = f h
+pub stopped : (old new : Held) (answer : Answer) (o : Overrun) → old.overrun ≡ None → Stops old answer o new → (answers : List Answer) (i : ℕ) → i < length answers → answer ≡ get_or answers i answer → Over (rest old (drop i answers)) (Some (overrun o.c o.wait))
+stopped old new answer o first s answers i lt is =
+    let after : List Answer = drop (i + 1) answers in
+    over_at (rest old (drop i answers)) (stops (overrun o.c o.wait) (state_in old (answer ∷ after))) (Some (overrun o.c o.wait))
+    (ap (rest old) (from_index answers i answer lt is)
+    ∙ stops_now old.overrun ((more : List Answer) → rest old (answer ∷ more) ≡ stops (overrun o.c o.wait) (state_in old (answer ∷ more))) first s.now after)
+    (record { no_items = refl; no_events = refl; stop_is = refl })
 
-pub few_events : {A : Type 0} (o : Option A) (n n' : ℕ) → IfNone o (n' ≡ n + 1) → OnSome o (n' ≡ n) → n' ≤ n + 1
-few_events None n n' a b = omega (arith, a)
-few_events (Some x) n n' a b = omega (arith, b)
+past_end : {A : Type 0} (xs : List A) (i : ℕ) → length xs ≤ i → drop i xs ≡ []
+past_end [] zero le = refl
+past_end [] (suc i) le = refl
+past_end (x ∷ xs) zero le = absurd (omega arith)
+past_end (x ∷ xs) (suc i) le = past_end xs i (omega arith)
 
-pub below_along : {V D C : ℕ} (new : Machine V D C) (ck : Bor CheckedScript) (i : ℕ) → new.checked ≡ ck → new.service ≡ i → i < length ck.now.script.services → new.service < length new.checked.now.script.services
-below_along new ck i e1 e2 h =
-    subst (λ (z : Bor CheckedScript). new.service < length z.now.script.services) (sym e1) (subst (λ j. j < length ck.now.script.services) (sym e2) h)
+pub used_up : (held : Held) (answers : List Answer) (i : ℕ) (stop : Option Stop) → length answers ≤ i → items (rest held []) ≡ [] → events (rest held []) ≡ [] → stop ≡ stop_of (rest held []) → Over (rest held (drop i answers)) stop
+used_up held answers i stop le no_items no_events is =
+    over_at (rest held (drop i answers)) (rest held []) stop (ap (rest held) (past_end answers i le))
+    (record { no_items = no_items; no_events = ap (map entry_of) no_events; stop_is = sym is })
 
-pub none_wanted : {A B : Type 0} (f : A → B) (o : Option A) → option_map f o ≡ None → o ≡ None
-none_wanted f None e = refl
-none_wanted f (Some a) e = absurd (cc)
+-- the log where the run is over
+pub is_log : (log : Log) (whole left : Run) → log.events.version ≡ Two → items whole ≡ map piece_of log.items ++ items left → entries_in whole ≡ log.events.events ++ entries_in left → stop_of whole ≡ stop_of left → Over left (stop_in log.end) → IsLogOf log whole
+is_log log whole left version same_items same_events same_stop h =
+    let entries : entries_in whole ≡ log.events.events = same_events ∙ ap (λ (es : List Entry). log.events.events ++ es) h.no_events ∙ append-nil log.events.events in
+    record {
+      same_items = sym (same_items ∙ ap (λ (ps : List Piece). map piece_of log.items ++ ps) h.no_items ∙ append-nil (map piece_of log.items));
+      same_events = ap (λ v. record { version = v; events = log.events.events }) version ∙ ap (λ (es : List Entry). record { version = Two; events = es }) (sym entries);
+      same_end = sym (same_stop ∙ h.stop_is);
+    }
 
--- a service in progress is within its bounds
-pub steps_within : {V D C : ℕ} (h : Machine V D C) (w : Wanting) → IsWanting h w → ((answers : List Answer) → IsFineHere h (stands (Some w) h answers)) → h.steps ≤ (bounds_of h).steps
-steps_within h w p fine =
-    let f = subst (λ b. IsFineHere h (then_do b (rest_in (context_in h.checked.now) (opens_in h)))) (waits_first h w p) (fine []) in f.1.steps
+-- and the headline with its event file
+pub by_log : (plan : Layout) (script : Script) (ks : List Bounds) (answers : List Answer) (log : Log) → RunsByHeadline plan script ks → LeavesFewEvents plan script → length answers ≤ 1000000 → IsLogOf log (the_run plan script answers)
+    → Headline plan script ks answers (spelling log.events.version log.events.events)
+by_log plan script ks answers log law few short h =
+    let le = few answers in
+    let file : event_file plan script answers ≡ spelling log.events.version log.events.events = ap (λ (l : Listing). spelling l.version l.events) (sym h.same_events) in
+    subst (λ (bytes : List ℕ). Headline plan script ks answers bytes) file (law answers (omega arith))

@@ -1,16 +1,12 @@
-//! Runs an accepted script over a list of answers: at once, or an answer at a time in fixed memory.
+//! A run over a whole list of answers, with all that it tells, and what is promised of it and of its event file.
 #![tactic(auto)]
 
-mod arguments;
-mod command;
-mod condition;
-mod item;
-mod machine;
-mod runner;
-mod scope;
-mod service;
-mod transfer;
-mod value;
+mod items;
+mod laws;
+mod log;
 
-pub use item::{End, Item, Progress};
-pub use runner::Runner;
+pub use items::Items;
+pub use laws::runs_by_headline;
+pub use log::{Log, run};
+
+pub use camac_run_machine::{End, Item, Progress, Runner};

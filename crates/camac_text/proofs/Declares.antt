@@ -3,20 +3,20 @@ use Rattle.std.proofs.Common.{◌≡◌, ℕ, ◌+◌, ◌≤◌, ◌<◌, true,
 use Rattle.std.proofs.lemmas.Bool.{ltb-true}
 use Rattle.camac_lang.specs.Tests.{is_name, is_new, is_number, is_sub_address}
 use Rattle.camac_lang.specs.Tree.{Statement, Lam}
-use Rattle.camac_tokens.specs.declared.fault.TextRule.TheVariants.{LimitPassed}
-use Rattle.camac_tokens.specs.declared.token.Keyword.TheVariants as word
-use Rattle.camac_tokens.specs.declared.token.TokenKind.{TokenKind}
-use Rattle.camac_tokens.specs.declared.token.TokenKind.TheVariants as kind
-use Rattle.camac_cursor.specs.Reading.{State, give, change, kind_of, line_of, behind, while_next}
-use Rattle.camac_cursor.specs.Readers.{new_name, new_variable, is_name as next_is_name, expect, any_number, branch_number, sub_address_number, used_lam}
-use Rattle.camac_statements.specs.Statements.{block_at}
+use Rattle.camac_text_tokens.specs.declared.fault.TextRule.TheVariants.{LimitPassed}
+use Rattle.camac_text_tokens.specs.declared.token.Keyword.TheVariants as word
+use Rattle.camac_text_tokens.specs.declared.token.TokenKind.{TokenKind}
+use Rattle.camac_text_tokens.specs.declared.token.TokenKind.TheVariants as kind
+use Rattle.camac_text_cursor.specs.Reading.{State, give, change, kind_of, line_of, behind, while_next}
+use Rattle.camac_text_cursor.specs.Readers.{new_name, new_variable, is_name as next_is_name, expect, any_number, branch_number, sub_address_number, used_lam}
+use Rattle.camac_text_statements.specs.Statements.{block_at}
 use Rattle.camac_text.specs.Declarations.{with_lam, lam_declaration, one_more_variable, with_variables_of, variable_declaration, with_service, service_declaration, declaration_by, declaration_at, is_token}
-use Rattle.camac_cursor.proofs.Steps.{then_ok, ok_is, err_no_ok, Progresses, while_keeps}
-use Rattle.camac_cursor.proofs.Moves.{AllFit, Moves, kind_fit, behind_less, stays, moved, then_moves, one_moves, check_ok, any_number_ok, branch_ok, sub_address_ok, expect_ok, new_name_ok}
-use Rattle.camac_cursor.proofs.Uses.{used_lam_ok}
-use Rattle.camac_cursor.proofs.Registers.{below_le}
-use Rattle.camac_statements.proofs.Blocks.{Body, behind_moves}
-use Rattle.camac_statements.proofs.Bodies.{block_ok}
+use Rattle.camac_text_cursor.proofs.Steps.{then_ok, ok_is, err_no_ok, Progresses, while_keeps}
+use Rattle.camac_text_cursor.proofs.Moves.{AllFit, Moves, kind_fit, behind_less, stays, moved, then_moves, one_moves, check_ok, any_number_ok, branch_ok, sub_address_ok, expect_ok, new_name_ok}
+use Rattle.camac_text_cursor.proofs.Uses.{used_lam_ok}
+use Rattle.camac_text_cursor.proofs.Registers.{below_le}
+use Rattle.camac_text_statements.proofs.Blocks.{Body, behind_moves}
+use Rattle.camac_text_statements.proofs.Bodies.{block_ok}
 use Rattle.camac_text.proofs.Variables.{DeclaresVariables, new_variable_ok, no_variables, one_variable_more, variables_turn}
 use Rattle.camac_text.proofs.ProceduresRead.{ProcedureDeclaration, procedure_is}
 use Rattle.camac_text.proofs.TablesRead.{TableDeclaration, table_is}

@@ -7,7 +7,7 @@ use Rattle.std.proofs.Math.Seq.{take-append_seam, drop-append_seam}
 use Rattle.camac_lang.specs.Scope.{Before, are_declarable, declared, all_declared}
 use Rattle.camac_lang.specs.Tests.{each, total, is_name, is_new, are_new}
 use Rattle.camac_lang.specs.Tree.{Text, Item, Script}
-use Rattle.camac_statements.proofs.Bodies.{and_then_some}
+use Rattle.camac_text_statements.proofs.Bodies.{and_then_some}
 
 -- ---- lists
 

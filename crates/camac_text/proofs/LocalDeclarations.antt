@@ -1,21 +1,21 @@
 -- Readers of declarations are local.
 use Rattle.std.proofs.Common.{ℕ, ◌+◌, nat_lt, length, Option, Some, refl}
 use Rattle.camac_lang.specs.Tree.{Text, Lam}
-use Rattle.camac_tokens.specs.declared.fault.TextRule.TheVariants.{UnexpectedToken, LimitPassed}
-use Rattle.camac_tokens.specs.declared.token.Keyword.TheVariants as word
-use Rattle.camac_tokens.specs.declared.token.TokenKind.{TokenKind}
-use Rattle.camac_tokens.specs.declared.token.TokenKind.TheVariants as kind
-use Rattle.camac_cursor.specs.Reading.{State, Reader, ◌>>=◌, ◌>>◌, give, change, peek, advance, check, kind_of, line_of, while_next}
-use Rattle.camac_cursor.specs.Readers.{is_name, expect, any_number, branch_number, sub_address_number, new_name, new_variable, used_lam}
-use Rattle.camac_statements.specs.Statements.{block_at}
+use Rattle.camac_text_tokens.specs.declared.fault.TextRule.TheVariants.{UnexpectedToken, LimitPassed}
+use Rattle.camac_text_tokens.specs.declared.token.Keyword.TheVariants as word
+use Rattle.camac_text_tokens.specs.declared.token.TokenKind.{TokenKind}
+use Rattle.camac_text_tokens.specs.declared.token.TokenKind.TheVariants as kind
+use Rattle.camac_text_cursor.specs.Reading.{State, Reader, ◌>>=◌, ◌>>◌, give, change, peek, advance, check, kind_of, line_of, while_next}
+use Rattle.camac_text_cursor.specs.Readers.{is_name, expect, any_number, branch_number, sub_address_number, new_name, new_variable, used_lam}
+use Rattle.camac_text_statements.specs.Statements.{block_at}
 use Rattle.camac_text.specs.Declarations.{with_lam, lam_declaration, one_more_variable, with_variables_of, variable_declaration, with_service, service_declaration, declaration_by, declaration_at, is_token, declarations_at}
 use Rattle.camac_text.proofs.Declares.{declarations_progress}
 use Rattle.camac_text.proofs.Variables.{variables_progress}
 use Rattle.camac_text.proofs.LocalProcedures.{local_procedure}
 use Rattle.camac_text.proofs.LocalTables.{local_table}
-use Rattle.camac_cursor.proofs.Places.{IsLocal, local_then, local_peek, local_line, local_ask, local_change, local_give, local_fail, local_advance, local_check, local_while}
-use Rattle.camac_cursor.proofs.Local.{local_expect, local_any_number, local_branch, local_sub_address, local_new_name, local_new_variable, local_used_lam}
-use Rattle.camac_statements.proofs.LocalStatements.{local_block}
+use Rattle.camac_text_cursor.proofs.Places.{IsLocal, local_then, local_peek, local_line, local_ask, local_change, local_give, local_fail, local_advance, local_check, local_while}
+use Rattle.camac_text_cursor.proofs.Local.{local_expect, local_any_number, local_branch, local_sub_address, local_new_name, local_new_variable, local_used_lam}
+use Rattle.camac_text_statements.proofs.LocalStatements.{local_block}
 
 abbrev made : ℕ → Text → ℕ → ℕ → ℕ → Lam
 made line x c n a = record { line = line; name = x; crate_no = c; station = n; sub_address = a }

@@ -1,16 +1,16 @@
 -- Readers of procedures are local.
 use Rattle.std.proofs.Common.{ℕ, cond, nat_lt, List, [], ◌∷◌, ◌++◌, length, refl}
 use Rattle.camac_lang.specs.Tree.{Text, Statement, Parameter}
-use Rattle.camac_tokens.specs.declared.fault.TextRule.TheVariants.{LimitPassed}
-use Rattle.camac_tokens.specs.declared.token.Keyword.TheVariants as word
-use Rattle.camac_tokens.specs.declared.token.Sign.TheVariants as sign
-use Rattle.camac_cursor.specs.Reading.{State, Reader, ◌>>=◌, ◌>>◌, give, ask, change, advance, check, kind_of, while_next, one_more}
-use Rattle.camac_cursor.specs.Readers.{is_sign, expect, expect_sign, any_number, new_name, new_parameter}
-use Rattle.camac_statements.specs.Statements.{block_at}
+use Rattle.camac_text_tokens.specs.declared.fault.TextRule.TheVariants.{LimitPassed}
+use Rattle.camac_text_tokens.specs.declared.token.Keyword.TheVariants as word
+use Rattle.camac_text_tokens.specs.declared.token.Sign.TheVariants as sign
+use Rattle.camac_text_cursor.specs.Reading.{State, Reader, ◌>>=◌, ◌>>◌, give, ask, change, advance, check, kind_of, while_next, one_more}
+use Rattle.camac_text_cursor.specs.Readers.{is_sign, expect, expect_sign, any_number, new_name, new_parameter}
+use Rattle.camac_text_statements.specs.Statements.{block_at}
 use Rattle.camac_text.specs.Procedures.{parameter_at, next_parameter, parameter_list, parameters_at, Heading, heading_at, in_heading, procedure_made, with_procedure, procedure_declaration}
-use Rattle.camac_cursor.proofs.Places.{IsLocal, local_then, local_peek, local_ask, local_change, local_give, local_advance, local_if, local_check, local_while}
-use Rattle.camac_cursor.proofs.Local.{local_expect, local_expect_sign, local_any_number, local_new_name, local_new_parameter}
-use Rattle.camac_statements.proofs.LocalStatements.{local_block}
+use Rattle.camac_text_cursor.proofs.Places.{IsLocal, local_then, local_peek, local_ask, local_change, local_give, local_advance, local_if, local_check, local_while}
+use Rattle.camac_text_cursor.proofs.Local.{local_expect, local_expect_sign, local_any_number, local_new_name, local_new_parameter}
+use Rattle.camac_text_statements.proofs.LocalStatements.{local_block}
 use Rattle.camac_text.proofs.ParametersRead.{parameters_progress, from_steps, from_cycles, from_bracket}
 
 -- ---- the heading

@@ -5,7 +5,7 @@ use Rattle.std.proofs.lemmas.List.{append-nil}
 use Rattle.camac_lang.specs.Scope.{are_declarable}
 use Rattle.camac_lang.specs.Tests.{each, is_name, is_new, are_new}
 use Rattle.camac_lang.specs.Tree.{Text}
-use Rattle.camac_cursor.proofs.Registers.{both, first_of_both, second_of_both}
+use Rattle.camac_text_cursor.proofs.Registers.{both, first_of_both, second_of_both}
 use Rattle.camac_text.proofs.Listed.{each_append, new_same, front_or_behind}
 
 swapped : (a b c : Bool) → (a && (b && c)) ≡ (b && (a && c))

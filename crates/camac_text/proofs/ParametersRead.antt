@@ -5,18 +5,18 @@ use Rattle.std.proofs.lemmas.List.{map_push}
 use Rattle.camac_lang.specs.Scope.{are_declarable}
 use Rattle.camac_lang.specs.Tests.{each, is_number}
 use Rattle.camac_lang.specs.Tree.{Text, Parameter}
-use Rattle.camac_tokens.specs.declared.fault.TextRule.TheVariants.{LimitPassed}
-use Rattle.camac_tokens.specs.declared.token.Keyword.TheVariants as word
-use Rattle.camac_tokens.specs.declared.token.Sign.{Sign}
-use Rattle.camac_tokens.specs.declared.token.Sign.TheVariants as sign
-use Rattle.camac_tokens.specs.declared.token.TokenKind.{TokenKind}
-use Rattle.camac_tokens.specs.declared.token.TokenKind.TheVariants as kind
-use Rattle.camac_cursor.specs.Reading.{State, Reader, ◌>>=◌, ◌>>◌, give, ask, check, kind_of, behind, while_next, one_more}
-use Rattle.camac_cursor.specs.Readers.{is_sign, expect, expect_sign, any_number, new_name, added, new_parameter}
+use Rattle.camac_text_tokens.specs.declared.fault.TextRule.TheVariants.{LimitPassed}
+use Rattle.camac_text_tokens.specs.declared.token.Keyword.TheVariants as word
+use Rattle.camac_text_tokens.specs.declared.token.Sign.{Sign}
+use Rattle.camac_text_tokens.specs.declared.token.Sign.TheVariants as sign
+use Rattle.camac_text_tokens.specs.declared.token.TokenKind.{TokenKind}
+use Rattle.camac_text_tokens.specs.declared.token.TokenKind.TheVariants as kind
+use Rattle.camac_text_cursor.specs.Reading.{State, Reader, ◌>>=◌, ◌>>◌, give, ask, check, kind_of, behind, while_next, one_more}
+use Rattle.camac_text_cursor.specs.Readers.{is_sign, expect, expect_sign, any_number, new_name, added, new_parameter}
 use Rattle.camac_text.specs.Procedures.{parameter_at, next_parameter, parameter_list, parameters_at, Heading, heading_at}
-use Rattle.camac_cursor.proofs.Steps.{then_ok, ok_is, Progresses, while_keeps}
-use Rattle.camac_cursor.proofs.Moves.{AllFit, Moves, kind_fit, behind_less, moved, then_moves, one_moves, check_ok, any_number_ok, expect_ok, expect_sign_ok, new_name_ok}
-use Rattle.camac_cursor.proofs.Registers.{both, each_push}
+use Rattle.camac_text_cursor.proofs.Steps.{then_ok, ok_is, Progresses, while_keeps}
+use Rattle.camac_text_cursor.proofs.Moves.{AllFit, Moves, kind_fit, behind_less, moved, then_moves, one_moves, check_ok, any_number_ok, expect_ok, expect_sign_ok, new_name_ok}
+use Rattle.camac_text_cursor.proofs.Registers.{both, each_push}
 use Rattle.camac_text.proofs.Variables.{DeclaresOne, added_ok, one_variable_less, DeclaresNames, no_names, one_name_more, names_then_moves}
 
 -- ---- one parameter

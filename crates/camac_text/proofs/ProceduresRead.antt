@@ -3,17 +3,17 @@ use Rattle.std.proofs.Common.{◌≡◌, ℕ, ◌≤◌, ◌<◌, true, nat_lt, 
 use Rattle.std.proofs.lemmas.Bool.{ltb-true}
 use Rattle.camac_lang.specs.Tests.{is_name, is_new}
 use Rattle.camac_lang.specs.Tree.{Text, Statement}
-use Rattle.camac_tokens.specs.declared.fault.TextRule.TheVariants.{LimitPassed}
-use Rattle.camac_tokens.specs.declared.token.TokenKind.{TokenKind}
-use Rattle.camac_tokens.specs.declared.token.TokenKind.TheVariants as kind
-use Rattle.camac_cursor.specs.Reading.{State, Reader, ◌>>=◌, ◌>>◌, ask, change, advance, kind_of, behind}
-use Rattle.camac_cursor.specs.Readers.{new_name}
-use Rattle.camac_statements.specs.Statements.{block_at}
+use Rattle.camac_text_tokens.specs.declared.fault.TextRule.TheVariants.{LimitPassed}
+use Rattle.camac_text_tokens.specs.declared.token.TokenKind.{TokenKind}
+use Rattle.camac_text_tokens.specs.declared.token.TokenKind.TheVariants as kind
+use Rattle.camac_text_cursor.specs.Reading.{State, Reader, ◌>>=◌, ◌>>◌, ask, change, advance, kind_of, behind}
+use Rattle.camac_text_cursor.specs.Readers.{new_name}
+use Rattle.camac_text_statements.specs.Statements.{block_at}
 use Rattle.camac_text.specs.Procedures.{Heading, heading_at, in_heading, procedure_made, with_procedure, procedure_declaration}
-use Rattle.camac_cursor.proofs.Steps.{then_ok, ok_is}
-use Rattle.camac_cursor.proofs.Moves.{AllFit, kind_fit, behind_less, moved, check_ok, new_name_ok}
-use Rattle.camac_statements.proofs.Blocks.{Body}
-use Rattle.camac_statements.proofs.Bodies.{block_ok}
+use Rattle.camac_text_cursor.proofs.Steps.{then_ok, ok_is}
+use Rattle.camac_text_cursor.proofs.Moves.{AllFit, kind_fit, behind_less, moved, check_ok, new_name_ok}
+use Rattle.camac_text_statements.proofs.Blocks.{Body}
+use Rattle.camac_text_statements.proofs.Bodies.{block_ok}
 use Rattle.camac_text.proofs.ParametersRead.{ReadsHeading, heading_ok}
 
 -- a procedure is declared

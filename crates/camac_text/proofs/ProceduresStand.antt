@@ -9,12 +9,12 @@ use Rattle.camac_lang.specs.Statements.{after_block, statements}
 use Rattle.camac_lang.specs.Tests.{has, unless_broken, total, most}
 use Rattle.camac_lang.specs.Tree.{Text, Parameter, Procedure, Service, next_procedure, Script}
 use Rattle.camac_lang.specs.View.{block_of}
-use Rattle.camac_cursor.specs.Reading.{State}
-use Rattle.camac_cursor.specs.Readers.{other_registers}
+use Rattle.camac_text_cursor.specs.Reading.{State}
+use Rattle.camac_text_cursor.specs.Readers.{other_registers}
 use Rattle.camac_text.specs.Procedures.{procedure_made, with_procedure as procedure_added}
-use Rattle.camac_cursor.proofs.Moves.{AllFit}
-use Rattle.camac_cursor.proofs.Registers.{both, below_le, limits_of, RegistersFit}
-use Rattle.camac_cursor.proofs.Uses.{scope_of}
+use Rattle.camac_text_cursor.proofs.Moves.{AllFit}
+use Rattle.camac_text_cursor.proofs.Registers.{both, below_le, limits_of, RegistersFit}
+use Rattle.camac_text_cursor.proofs.Uses.{scope_of}
 use Rattle.camac_text.proofs.ParametersRead.{names_of, names_counted}
 use Rattle.camac_text.proofs.ProceduresRead.{ProcedureDeclaration}
 use Rattle.camac_text.proofs.Listed.{declared_push, at_place, total_push, same_number, front_or_behind}

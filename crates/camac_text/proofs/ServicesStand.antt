@@ -8,12 +8,12 @@ use Rattle.camac_lang.specs.Statements.{after_block, statements}
 use Rattle.camac_lang.specs.Tests.{has, unless_broken, total, most}
 use Rattle.camac_lang.specs.Tree.{Text, Statement, Procedure, Service, next_service, Script}
 use Rattle.camac_lang.specs.View.{block_of}
-use Rattle.camac_cursor.specs.Reading.{State}
-use Rattle.camac_cursor.specs.Readers.{other_registers}
+use Rattle.camac_text_cursor.specs.Reading.{State}
+use Rattle.camac_text_cursor.specs.Readers.{other_registers}
 use Rattle.camac_text.specs.Declarations.{with_service as service_added}
-use Rattle.camac_cursor.proofs.Registers.{both, below_le, Limits, limits_of, RegistersFit}
-use Rattle.camac_cursor.proofs.Uses.{scope_of}
-use Rattle.camac_phrases.proofs.ConditionsRead.{most_push}
+use Rattle.camac_text_cursor.proofs.Registers.{both, below_le, Limits, limits_of, RegistersFit}
+use Rattle.camac_text_cursor.proofs.Uses.{scope_of}
+use Rattle.camac_text_phrases.proofs.ConditionsRead.{most_push}
 use Rattle.camac_text.proofs.Declares.{ServiceDeclaration}
 use Rattle.camac_text.proofs.Listed.{declared_push, at_place, total_push, same_number, declarable_same}
 use Rattle.camac_text.proofs.Sofar.{before_of, Extends, Sofar}

@@ -3,16 +3,16 @@ use Rattle.std.proofs.Common.{◌≡◌, ℕ, ◌+◌, ◌≤◌, ◌<◌, true,
 use Rattle.std.proofs.lemmas.Bool.{ltb-true}
 use Rattle.camac_lang.specs.Tests.{each, is_name, is_new, is_word}
 use Rattle.camac_lang.specs.Tree.{Table}
-use Rattle.camac_tokens.specs.declared.fault.TextRule.TheVariants.{NumberTooLarge, LimitPassed}
-use Rattle.camac_tokens.specs.declared.token.Sign.TheVariants as sign
-use Rattle.camac_tokens.specs.declared.token.TokenKind.{TokenKind}
-use Rattle.camac_tokens.specs.declared.token.TokenKind.TheVariants as kind
-use Rattle.camac_cursor.specs.Reading.{State, ◌>>◌, give, advance, check, kind_of, behind, while_next}
-use Rattle.camac_cursor.specs.Readers.{expect_sign, number_here, new_name}
+use Rattle.camac_text_tokens.specs.declared.fault.TextRule.TheVariants.{NumberTooLarge, LimitPassed}
+use Rattle.camac_text_tokens.specs.declared.token.Sign.TheVariants as sign
+use Rattle.camac_text_tokens.specs.declared.token.TokenKind.{TokenKind}
+use Rattle.camac_text_tokens.specs.declared.token.TokenKind.TheVariants as kind
+use Rattle.camac_text_cursor.specs.Reading.{State, ◌>>◌, give, advance, check, kind_of, behind, while_next}
+use Rattle.camac_text_cursor.specs.Readers.{expect_sign, number_here, new_name}
 use Rattle.camac_text.specs.Tables.{word_behind, one_more_word, is_number, table_words, with_table, table_declaration}
-use Rattle.camac_cursor.proofs.Steps.{then_ok, ok_is, Progresses, while_keeps}
-use Rattle.camac_cursor.proofs.Moves.{AllFit, Moves, TakesOne, kind_fit, behind_less, stays, moved, then_moves, one_moves, one_less, check_ok, number_ok, expect_sign_ok, new_name_ok}
-use Rattle.camac_cursor.proofs.Registers.{below_le, each_push}
+use Rattle.camac_text_cursor.proofs.Steps.{then_ok, ok_is, Progresses, while_keeps}
+use Rattle.camac_text_cursor.proofs.Moves.{AllFit, Moves, TakesOne, kind_fit, behind_less, stays, moved, then_moves, one_moves, one_less, check_ok, number_ok, expect_sign_ok, new_name_ok}
+use Rattle.camac_text_cursor.proofs.Registers.{below_le, each_push}
 
 -- ---- words
 

@@ -5,14 +5,14 @@ use Rattle.std.proofs.lemmas.List.{append-nil}
 use Rattle.camac_lang.specs.Scope.{are_declarable}
 use Rattle.camac_lang.specs.Tests.{is_new}
 use Rattle.camac_lang.specs.Tree.{Text}
-use Rattle.camac_tokens.specs.declared.fault.TextRule.TheVariants.{LimitPassed}
-use Rattle.camac_tokens.specs.declared.token.TokenKind.TheVariants as kind
-use Rattle.camac_cursor.specs.Reading.{State, ◌>>◌, give, change, advance, kind_of, behind}
-use Rattle.camac_cursor.specs.Readers.{new_name, with_variable, added, new_variable, is_name as next_is_name}
+use Rattle.camac_text_tokens.specs.declared.fault.TextRule.TheVariants.{LimitPassed}
+use Rattle.camac_text_tokens.specs.declared.token.TokenKind.TheVariants as kind
+use Rattle.camac_text_cursor.specs.Reading.{State, ◌>>◌, give, change, advance, kind_of, behind}
+use Rattle.camac_text_cursor.specs.Readers.{new_name, with_variable, added, new_variable, is_name as next_is_name}
 use Rattle.camac_text.specs.Declarations.{one_more_variable}
-use Rattle.camac_cursor.proofs.Steps.{then_ok, ok_is, Progresses}
-use Rattle.camac_cursor.proofs.Moves.{AllFit, Moves, kind_fit, behind_less, moved, check_ok, new_name_ok}
-use Rattle.camac_cursor.proofs.Registers.{declarable_push, first_of_both, second_of_both}
+use Rattle.camac_text_cursor.proofs.Steps.{then_ok, ok_is, Progresses}
+use Rattle.camac_text_cursor.proofs.Moves.{AllFit, Moves, kind_fit, behind_less, moved, check_ok, new_name_ok}
+use Rattle.camac_text_cursor.proofs.Registers.{declarable_push, first_of_both, second_of_both}
 use Rattle.camac_text.proofs.Listed.{each_append}
 
 -- one variable is declared

@@ -6,14 +6,14 @@ use Rattle.camac_lang.specs.Scope.{Before, is_all, within_limits, is_well_formed
 use Rattle.camac_lang.specs.Statements.{statements}
 use Rattle.camac_lang.specs.Tests.{has, total, most}
 use Rattle.camac_lang.specs.Tree.{Text, Procedure, Service}
-use Rattle.camac_tokens.specs.declared.token.Token.{Token}
-use Rattle.camac_tokens.specs.Scanning.{tokens_of}
-use Rattle.camac_cursor.specs.Reading.{State}
+use Rattle.camac_text_tokens.specs.declared.token.Token.{Token}
+use Rattle.camac_text_tokens.specs.Scanning.{tokens_of}
+use Rattle.camac_text_cursor.specs.Reading.{State}
 use Rattle.camac_text.specs.Declarations.{declaration_at, is_token, declarations_at}
 use Rattle.camac_text.specs.Parser.{start, tree_so_far}
-use Rattle.camac_cursor.proofs.Steps.{while_keeps}
-use Rattle.camac_cursor.proofs.Moves.{AllFit}
-use Rattle.camac_cursor.proofs.Registers.{both, below_le}
+use Rattle.camac_text_cursor.proofs.Steps.{while_keeps}
+use Rattle.camac_text_cursor.proofs.Moves.{AllFit}
+use Rattle.camac_text_cursor.proofs.Registers.{both, below_le}
 use Rattle.camac_text.proofs.Fitting.{tokens_fit}
 use Rattle.camac_text.proofs.Declares.{Declares, a_procedure, a_table, a_lam, some_variables, a_service, declaration_ok}
 use Rattle.camac_text.proofs.Listed.{same_number}

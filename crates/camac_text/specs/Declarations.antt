@@ -2,13 +2,13 @@
 use Rattle.std.specs.Prelude.{ℕ, ◌+◌, Bool, true, false, List, [], ◌∷◌, ◌++◌, length, Option, Some, None, nat_lt}
 use Rattle.camac_lang.specs.Tree.{Statement, Lam, next_lam, next_variables, next_service}
 use Rattle.camac_lang.specs.View.{block_of}
-use Rattle.camac_tokens.specs.declared.token.Keyword.TheVariants as word
-use Rattle.camac_tokens.specs.declared.token.TokenKind.{TokenKind}
-use Rattle.camac_tokens.specs.declared.token.TokenKind.TheVariants as kind
-use Rattle.camac_tokens.specs.declared.fault.TextRule.TheVariants.{UnexpectedToken, LimitPassed}
-use Rattle.camac_cursor.specs.Reading.{State, Reader, ◌>>=◌, ◌>>◌, give, ask, change, peek, advance, line_here, fail, check, while_next}
-use Rattle.camac_cursor.specs.Readers.{is_name, expect, any_number, branch_number, sub_address_number, new_name, new_variable, used_lam}
-use Rattle.camac_statements.specs.Statements.{block_at}
+use Rattle.camac_text_tokens.specs.declared.token.Keyword.TheVariants as word
+use Rattle.camac_text_tokens.specs.declared.token.TokenKind.{TokenKind}
+use Rattle.camac_text_tokens.specs.declared.token.TokenKind.TheVariants as kind
+use Rattle.camac_text_tokens.specs.declared.fault.TextRule.TheVariants.{UnexpectedToken, LimitPassed}
+use Rattle.camac_text_cursor.specs.Reading.{State, Reader, ◌>>=◌, ◌>>◌, give, ask, change, peek, advance, line_here, fail, check, while_next}
+use Rattle.camac_text_cursor.specs.Readers.{is_name, expect, any_number, branch_number, sub_address_number, new_name, new_variable, used_lam}
+use Rattle.camac_text_statements.specs.Statements.{block_at}
 use Rattle.camac_text.specs.Tables.{table_declaration}
 use Rattle.camac_text.specs.Procedures.{procedure_declaration}
 

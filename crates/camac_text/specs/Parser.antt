@@ -1,10 +1,10 @@
 -- From the tokens of a text to its tree.
 use Rattle.std.specs.Prelude.{ℕ, false, List, [], Result, Ok, Err}
 use Rattle.camac_lang.specs.Tree.{Script}
-use Rattle.camac_tokens.specs.declared.token.Token.{Token}
-use Rattle.camac_tokens.specs.Fault.{Fault}
-use Rattle.camac_tokens.specs.Scanning.{tokens_of, last_line}
-use Rattle.camac_cursor.specs.Reading.{State}
+use Rattle.camac_text_tokens.specs.declared.token.Token.{Token}
+use Rattle.camac_text_tokens.specs.Fault.{Fault}
+use Rattle.camac_text_tokens.specs.Scanning.{tokens_of, last_line}
+use Rattle.camac_text_cursor.specs.Reading.{State}
 use Rattle.camac_text.specs.Declarations.{declarations_at}
 
 -- the state in which a script begins

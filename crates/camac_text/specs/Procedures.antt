@@ -3,12 +3,12 @@ use Rattle.std.specs.Prelude.{ℕ, true, false, List, [], ◌∷◌, ◌++◌, l
 use Rattle.camac_lang.specs.Depth.{callable}
 use Rattle.camac_lang.specs.Tree.{Text, Statement, Parameter, Procedure, next_procedure}
 use Rattle.camac_lang.specs.View.{block_of}
-use Rattle.camac_tokens.specs.declared.token.Keyword.TheVariants as word
-use Rattle.camac_tokens.specs.declared.token.Sign.TheVariants as sign
-use Rattle.camac_tokens.specs.declared.fault.TextRule.TheVariants.{LimitPassed}
-use Rattle.camac_cursor.specs.Reading.{State, Reader, ◌>>=◌, ◌>>◌, give, ask, change, peek, advance, check, while_next, one_more}
-use Rattle.camac_cursor.specs.Readers.{is_sign, expect, expect_sign, any_number, new_name, new_parameter}
-use Rattle.camac_statements.specs.Statements.{block_at}
+use Rattle.camac_text_tokens.specs.declared.token.Keyword.TheVariants as word
+use Rattle.camac_text_tokens.specs.declared.token.Sign.TheVariants as sign
+use Rattle.camac_text_tokens.specs.declared.fault.TextRule.TheVariants.{LimitPassed}
+use Rattle.camac_text_cursor.specs.Reading.{State, Reader, ◌>>=◌, ◌>>◌, give, ask, change, peek, advance, check, while_next, one_more}
+use Rattle.camac_text_cursor.specs.Readers.{is_sign, expect, expect_sign, any_number, new_name, new_parameter}
+use Rattle.camac_text_statements.specs.Statements.{block_at}
 
 -- ---- the heading
 

@@ -1,12 +1,12 @@
 -- What is read at each place of a table.
 use Rattle.std.specs.Prelude.{ℕ, Bool, true, false, List, [], ◌∷◌, ◌++◌, length, Option, Some, nat_lt}
 use Rattle.camac_lang.specs.Tree.{Table, next_table}
-use Rattle.camac_tokens.specs.declared.token.Sign.TheVariants as sign
-use Rattle.camac_tokens.specs.declared.token.TokenKind.{TokenKind}
-use Rattle.camac_tokens.specs.declared.token.TokenKind.TheVariants as kind
-use Rattle.camac_tokens.specs.declared.fault.TextRule.TheVariants.{NumberTooLarge, LimitPassed}
-use Rattle.camac_cursor.specs.Reading.{State, Reader, ◌>>=◌, ◌>>◌, give, ask, change, advance, check, while_next}
-use Rattle.camac_cursor.specs.Readers.{expect_sign, number_here, new_name}
+use Rattle.camac_text_tokens.specs.declared.token.Sign.TheVariants as sign
+use Rattle.camac_text_tokens.specs.declared.token.TokenKind.{TokenKind}
+use Rattle.camac_text_tokens.specs.declared.token.TokenKind.TheVariants as kind
+use Rattle.camac_text_tokens.specs.declared.fault.TextRule.TheVariants.{NumberTooLarge, LimitPassed}
+use Rattle.camac_text_cursor.specs.Reading.{State, Reader, ◌>>=◌, ◌>>◌, give, ask, change, advance, check, while_next}
+use Rattle.camac_text_cursor.specs.Readers.{expect_sign, number_here, new_name}
 
 -- a word behind so many words
 unfoldable pub word_behind : ℕ → Reader ℕ

@@ -1,17 +1,17 @@
 // Declarations.
 
 ghost use Rattle.std.specs.Prelude.{◌≡◌, suc};
-ghost use Rattle.camac_cursor.specs.Reading.{kind_of, while_next};
-ghost use Rattle.camac_cursor.specs.Readers.{is_name};
+ghost use Rattle.camac_text_cursor.specs.Reading.{kind_of, while_next};
+ghost use Rattle.camac_text_cursor.specs.Readers.{is_name};
 ghost use Rattle.camac_text.specs.Declarations.{lam_declaration, one_more_variable, variable_declaration, service_declaration, declaration_at, is_token, declarations_at};
-ghost use Rattle.camac_cursor.specs.Parser.{state, Gives};
+ghost use Rattle.camac_text_cursor.specs.Parser.{state, Gives};
 
 use crate::procedures::procedure_declaration;
 use crate::tables::table_declaration;
-use camac_cursor::Parser;
 use camac_lang::{Item, Lam, Service};
-use camac_statements::block;
-use camac_tokens::{Keyword, TextFault, TextRule, TokenKind};
+use camac_text_cursor::Parser;
+use camac_text_statements::block;
+use camac_text_tokens::{Keyword, TextFault, TextRule, TokenKind};
 use std::mem;
 
 /// All declarations to the text's end.

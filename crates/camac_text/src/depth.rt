@@ -4,10 +4,10 @@ ghost use Rattle.std.specs.Prelude.{◌≡◌, ◌≤◌, map, max, slice_get};
 ghost use Rattle.camac_lang.specs.Depth.{expression_depth, test_depth, part_depth, move_depth, statement_depth, inner_depth, depth_of};
 ghost use Rattle.camac_lang.specs.Tests.{most};
 ghost use Rattle.camac_lang.specs.View.{expression_of, test_of, part_of, condition_of, move_of, statement_of, statements_of};
-ghost use Rattle.camac_cursor.specs.Parser.{callable_of};
+ghost use Rattle.camac_text_cursor.specs.Parser.{callable_of};
 
-use camac_cursor::Called;
 use camac_lang::{Cond, Expr, Move, Part, Stmt, Test};
+use camac_text_cursor::Called;
 
 fn expression_depth(e: &Expr) -> u32
     requires { expression_depth (expression_of e.now) ≤ 16 }
@@ -98,7 +98,7 @@ pub fn inner_depth(body: &[Stmt], callables: &[Called]) -> u32
     depth
 }
 
-#[tactic(auto, using(camac_cursor::proofs::Searches::callable_found))]
+#[tactic(auto, using(camac_text_cursor::proofs::Searches::callable_found))]
 fn called_depth(callables: &[Called], place: usize) -> u32
     ensures { result ≡ depth_of (slice_get (map callable_of callables.now) place) }
 {

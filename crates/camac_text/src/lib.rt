@@ -7,8 +7,5 @@ mod procedures;
 mod reading;
 mod tables;
 
-pub use camac_tokens::{Keyword, Sign, TextFault, TextRule, Token, TokenKind, tokens};
+pub use camac_text_tokens::{Keyword, Sign, TextFault, TextRule, Token, TokenKind, tokens};
 pub use reading::parse;
-
-#[cfg(test)]
-mod tests;

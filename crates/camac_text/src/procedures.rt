@@ -3,16 +3,16 @@
 ghost use Rattle.std.specs.Prelude.{◌≡◌, ◌≤◌, map};
 ghost use Rattle.camac_lang.specs.Depth.{inner_depth};
 ghost use Rattle.camac_lang.specs.View.{parameter_of, procedure_of};
-ghost use Rattle.camac_cursor.specs.Reading.{change};
-ghost use Rattle.camac_cursor.specs.Parser.{state, Gives};
+ghost use Rattle.camac_text_cursor.specs.Reading.{change};
+ghost use Rattle.camac_text_cursor.specs.Parser.{state, Gives};
 ghost use Rattle.camac_text.specs.Headings.{heading_of};
 ghost use Rattle.camac_text.specs.Procedures.{parameter_at, next_parameter, parameter_list, parameters_at, heading_at, with_procedure, procedure_declaration};
 
 use crate::depth::inner_depth;
-use camac_cursor::{Called, Parser};
 use camac_lang::{Item, Name, Parameter, Procedure};
-use camac_statements::block;
-use camac_tokens::{Keyword, Sign, TextFault, TextRule};
+use camac_text_cursor::{Called, Parser};
+use camac_text_statements::block;
+use camac_text_tokens::{Keyword, Sign, TextFault, TextRule};
 use std::mem;
 
 /// What stands in a procedure's heading behind its name.

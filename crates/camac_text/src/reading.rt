@@ -2,15 +2,15 @@
 
 ghost use Rattle.std.specs.Prelude.{◌≡◌, IsTrue};
 ghost use Rattle.camac_lang.specs.Scope.{is_well_formed};
-ghost use Rattle.camac_tokens.specs.Fault.{Answers};
+ghost use Rattle.camac_text_tokens.specs.Fault.{Answers};
 ghost use Rattle.camac_text.specs.Places.{HasFault, FaultIs};
-ghost use Rattle.camac_cursor.specs.Parser.{state};
+ghost use Rattle.camac_text_cursor.specs.Parser.{state};
 ghost use Rattle.camac_text.specs.Parser.{start, tree_so_far, script_of};
 
 use crate::declarations::declarations;
-use camac_cursor::Parser;
 use camac_lang::Script;
-use camac_tokens::{TextFault, Token, last_line, tokens};
+use camac_text_cursor::Parser;
+use camac_text_tokens::{TextFault, Token, last_line, tokens};
 use std::alloc::Global;
 
 /// The script that a text spells.

@@ -1,13 +1,13 @@
 // Tables.
 
 ghost use Rattle.std.specs.Prelude.{◌≡◌};
-ghost use Rattle.camac_cursor.specs.Reading.{kind_of};
-ghost use Rattle.camac_cursor.specs.Parser.{state, Gives};
+ghost use Rattle.camac_text_cursor.specs.Reading.{kind_of};
+ghost use Rattle.camac_text_cursor.specs.Parser.{state, Gives};
 ghost use Rattle.camac_text.specs.Tables.{is_number, word_behind, table_words, table_declaration};
 
-use camac_cursor::Parser;
 use camac_lang::{Item, Table};
-use camac_tokens::{Sign, TextFault, TextRule, TokenKind};
+use camac_text_cursor::Parser;
+use camac_text_tokens::{Sign, TextFault, TextRule, TokenKind};
 use camac_word::Word24;
 
 /// `table`

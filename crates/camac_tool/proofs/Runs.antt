@@ -3,8 +3,8 @@ use Rattle.std.proofs.Common.{ℕ, List, Option, refl}
 use Rattle.std.specs.Prelude.{Result, Ok, Err}
 use Rattle.camac_answer.specs.Reading.{Reading}
 use Rattle.camac_plan.specs.declared.fault.PlanRule.{PlanRule}
-use Rattle.camac_play.specs.Sent.{Held, held}
-use Rattle.camac_play.proofs.Sending.{sends_listing, front_listing}
+use Rattle.camac_tool_play.specs.Sent.{Held, held}
+use Rattle.camac_tool_play.proofs.Sending.{sends_listing, front_listing}
 use Rattle.camac_report.specs.Refusal.{refusal_text}
 use Rattle.camac_report.specs.declared.refusal.Refusal.{Refusal}
 use Rattle.camac_report.specs.declared.refusal.Refusal.TheVariants as refusal

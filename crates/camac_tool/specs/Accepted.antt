@@ -2,13 +2,13 @@
 use Rattle.std.specs.Prelude.{◌≡◌, List, ℕ, Option, Some, None, Result, Ok, Err}
 use Rattle.camac_lang.specs.Tree.{Script}
 use Rattle.camac_branch.specs.Plan.{Layout}
-use Rattle.camac_tokens.specs.Fault.{Fault as TextFault}
+use Rattle.camac_text_tokens.specs.Fault.{Fault as TextFault}
 use Rattle.camac_text.specs.Parser.{script_of}
 use Rattle.camac_names.specs.Link.{link_fault}
 use Rattle.camac_names.specs.declared.fault.LinkFault.{LinkFault}
 use Rattle.camac_names.specs.declared.fault.LinkFault.TheVariants as link_fault_of
-use Rattle.camac_rules.specs.Fault.{Fault as CheckFault, broken}
-use Rattle.camac_rules.specs.Accept.{accept}
+use Rattle.camac_check_rules.specs.Fault.{Fault as CheckFault, broken}
+use Rattle.camac_check_rules.specs.Accept.{accept}
 use Rattle.camac_model.specs.Fine.{Bounds}
 use Rattle.camac_report.specs.declared.refusal.Refusal.{Refusal}
 use Rattle.camac_report.specs.declared.refusal.Refusal.TheVariants as refusal

@@ -1,12 +1,12 @@
 -- Refusal codes of the rules of the lower crates.
-use Rattle.camac_tokens.specs.declared.fault.TextRule.{TextRule}
-use Rattle.camac_tokens.specs.declared.fault.TextRule.TheVariants as text_rule
+use Rattle.camac_text_tokens.specs.declared.fault.TextRule.{TextRule}
+use Rattle.camac_text_tokens.specs.declared.fault.TextRule.TheVariants as text_rule
 use Rattle.camac_plan.specs.declared.fault.PlanRule.{PlanRule}
 use Rattle.camac_plan.specs.declared.fault.PlanRule.TheVariants as plan_rule
 use Rattle.camac_names.specs.declared.fault.LinkRule.{LinkRule}
 use Rattle.camac_names.specs.declared.fault.LinkRule.TheVariants as link_rule
-use Rattle.camac_rules.specs.declared.rule.CheckRule.{CheckRule}
-use Rattle.camac_rules.specs.declared.rule.CheckRule.TheVariants as check_rule
+use Rattle.camac_check_rules.specs.declared.rule.CheckRule.{CheckRule}
+use Rattle.camac_check_rules.specs.declared.rule.CheckRule.TheVariants as check_rule
 use Rattle.camac_event.specs.declared.fault.EventRule.{EventRule}
 use Rattle.camac_event.specs.declared.fault.EventRule.TheVariants as event_rule
 use Rattle.camac_report.specs.declared.code.PlanCode.{PlanCode}

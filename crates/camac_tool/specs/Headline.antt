@@ -7,8 +7,8 @@ use Rattle.camac_model.specs.Fine.{Bounds}
 use Rattle.camac_answer.specs.Reading.{Reading}
 use Rattle.camac_plan.specs.declared.fault.PlanRule.{PlanRule}
 use Rattle.camac_check.specs.Checked.{CheckedScript}
-use Rattle.camac_play.specs.Headline.{PlaysByHeadline, PlaysByHeadlineSoFar}
-use Rattle.camac_rules.specs.Accept.{accept}
+use Rattle.camac_tool_play.specs.Headline.{PlaysByHeadline, PlaysByHeadlineSoFar}
+use Rattle.camac_check_rules.specs.Accept.{accept}
 use Rattle.camac_tool.specs.Accepted.{Accepted, accepted}
 use Rattle.camac_tool.specs.Plan.{Says}
 use Rattle.camac_tool.specs.Reading.{WasRead}

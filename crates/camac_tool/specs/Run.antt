@@ -5,15 +5,15 @@ use Rattle.camac_branch.specs.Branch.{Answer}
 use Rattle.camac_branch.specs.Plan.{Layout}
 use Rattle.camac_answer.specs.Reading.{Reading}
 use Rattle.camac_plan.specs.declared.fault.PlanRule.{PlanRule}
-use Rattle.camac_play.specs.Play.{Gives, GivesFirst}
-use Rattle.camac_play.specs.Played.{ending, played, told}
-use Rattle.camac_play.specs.Sent.{Held, Sends, SendsFront, to_listing}
-use Rattle.camac_play.specs.declared.ending.Ending.{Ending}
-use Rattle.camac_play.specs.declared.ending.Ending.TheVariants as how
+use Rattle.camac_tool_play.specs.Play.{Gives, GivesFirst}
+use Rattle.camac_tool_play.specs.Played.{ending, played, told}
+use Rattle.camac_tool_play.specs.Sent.{Held, Sends, SendsFront, to_listing}
+use Rattle.camac_tool_play.specs.declared.ending.Ending.{Ending}
+use Rattle.camac_tool_play.specs.declared.ending.Ending.TheVariants as how
 use Rattle.camac_report.specs.Refusal.{refusal_text}
 use Rattle.camac_report.specs.declared.refusal.Refusal.{Refusal}
 use Rattle.camac_report.specs.declared.refusal.Refusal.TheVariants as refusal
-use Rattle.camac_run.specs.declared.item.End.TheVariants as end
+use Rattle.camac_run_machine.specs.declared.item.End.TheVariants as end
 use Rattle.camac_tool.specs.Accepted.{Accepted, accepted}
 use Rattle.camac_tool.specs.Codes.{plan_code}
 use Rattle.camac_tool.specs.Plan.{Says, IsPlanTooLong}

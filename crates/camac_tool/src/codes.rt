@@ -3,11 +3,11 @@
 ghost use Rattle.std.specs.Prelude.{◌≡◌};
 ghost use Rattle.camac_tool.specs.Codes.{plan_code, text_code, link_code, check_code, event_code};
 
+use camac_check_rules::CheckRule;
 use camac_event::EventRule;
 use camac_names::LinkRule;
 use camac_plan::PlanRule;
 use camac_report::{CheckCode, EventCode, LinkCode, PlanCode, TextCode};
-use camac_rules::CheckRule;
 use camac_text::TextRule;
 
 /// The code of a rule of a plan.

@@ -2,7 +2,7 @@
 
 ghost use Rattle.std.specs.Prelude.{◌≡◌, IfOk, IfErr};
 ghost use Rattle.camac_names.specs.Link.{link_fault};
-ghost use Rattle.camac_rules.specs.Accept.{accept};
+ghost use Rattle.camac_check_rules.specs.Accept.{accept};
 ghost use Rattle.camac_tool.specs.Accepted.{Accepts, accepted, accepted_linked, accepted_checked};
 ghost use Rattle.camac_tool.specs.Engine.{Judges};
 ghost use Rattle.camac_tool.specs.Report.{report, report_linked, report_accepted};

@@ -13,7 +13,7 @@ mod reading;
 mod running;
 mod sample;
 
-pub use camac_words::{Job, JobFault, read_words};
+pub use camac_tool_words::{Job, JobFault, read_words};
 pub use engine::{engine_check, engine_events, engine_plan};
 pub use fault::ToolFault;
 pub use outcome::{Outcome, status};

@@ -6,8 +6,8 @@ use crate::input::{Input, open};
 use crate::outcome::{Outcome, status};
 use crate::plan::PlanSource;
 use crate::running::engine_run;
+use camac_tool_words::{Job, JobFault, read_words};
 use camac_word::Watched;
-use camac_words::{Job, JobFault, read_words};
 use clap::Error;
 use clap::error::ErrorKind;
 use std::alloc::AllocError;
@@ -19,7 +19,7 @@ use std::{env, fs, io};
 const USAGE: u8 = 2;
 
 /// Does what the arguments ask for, and tells what the program exits with: 0 or 1 by the outcome, 2 where the arguments ask for
-/// nothing that is there, and 3 for a fault. Help prints and ends with 0. A fault is one line on standard error.
+/// nothing that is there, and 3 for a fault. Help and version print and end with 0. A fault is one line on standard error.
 pub fn exit_status<R: Runtime + AllocGlobal>(rt: &R) -> u8 {
     let words = match arguments(rt) {
         Ok(words) => words,
@@ -149,7 +149,7 @@ fn misused<R: Runtime>(rt: &R, why: &str) -> u8 {
     USAGE
 }
 
-// The text of `clap`: help, or why the words name no job.
+// The text of `clap`: help, version, or why the words name no job.
 fn explain<R: Runtime>(rt: &R, error: Error) -> u8 {
     if error.kind() == ErrorKind::OutOfMemory {
         return stopped(rt, ToolFault::Memory);

@@ -1,5 +1,5 @@
 use Rattle.std.proofs.Common.{◌∙◌}
-use Rattle.camac_rules.specs.declared.rule.CheckRule.TheVariants.{StationNotInstalled}
+use Rattle.camac_check_rules.specs.declared.rule.CheckRule.TheVariants.{StationNotInstalled}
 use Rattle.camac_check.proofs.Lams.{lam_there, no_lam, same_region}
 use Rattle.camac_check.proofs.calls.address_of.Goals as goal
 

@@ -1,9 +1,9 @@
 use Rattle.std.proofs.Common.{ap, sym, ◌∙◌}
 use Rattle.camac_lang.specs.View.{expression_of}
-use Rattle.camac_rules.specs.declared.rule.CheckRule.TheVariants.{WrongDirection, ValueTooWide}
-use Rattle.camac_rules.specs.Expressions.{range_of}
-use Rattle.camac_rules.specs.Refusal.{required}
-use Rattle.camac_rules.specs.Cycles.{one_cycle}
+use Rattle.camac_check_rules.specs.declared.rule.CheckRule.TheVariants.{WrongDirection, ValueTooWide}
+use Rattle.camac_check_rules.specs.Expressions.{range_of}
+use Rattle.camac_check_rules.specs.Refusal.{required}
+use Rattle.camac_check_rules.specs.Cycles.{one_cycle}
 use Rattle.camac_check.specs.Gives.{by_code}
 use Rattle.camac_check.proofs.Steps.{step, same_findings}
 use Rattle.camac_check.proofs.cycle.write.Goals as goal

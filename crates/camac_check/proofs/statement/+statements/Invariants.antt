@@ -1,9 +1,9 @@
 use Rattle.std.proofs.Common.{◌≡◌, drop}
 use Rattle.camac_lang.specs.View.{statements_of}
-use Rattle.camac_rules.specs.Capped.{capped}
-use Rattle.camac_rules.specs.Costs.{unreached}
-use Rattle.camac_rules.specs.Refusal.{if_reached}
-use Rattle.camac_rules.specs.Statements.{accept_block}
+use Rattle.camac_check_rules.specs.Capped.{capped}
+use Rattle.camac_check_rules.specs.Costs.{unreached}
+use Rattle.camac_check_rules.specs.Refusal.{if_reached}
+use Rattle.camac_check_rules.specs.Statements.{accept_block}
 use Rattle.camac_check.specs.Gives.{by_code, verdict_of}
 use Rattle.camac_check.proofs.Blocks.{rest_rule}
 use Rattle.camac_check.proofs.statement.+statements.Given as goal

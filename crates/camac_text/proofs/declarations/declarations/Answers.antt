@@ -1,9 +1,9 @@
 use Rattle.std.proofs.Common.{sym, ◌∙◌}
 use Rattle.std.proofs.lemmas.Result.{err_from_is_err_and}
 use Rattle.camac_text.specs.Declarations.{is_token, declaration_at, declarations_at}
-use Rattle.camac_cursor.specs.Parser.{state}
+use Rattle.camac_text_cursor.specs.Parser.{state}
 use Rattle.camac_text.proofs.Declares.{declaration_less, declarations_progress}
-use Rattle.camac_cursor.proofs.Loops.{goes, fails, ends}
+use Rattle.camac_text_cursor.proofs.Loops.{goes, fails, ends}
 use Rattle.camac_text.proofs.declarations.declarations.Goals as goal
 
 pub returns-in_err-declaration : goal.returns-in_err-declaration

@@ -1,7 +1,7 @@
 use Rattle.std.proofs.Common.{◌≡◌, length}
-use Rattle.camac_cursor.specs.Reading.{while_next}
+use Rattle.camac_text_cursor.specs.Reading.{while_next}
 use Rattle.camac_text.specs.Declarations.{is_token, declaration_at, declarations_at}
-use Rattle.camac_cursor.specs.Parser.{state}
+use Rattle.camac_text_cursor.specs.Parser.{state}
 use Rattle.camac_text.proofs.declarations.declarations.Given as goal
 
 abbrev pub invariant-loop-parser : goal.invariant-loop-parser

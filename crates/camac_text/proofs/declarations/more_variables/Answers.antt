@@ -1,12 +1,12 @@
 use Rattle.std.proofs.Common.{◌+◌, ◌<◌, length, Result, sym, ap, ◌∙◌, arith}
 use Rattle.std.proofs.lemmas.Result.{err_from_is_err_and}
-use Rattle.camac_tokens.specs.Fault.{Fault}
-use Rattle.camac_cursor.specs.Reading.{State, then_read, give, while_next}
-use Rattle.camac_cursor.specs.Readers.{is_name, new_variable}
+use Rattle.camac_text_tokens.specs.Fault.{Fault}
+use Rattle.camac_text_cursor.specs.Reading.{State, then_read, give, while_next}
+use Rattle.camac_text_cursor.specs.Readers.{is_name, new_variable}
 use Rattle.camac_text.specs.Declarations.{one_more_variable}
-use Rattle.camac_cursor.specs.Parser.{state}
+use Rattle.camac_text_cursor.specs.Parser.{state}
 use Rattle.camac_text.proofs.Variables.{variables_progress, new_variable_ok, one_variable_less}
-use Rattle.camac_cursor.proofs.Loops.{goes, fails, ends, then_fails}
+use Rattle.camac_text_cursor.proofs.Loops.{goes, fails, ends, then_fails}
 use Rattle.camac_text.proofs.declarations.more_variables.Goals as goal
 
 pub returns-in_err-new_variable : goal.returns-in_err-new_variable

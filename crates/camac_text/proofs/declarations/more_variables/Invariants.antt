@@ -1,8 +1,8 @@
 use Rattle.std.proofs.Common.{◌≡◌, ◌+◌, ◌≤◌, length}
-use Rattle.camac_cursor.specs.Reading.{while_next}
-use Rattle.camac_cursor.specs.Readers.{is_name}
+use Rattle.camac_text_cursor.specs.Reading.{while_next}
+use Rattle.camac_text_cursor.specs.Readers.{is_name}
 use Rattle.camac_text.specs.Declarations.{one_more_variable}
-use Rattle.camac_cursor.specs.Parser.{state}
+use Rattle.camac_text_cursor.specs.Parser.{state}
 use Rattle.camac_text.proofs.declarations.more_variables.Given as goal
 
 abbrev pub invariant-loop-parser : goal.invariant-loop-parser

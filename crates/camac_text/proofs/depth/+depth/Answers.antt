@@ -5,7 +5,7 @@ use Rattle.camac_lang.specs.Depth.{statement_depth, inner_depth}
 use Rattle.camac_lang.specs.Expressions.{Callable}
 use Rattle.camac_lang.specs.Tests.{most}
 use Rattle.camac_lang.specs.View.{statement_of, block_of}
-use Rattle.camac_cursor.specs.Parser.{callable_of}
+use Rattle.camac_text_cursor.specs.Parser.{callable_of}
 use Rattle.camac_text.proofs.Deepest.{most_more, most_of_all, inner_is_most}
 use Rattle.camac_text.proofs.depth.+depth.Goals as goal
 

@@ -1,7 +1,7 @@
 use Rattle.std.proofs.Common.{◌≡◌, take, map}
 use Rattle.camac_lang.specs.Depth.{inner_depth}
 use Rattle.camac_lang.specs.View.{statement_of, block_of}
-use Rattle.camac_cursor.specs.Parser.{callable_of}
+use Rattle.camac_text_cursor.specs.Parser.{callable_of}
 use Rattle.camac_text.proofs.depth.+depth.Given as goal
 
 abbrev pub invariant-inner_depth-loop-s : goal.invariant-inner_depth-loop-s

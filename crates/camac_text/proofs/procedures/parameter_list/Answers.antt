@@ -2,11 +2,11 @@ use Rattle.std.proofs.Common.{◌≡◌, ◌++◌, ◌∷◌, [], map, sym, ◌�
 use Rattle.std.proofs.lemmas.Result.{err_from_is_err_and}
 use Rattle.std.proofs.lemmas.List.{map_push}
 use Rattle.camac_lang.specs.View.{parameter_of}
-use Rattle.camac_tokens.specs.declared.token.Sign.TheVariants as sign
-use Rattle.camac_cursor.specs.Reading.{one_more}
-use Rattle.camac_cursor.specs.Readers.{is_sign}
-use Rattle.camac_cursor.specs.Parser.{state}
-use Rattle.camac_cursor.proofs.Loops.{more, more_fails, ends}
+use Rattle.camac_text_tokens.specs.declared.token.Sign.TheVariants as sign
+use Rattle.camac_text_cursor.specs.Reading.{one_more}
+use Rattle.camac_text_cursor.specs.Readers.{is_sign}
+use Rattle.camac_text_cursor.specs.Parser.{state}
+use Rattle.camac_text_cursor.proofs.Loops.{more, more_fails, ends}
 use Rattle.camac_text.specs.Procedures.{next_parameter, parameter_list}
 use Rattle.camac_text.proofs.ParametersRead.{next_parameter_less, parameters_progress}
 use Rattle.camac_text.proofs.procedures.parameter_list.Goals as goal

@@ -1,9 +1,9 @@
 use Rattle.std.proofs.Common.{◌≡◌, length, map}
 use Rattle.camac_lang.specs.View.{parameter_of}
-use Rattle.camac_tokens.specs.declared.token.Sign.TheVariants as sign
-use Rattle.camac_cursor.specs.Reading.{while_next, one_more}
-use Rattle.camac_cursor.specs.Readers.{is_sign}
-use Rattle.camac_cursor.specs.Parser.{state}
+use Rattle.camac_text_tokens.specs.declared.token.Sign.TheVariants as sign
+use Rattle.camac_text_cursor.specs.Reading.{while_next, one_more}
+use Rattle.camac_text_cursor.specs.Readers.{is_sign}
+use Rattle.camac_text_cursor.specs.Parser.{state}
 use Rattle.camac_text.specs.Procedures.{next_parameter, parameter_list}
 use Rattle.camac_text.proofs.procedures.parameter_list.Given as goal
 

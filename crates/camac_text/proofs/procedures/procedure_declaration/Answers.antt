@@ -2,9 +2,9 @@ use Rattle.std.proofs.Common.{◌≡◌, ◌<◌, List, map, sym, ap, subst, ari
 use Rattle.camac_lang.specs.Depth.{inner_depth}
 use Rattle.camac_lang.specs.Expressions.{Callable}
 use Rattle.camac_lang.specs.View.{statement_of, statements_of}
-use Rattle.camac_cursor.specs.Parser.{state}
-use Rattle.camac_cursor.specs.Reading.{State}
-use Rattle.camac_statements.proofs.Bodies.{block_ok}
+use Rattle.camac_text_cursor.specs.Parser.{state}
+use Rattle.camac_text_cursor.specs.Reading.{State}
+use Rattle.camac_text_statements.proofs.Bodies.{block_ok}
 use Rattle.camac_text.proofs.procedures.procedure_declaration.Goals as goal
 
 pub close_procedure-requires : goal.close_procedure-requires

@@ -1,7 +1,7 @@
 use Rattle.std.proofs.Common.{◌≡◌, List, sym, ap, ◌∙◌}
-use Rattle.camac_tokens.specs.declared.token.Token.{Token}
+use Rattle.camac_text_tokens.specs.declared.token.Token.{Token}
 use Rattle.camac_text.specs.Declarations.{declarations_at}
-use Rattle.camac_cursor.specs.Parser.{state}
+use Rattle.camac_text_cursor.specs.Parser.{state}
 use Rattle.camac_text.specs.Parser.{start}
 use Rattle.camac_text.proofs.WellFormed.{read_well_formed}
 use Rattle.camac_text.proofs.reading.read.Goals as goal

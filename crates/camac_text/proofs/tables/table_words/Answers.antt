@@ -1,11 +1,11 @@
 use Rattle.std.proofs.Common.{◌≡◌, ℕ, ◌++◌, ◌∷◌, [], length, Result, arith, sym, ap, subst, ◌∙◌}
 use Rattle.std.proofs.lemmas.Result.{err_from_is_err_and}
-use Rattle.camac_tokens.specs.Fault.{Fault, Fails}
-use Rattle.camac_tokens.specs.declared.token.TokenKind.TheVariants as kind
-use Rattle.camac_cursor.specs.Reading.{State, then_read, give}
-use Rattle.camac_cursor.specs.Parser.{state}
-use Rattle.camac_cursor.proofs.Moves.{one_less}
-use Rattle.camac_cursor.proofs.Loops.{goes, fails, ends, then_fails}
+use Rattle.camac_text_tokens.specs.Fault.{Fault, Fails}
+use Rattle.camac_text_tokens.specs.declared.token.TokenKind.TheVariants as kind
+use Rattle.camac_text_cursor.specs.Reading.{State, then_read, give}
+use Rattle.camac_text_cursor.specs.Parser.{state}
+use Rattle.camac_text_cursor.proofs.Moves.{one_less}
+use Rattle.camac_text_cursor.proofs.Loops.{goes, fails, ends, then_fails}
 use Rattle.camac_text.specs.Tables.{is_number, word_behind, one_more_word, table_words}
 use Rattle.camac_text.proofs.TablesRead.{word_ok, words_progress}
 use Rattle.camac_text.proofs.tables.table_words.Goals as goal

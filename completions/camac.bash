@@ -1,0 +1,53 @@
+# Completion of camac for bash.
+
+# Sets `words`, the words of the line up to the one that is completed: bash also cuts a word before `@`, though no blank stands there.
+_camac_words() {
+  local line=$COMP_LINE word after i
+  words=()
+  for ((i = 0; i <= COMP_CWORD; i++)); do
+    word=${COMP_WORDS[i]}
+    after=${line#"${line%%[![:blank:]]*}"}
+    if ((i == 0)) || [[ $after != "$line" || -z $word ]]; then
+      words+=("$word")
+    else
+      words[-1]+=$word
+    fi
+    line=${after#"$word"}
+  done
+}
+
+_camac() {
+  local words word place offered=
+  _camac_words
+  word=${words[-1]} place=$((${#words[@]} - 2))
+  COMPREPLY=()
+  case $place:${words[1]-} in
+  0:*) offered='plan check run events help --help --version -h -V' ;;
+  1:help) offered='plan check run events help' ;;
+  *:help) ;;
+  [1-4]:plan | [1-4]:check | [1-4]:run | [1-4]:events)
+    case $word in
+    -*) offered='--help -h' ;;
+    *) _camac_file "${words[1]}:$place" "$word" && return ;;
+    esac
+    ;;
+  esac
+  mapfile -t COMPREPLY < <(compgen -W "$offered" -- "$word")
+}
+
+# Offers files, and what else may stand at this place of the command.
+_camac_file() {
+  local offered=
+  case $1 in
+  plan:1 | check:1 | run:1) offered='@sample @in' ;;
+  check:2 | run:[23] | events:1) offered='@in' ;;
+  run:4) ;;
+  *) return ;;
+  esac
+  mapfile -t COMPREPLY < <(compgen -W "$offered" -- "$2")
+  [[ $2 == @* ]] && return
+  compopt -o filenames 2>/dev/null
+  mapfile -t -O "${#COMPREPLY[@]}" COMPREPLY < <(compgen -f -- "$2")
+}
+
+complete -F _camac camac

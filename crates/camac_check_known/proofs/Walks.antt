@@ -1,0 +1,166 @@
+-- Walks over ranges, a number at a time, and what there is not where no crate is.
+use Rattle.std.proofs.Common.{◌≡◌, ℕ, zero, suc, ◌+◌, ◌-◌, ◌<◌, ◌≤◌, Bool, true, false, ◌∷◌, length, map, Option, Some, None, Result, Ok, Err, refl, ap, ◌∙◌, subst, ⊎_elim, arith}
+use Rattle.std.specs.Prelude.{IfOk, ◌&&◌, min, max, nat_lt, option_map, unwrap_or, if◌then◌else◌}
+use Rattle.std.specs.List.{range_with_len}
+use Rattle.std.proofs.lemmas.Bool.{cond_both, cases_lt}
+use Rattle.std.proofs.lemmas.List.{get_or_past}
+use Rattle.camac_range.specs.Interval.{Interval, interval}
+use Rattle.camac_module.specs.Commands.{extremes, least_and_greatest}
+use Rattle.camac_branch.specs.Address.{address}
+use Rattle.camac_branch.specs.Allowed.{allowed, widths, AllowsCommands}
+use Rattle.camac_branch.specs.Plan.{Layout, IsPlan, crate_waits}
+use Rattle.camac_check_rules.specs.Known.{Region}
+use Rattle.camac_check_rules.specs.Walks.{count_below, all_from, greatest_from, hull_with, hull_from}
+use Rattle.camac_check_rules.specs.Addresses.{crate_end, station_end, sub_address_end, in_plan, are_stations_in, station_widths, crate_widths, region_widths}
+use Rattle.camac_check_rules.specs.declared.rule.CheckRule.{CheckRule}
+use Rattle.camac_check_rules.specs.Refusal.{given}
+use Rattle.camac_check_known.specs.declared.fault.CheckFault.{CheckFault}
+use Rattle.camac_check_known.specs.Gives.{Gives}
+use Rattle.camac_check_rules.proofs.Walks.{least_and_greatest_at}
+
+longer : (k end : ℕ) → k < end → end - k ≡ suc (end - (k + 1))
+longer k end h = omega arith
+
+none_left : (k end : ℕ) → end ≤ k → end - k ≡ 0
+none_left k end h = omega arith
+
+pub all_done : (test : ℕ → Bool) (k end : ℕ) → end ≤ k → all_from test k (end - k) ≡ true
+all_done test k end h = ap (all_from test k) (none_left k end h)
+
+pub all_more : (test : ℕ → Bool) (k end : ℕ) → k < end → all_from test k (end - k) ≡ (test k && all_from test (k + 1) (end - (k + 1)))
+all_more test k end h = ap (all_from test k) (longer k end h)
+
+pub ruleset all_steps = (all_done, all_more)
+
+pub greatest_done : (value : ℕ → ℕ) (k end : ℕ) → end ≤ k → greatest_from value k (end - k) ≡ 0
+greatest_done value k end h = ap (greatest_from value k) (none_left k end h)
+
+pub greatest_more : (value : ℕ → ℕ) (k end : ℕ) → k < end → greatest_from value k (end - k) ≡ max (value k) (greatest_from value (k + 1) (end - (k + 1)))
+greatest_more value k end h = ap (greatest_from value k) (longer k end h)
+
+pub ruleset greatest_steps = (greatest_done, greatest_more)
+
+pub hull_done : (range : ℕ → Option Interval) (k end : ℕ) → end ≤ k → hull_from range k (end - k) ≡ None
+hull_done range k end h = ap (hull_from range k) (none_left k end h)
+
+pub hull_last : (range : ℕ → Option Interval) (k end : ℕ) → k < end → end ≤ k + 1 → hull_from range k (end - k) ≡ range k
+hull_last range k end h g = let one : end - k ≡ 1 = omega arith in ap (hull_from range k) one
+
+pub hull_more : (range : ℕ → Option Interval) (k end : ℕ) → k + 1 < end → hull_from range k (end - k) ≡ hull_with (range k) (hull_from range (k + 1) (end - (k + 1)))
+hull_more range k end h =
+    let two : end - k ≡ suc (suc (end - (k + 2))) = omega arith in
+    let one : suc (end - (k + 2)) ≡ end - (k + 1) = omega arith in
+    ap (hull_from range k) two ∙ ap (λ n. hull_with (range k) (hull_from range (k + 1) n)) one
+
+pub none_hulls : (o : Option Interval) → hull_with o None ≡ None
+none_hulls None = refl
+none_hulls (Some r) = refl
+
+-- no range of one that is not there
+pub hull_stops : (range : ℕ → Option Interval) (k end : ℕ) → k < end → range k ≡ None → hull_from range k (end - k) ≡ None
+hull_stops range k end h e = ap (hull_from range k) (longer k end h) ∙ go (end - (k + 1))
+  where
+    go : (n : ℕ) → hull_from range k (suc n) ≡ None
+    go zero = e
+    go (suc n) = ap (λ o. hull_with o (hull_from range (k + 1) (suc n))) e
+
+pub ruleset hull_steps = (hull_done, hull_last, hull_more, hull_stops, none_hulls)
+
+-- There is no crate 0.
+pub no_crate : (plan : Layout) (c : ℕ) → c ≡ 0 → in_plan plan c ≡ false
+no_crate plan c e = ap (in_plan plan) e
+
+pub not_there : (plan : Layout) (stations : Interval) (c : ℕ) → c ≡ 0 → are_stations_in plan stations c ≡ false
+not_there plan stations c e = ap (are_stations_in plan stations) e
+
+pub no_least : (w : ℕ → Option ℕ) (m k : ℕ) → ((a : ℕ) → w a ≡ None) → least_and_greatest (map w (range_with_len k m)) ≡ None
+no_least w zero k h = refl
+no_least w (suc m) k h = ap (λ o. least_and_greatest (o ∷ map w (range_with_len (k + 1) m))) (h k)
+
+no_station : (plan : Layout) (f : ℕ) (subs : Interval) (n : ℕ) → station_widths plan f subs 0 n ≡ None
+no_station plan f subs n =
+    cond_both (nat_lt subs.hi sub_address_end) (option_map (λ w. interval w.0 w.1) (widths plan 0 n f subs.lo subs.hi)) None (λ o. o ≡ None)
+    (λ e. ap (option_map (λ w. interval w.0 w.1)) (no_least (λ a. allowed plan (address 0 n a) f) (subs.hi + 1 - subs.lo) subs.lo (λ a. refl))) (λ e. refl)
+
+no_hull : (range : ℕ → Option Interval) (k n : ℕ) → ((i : ℕ) → range i ≡ None) → hull_from range k n ≡ None
+no_hull range k zero h = refl
+no_hull range k (suc zero) h = h k
+no_hull range k (suc (suc n)) h = ap (λ o. hull_with o (hull_from range (k + 1) (suc n))) (h k)
+
+pub no_widths : (plan : Layout) (f : ℕ) (subs stations : Interval) (c : ℕ) → c ≡ 0 → crate_widths plan f subs stations c ≡ None
+no_widths plan f subs stations c e =
+    ap (crate_widths plan f subs stations) e ∙ no_hull (station_widths plan f subs 0) stations.lo (count_below station_end stations) (no_station plan f subs)
+
+-- There is no crate 0, and none above 7.
+pub none_outside : (plan : Layout) (c : ℕ) → IsPlan plan → ((1 ≤ c) × (c ≤ 7) → ⊥) → unwrap_or (crate_waits plan c) 0 ≡ 0
+none_outside plan zero is out = refl
+none_outside plan (suc i) is out =
+    ⊎_elim (λ lt. absurd (out (omega arith, omega arith)))
+    (λ ge. let long = is.crate_places in
+    let past : length plan.crates ≤ i = omega arith in
+    ap (λ o. unwrap_or (option_map (λ k. k.waits) o) 0) (get_or_past plan.crates i None past))
+    (cases_lt i 7)
+
+-- the least width is not above the greatest
+pub widths_ordered : (plan : Layout) (c n f first last least greatest : ℕ) → widths plan c n f first last ≡ Some (least, greatest) → first ≤ last → least ≤ greatest
+widths_ordered plan c n f first last least greatest e h =
+    let one = least_and_greatest_at (λ a. allowed plan (address c n a) f) first (last + 1 - first) first (least, greatest) e (omega arith) (omega arith) in
+    omega (arith, one.from_low, one.to_high)
+
+-- No width of a command is above 24.
+extremes_small : (w : ℕ → Option ℕ) (so_far : ℕ × ℕ) (k n most : ℕ) (x : ℕ × ℕ) → ((i v : ℕ) → w i ≡ Some v → v ≤ most) → so_far.1 ≤ most → extremes so_far (map w (range_with_len k n)) ≡ Some x → x.1 ≤ most
+extremes_small w so_far k zero most x h le e = let same : so_far ≡ x = cc in subst (λ (y : ℕ × ℕ). y.1 ≤ most) same le
+extremes_small w so_far k (suc n) most x h le e = go (w k) refl e (λ so_far' le' f. extremes_small w so_far' (k + 1) n most x h le' f)
+  where
+    go : (o : Option ℕ) → w k ≡ o → extremes so_far (o ∷ map w (range_with_len (k + 1) n)) ≡ Some x → ((so_far' : ℕ × ℕ) → so_far'.1 ≤ most → extremes so_far' (map w (range_with_len (k + 1) n)) ≡ Some x → x.1 ≤ most) → x.1 ≤ most
+    go None is f ih = cc
+    go (Some v) is f ih = let v_small = h k v is in ih (min so_far.0 v, max so_far.1 v) (omega arith) f
+
+least_small : (w : ℕ → Option ℕ) (k n most : ℕ) (x : ℕ × ℕ) → ((i v : ℕ) → w i ≡ Some v → v ≤ most) → least_and_greatest (map w (range_with_len k n)) ≡ Some x → x.1 ≤ most
+least_small w k zero most x h e = cc
+least_small w k (suc n) most x h e = go (w k) refl e
+  where
+    go : (o : Option ℕ) → w k ≡ o → least_and_greatest (o ∷ map w (range_with_len (k + 1) n)) ≡ Some x → x.1 ≤ most
+    go None is f = cc
+    go (Some v) is f = extremes_small w (v, v) (k + 1) n most x h (h k v is) f
+
+hull_small : (range : ℕ → Option Interval) (k n most : ℕ) (w : Interval) → ((i : ℕ) (r : Interval) → range i ≡ Some r → r.hi ≤ most) → hull_from range k n ≡ Some w → w.hi ≤ most
+hull_small range k zero most w h e = cc
+hull_small range k (suc zero) most w h e = h k w e
+hull_small range k (suc (suc n)) most w h e =
+    both (range k) (hull_from range (k + 1) (suc n)) e (h k) (λ r f. hull_small range (k + 1) (suc n) most r h f)
+  where
+    both : (o p : Option Interval) → hull_with o p ≡ Some w → ((r : Interval) → o ≡ Some r → r.hi ≤ most) → ((r : Interval) → p ≡ Some r → r.hi ≤ most) → w.hi ≤ most
+    both None p f g q = cc
+    both (Some r) None f g q = cc
+    both (Some r) (Some s) f g q =
+        let a = g r refl in
+        let b = q s refl in
+        let same : max r.hi s.hi ≡ w.hi = cc in
+        omega arith
+
+station_small : (plan : Layout) → AllowsCommands plan → (f : ℕ) (subs : Interval) (c n : ℕ) (r : Interval) → station_widths plan f subs c n ≡ Some r → r.hi ≤ 24
+station_small plan allows f subs c n r e = go (nat_lt subs.hi sub_address_end) e
+  where
+    of : (o : Option (ℕ × ℕ)) → ((x : ℕ × ℕ) → o ≡ Some x → x.1 ≤ 24) → option_map (λ w. interval w.0 w.1) o ≡ Some r → r.hi ≤ 24
+    of None h f' = cc
+    of (Some x) h f' = let same : x.1 ≡ r.hi = cc in let le = h x refl in omega arith
+
+    go : (b : Bool) → (if b then option_map (λ w. interval w.0 w.1) (widths plan c n f subs.lo subs.hi) else None) ≡ Some r → r.hi ≤ 24
+    go true f' =
+        of (widths plan c n f subs.lo subs.hi)
+        (λ x g. least_small (λ a. allowed plan (address c n a) f) subs.lo (subs.hi + 1 - subs.lo) 24 x (λ i v is. (allows (address c n i) f v is).width_to_24) g) f'
+    go false f' = cc
+
+pub region_small : (plan : Layout) → AllowsCommands plan → (f : ℕ) (g : Region) (w : Interval) → region_widths plan f g ≡ Some w → w.hi ≤ 24
+region_small plan allows f g w e =
+    hull_small (crate_widths plan f g.sub_addresses g.stations) g.crates.lo (count_below crate_end g.crates) 24 w
+    (λ c r is. hull_small (station_widths plan f g.sub_addresses c) g.stations.lo (count_below station_end g.stations) 24 r
+    (λ n s k. station_small plan allows f g.sub_addresses c n s k) is) e
+
+-- what is given of something small is small
+pub given_small : (o : Option Interval) (r : Result Interval CheckFault) (rule : CheckRule) (line : ℕ) → Gives (λ w. w) r (given o rule line) → ((w : Interval) → o ≡ Some w → w.hi ≤ 24) → IfOk r (λ w. w.hi ≤ 24)
+unfolding given
+given_small None (Ok w) rule line g h = cc
+given_small (Some v) (Ok w) rule line g h = let same : v ≡ w = cc in h w (ap (λ x. Some x) same)
+given_small o (Err e) rule line g h = tt

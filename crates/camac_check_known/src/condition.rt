@@ -1,0 +1,164 @@
+// What is known where a condition holds, and where it does not.
+
+ghost use Rattle.std.specs.Prelude.{◌≡◌, IfOk, map};
+ghost use Rattle.camac_lang.specs.View.{expression_of, test_of, part_of};
+ghost use Rattle.camac_check_rules.specs.Conditions.{branches, sole_variable, refine, assume, split_test, split_part, split};
+ghost use Rattle.camac_check_rules.specs.Refusal.{if_reached};
+ghost use Rattle.camac_check_known.specs.Gives.{Gives, branches_of};
+
+use crate::expression::range_of;
+use crate::fault::CheckFault;
+use crate::joined::join;
+use crate::known::{Facts, range_in};
+use camac_lang::{Expr, Part, Test};
+use camac_range::{Cmp, Range, narrow};
+use std::alloc::{AllocError, Global};
+
+/// What is known where a condition holds, and where it does not; none where that can't be reached.
+#[derive(Drop)]
+pub struct Branches {
+    pub holds: Option<Facts>,
+    pub fails: Option<Facts>,
+}
+
+/// Both ways out of a condition, from what is known before it. E4 on this line where a number in it may be outside 0 to `u32::MAX`; a part
+/// is looked at where all earlier ones hold.
+#[cycle(split)]
+#[tactic(auto, unfolding(camac_check_rules::specs::Refusal::go_on))]
+pub fn split(
+    alloc: Global,
+    line: u32,
+    parts: &[Part],
+    known: &Facts,
+) -> Result<Branches, CheckFault>
+    ensures { Gives branches_of result (split line (map part_of parts.now) known.now) }
+{
+    match parts {
+        [] => Ok(Branches {
+            holds: Some(known.try_clone(alloc)?),
+            fails: None,
+        }),
+        [part, rest @ ..] => {
+            let first = split_part(alloc, line, part, known)?;
+            let others = split_reached(alloc, line, rest, &first.holds)?;
+            Ok(Branches {
+                holds: others.holds,
+                fails: join(alloc, first.fails, others.fails)?,
+            })
+        }
+    }
+}
+
+// The same for further parts, if they can be reached.
+#[cycle(split)]
+#[tactic(auto, unfolding(camac_check_rules::specs::Refusal::if_reached))]
+fn split_reached(
+    alloc: Global,
+    line: u32,
+    parts: &[Part],
+    known: &Option<Facts>,
+) -> Result<Branches, CheckFault>
+    ensures { Gives branches_of result (if_reached (branches None None) known.now (split line (map part_of parts.now))) }
+{
+    match known {
+        None => Ok(Branches {
+            holds: None,
+            fails: None,
+        }),
+        Some(known) => split(alloc, line, parts, known),
+    }
+}
+
+#[tactic(auto, unfolding(camac_check_rules::specs::Refusal::go_on))]
+fn split_part(alloc: Global, line: u32, part: &Part, known: &Facts) -> Result<Branches, CheckFault>
+    ensures { Gives branches_of result (split_part line (part_of part.now) known.now) }
+{
+    match part {
+        Part::Plain(test) => split_test(alloc, line, test, known),
+        Part::Not(test) => {
+            let ways = split_test(alloc, line, test, known)?;
+            Ok(Branches {
+                holds: ways.fails,
+                fails: ways.holds,
+            })
+        }
+    }
+}
+
+#[tactic(auto, unfolding(camac_check_rules::specs::Refusal::go_on))]
+fn split_test(alloc: Global, line: u32, test: &Test, known: &Facts) -> Result<Branches, CheckFault>
+    ensures { Gives branches_of result (split_test line (test_of test.now) known.now) }
+{
+    match test {
+        Test::Q | Test::X => Ok(Branches {
+            holds: Some(known.try_clone(alloc)?),
+            fails: Some(known.try_clone(alloc)?),
+        }),
+        Test::Compare(a, comparison, b) => {
+            let r = range_of(line, a, known.ranges())?;
+            let s = range_of(line, b, known.ranges())?;
+            Ok(Branches {
+                holds: assume(alloc, a, *comparison, b, r, s, known)?,
+                fails: assume(alloc, a, comparison.opposite(), b, r, s, known)?,
+            })
+        }
+    }
+}
+
+// What is known where a comparison holds of expressions in these ranges.
+fn assume(
+    alloc: Global,
+    a: &Expr,
+    comparison: Cmp,
+    b: &Expr,
+    r: Range,
+    s: Range,
+    known: &Facts,
+) -> Result<Option<Facts>, AllocError>
+    ensures { IfOk result (λ k. k ≡ assume (expression_of a.now) comparison (expression_of b.now) r s known.now) }
+{
+    let Some(left) = narrow(comparison, r, s) else {
+        return Ok(None);
+    };
+    let Some(right) = narrow(comparison.turned(), s, r) else {
+        return Ok(None);
+    };
+    match refine(alloc, sole_variable(a), left, known)? {
+        None => Ok(None),
+        Some(refined) => refine(alloc, sole_variable(b), right, &refined),
+    }
+}
+
+// What is known where a variable, if there is one, is in a range too.
+fn refine(
+    alloc: Global,
+    variable: Option<usize>,
+    range: Range,
+    known: &Facts,
+) -> Result<Option<Facts>, AllocError>
+    ensures { IfOk result (λ k. k ≡ refine variable range known.now) }
+{
+    match variable {
+        None => Ok(Some(known.try_clone(alloc)?)),
+        Some(x) => match range_in(known.ranges(), x).meet(range) {
+            None => Ok(None),
+            Some(left) => Ok(Some(known.with_range(alloc, x, left)?)),
+        },
+    }
+}
+
+/// The variable that an expression is, brackets aside.
+pub fn sole_variable(e: &Expr) -> Option<usize>
+    ensures { result ≡ sole_variable (expression_of e.now) }
+{
+    match e {
+        Expr::Var(x) => Some(*x),
+        Expr::Group(e) => sole_variable(e),
+        Expr::Num(_) => None,
+        Expr::Add(_, _) => None,
+        Expr::Sub(_, _) => None,
+        Expr::Mul(_, _) => None,
+        Expr::Div(_, _) => None,
+        Expr::Rem(_, _) => None,
+    }
+}

@@ -1,0 +1,257 @@
+// What the checker knows where a statement begins.
+
+ghost use Rattle.std.specs.Prelude.{◌≡◌, ◌≤◌, IfOk, OnOk, None};
+ghost use Rattle.camac_range.specs.Interval.{interval, only};
+ghost use Rattle.camac_check_rules.specs.Joined.{join_region, join_facts};
+ghost use Rattle.camac_check_rules.specs.Known.{write, region, facts, range_at, region_at, with_range, with_region};
+ghost use Rattle.camac_check_rules.specs.Writes.{forget_variable, forget_register};
+
+use crate::joined::{hulls, join_registers};
+use camac_range::Range;
+use std::alloc::{AllocError, Global};
+use std::marker::Model;
+
+/// The addresses that a register can hold.
+#[derive(Clone, Copy)]
+pub struct Region {
+    crates: Range,
+    stations: Range,
+    sub_addresses: Range,
+}
+
+impl Model for Region {
+    ghost use Rattle.camac_check_rules.specs.Known.{Region as Addresses};
+
+    ghost Value = { Addresses };
+
+    ghost view = { λ g. record { crates = g.crates; stations = g.stations; sub_addresses = g.sub_addresses } };
+
+    ghost inverse = { λ g. record { crates = g.crates; stations = g.stations; sub_addresses = g.sub_addresses } };
+}
+
+impl Region {
+    pub fn new(crates: Range, stations: Range, sub_addresses: Range) -> Self
+        ensures { result ≡ region crates stations sub_addresses }
+    {
+        Region {
+            crates,
+            stations,
+            sub_addresses,
+        }
+    }
+
+    /// The smallest region around both.
+    pub fn join(self, other: Region) -> Self
+        ensures { result ≡ join_region self other }
+    {
+        Region {
+            crates: self.crates.hull(other.crates),
+            stations: self.stations.hull(other.stations),
+            sub_addresses: self.sub_addresses.hull(other.sub_addresses),
+        }
+    }
+
+    pub fn crates(self) -> Range
+        ensures { result ≡ self.crates }
+    {
+        self.crates
+    }
+
+    pub fn stations(self) -> Range
+        ensures { result ≡ self.stations }
+    {
+        self.stations
+    }
+
+    pub fn sub_addresses(self) -> Range
+        ensures { result ≡ self.sub_addresses }
+    {
+        self.sub_addresses
+    }
+}
+
+/// A range for each variable, 0 past the end. For each register its addresses, or none where it may be unset.
+#[derive(Drop)]
+pub struct Facts {
+    ranges: Vec<Range>,
+    registers: Vec<Option<Region>>,
+}
+
+impl Model for Facts {
+    ghost use Rattle.camac_check_rules.specs.Known.{Facts as Known};
+
+    ghost Value = { Known };
+
+    ghost view = { λ k. record { ranges = k.ranges.items; registers = k.registers.items } };
+}
+
+impl Facts {
+    ghost use Rattle.std.specs.Prelude.{[]};
+
+    /// Where a service starts: variables are 0, registers unset.
+    pub fn at_start(alloc: Global) -> Self
+        ensures { result ≡ facts [] [] }
+    {
+        Facts {
+            ranges: Vec::new(alloc),
+            registers: Vec::new(alloc),
+        }
+    }
+
+    /// Where the body of a procedure starts: parameters in these ranges, registers unset.
+    pub fn at_call(alloc: Global, ranges: Vec<Range>) -> Self
+        ensures { result ≡ facts ranges.items [] }
+    {
+        Facts {
+            ranges,
+            registers: Vec::new(alloc),
+        }
+    }
+
+    pub fn try_clone(&self, alloc: Global) -> Result<Self, AllocError>
+        ensures { IfOk result (λ k. k ≡ self.now) }
+    {
+        Ok(Facts {
+            ranges: Vec::from_slice(alloc, &self.ranges)?,
+            registers: Vec::from_slice(alloc, &self.registers)?,
+        })
+    }
+
+    /// The ranges of the variables.
+    pub fn ranges(&self) -> &[Range]
+        ensures { result.now ≡ self.now.ranges }
+    {
+        &self.ranges
+    }
+
+    /// The addresses of a register, unless it may be unset.
+    pub fn register(&self, register: usize) -> Option<Region>
+        ensures { result ≡ region_at self.now.registers register }
+    {
+        region_in(&self.registers, register)
+    }
+
+    /// What is known where this way and another meet.
+    pub fn join(&self, alloc: Global, other: &Facts) -> Result<Self, AllocError>
+        ensures { IfOk result (λ k. k ≡ join_facts self.now other.now) }
+    {
+        Ok(Facts {
+            ranges: hulls(alloc, &self.ranges, &other.ranges)?,
+            registers: join_registers(alloc, &self.registers, &other.registers)?,
+        })
+    }
+
+    /// A copy in which a variable has another range.
+    pub fn with_range(
+        &self,
+        alloc: Global,
+        variable: usize,
+        range: Range,
+    ) -> Result<Self, AllocError>
+        ensures { IfOk result (λ k. k ≡ with_range variable range self.now) }
+    {
+        let mut ranges = Vec::from_slice(alloc, &self.ranges)?;
+        set_range(&mut ranges, variable, range)?;
+        Ok(Facts {
+            ranges,
+            registers: Vec::from_slice(alloc, &self.registers)?,
+        })
+    }
+
+    /// A copy in which a register holds other addresses.
+    pub fn with_register(
+        &self,
+        alloc: Global,
+        register: usize,
+        region: Region,
+    ) -> Result<Self, AllocError>
+        ensures { IfOk result (λ k. k ≡ with_region register region self.now) }
+    {
+        let mut registers = Vec::from_slice(alloc, &self.registers)?;
+        set_register(&mut registers, register, Some(region))?;
+        Ok(Facts {
+            ranges: Vec::from_slice(alloc, &self.ranges)?,
+            registers,
+        })
+    }
+
+    /// The same, but for the range of a variable.
+    pub fn put_range(self, variable: usize, range: Range) -> Result<Self, AllocError>
+        ensures { IfOk result (λ k. k ≡ with_range variable range self) }
+    {
+        let mut facts = self;
+        set_range(&mut facts.ranges, variable, range)?;
+        Ok(facts)
+    }
+
+    /// The same with any number in a variable.
+    pub fn forget_variable(self, variable: usize) -> Result<Self, AllocError>
+        ensures { IfOk result (λ k. k ≡ forget_variable variable self) }
+    {
+        self.put_range(variable, between(0, u32::MAX))
+    }
+
+    /// The same, but that a register may be unset.
+    pub fn forget_register(self, register: usize) -> Result<Self, AllocError>
+        ensures { IfOk result (λ k. k ≡ forget_register register self) }
+    {
+        let mut facts = self;
+        set_register(&mut facts.registers, register, None)?;
+        Ok(facts)
+    }
+}
+
+/// The addresses of a register, unless it may be unset.
+pub fn region_in(registers: &[Option<Region>], register: usize) -> Option<Region>
+    ensures { result ≡ region_at registers.now register }
+{
+    match registers.get(register) {
+        Some(region) => *region,
+        None => None,
+    }
+}
+
+/// The range of a variable.
+pub fn range_in(ranges: &[Range], variable: usize) -> Range
+    ensures { result ≡ range_at ranges.now variable }
+{
+    match ranges.get(variable) {
+        Some(range) => *range,
+        None => Range::only(0),
+    }
+}
+
+fn set_range(ranges: &mut Vec<Range>, variable: usize, range: Range) -> Result<(), AllocError>
+    ensures ok { OnOk result (ranges.new.items ≡ write (only 0) ranges.old.items variable range) }
+{
+    'places: while ranges.len() <= variable {
+        ranges.push(Range::only(0))?;
+    }
+    ranges[variable] = range;
+    Ok(())
+}
+
+fn set_register(
+    registers: &mut Vec<Option<Region>>,
+    register: usize,
+    region: Option<Region>,
+) -> Result<(), AllocError>
+    ensures ok { OnOk result (registers.new.items ≡ write None registers.old.items register region) }
+{
+    'places: while registers.len() <= register {
+        registers.push(None)?;
+    }
+    registers[register] = region;
+    Ok(())
+}
+
+/// The numbers between two, both included.
+pub fn between(lo: u32, hi: u32) -> Range
+    requires { lo ≤ hi }
+    ensures { result ≡ interval lo hi }
+{
+    match Range::new(lo, hi) {
+        Some(range) => range,
+        None => unreachable!(),
+    }
+}

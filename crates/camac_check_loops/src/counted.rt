@@ -1,0 +1,108 @@
+// The rules of `for`.
+
+ghost use Rattle.std.specs.Prelude.{◌≡◌, ◌≤◌, IfOk, IsTrue, map};
+ghost use Rattle.camac_check_known.specs.Gives.{Gives};
+ghost use Rattle.camac_lang.specs.View.{expression_of, keep_of, statements_of};
+ghost use Rattle.camac_check_loops.specs.Ordered.{are_ordered};
+ghost use Rattle.camac_check_rules.specs.Loops.{turns_between, values_between, for_limits, for_head, for_after};
+
+use crate::keeps::{head, keeps_at_entry};
+use camac_check_known::{Around, CheckFault, Facts, between, range_in, range_of, required};
+use camac_check_rules::CheckRule;
+use camac_lang::{Expr, Keep, Stmt};
+use camac_range::Range;
+use std::alloc::{AllocError, Global};
+use std::marker::Model;
+
+/// The ranges of the first and of the last value of a `for`.
+#[derive(Clone, Copy)]
+pub struct Limits {
+    first: Range,
+    last: Range,
+}
+
+impl Model for Limits {
+    ghost use Rattle.camac_check_rules.specs.Loops.{Limits as Between};
+
+    ghost Value = { Between };
+
+    ghost view = { λ l. record { first = l.first; last = l.last } };
+
+    ghost inverse = { λ l. record { first = l.first; last = l.last } };
+}
+
+impl Limits {
+    /// The most turns.
+    pub fn turns(self) -> u64
+        ensures { result ≡ turns_between self }
+    {
+        (u64::from(self.last.hi()) + 1).saturating_sub(u64::from(self.first.lo()))
+    }
+
+    /// What is known where the body begins, if there may be a turn.
+    pub fn head(
+        self,
+        alloc: Global,
+        variable: usize,
+        keeps: &[Keep],
+        body: &[Stmt],
+        known: &Facts,
+    ) -> Result<Option<Facts>, AllocError>
+        requires { IsTrue (are_ordered (map keep_of keeps.now)) }
+        ensures { IfOk result (λ h. h ≡ for_head variable self (map keep_of keeps.now) (statements_of body.now) known.now) }
+    {
+        if self.last.hi() < self.first.lo() {
+            return Ok(None);
+        }
+        let top = head(alloc, body, keeps, known)?;
+        let values = between(self.first.lo(), self.last.hi());
+        Ok(Some(top.put_range(variable, values)?))
+    }
+
+    /// What is known after the loop. Without a turn all stays.
+    pub fn after(
+        self,
+        alloc: Global,
+        variable: usize,
+        keeps: &[Keep],
+        body: &[Stmt],
+        known: &Facts,
+    ) -> Result<Facts, AllocError>
+        requires { IsTrue (are_ordered (map keep_of keeps.now)) }
+        ensures { IfOk result (λ k. Some k ≡ for_after variable self (map keep_of keeps.now) (statements_of body.now) known.now) }
+    {
+        if self.last.hi() < self.first.lo() {
+            return known.try_clone(alloc);
+        }
+        let top = head(alloc, body, keeps, known)?;
+        let values = between(self.first.lo(), self.last.hi());
+        top.put_range(variable, range_in(known.ranges(), variable).hull(values))
+    }
+}
+
+/// The values of a `for` that may begin. E4, E17, E10 and E8, in this order.
+#[tactic(auto, unfolding(camac_check_rules::specs::Refusal::go_on))]
+pub fn for_limits(
+    around: &Around,
+    line: u32,
+    variable: usize,
+    from: &Expr,
+    to: &Expr,
+    keeps: &[Keep],
+    known: &Facts,
+) -> Result<Limits, CheckFault>
+    ensures rule { Gives (λ l. l) result (for_limits around.now line variable (expression_of from.now) (expression_of to.now) (map keep_of keeps.now) known.now) }
+    ensures ordered { IfOk result (λ l. IsTrue (are_ordered (map keep_of keeps.now))) }
+{
+    let first = range_of(line, from, known.ranges())?;
+    let last = range_of(line, to, known.ranges())?;
+    let limits = Limits { first, last };
+    required(
+        around.may_write(variable),
+        CheckRule::LoopVariableAssigned,
+        line,
+    )?;
+    required(limits.turns() <= 65535, CheckRule::TooManyTurns, line)?;
+    keeps_at_entry(keeps, known, line)?;
+    Ok(limits)
+}

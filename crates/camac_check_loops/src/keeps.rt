@@ -1,0 +1,102 @@
+// The ranges that a loop keeps, and what is known at its head.
+
+ghost use Rattle.std.specs.Prelude.{◌≡◌, ◌≤◌, IfOk, IsTrue, map};
+ghost use Rattle.camac_lang.specs.View.{keep_of, statements_of};
+ghost use Rattle.camac_check_known.specs.Gives.{Gives};
+ghost use Rattle.camac_check_loops.specs.Ordered.{are_ordered};
+ghost use Rattle.camac_range.specs.Interval.{is_inside};
+ghost use Rattle.camac_check_rules.specs.Loops.{kept_range, keeps_hold, keeps_hold_after, with_keeps, head};
+ghost use Rattle.camac_check_rules.specs.Refusal.{required};
+ghost use Rattle.camac_check_rules.specs.declared.rule.CheckRule.TheVariants.{KeepFailsAtEntry, KeepFailsAfterTurn};
+
+use crate::forgotten::forget_block;
+use camac_check_known::{CheckFault, Facts, between, range_in, required};
+use camac_check_rules::CheckRule;
+use camac_lang::{Keep, Stmt};
+use camac_range::Range;
+use std::alloc::{AllocError, Global};
+
+/// E8 on this line, unless each kept variable is in its range, which then has a number.
+#[tactic(auto, unfolding(camac_check_rules::specs::Refusal::required))]
+pub fn keeps_at_entry(keeps: &[Keep], known: &Facts, line: u32) -> Result<(), CheckFault>
+    ensures rule { Gives (λ u. tt) result (required (keeps_hold (map keep_of keeps.now) known.now) KeepFailsAtEntry line) }
+    ensures ordered { IfOk result (λ u. IsTrue (are_ordered (map keep_of keeps.now))) }
+{
+    if keeps_hold(keeps, known) {
+        Ok(())
+    } else {
+        Err(CheckFault::Broken {
+            rule: CheckRule::KeepFailsAtEntry,
+            line,
+        })
+    }
+}
+
+// Whether each kept variable is in its range.
+fn keeps_hold(keeps: &[Keep], known: &Facts) -> bool
+    ensures value { result ≡ keeps_hold (map keep_of keeps.now) known.now }
+    ensures ordered { IsTrue result → IsTrue (are_ordered (map keep_of keeps.now)) }
+{
+    match keeps {
+        [] => true,
+        [keep, rest @ ..] => {
+            is_kept(keep, range_in(known.ranges(), keep.variable)) && keeps_hold(rest, known)
+        }
+    }
+}
+
+fn is_kept(keep: &Keep, range: Range) -> bool
+    ensures value { result ≡ is_inside range (kept_range (keep_of keep.now)) }
+    ensures ordered { IsTrue result → keep.now.low ≤ keep.now.high }
+{
+    keep.low <= range.lo() && range.hi() <= keep.high
+}
+
+/// E9 on this line, unless each kept variable is in its range after a turn, if the body comes to its end.
+#[tactic(auto, unfolding(camac_check_rules::specs::Refusal::required))]
+pub fn keeps_after(keeps: &[Keep], known: &Option<Facts>, line: u32) -> Result<(), CheckFault>
+    ensures { Gives (λ u. tt) result (required (keeps_hold_after (map keep_of keeps.now) known.now) KeepFailsAfterTurn line) }
+{
+    required(
+        keeps_hold_after(keeps, known),
+        CheckRule::KeepFailsAfterTurn,
+        line,
+    )
+}
+
+fn keeps_hold_after(keeps: &[Keep], known: &Option<Facts>) -> bool
+    ensures { result ≡ keeps_hold_after (map keep_of keeps.now) known.now }
+{
+    match known {
+        Some(known) => keeps_hold(keeps, known),
+        None => true,
+    }
+}
+
+/// What is known where each turn of a body begins.
+pub fn head(
+    alloc: Global,
+    body: &[Stmt],
+    keeps: &[Keep],
+    known: &Facts,
+) -> Result<Facts, AllocError>
+    requires { IsTrue (are_ordered (map keep_of keeps.now)) }
+    ensures { IfOk result (λ h. h ≡ head (statements_of body.now) (map keep_of keeps.now) known.now) }
+{
+    let left = forget_block(known.try_clone(alloc)?, body)?;
+    with_keeps(left, keeps)
+}
+
+// The same with each kept variable in its range.
+fn with_keeps(known: Facts, keeps: &[Keep]) -> Result<Facts, AllocError>
+    requires { IsTrue (are_ordered (map keep_of keeps.now)) }
+    ensures { IfOk result (λ k. k ≡ with_keeps (map keep_of keeps.now) known) }
+{
+    match keeps {
+        [] => Ok(known),
+        [keep, rest @ ..] => {
+            let others = with_keeps(known, rest)?;
+            others.put_range(keep.variable, between(keep.low, keep.high))
+        }
+    }
+}

@@ -1,0 +1,66 @@
+// The rules of `while`.
+
+ghost use Rattle.std.specs.Prelude.{◌≡◌, ◌≤◌, IfOk, IsTrue, map};
+ghost use Rattle.camac_check_known.specs.Gives.{Gives};
+ghost use Rattle.camac_lang.specs.View.{keep_of, statements_of};
+ghost use Rattle.camac_check_rules.specs.Loops.{while_head, turn_bound};
+ghost use Rattle.camac_check_rules.specs.Refusal.{given};
+ghost use Rattle.camac_check_rules.specs.Writes.{fall_of};
+ghost use Rattle.camac_check_rules.specs.declared.rule.CheckRule.TheVariants as rule;
+
+use crate::keeps::{head, keeps_at_entry};
+use crate::written::fall_of;
+use camac_check_known::{CheckFault, Facts, between, range_in, required};
+use camac_check_rules::CheckRule;
+use camac_lang::{Keep, Stmt};
+use std::alloc::Global;
+
+/// What is known at the head of a `while` of at most so many turns that may begin. E7, E10 and E8, in this order.
+#[tactic(auto, unfolding(camac_check_rules::specs::Refusal::go_on))]
+pub fn while_head(
+    alloc: Global,
+    line: u32,
+    most: u32,
+    measure: usize,
+    keeps: &[Keep],
+    body: &[Stmt],
+    known: &Facts,
+) -> Result<Facts, CheckFault>
+    ensures { Gives (λ k. k) result (while_head line most measure (map keep_of keeps.now) (statements_of body.now) known.now) }
+{
+    let fall = fall_at(measure, body, line)?;
+    let greatest = range_in(known.ranges(), measure).hi();
+    required(
+        most <= 65535 && greatest / fall <= most,
+        CheckRule::TooManyTurns,
+        line,
+    )?;
+    keeps_at_entry(keeps, known, line)?;
+    let top = head(alloc, body, keeps, known)?;
+    Ok(top.put_range(measure, between(0, greatest))?)
+}
+
+// What a turn takes from the measure. E7 where it is not taken once and nothing else writes the measure.
+#[tactic(auto, unfolding(camac_check_rules::specs::Refusal::given))]
+fn fall_at(measure: usize, body: &[Stmt], line: u32) -> Result<u32, CheckFault>
+    ensures rule { Gives (λ k. k) result (given (fall_of measure (statements_of body.now)) rule.MeasureBroken line) }
+    ensures positive { IfOk result (λ k. 1 ≤ k) }
+{
+    match fall_of(measure, body) {
+        Some(fall) => Ok(fall),
+        None => Err(CheckFault::Broken {
+            rule: CheckRule::MeasureBroken,
+            line,
+        }),
+    }
+}
+
+/// The most turns, 0 where the condition never holds.
+pub fn turn_bound(known: &Option<Facts>, most: u32) -> u32
+    ensures { result ≡ turn_bound known.now most }
+{
+    match known {
+        Some(_) => most,
+        None => 0,
+    }
+}

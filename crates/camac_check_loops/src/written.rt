@@ -1,0 +1,145 @@
+// What a body writes, and by how much a turn lowers a measure. All is read from the text.
+
+ghost use Rattle.std.specs.Prelude.{◌≡◌, ◌≤◌, IfSome};
+ghost use Rattle.camac_lang.specs.View.{expression_of, move_of, statement_of, statements_of};
+ghost use Rattle.camac_check_rules.specs.Conditions.{sole_variable};
+ghost use Rattle.camac_check_rules.specs.Writes.{reads_into, writes, block_writes, positive, is_variable, fall_by, fall_in, fall_of};
+
+use camac_check_known::sole_variable;
+use camac_lang::{Expr, Move, Stmt};
+
+/// How much a turn takes from a measure: that of the one statement of the body itself that does so, where nothing else in it writes the
+/// measure.
+pub fn fall_of(measure: usize, body: &[Stmt]) -> Option<u32>
+    ensures value { result ≡ fall_of measure (statements_of body.now) }
+    ensures positive { IfSome result (λ k. 1 ≤ k) }
+{
+    match body {
+        [] => None,
+        [statement, rest @ ..] => {
+            if !writes(statement, measure) {
+                return fall_of(measure, rest);
+            }
+            if block_writes(rest, measure) {
+                return None;
+            }
+            fall_in(measure, statement)
+        }
+    }
+}
+
+// Whether a block writes a variable anywhere in it. A call writes none.
+#[cycle(writes)]
+fn block_writes(block: &[Stmt], variable: usize) -> bool
+    ensures { result ≡ block_writes (statements_of block.now) variable }
+{
+    'statements: for statement in block {
+        if writes(statement, variable) {
+            return true;
+        }
+    }
+    false
+}
+
+#[cycle(writes)]
+fn writes(statement: &Stmt, variable: usize) -> bool
+    ensures { result ≡ writes (statement_of statement.now) variable }
+{
+    match statement {
+        Stmt::Assign { variable: x, .. } => variable == *x,
+        Stmt::SetRegister { .. } => false,
+        Stmt::Single { data, .. } => reads_into(data, variable),
+        Stmt::Scan { tally, .. } | Stmt::QStop { tally, .. } | Stmt::QRepeat { tally, .. } => {
+            variable == *tally
+        }
+        Stmt::Put { .. } | Stmt::CrateCall { .. } | Stmt::LamCall { .. } => false,
+        Stmt::If { then, .. } => block_writes(then, variable),
+        Stmt::IfElse {
+            then,
+            otherwise,
+            ..
+        } => block_writes(then, variable) || block_writes(otherwise, variable),
+        Stmt::For {
+            variable: x,
+            body,
+            ..
+        } => variable == *x || block_writes(body, variable),
+        Stmt::While { body, .. } | Stmt::Lock { body, .. } => block_writes(body, variable),
+        Stmt::Call { .. } => false,
+    }
+}
+
+fn reads_into(moved: &Move, variable: usize) -> bool
+    ensures { result ≡ reads_into (move_of moved.now) variable }
+{
+    match moved {
+        Move::Into(x) => variable == *x,
+        Move::NoData | Move::From(_) => false,
+    }
+}
+
+// The number that a statement takes from a measure.
+fn fall_in(measure: usize, statement: &Stmt) -> Option<u32>
+    ensures value { result ≡ fall_in measure (statement_of statement.now) }
+    ensures positive { IfSome result (λ k. 1 ≤ k) }
+{
+    match statement {
+        Stmt::Assign {
+            variable,
+            value,
+            ..
+        } => {
+            if *variable == measure {
+                fall_by(measure, value)
+            } else {
+                None
+            }
+        }
+        Stmt::SetRegister { .. } | Stmt::Single { .. } | Stmt::Put { .. } => None,
+        Stmt::Scan { .. } | Stmt::QStop { .. } | Stmt::QRepeat { .. } => None,
+        Stmt::CrateCall { .. } | Stmt::LamCall { .. } | Stmt::Call { .. } => None,
+        Stmt::If { .. } | Stmt::IfElse { .. } | Stmt::Lock { .. } => None,
+        Stmt::For { .. } | Stmt::While { .. } => None,
+    }
+}
+
+// The number that stands behind the measure and a minus, brackets aside.
+fn fall_by(measure: usize, value: &Expr) -> Option<u32>
+    ensures value { result ≡ fall_by measure (expression_of value.now) }
+    ensures positive { IfSome result (λ k. 1 ≤ k) }
+{
+    match value {
+        Expr::Sub(a, b) => {
+            if is_variable(measure, a) {
+                positive(b)
+            } else {
+                None
+            }
+        }
+        Expr::Group(e) => fall_by(measure, e),
+        Expr::Num(_) | Expr::Var(_) | Expr::Add(_, _) => None,
+        Expr::Mul(_, _) | Expr::Div(_, _) | Expr::Rem(_, _) => None,
+    }
+}
+
+fn is_variable(measure: usize, e: &Expr) -> bool
+    ensures { result ≡ is_variable measure (sole_variable (expression_of e.now)) }
+{
+    match sole_variable(e) {
+        Some(variable) => variable == measure,
+        None => false,
+    }
+}
+
+// A literal from 1, brackets aside.
+fn positive(e: &Expr) -> Option<u32>
+    ensures value { result ≡ positive (expression_of e.now) }
+    ensures positive { IfSome result (λ k. 1 ≤ k) }
+{
+    match e {
+        Expr::Num(n) => { if *n == 0 { None } else { Some(*n) } }
+        Expr::Group(e) => positive(e),
+        Expr::Var(_) | Expr::Add(_, _) | Expr::Sub(_, _) => None,
+        Expr::Mul(_, _) | Expr::Div(_, _) | Expr::Rem(_, _) => None,
+    }
+}

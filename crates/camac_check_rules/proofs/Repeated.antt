@@ -1,0 +1,231 @@
+-- What the rules accept of a `while` runs safely, and its annotated turns suffice, since its measure falls.
+use Rattle.std.proofs.Common.{◌≡◌, ℕ, zero, suc, ◌+◌, ◌*◌, ◌/◌, ◌<◌, ◌≤◌, Bool, true, false, List, [], ◌∷◌, length, Option, Some, None, refl, ap, ◌∙◌, subst, arith}
+use Rattle.std.specs.Prelude.{nat_le}
+use Rattle.std.proofs.Math.Nat.{div-lt_iff_lt-mul}
+use Rattle.std.proofs.lemmas.Bool.{and_parts, leb-true}
+use Rattle.camac_lang.specs.Tree.{Condition, Keep, Block, repeat}
+use Rattle.camac_range.specs.Interval.{interval}
+use Rattle.camac_branch.specs.Branch.{Answer}
+use Rattle.camac_branch.specs.Plan.{Layout}
+use Rattle.camac_model.specs.State.{State, stepped}
+use Rattle.camac_model.specs.Behaviour.{Behaviour, does, ends, stops, Action}
+use Rattle.camac_model.specs.Moments.{Meets}
+use Rattle.camac_model.specs.Value.{truth}
+use Rattle.camac_model.specs.Meaning.{turns, effect, block_meaning}
+use Rattle.camac_model.specs.Fine.{Bounds}
+use Rattle.camac_model.proofs.Rules.{turns_meet}
+use Rattle.camac_check_rules.specs.Known.{Facts, Known, range_at, with_range}
+use Rattle.camac_check_rules.specs.Conditions.{Branches}
+use Rattle.camac_check_rules.specs.Costs.{loop_costs, Verdict, verdict}
+use Rattle.camac_check_rules.specs.Writes.{block_writes, fall_of}
+use Rattle.camac_check_rules.specs.Loops.{turn_limit, keeps_hold, keeps_hold_after, head, while_head, turn_bound}
+use Rattle.camac_check_rules.proofs.Allows.{Allows, allowed, then_allowed, required_allowed, given_allowed}
+use Rattle.camac_check_rules.proofs.Stores.{Place, AreLocked, Inside, Reaches}
+use Rattle.camac_check_rules.proofs.Conditions.{Decides, inside_narrowed}
+use Rattle.camac_check_rules.proofs.Sound.{AreEasy, Paid, Untouched, Ended, step, SafePiece, StopsWell, EndsWell, Sound, SoundFor, meets_more}
+use Rattle.camac_check_rules.proofs.Actions.{Setting, of}
+use Rattle.camac_check_rules.proofs.Frame.{block_sets, Same, Leaves, block_leaves}
+use Rattle.camac_check_rules.proofs.Heads.{in_keeps, in_keeps_after, reaches_small}
+use Rattle.camac_check_rules.proofs.Falls.{Fell, Falls, fall_positive, block_falls}
+use Rattle.camac_check_rules.proofs.Turns.{meets_both, Between, inside_head, paid_begun, paid_turns, paid_turn, stopped_turn, limit_is_most}
+
+-- by what a `while` may begin
+pub record MayRepeat (most m : ℕ) (qs : List Keep) (body : Block) (k top : Facts) : Type 0 where
+  pub fall : ℕ
+  pub falls : fall_of m body ≡ Some fall
+  pub most_turns : most ≤ turn_limit
+  pub few : (range_at k.ranges m).hi / fall ≤ most
+  pub entry : keeps_hold qs k ≡ true
+  pub is : with_range m (interval 0 (range_at k.ranges m).hi) (head body qs k) ≡ top
+
+pub head_allowed : (line most m : ℕ) (qs : List Keep) (body : Block) (k : Facts) → Allows (while_head line most m qs body k) (MayRepeat most m qs body k)
+head_allowed line most m qs body k =
+    then_allowed (given_allowed (fall_of m body) _ line) (λ fall falls.
+    required_allowed _ line (λ few.
+    let p = and_parts (nat_le most turn_limit) (nat_le ((range_at k.ranges m).hi / fall) most) few in
+    required_allowed _ line (λ entry. allowed (record {
+      fall = fall;
+      falls = falls;
+      most_turns = leb-true most turn_limit p.0;
+      few = leb-true ((range_at k.ranges m).hi / fall) most p.1;
+      entry = entry;
+      is = refl;
+    }))))
+
+-- answers without waits
+abbrev easy : ℕ → List Answer
+easy zero = []
+easy (suc n) = record { x = false; q = false; word = 0; wait = 0; gl = 0 } ∷ easy n
+
+are_easy : (n : ℕ) → AreEasy (easy n)
+are_easy zero = tt
+are_easy (suc n) = (refl, are_easy n)
+
+many : (n : ℕ) → length (easy n) ≡ n
+many zero = refl
+many (suc n) = ap suc (many n)
+
+locks_of : (around : Place) (k : Known) (s : State) → Reaches around k s → AreLocked around s.branch
+locks_of around None s r = absurd r
+locks_of around (Some k) s r = r.locks
+
+reaches_stepped : (around : Place) (k : Known) (s : State) → Reaches around k s → Reaches around k (stepped s)
+reaches_stepped around None s r = r
+reaches_stepped around (Some k) s r = record { variables = r.variables; registers = r.registers; locks = r.locks }
+
+with_answers : (around : Place) (k : Known) (s : State) (l : List Answer) → Reaches around k s → Reaches around k (record s { answers = l })
+with_answers around None s l r = r
+with_answers around (Some k) s l r = record { variables = r.variables; registers = r.registers; locks = r.locks }
+
+-- on enough answers without waits a sound run ends, so what it takes from the measure was there
+was_there : (plan : Layout) (around : Place) (after : Known) (c : Bounds) (m fall : ℕ) (s : State) (b : Behaviour State) → AreEasy s.answers → c.steps ≤ length s.answers → Sound plan around after c s b → Falls m fall s b → fall ≤ s.variables m
+was_there plan around after c m fall s (does p b) easy' enough h f = was_there plan around after c m fall s b easy' enough h.1 f.1
+was_there plan around after c m fall s (ends t) easy' enough h f = omega (arith, f)
+was_there plan around after c m fall s (stops w t) easy' enough h f = absurd (omega (arith, enough, h.because easy'))
+
+-- A `while` whose body `run` is accepted where its condition holds, from a state that is inside what is known.
+module _ (plan : Layout) (around : Place) (test : Condition) (most m fall : ℕ) (qs : List Keep) (body : Block) (k : Facts) (arms : Branches) (turn : Verdict) (run : Action) where
+  abbrev Top : ℕ
+  Top = (range_at k.ranges m).hi
+
+  record Checked : Type 0 where
+    truth : (t : State) → Inside around (with_range m (interval 0 Top) (head body qs k)) t → Decides around (truth test t.variables t.q t.x) arms t
+    sound : (t : State) → Reaches around arms.holds t → Sound plan around turn.after turn.costs t (run t)
+    leaves : (t : State) → Leaves (block_writes body) (block_sets body) t (run t)
+    falls : (t : State) → Falls m fall t (run t)
+    keep : keeps_hold_after qs turn.after ≡ true
+
+  abbrev Turns : ℕ
+  Turns = turn_bound arms.holds most
+
+  abbrev Costs : Bounds
+  Costs = loop_costs Turns turn.costs
+
+  module _ (h : Checked) (s : State) (i : Inside around k s) where
+    -- after so many turns, with so many left, and at most n allowed
+    record Turned (n : ℕ) (t : State) : Type 0 where
+      made : ℕ
+      left : ℕ
+      turns : made + left ≡ Turns
+      allowed : left ≤ n
+      paid : Paid (loop_costs made turn.costs) s t
+      between : Between around (block_writes body) body qs s t
+      below : t.variables m ≤ Top
+      bound : Reaches around arms.holds t → t.variables m < left * fall + fall
+      untouched : Untouched around s t
+
+    at_head : (n : ℕ) (t : State) → Turned n t → Inside around (with_range m (interval 0 Top) (head body qs k)) t
+    at_head n t g =
+        inside_narrowed around (head body qs k) t m (interval 0 Top) (inside_head around body qs k s t i g.between) (record { low = omega arith; high = g.below })
+
+    decided : (n : ℕ) (t : State) (o : Option Bool) → Turned n t → truth test t.variables t.q t.x ≡ o → Decides around o arms t
+    decided n t o g e = subst (λ p. Decides around p arms t) e (h.truth t (at_head n t g))
+
+    enough : (t : State) → Reaches around arms.holds t → fall ≤ t.variables m
+    enough t r =
+        let u : State = record t { answers = easy turn.costs.steps } in
+        was_there plan around turn.after turn.costs m fall u (run u) (are_easy turn.costs.steps) (omega (arith, many turn.costs.steps))
+        (h.sound u (with_answers around arms.holds t (easy turn.costs.steps) r)) (h.falls u)
+
+    turn_left : (n made left : ℕ) (t u : State) (g : Turned (suc n) t) → made + suc left ≡ Turns → Paid (loop_costs made turn.costs) s t → suc left ≤ suc n → t.variables m < suc left * fall + fall → Ended around turn.after turn.costs (stepped t) u → Same (block_writes body) (block_sets body) (stepped t) u → u.variables m + fall ≡ t.variables m → Turned n u
+    turn_left n made left t u g turns' paid le lower e f fell =
+        let old = g.between in
+        let below = g.below in
+        record {
+          made = made + 1;
+          left = left;
+          turns = omega arith;
+          allowed = omega arith;
+          paid = paid_turn made turn.costs s t (stepped t) u paid (record { cycles = refl; words = refl; steps = refl; answers = refl }) e.paid;
+          between = record {
+            same = record {
+              variables = λ y o. f.variables y o ∙ old.same.variables y o;
+              registers = λ r o. f.registers r o ∙ old.same.registers r o;
+            };
+            small = reaches_small around turn.after u e.reaches;
+            locks = locks_of around turn.after u e.reaches;
+            kept = in_keeps_after around qs turn.after u h.keep e.reaches;
+          };
+          below = omega arith;
+          bound = λ r. omega arith;
+          untouched = λ y among. e.untouched y among ∙ g.untouched y among;
+        }
+
+    one_turn : (n left : ℕ) (t : State) (g : Turned (suc n) t) → g.left ≡ left → Reaches around arms.holds t → Meets step (SafePiece plan) (StopsWell Costs s) (λ x. Turned n) tt (run (stepped t))
+    one_turn n zero t g is r =
+        let there = enough t r in
+        let lower : t.variables m < g.left * fall + fall = g.bound r in
+        let none : t.variables m < zero * fall + fall = subst (λ j. t.variables m < j * fall + fall) is lower in
+        absurd (omega arith)
+    one_turn n (suc left) t g is r =
+        let b : State = stepped t in
+        let turns' : g.made + suc left ≡ Turns = subst (λ j. g.made + j ≡ Turns) is g.turns in
+        let le : suc left ≤ suc n = subst (λ j. j ≤ suc n) is g.allowed in
+        let lower : t.variables m < suc left * fall + fall = subst (λ j. t.variables m < j * fall + fall) is (g.bound r) in
+        let fewer : g.made + 1 ≤ Turns = omega arith in
+        meets_more plan (StopsWell turn.costs b) (StopsWell Costs s)
+        (λ x q. (Ended around turn.after turn.costs b q × Same (block_writes body) (block_sets body) b q) × Fell m fall b x q) (λ x. Turned n) (run b)
+        (λ o q e. stopped_turn g.made Turns turn.costs o s t b q fewer g.paid (record { cycles = refl; words = refl; steps = refl; answers = refl }) e)
+        (λ q e. turn_left n g.made left t q g turns' g.paid le lower e.0.0 e.0.1 e.1)
+        (meets_both plan (StopsWell turn.costs b) (λ x q. Ended around turn.after turn.costs b q × Same (block_writes body) (block_sets body) b q) (Fell m fall b) (run b)
+        (meets_both plan (StopsWell turn.costs b) (EndsWell around turn.after turn.costs b) (λ x q. Same (block_writes body) (block_sets body) b q) (run b) (h.sound b (reaches_stepped around arms.holds t r)) (h.leaves b))
+        (h.falls b))
+
+    turning : (n : ℕ) (t : State) → Turned n t → Sound plan around arms.fails Costs s (turns n test run t)
+    turning n t g =
+        turns_meet step (SafePiece plan) (StopsWell Costs s) (EndsWell around arms.fails Costs s) test run (λ x. Turned)
+        (λ x n t g e. absurd (decided n t None g e))
+        (λ x t g e.
+        let r : Reaches around arms.holds t = decided zero t (Some true) g e in
+        let there = enough t r in
+        let lower = g.bound r in
+        let allowed = g.allowed in
+        let none : g.left ≡ zero = omega arith in
+        let small : t.variables m < zero * fall + fall = subst (λ j. t.variables m < j * fall + fall) none lower in
+        absurd (omega arith))
+        (λ x n t g e. one_turn n g.left t g refl (decided (suc n) t (Some true) g e))
+        (λ x n t g e.
+        let fewer : g.made ≤ Turns = omega (arith, g.turns) in
+        record { reaches = decided n t (Some false) g e; paid = paid_turns g.made Turns turn.costs s t fewer g.paid; untouched = g.untouched })
+        n tt t g
+
+bound_of : (around : Place) (holds : Known) (s : State) (v top fall most : ℕ) → 0 < fall → top / fall ≤ most → v ≤ top → Reaches around holds s → v < turn_bound holds most * fall + fall
+bound_of around None s v top fall most pos le h r = absurd r
+bound_of around (Some q) s v top fall most pos le h r =
+    let lt : top / fall < most + 1 = omega arith in
+    let below : top < (most + 1) * fall = (div-lt_iff_lt-mul pos).0 lt in
+    omega arith
+
+bound_small : (holds : Known) (most : ℕ) → turn_bound holds most ≤ most
+bound_small None most = omega arith
+bound_small (Some q) most = omega arith
+
+pub while_sound : (c : Setting) (around : Place) (line : ℕ) (test : Condition) (most m : ℕ) (qs : List Keep) (body : Block) (k top : Facts) (arms : Branches) (turn : Verdict) → MayRepeat most m qs body k top → ((s : State) → Inside around top s → Decides around (truth test s.variables s.q s.x) arms s) → SoundFor c.plan around arms.holds (λ n. block_meaning (of c) n body) turn → keeps_hold_after qs turn.after ≡ true → SoundFor c.plan around (Some k) (λ n s. effect (of c) n (repeat line test most m qs body) (stepped s)) (verdict arms.fails (loop_costs (turn_bound arms.holds most) turn.costs))
+while_sound c around line test most m qs body k top arms turn may d h keep = record {
+  each = λ n le s i.
+      let last : ℕ = (range_at k.ranges m).hi in
+      let enough : turn_limit ≤ n = limit_is_most n le in
+      let few : turn_bound arms.holds most ≤ most = bound_small arms.holds most in
+      let most_turns' : most ≤ turn_limit = may.most_turns in
+      let below : s.variables m ≤ last = (i.variables.each m).high in
+      turning c.plan around test most m may.fall qs body k arms turn (block_meaning (of c) n body)
+      (record {
+        truth = λ t j. d t (subst (λ q. Inside around q t) may.is j);
+        sound = λ t r. h.each n le t r;
+        leaves = λ t. block_leaves (of c) n body t;
+        falls = λ t. block_falls (of c) n m may.fall body t may.falls;
+        keep = keep;
+      })
+      s i n (stepped s)
+      (record {
+        made = 0;
+        left = turn_bound arms.holds most;
+        turns = omega arith;
+        allowed = omega arith;
+        paid = paid_begun 0 turn.costs s;
+        between = record { same = record { variables = λ y e. refl; registers = λ r e. refl }; small = i.variables.small; locks = i.locks; kept = in_keeps around qs k s may.entry i };
+        below = below;
+        bound = λ r. bound_of around arms.holds (stepped s) (s.variables m) last may.fall most (fall_positive m body may.fall may.falls) may.few below r;
+        untouched = λ y e. refl;
+      });
+}

@@ -1,0 +1,65 @@
+-- Acceptance of a linked script: services in text order, each within its heading.
+use Rattle.std.specs.Prelude.{List, [], ◌∷◌, ◌++◌, map, Result, Ok}
+use Rattle.camac_lang.specs.Tree.{Procedure, Service, Item, next_table, next_lam, next_variables, next_procedure, next_service, Script}
+use Rattle.camac_range.specs.Number.{greatest}
+use Rattle.camac_branch.specs.Plan.{Layout}
+use Rattle.camac_model.specs.Meaning.{lam_address}
+use Rattle.camac_model.specs.Fine.{Bounds}
+use Rattle.camac_check_rules.specs.Fault.{Fault}
+use Rattle.camac_check_rules.specs.Refusal.{◌>>=◌}
+use Rattle.camac_check_rules.specs.Known.{Facts, facts}
+use Rattle.camac_check_rules.specs.Costs.{costs}
+use Rattle.camac_check_rules.specs.Cycles.{Context, nothing_around}
+pub use Rattle.camac_check_rules.specs.Procedures.{within, procedure_rule}
+use Rattle.camac_check_rules.specs.Statements.{accept_block}
+
+-- variables are 0, registers unset
+abbrev pub at_start : Facts
+at_start = facts [] []
+
+abbrev pub accept_procedure : Context → Procedure → Result Bounds Fault
+accept_procedure c p = procedure_rule (accept_block c nothing_around p.body) p
+
+-- a procedure can be called after it
+abbrev pub with_procedure : Procedure → Context → Context
+with_procedure p c = record c { procedures = c.procedures ++ p ∷ [] }
+
+-- what a service can cost
+abbrev pub accept_service : Context → Service → Result Bounds Fault
+accept_service c s = do
+  v ← accept_block c nothing_around s.body at_start
+  within (costs s.cycles s.words greatest) v.costs s.line
+
+-- the procedures and services from here on, in the order of the text: what each service can cost
+abbrev pub accept_items : Context → List Item → List Procedure → List Service → Result (List Bounds) Fault
+accept_items c [] ps vs = Ok []
+accept_items c (next_table ∷ rest) ps vs = accept_items c rest ps vs
+accept_items c (next_lam ∷ rest) ps vs = accept_items c rest ps vs
+accept_items c (next_variables line n ∷ rest) ps vs = accept_items c rest ps vs
+accept_items c (next_procedure ∷ rest) [] vs = accept_items c rest [] vs
+accept_items c (next_procedure ∷ rest) (p ∷ ps) vs = do
+  found ← accept_procedure c p
+  accept_items (with_procedure p c) rest ps vs
+accept_items c (next_service ∷ rest) ps [] = accept_items c rest ps []
+accept_items c (next_service ∷ rest) ps (v ∷ vs) = do
+  first ← accept_service c v
+  others ← accept_items c rest ps vs
+  Ok (first ∷ others)
+
+-- the tables and LAMs of a script, and no procedure
+abbrev pub bare : (Bounds → Bounds) → Layout → Script → Context
+bare limit plan script = record {
+  plan = plan;
+  tables = map (λ t. t.words) script.tables;
+  lams = map lam_address script.lams;
+  procedures = [];
+  limit = limit;
+}
+
+abbrev pub accept_with : (Bounds → Bounds) → Layout → Script → Result (List Bounds) Fault
+accept_with limit plan script =
+    accept_items (bare limit plan script) script.order script.procedures script.services
+
+-- what each service can cost, or the first rule broken and its line
+abbrev pub accept : Layout → Script → Result (List Bounds) Fault
+accept plan script = accept_with (λ c. c) plan script

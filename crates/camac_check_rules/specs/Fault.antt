@@ -1,0 +1,6 @@
+-- Why a script is refused: the first rule that it breaks, and the line.
+use Rattle.std.specs.Prelude.{ℕ}
+use Rattle.camac_check_rules.specs.declared.rule.CheckRule.{CheckRule}
+
+pub data Fault : Type 0 where
+  broken : (rule : CheckRule) → (line : ℕ) → Fault

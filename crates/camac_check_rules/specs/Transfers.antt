@@ -1,0 +1,103 @@
+-- The rules of the three transfers: their cycles, the words that they keep, and their tally.
+use Rattle.std.specs.Prelude.{ℕ, ◌^◌, Bool, true, false, ◌&&◌, List, [], Option, Some, None, Result, Ok, nat_eq, nat_lt, nat_le, min, length, unwrap_or, slice_get, if◌then◌else◌}
+use Rattle.camac_lang.specs.Tests.{each}
+use Rattle.camac_lang.specs.Tree.{Expression}
+use Rattle.camac_range.specs.Interval.{interval, only}
+use Rattle.camac_func.specs.Class.{class_of}
+use Rattle.camac_func.specs.declared.code.FunctionClass.{FunctionClass}
+use Rattle.camac_func.specs.declared.code.FunctionClass.TheVariants.{Read, Write}
+use Rattle.camac_check_rules.specs.declared.rule.CheckRule.TheVariants.{StationNotInstalled, CommandNotDeclared, WrongDirection, ValueTooWide, RegisterUnset, ScanCratesDiffer, CountAboveTable, LoopVariableAssigned}
+use Rattle.camac_check_rules.specs.Fault.{Fault}
+use Rattle.camac_check_rules.specs.Refusal.{◌>>=◌, ◌>>◌, required, given}
+use Rattle.camac_check_rules.specs.Known.{Region, Facts, region_at, with_range}
+use Rattle.camac_check_rules.specs.Expressions.{range_of}
+use Rattle.camac_check_rules.specs.Costs.{Verdict, verdict, transfer_costs}
+use Rattle.camac_check_rules.specs.Addresses.{sub_address_end, command_widths, cycle_cost}
+use Rattle.camac_check_rules.specs.Cycles.{Context, Around, may_write, same_class}
+use Rattle.camac_check_rules.specs.Windows.{Window, window_of, is_installed, is_declared, scan_cycles, scan_kept}
+
+-- both registers hold addresses of one crate
+abbrev pub is_one_crate : Region → Region → Bool
+is_one_crate g h =
+    nat_eq g.crates.lo g.crates.hi && (nat_eq h.crates.lo h.crates.hi && nat_eq g.crates.lo h.crates.lo)
+
+abbrev pub has_sub_addresses : Region → Bool
+has_sub_addresses g = nat_lt g.sub_addresses.hi sub_address_end
+
+-- what a scan of at most so many words leaves and costs
+abbrev pub scan_verdict : Context → Around → Window → ℕ → ℕ → Facts → Verdict
+scan_verdict c around w most x k =
+    verdict (Some (with_range x (interval 0 (scan_kept w most)) k))
+    (c.limit (transfer_costs (scan_cycles w most) (cycle_cost c.plan around.locked (only w.crate_no)) (scan_kept w most)))
+
+abbrev pub scan_rule : Context → Around → ℕ → ℕ → ℕ → ℕ → Expression → ℕ → Facts → Result Verdict Fault
+scan_rule c around line f r1 r2 e x k = do
+  most ← range_of line e k.ranges
+  required (may_write around x) LoopVariableAssigned line
+  g ← given (region_at k.registers r1) RegisterUnset line
+  h ← given (region_at k.registers r2) RegisterUnset line
+  required (is_one_crate g h) ScanCratesDiffer line
+  required (is_installed c.plan (window_of g h)) StationNotInstalled line
+  required (has_sub_addresses g && (has_sub_addresses h && is_declared c.plan f (window_of g h))) CommandNotDeclared line
+  required (same_class Read (class_of f)) WrongDirection line
+  Ok (scan_verdict c around (window_of g h) most.hi x k)
+
+-- a block transfer writes where it names a table, else it reads
+abbrev pub block_class : Option ℕ → FunctionClass
+block_class None = Read
+block_class (Some t) = Write
+
+abbrev pub reaches_to : ℕ → Option (List ℕ) → Bool
+reaches_to n None = false
+reaches_to n (Some words) = nat_le n (length words)
+
+-- it sends at most the words of its table
+abbrev pub has_words : List (List ℕ) → Option ℕ → ℕ → Bool
+has_words tables None n = true
+has_words tables (Some t) n = reaches_to n (slice_get tables t)
+
+abbrev pub words_fit : List (List ℕ) → Option ℕ → ℕ → Bool
+words_fit tables None width = true
+words_fit tables (Some t) width = each (λ v. nat_lt v (2 ^ width)) (unwrap_or (slice_get tables t) [])
+
+-- a read puts what it keeps into the event
+abbrev pub event_words : Option ℕ → ℕ → ℕ
+event_words None kept = kept
+event_words (Some t) kept = 0
+
+-- the addresses of a block transfer of at most so many words, by whose rules it may begin once its expressions are in range
+abbrev pub block_region :
+    Context → Around → ℕ → ℕ → ℕ → Option ℕ → ℕ → ℕ → Facts → Result Region Fault
+block_region c around line f r t most x k = do
+  required (may_write around x) LoopVariableAssigned line
+  g ← given (region_at k.registers r) RegisterUnset line
+  widths ← command_widths c.plan line f g
+  required (same_class (block_class t) (class_of f)) WrongDirection line
+  required (has_words c.tables t most) CountAboveTable line
+  required (words_fit c.tables t widths.lo) ValueTooWide line
+  Ok g
+
+-- a block transfer of at most so many cycles, that keeps at most so many words
+abbrev pub block_verdict : Context → Around → Option ℕ → ℕ → ℕ → ℕ → Region → Facts → Verdict
+block_verdict c around t cycles kept x g k =
+    verdict (Some (with_range x (interval 0 kept) k))
+    (c.limit (transfer_costs cycles (cycle_cost c.plan around.locked g.crates) (event_words t kept)))
+
+abbrev pub q_stop_rule :
+    Context → Around → ℕ → ℕ → ℕ → Option ℕ → Expression → ℕ → Facts → Result Verdict Fault
+q_stop_rule c around line f r t e x k = do
+  most ← range_of line e k.ranges
+  g ← block_region c around line f r t most.hi x k
+  Ok (block_verdict c around t most.hi most.hi x g k)
+
+-- where no word is wanted there is no cycle
+abbrev pub repeat_cycles : ℕ → ℕ → ℕ
+repeat_cycles most limit = if nat_eq most 0 then 0 else limit
+
+abbrev pub q_repeat_rule :
+    Context → Around → ℕ → ℕ → ℕ → Option ℕ → Expression → Expression → ℕ → Facts → Result Verdict Fault
+q_repeat_rule c around line f r t e1 e2 x k = do
+  most ← range_of line e1 k.ranges
+  limit ← range_of line e2 k.ranges
+  g ← block_region c around line f r t most.hi x k
+  Ok (block_verdict c around t (repeat_cycles most.hi limit.hi) (min most.hi limit.hi) x g k)

@@ -1,0 +1,52 @@
+// The table that a block transfer writes, if it names one.
+
+ghost use Rattle.std.specs.Prelude.{◌≡◌, ◌≤◌, ◌^◌, map, nat_lt};
+ghost use Rattle.camac_lang.specs.Tests.{each};
+ghost use Rattle.camac_lang.specs.View.{table_of};
+ghost use Rattle.camac_check_rules.specs.Transfers.{has_words, words_fit};
+
+use camac_lang::Table;
+use camac_word::Word24;
+
+/// Whether a table has so many words; where none is written there is no need.
+#[tactic(auto, using(crate::proofs::Tables::word_lists))]
+pub fn has_words(tables: &[Table], table: Option<usize>, n: u32) -> bool
+    ensures { result ≡ has_words (map (λ t. t.words) (map table_of tables.now)) table n }
+{
+    match table {
+        None => true,
+        Some(table) => match tables.get(table) {
+            Some(table) => n as usize <= table.words.len(),
+            None => false,
+        },
+    }
+}
+
+/// Whether each word of a table fits a width.
+#[tactic(auto, using(crate::proofs::Tables::word_lists))]
+pub fn words_fit(tables: &[Table], table: Option<usize>, width: u32) -> bool
+    requires { width ≤ 24 }
+    ensures { result ≡ words_fit (map (λ t. t.words) (map table_of tables.now)) table width }
+{
+    match table {
+        None => true,
+        Some(table) => match tables.get(table) {
+            Some(table) => all_fit(&table.words, width),
+            None => true,
+        },
+    }
+}
+
+#[tactic(auto, using(crate::proofs::Tables::power_below))]
+fn all_fit(words: &[Word24], width: u32) -> bool
+    requires { width ≤ 24 }
+    ensures { result ≡ each (λ v. nat_lt v (2 ^ width)) words.now }
+{
+    let end = 2u32.pow(width);
+    'words: for word in words {
+        if word.get() >= end {
+            return false;
+        }
+    }
+    true
+}

@@ -1,6 +1,0 @@
-use Rattle.std.proofs.Common.{◌≡◌, take}
-use Rattle.camac_rules.specs.Joined.{join_registers}
-use Rattle.camac_known.proofs.joined.join_registers.Given as goal
-
-abbrev pub invariant-places : goal.invariant-places
-invariant-places l = l.all.items ≡ take l.i (join_registers l.first l.second)

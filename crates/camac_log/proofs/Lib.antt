@@ -1,5 +1,0 @@
-pub mod Told
-pub mod Bits
-pub mod Locks
-pub mod Entries
-pub mod Headline

@@ -1,5 +1,0 @@
-use Rattle.std.proofs.Common.{length}
-use Rattle.camac_log.proofs.log.+add_unlocks.Given as goal
-
-abbrev pub decreases-add_unlocks : goal.decreases-add_unlocks
-decreases-add_unlocks l = length l.unlocks.now

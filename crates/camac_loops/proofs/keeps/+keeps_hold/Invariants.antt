@@ -1,5 +1,0 @@
-use Rattle.std.proofs.Common.{length}
-use Rattle.camac_loops.proofs.keeps.+keeps_hold.Given as goal
-
-abbrev pub decreases-keeps_hold : goal.decreases-keeps_hold
-decreases-keeps_hold l = length l.keeps.now

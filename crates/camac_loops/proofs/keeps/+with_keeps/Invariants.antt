@@ -1,5 +1,0 @@
-use Rattle.std.proofs.Common.{length}
-use Rattle.camac_loops.proofs.keeps.+with_keeps.Given as goal
-
-abbrev pub decreases-with_keeps : goal.decreases-with_keeps
-decreases-with_keeps l = length l.keeps.now

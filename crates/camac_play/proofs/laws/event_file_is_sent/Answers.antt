@@ -1,5 +1,0 @@
-use Rattle.camac_play.proofs.EventFile.{told_file, played_file}
-use Rattle.camac_play.proofs.laws.event_file_is_sent.Goals as goal
-
-pub returns : goal.returns
-returns c = record { told = told_file; played = played_file }

@@ -1,0 +1,17 @@
+use Rattle.std.proofs.Common.{◌≡◌, ◌∙◌, ◌++◌, List, ℕ, ap, sym, append_assoc, refl, drop, ◌+◌, arith}
+use Rattle.camac_report.proofs.Texts.{flat_map-next}
+use Rattle.camac_report.specs.Items.{unlock_text, unlock_texts}
+use Rattle.camac_report.proofs.item.with_unlocks.Goals as goal
+
+pub unlocks-preserved : goal.unlocks-preserved
+unlocks-preserved c =
+    let unlocks = c.args.unlocks.now in
+    let i = c.unlocks.c-index in
+    let rest : List ℕ = unlock_texts (drop (i + 1) unlocks) in
+    let line : List ℕ = unlock_text c.c-item.result in
+    let next : unlock_texts (drop i unlocks) ≡ line ++ rest =
+    flat_map-next unlock_text unlocks i c.c-item.result line c.unlocks-test.true c.c-item.is refl in (
+      c.unlocks.invariant.0 ∙ ap (λ (l : List ℕ). c.unlocks.lines ++ l) next ∙ sym (append_assoc c.unlocks.lines line rest)
+          ∙ ap (λ (l : List ℕ). l ++ rest) (sym c.with_unlock-lines.ensures.text),
+      omega arith,
+    )

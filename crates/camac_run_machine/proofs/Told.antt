@@ -1,0 +1,189 @@
+-- What an answer told of a runner, and what is left.
+use Rattle.std.proofs.Common.{◌≡◌, ℕ, ◌+◌, ◌<◌, ◌≤◌, List, [], ◌∷◌, length, Option, Some, None, Bool, true, false, refl, sym, ap, subst, ◌∙◌, arith}
+use Rattle.std.specs.Prelude.{slice_get, option_map, IfSome, IfNone, OnSome, IsTrue}
+use Rattle.std.specs.Borrow.{Bor}
+use Rattle.camac_lang.specs.Scope.{is_well_formed}
+use Rattle.camac_lang.specs.Tree.{Service}
+use Rattle.camac_branch.specs.Crates.{branch_of}
+use Rattle.camac_branch.specs.Branch.{Answer}
+use Rattle.arrayvec.specs.ArrayVec.{ArrayVec}
+use Rattle.camac_branch.specs.declared.answer.Overrun.{Overrun}
+use Rattle.camac_check.specs.Checked.{CheckedScript, IsChecked}
+use Rattle.camac_size.specs.Fits.{fits}
+use Rattle.camac_model.specs.State.{State}
+use Rattle.camac_model.specs.Behaviour.{Behaviour, ends, stops, short, Action, then_do}
+use Rattle.camac_model.specs.Fine.{IsFine, most_turns}
+use Rattle.camac_model.specs.Meaning.{Context}
+use Rattle.camac_model.specs.Run.{service_meaning}
+use Rattle.camac_run_machine.specs.declared.item.Item.{Item}
+use Rattle.camac_run_machine.specs.declared.machine.Machine.{Machine}
+use Rattle.camac_run_machine.specs.declared.machine.Wanting.{Wanting}
+use Rattle.camac_run_machine.specs.declared.machine.Wanting.TheVariants as wanting
+use Rattle.camac_run_machine.specs.declared.machine.Wanting.TheVariants.{Cycle, Read, Lock}
+use Rattle.camac_run_machine.specs.Held.{bounds_at, bounds_of, opens_in, locked_among, context_in, state_of, left_in, stands, want_of, FineThen, IsFineHere, HasRoom, IsWanting, Takes, Settles, Serves}
+use Rattle.camac_run_machine.specs.Rest.{follows, rest_in, says, served}
+use Rattle.camac_run_machine.specs.Runner.{Left, bit_at, rest, last_words_in, with_event}
+use Rattle.camac_run_machine.specs.Sound.{held, event_here, IsSound}
+use Rattle.camac_run_machine.proofs.Bounds.{fine_at}
+use Rattle.camac_run_machine.proofs.Fine.{fine_says}
+use Rattle.camac_run_machine.proofs.Frames.{fine_along}
+use Rattle.camac_run_machine.proofs.Locks.{among_few}
+use Rattle.camac_run_machine.proofs.Serving.{served_says, served_stops, onward_over}
+use Rattle.camac_run_machine.proofs.Takes.{waits_first}
+
+module _ {V D C : ℕ} where
+  -- where nothing is wanted the event is told, and else what is left is that of the machine
+  pub told : (new : Machine V D C) (next' : Option Wanting) (event : Option Left) (fed n' : ℕ) (has : Bool) (o : Option Overrun) (answers : List Answer)
+      → IfNone next' (new.frames.items ≡ []) → IfNone next' (event ≡ Some (event_here new n')) → OnSome next' (event ≡ None) → IfNone next' (has ≡ true)
+      → served (context_in new.checked.now) new.checked.now.script.services (bit_at new.checked.now new.service) (stands next' new answers)
+      ≡ with_event event (last_words_in (held new next' fed n' has o)) (rest (held new next' fed n' has o) answers)
+  unfolding served rest_in
+  told new None event fed n' has o answers f a b t = rw (f, a, t) refl
+  told new (Some w) event fed n' has o answers f a b t = rw b refl
+
+  pub numbered : (new : Machine V D C) (next' : Option Wanting) (event : Option Left) (n n' : ℕ) → new.missed ≤ new.cycles → IfNone next' (event ≡ Some (event_here new n')) → OnSome next' (event ≡ None) → IfNone next' (n' ≡ n + 1) → OnSome next' (n' ≡ n) → IfNone event (n' ≡ n) × IfSome event (λ e. (e.0 ≡ n + 1) × (n' ≡ e.0) × (e.2.missed ≤ e.2.cycles)) × (n' ≤ n + 1)
+  numbered new None event n n' few a b x y = rw a (tt, (x, refl, few), omega arith)
+  numbered new (Some w) event n n' few a b x y = rw b (y, tt, omega arith)
+
+  pub quiet : (new : Machine V D C) (next' : Option Wanting) (event : Option Left) (fed n' : ℕ) (has : Bool) (o : Option Overrun) → IfNone next' (event ≡ Some (event_here new n')) → OnSome next' (has ≡ false) → IfNone event (last_words_in (held new next' fed n' has o) ≡ [])
+  quiet new None event fed n' has o a t = rw a tt
+  quiet new (Some w) event fed n' has o a t = go event
+    where
+      silent : last_words_in (held new (Some w) fed n' has o) ≡ []
+      silent = rw t refl
+
+      go : (e : Option Left) → IfNone e (last_words_in (held new (Some w) fed n' has o) ≡ [])
+      go None = silent
+      go (Some e) = tt
+
+  -- a machine whose releases are told
+  pub room_told : (h : Machine V D C) (none : ArrayVec ℕ) → none.items ≡ [] → HasRoom h → HasRoom (record h { unlocks = none })
+  room_told h none e r =
+      let few : locked_among (branch_of h.branch) 7 ≤ 7 = among_few (branch_of h.branch) 7 in
+      let n : length none.items ≡ 0 = ap length e in
+      record {
+        variables = r.variables;
+        registers = r.registers;
+        fits = r.fits;
+        scope = r.scope;
+        blocks = r.blocks;
+        words = r.words;
+        steps = r.steps;
+        cycles = r.cycles;
+        few_missed = r.few_missed;
+        missed = r.missed;
+        locks = r.locks;
+        unlocks = omega (arith, few, n);
+      }
+
+  pub sound_after : (old new : Machine V D C) (none : ArrayVec ℕ) (before next' : Option Wanting) (fed count count' i : ℕ) → none.items ≡ [] → IsSound old before fed count
+      → HasRoom new → new.checked ≡ old.checked → new.service ≡ i → i < length old.checked.now.script.services → IfSome next' (IsWanting new) → IfNone next' (new.frames.items ≡ [])
+      → ((answers : List Answer) → IsFineHere new (stands next' new answers)) → count' ≤ fed + 1 → IsSound (record new { unlocks = none }) next' (fed + 1) count'
+  sound_after old new none before next' fed count count' i quiet s room e service below wants over fine few = record {
+    room = room_told new none quiet room;
+    quiet = quiet;
+    checked = subst (λ (b : Bor CheckedScript). IsChecked b.now) (sym e) s.checked;
+    formed = subst (λ (b : Bor CheckedScript). IsTrue (is_well_formed b.now.script)) (sym e) s.formed;
+    fits = subst (λ (b : Bor CheckedScript). fits b.now.script V D C ≡ true) (sym e) s.fits;
+    wants = ready next' wants;
+    idle = over;
+    service = there next';
+    fine = is_fine next' fine;
+    events = few;
+  }
+    where
+      there : (o : Option Wanting) → IfSome o (λ w. new.service < length new.checked.now.script.services)
+      there None = tt
+      there (Some w) =
+          subst (λ (b : Bor CheckedScript). new.service < length b.now.script.services) (sym e)
+          (subst (λ j. j < length old.checked.now.script.services) (sym service) below)
+
+      ready : (o : Option Wanting) → IfSome o (IsWanting new) → IfSome o (IsWanting (record new { unlocks = none }))
+      ready None f = tt
+      ready (Some (Cycle k)) f = f
+      ready (Some (Read k x bits)) f = f
+      ready (Some (Lock k body)) f = f
+      ready (Some (wanting.Transfer k t table x)) f = f
+
+      is_fine : (o : Option Wanting) → ((answers : List Answer) → IsFineHere new (stands o new answers)) → IfSome o (λ w. (answers : List Answer) → IsFineHere (record new { unlocks = none }) (stands (Some w) (record new { unlocks = none }) answers))
+      is_fine None f = tt
+      is_fine (Some w) f = f
+
+  along_told : (new : Machine V D C) (ck : Bor CheckedScript) (i bit : ℕ) (next' : Option Wanting) (event : Option Left) (fed n' : ℕ) (has : Bool) (o : Option Overrun) (answers : List Answer)
+      → new.checked ≡ ck → new.service ≡ i → bit_at ck.now i ≡ bit
+      → IfNone next' (new.frames.items ≡ []) → IfNone next' (event ≡ Some (event_here new n')) → OnSome next' (event ≡ None) → IfNone next' (has ≡ true)
+      → served (context_in ck.now) ck.now.script.services bit (stands next' new answers) ≡ with_event event (last_words_in (held new next' fed n' has o)) (rest (held new next' fed n' has o) answers)
+  along_told new ck i bit next' event fed n' has o answers e1 e2 e3 f a b t =
+      ap (λ k. served (context_in ck.now) ck.now.script.services k (stands next' new answers)) (sym e3)
+      ∙ ap (λ j. served (context_in ck.now) ck.now.script.services (bit_at ck.now j) (stands next' new answers)) (sym e2)
+      ∙ ap (λ (z : Bor CheckedScript). served (context_in z.now) z.now.script.services (bit_at z.now new.service) (stands next' new answers)) (sym e1)
+      ∙ told new next' event fed n' has o answers f a b t
+
+  -- the same along what an answer leaves as it was
+  pub told_along : (new : Machine V D C) (ck : Bor CheckedScript) (i bit : ℕ) (next' : Option Wanting) (event : Option Left) (fed n' : ℕ) (has : Bool) (o : Option Overrun) (answers : List Answer)
+      → new.checked ≡ ck → new.service ≡ i → bit_at ck.now i ≡ bit
+      → IfNone next' (new.frames.items ≡ []) → IfNone next' (event ≡ Some (event_here new n')) → OnSome next' (event ≡ None) → IfNone next' (has ≡ true)
+      → (us : List ℕ) → served (context_in ck.now) ck.now.script.services bit (says us (stands next' new answers)) ≡ says us (with_event event (last_words_in (held new next' fed n' has o)) (rest (held new next' fed n' has o) answers))
+  told_along new ck i bit next' event fed n' has o answers e1 e2 e3 f a b t us =
+      served_says (context_in ck.now) ck.now.script.services bit us (stands next' new answers)
+      ∙ ap (says us) (along_told new ck i bit next' event fed n' has o answers e1 e2 e3 f a b t)
+
+  fine_told : (new : Machine V D C) (b : Behaviour State) → IsFineHere new (says new.unlocks.items b) → IsFineHere new b
+  fine_told new b f = fine_says new.checked.now.plan (bounds_of new) new.unlocks.items b f
+
+  -- a service that is called is fine
+  pub serve_fine : (old new : Machine V D C) (i : ℕ) (v : Service) (next' : Option Wanting) → IsChecked old.checked.now → slice_get old.checked.now.script.services i ≡ Some v → Serves old i v next' new → (answers : List Answer) → IsFineHere new (stands next' new answers)
+  serve_fine old new i v next' checked there s answers =
+      let k = old.checked.now in
+      let meaning = service_meaning (context_in k) most_turns v (branch_of old.branch) answers in
+      let fine : IsFine k.plan (bounds_at k i) meaning = fine_at k k.bounds k.script.services i v (record { cycles = 0; words = 0; steps = 0 }) checked.services there most_turns (omega arith) (branch_of old.branch) answers in
+      fine_told new (stands next' new answers)
+      (fine_along new (record old { service = i }) s.checked s.service (says new.unlocks.items (stands next' new answers)) meaning (s.goes answers) fine)
+
+  -- what is left after an answer that was taken is fine
+  pub take_fine : (old mid : Machine V D C) (w : Wanting) (a : Answer) (d : Item) → ((answers : List Answer) → IsFineHere old (stands (Some w) old answers)) → Takes old w a d mid → FineThen mid (λ c. follows c (want_of w))
+  take_fine old mid w a d fine t answers =
+      let b = then_do (follows (context_in mid.checked.now) (want_of w) (state_of mid answers)) (left_in mid) in
+      let all = subst (λ x. IsFineHere old x) (t.goes answers) (fine (a ∷ answers)) in
+      fine_along mid old t.checked t.service b b refl all.1
+
+  pub settle_fine : (mid new : Machine V D C) (go : Context → Action) (next' : Option Wanting) → FineThen mid go → Settles mid go next' new → (answers : List Answer) → IsFineHere new (stands next' new answers)
+  settle_fine mid new go next' fine s answers =
+      fine_told new (stands next' new answers)
+      (fine_along new mid s.checked s.service (says new.unlocks.items (stands next' new answers)) (then_do (go (context_in mid.checked.now) (state_of mid answers)) (left_in mid)) (s.goes answers) (fine answers))
+
+  -- with no answer, a run is short in the service in progress, or over
+  pub rest_short : (h : Machine V D C) (wanting : Option Wanting) (w : Wanting) (fed n : ℕ) (has : Bool) (o : Option Overrun) → wanting ≡ Some w → IfSome wanting (IsWanting h) → rest (held h wanting fed n has o) [] ≡ stops short (state_of h [])
+  rest_short h wanting w fed n has o e p =
+      let q : IsWanting h w = rw e at p in
+      let c = context_in h.checked.now in
+      rw e (ap (λ b. served c h.checked.now.script.services (bit_at h.checked.now h.service) (then_do b (rest_in c (opens_in h)))) (waits_first h w q)
+      ∙ served_stops c h.checked.now.script.services (bit_at h.checked.now h.service) short (state_of h []))
+
+  pub rest_over : (h : Machine V D C) (wanting : Option Wanting) (fed n : ℕ) (has : Bool) (o : Option Overrun) → wanting ≡ None → rest (held h wanting fed n has o) [] ≡ ends tt
+  rest_over h wanting fed n has o e = rw e (onward_over (context_in h.checked.now) h.checked.now.script.services (branch_of h.branch))
+
+pub none_mapped : {A : Type 0} (o : Option A) (P Q : Type 0) → IfNone o P → (P → Q) → IfNone o Q
+none_mapped None P Q h f = f h
+none_mapped (Some a) P Q h f = tt
+
+pub some_mapped : {A : Type 0} (o : Option A) (P Q : Type 0) → OnSome o P → (P → Q) → OnSome o Q
+some_mapped None P Q h f = tt
+some_mapped (Some a) P Q h f = f h
+
+pub few_events : {A : Type 0} (o : Option A) (n n' : ℕ) → IfNone o (n' ≡ n + 1) → OnSome o (n' ≡ n) → n' ≤ n + 1
+few_events None n n' a b = omega (arith, a)
+few_events (Some x) n n' a b = omega (arith, b)
+
+pub below_along : {V D C : ℕ} (new : Machine V D C) (ck : Bor CheckedScript) (i : ℕ) → new.checked ≡ ck → new.service ≡ i → i < length ck.now.script.services → new.service < length new.checked.now.script.services
+below_along new ck i e1 e2 h =
+    subst (λ (z : Bor CheckedScript). new.service < length z.now.script.services) (sym e1) (subst (λ j. j < length ck.now.script.services) (sym e2) h)
+
+pub none_wanted : {A B : Type 0} (f : A → B) (o : Option A) → option_map f o ≡ None → o ≡ None
+none_wanted f None e = refl
+none_wanted f (Some a) e = absurd (cc)
+
+-- a service in progress is within its bounds
+pub steps_within : {V D C : ℕ} (h : Machine V D C) (w : Wanting) → IsWanting h w → ((answers : List Answer) → IsFineHere h (stands (Some w) h answers)) → h.steps ≤ (bounds_of h).steps
+steps_within h w p fine =
+    let f = subst (λ b. IsFineHere h (then_do b (rest_in (context_in h.checked.now) (opens_in h)))) (waits_first h w p) (fine []) in f.1.steps

@@ -1,0 +1,99 @@
+use Rattle.std.proofs.Common.{◌≡◌, ◌+◌, ◌<◌, Some, length, map, sym, ap, subst, ◌∙◌, arith, rules}
+use Rattle.std.proofs.lemmas.List.{length-map}
+use Rattle.std.specs.Prelude.{IsTrue, slice_get, slice_range}
+use Rattle.camac_lang.specs.Scope.{is_well_formed}
+use Rattle.camac_lang.specs.Tree.{Script}
+use Rattle.camac_lang.specs.View.{expression_of, procedure_of, statements_of}
+use Rattle.camac_lang.proofs.Places.{number_below}
+use Rattle.camac_lang.proofs.Standing.{limits_hold}
+use Rattle.camac_run_machine.proofs.Actions.{call_has}
+use Rattle.camac_run_machine.proofs.Calls.{callee, variables_room, registers_room, callee_free, enters_filled}
+use Rattle.camac_run_machine.proofs.Lams.{procedure_at}
+use Rattle.camac_run_machine.proofs.machine.Machine.call.Goals as goal
+
+pub offset_bounds-procedures-procedure : goal.offset_bounds-procedures-procedure
+offset_bounds-procedures-procedure g c =
+    let h = c.args.self.now in
+    let s = h.checked.now.script in
+    let i = c.args.procedure in
+    let F : Script → Type 0 = λ s. IsTrue (is_well_formed s) in
+    let few = (limits_hold s (subst F c.script-script.ensures c.well_formed-2.ensures)).procedures in
+    let k = callee h i (map expression_of c.args.arguments.now) c.requires.room c.requires.fits in
+    let lt : i < length s.procedures = number_below s.procedures i k.procedure k.there in omega (arith, few, lt)
+
+pub bounds-procedures-procedure : goal.bounds-procedures-procedure
+bounds-procedures-procedure g c =
+    let h = c.args.self.now in
+    let s = h.checked.now.script in
+    let i = c.args.procedure in
+    let e : map procedure_of c.procedures.result.now ≡ s.procedures = c.procedures.ensures ∙ ap (λ s. s.procedures) c.script-script.ensures in
+    let n : length s.procedures ≡ length c.procedures.result.now = sym (ap length e) ∙ length-map c.procedures.result.now procedure_of in
+    let k = callee h i (map expression_of c.args.arguments.now) c.requires.room c.requires.fits in
+    let lt : i < length s.procedures = number_below s.procedures i k.procedure k.there in omega (arith, n, lt)
+
+pub pass-requires-clause-room : goal.pass-requires-clause-room
+pass-requires-clause-room g c =
+    let h = c.args.self.now in
+    let s = h.checked.now.script in
+    let i = c.args.procedure in
+    let es = map expression_of c.args.arguments.now in
+    let r = c.index-procedures-procedure.result in
+    let e : map procedure_of c.procedures.result.now ≡ s.procedures = c.procedures.ensures ∙ ap (λ s. s.procedures) c.script-script.ensures in
+    let k = callee h i es c.requires.room c.requires.fits in
+    let there : slice_get s.procedures i ≡ Some (procedure_of r) = procedure_at c.procedures.result.now s.procedures i r e (number_below s.procedures i k.procedure k.there) c.index-procedures-procedure.is in
+    let room = (variables_room h i es c.requires.room c.requires.fits (procedure_of r) there c.of_procedure-scope.result c.of_procedure-scope.ensures).1 in
+    omega (arith, room, length-map c.args.arguments.now expression_of, c.requires.room.variables)
+
+pub pass-requires-clause-have_values : goal.pass-requires-clause-have_values
+pass-requires-clause-have_values g c = call_has c.args.self.now c.args.procedure (map expression_of c.args.arguments.now) c.requires.fine
+
+pub unset-requires-clause-room : goal.unset-requires-clause-room
+unset-requires-clause-room g c =
+    let h = c.args.self.now in
+    let s = h.checked.now.script in
+    let i = c.args.procedure in
+    let es = map expression_of c.args.arguments.now in
+    let r = c.index-procedures-procedure.result in
+    let e : map procedure_of c.procedures.result.now ≡ s.procedures = c.procedures.ensures ∙ ap (λ s. s.procedures) c.script-script.ensures in
+    let k = callee h i es c.requires.room c.requires.fits in
+    let there : slice_get s.procedures i ≡ Some (procedure_of r) = procedure_at c.procedures.result.now s.procedures i r e (number_below s.procedures i k.procedure k.there) c.index-procedures-procedure.is in
+    let room = (registers_room h i es c.requires.room c.requires.fits (procedure_of r) there c.of_procedure-scope.result c.of_procedure-scope.ensures).1 in
+    omega (arith, room, c.requires.room.registers)
+
+pub push-requires : goal.push-requires
+push-requires g c =
+    let h = c.args.self.now in
+    let s = h.checked.now.script in
+    let i = c.args.procedure in
+    let es = map expression_of c.args.arguments.now in
+    let r = c.index-procedures-procedure.result in
+    let F : Script → Type 0 = λ s. IsTrue (is_well_formed s) in
+    let e : map procedure_of c.procedures.result.now ≡ s.procedures = c.procedures.ensures ∙ ap (λ s. s.procedures) c.script-script.ensures in
+    let k = callee h i es c.requires.room c.requires.fits in
+    let there : slice_get s.procedures i ≡ Some (procedure_of r) = procedure_at c.procedures.result.now s.procedures i r e (number_below s.procedures i k.procedure k.there) c.index-procedures-procedure.is in
+    let lt = callee_free h i es c.requires.room c.requires.fits (procedure_of r) there c.of_procedure-scope.result c.of_procedure-scope.ensures (subst F c.script-script.ensures c.well_formed-2.ensures) in (search rules, lt)
+
+pub returns : goal.returns
+returns g c =
+    let h = c.args.self.now in
+    let s = h.checked.now.script in
+    let i = c.args.procedure in
+    let es = map expression_of c.args.arguments.now in
+    let r = c.index-procedures-procedure.result in
+    let sc = c.of_procedure-scope.result in
+    let ws = c.pass.new.variables in
+    let F : Script → Type 0 = λ s. IsTrue (is_well_formed s) in
+    let e : map procedure_of c.procedures.result.now ≡ s.procedures = c.procedures.ensures ∙ ap (λ s. s.procedures) c.script-script.ensures in
+    let k = callee h i es c.requires.room c.requires.fits in
+    let there : slice_get s.procedures i ≡ Some (procedure_of r) = procedure_at c.procedures.result.now s.procedures i r e (number_below s.procedures i k.procedure k.there) c.index-procedures-procedure.is in
+    enters_filled h i es c.requires.room c.requires.fits (procedure_of r) there sc c.of_procedure-scope.ensures (subst F c.script-script.ensures c.well_formed-2.ensures)
+    c.as_slice.result (ap statements_of c.as_slice.ensures.value) ws c.unset.new.registers c.push.new.self
+    (record {
+      values = c.pass.ensures.values ∙ ap (λ n. Some (slice_range ws sc.variables.start (sc.variables.start + n))) (sym (length-map c.args.arguments.now expression_of));
+      variables_before = c.pass.ensures.before;
+      variables = c.pass.ensures.count;
+      unset = c.unset.ensures.unset;
+      registers_before = c.unset.ensures.before;
+      registers = c.unset.ensures.count;
+    })
+    c.push.ensures.items

@@ -1,0 +1,15 @@
+use Rattle.std.proofs.Common.{◌≡◌, ℕ, List, Some, map, sym, ap, ◌∙◌}
+use Rattle.std.specs.Prelude.{option_map}
+use Rattle.camac_lang.specs.declared.script.Table.{Table}
+use Rattle.camac_lang.specs.View.{table_of}
+use Rattle.camac_run_machine.proofs.Lams.{table_below, table_at}
+use Rattle.camac_run_machine.proofs.machine.Machine.sent.Goals as goal
+
+pub returns-in-Some : goal.returns-in-Some
+returns-in-Some g c =
+    let h = c.args.self.now in
+    let t = c.index-tables-number.result in
+    let e : map table_of c.tables.result.now ≡ h.checked.now.script.tables = c.tables.ensures ∙ ap (λ s. s.tables) c.script.ensures in
+    rw c.in-Some.is
+    (ap (option_map (λ (ws : List ℕ). Some ws)) (table_at c.tables.result.now h.checked.now.script.tables c.in-Some.number t e (table_below c.tables.result.now h.checked.now.script.tables c.in-Some.number e (rw c.in-Some.is at c.requires)) c.index-tables-number.is)
+    ∙ ap (λ (ws : List ℕ). Some (Some ws)) (sym (c.as_slice.ensures.value ∙ ap (λ (v : Table). v.words.items) (sym c.index-tables-number.is))))

@@ -1,0 +1,129 @@
+use Rattle.std.proofs.Common.{◌≡◌, ℕ, ◌+◌, Some, refl, sym, ap, ◌∙◌, arith}
+use Rattle.std.specs.Prelude.{None, option_map, unwrap_or}
+use Rattle.camac_branch.specs.Branch.{pattern_of}
+use Rattle.camac_branch.specs.Crates.{branch_of}
+use Rattle.camac_model.specs.Behaviour.{does, demanded}
+use Rattle.std.specs.Borrow.{Bor}
+use Rattle.arrayvec.specs.ArrayVec.{ArrayVec}
+use Rattle.camac_check.specs.Checked.{CheckedScript}
+use Rattle.camac_model.specs.Fine.{most_turns}
+use Rattle.camac_model.specs.Run.{Chosen, service_for, service_meaning}
+use Rattle.camac_run_machine.specs.Held.{context_in, want_of}
+use Rattle.camac_run_machine.specs.Rest.{onward, served, says}
+use Rattle.camac_run_machine.specs.Runner.{bit_at, rest, with_event, last_words_in}
+use Rattle.camac_run_machine.specs.Sound.{held}
+use Rattle.camac_run_machine.proofs.Services.{place}
+use Rattle.camac_run_machine.proofs.Serving.{onward_passes, onward_serves}
+use Rattle.camac_run_machine.proofs.Sizes.{machine_fits}
+use Rattle.camac_run_machine.proofs.Told.{told_along, numbered, quiet, sound_after, serve_fine, none_wanted, none_mapped, some_mapped, few_events, below_along}
+use Rattle.camac_run_machine.proofs.runner.Runner.demand.Goals as goal
+
+pub serve-next-requires : goal.serve-next-requires
+serve-next-requires g c =
+    let inv = c.self.invariant in
+    let wanting : c.self.inside.wanting ≡ None = none_wanted want_of c.self.inside.wanting (ap (λ h. h.wanting) c.self.view_is ∙ c.requires.idle) in
+    let idle = rw wanting at inv.idle in
+    (machine_fits _ c.requires-raw.1.1.1.0, (inv.room, (inv.quiet, (idle, (inv.fits, c.in-Some.ensures.known)))))
+
+pub invariant_of-self : goal.invariant_of-self
+invariant_of-self g c =
+    let inv = c.self.invariant in
+    record {
+      room = inv.room;
+      quiet = inv.quiet;
+      checked = inv.checked;
+      formed = inv.formed;
+      fits = inv.fits;
+      wants = inv.wants;
+      idle = inv.idle;
+      service = inv.service;
+      fine = inv.fine;
+      events = let few = inv.events in omega arith;
+    }
+
+pub returns-in-None : goal.returns-in-None
+returns-in-None g c =
+    let r = c.self.inside in
+    let k = r.machine.checked.now in
+    let wanting : r.wanting ≡ None = none_wanted want_of r.wanting (ap (λ h. h.wanting) c.self.view_is ∙ c.requires.idle) in
+    let first : r.overrun ≡ None = ap (λ h. h.overrun) c.self.view_is ∙ c.requires.first in
+    let pat : c.demand-pattern.result ≡ pattern_of k.plan (branch_of r.machine.branch) c.args.answer.gl = c.demand-pattern.ensures ∙ ap (λ p. pattern_of p (branch_of r.machine.branch) c.args.answer.gl) c.plan.ensures in
+    let none : service_for (context_in k) (pattern_of k.plan (branch_of r.machine.branch) c.args.answer.gl) k.script.services ≡ None = ap (λ n. service_for (context_in k) n k.script.services) (sym pat) ∙ c.in-None.ensures.chosen in
+    rw (← c.self.view_is) (record {
+      first = first;
+      goes = λ answers. rw wanting
+          (onward_passes k.plan k.script (branch_of r.machine.branch) c.args.answer answers none
+          ∙ ap (λ n. does (demanded n None) (onward (context_in k) k.script.services (branch_of r.machine.branch) answers)) (sym pat)
+          ∙ ap (λ us. does (demanded c.demand-pattern.result None) (says us (onward (context_in k) k.script.services (branch_of r.machine.branch) answers))) (sym c.new.ensures));
+      fed = refl;
+      same = refl;
+      next = tt;
+      none = refl;
+      overrun = first;
+      checked = refl;
+    })
+
+pub event-event-requires : goal.event-event-requires
+event-event-requires g c =
+    let r = c.self.inside in
+    let k = r.machine.checked.now in
+    let i = c.in-Some.called.number in
+    let p = place k.script.services i c.in-Some.ensures.known in
+    let s = c.serve-next.ensures p.0 p.1 in
+    (machine_fits _ c.requires-raw.1.1.1.0, below_along c.serve-next.new.self r.machine.checked i s.checked s.service c.in-Some.ensures.known)
+
+pub invariant_of-self-in-Some : goal.invariant_of-self-in-Some
+invariant_of-self-in-Some g c =
+    let inv = c.self.invariant in
+    let r = c.self.inside in
+    let k = r.machine.checked.now in
+    let i = c.in-Some.called.number in
+    let p = place k.script.services i c.in-Some.ensures.known in
+    let s = c.serve-next.ensures p.0 p.1 in
+    let few = few_events c.serve-next.result r.events c.events_after-events.result (none_mapped c.serve-next.result _ _ c.is_over-over.ensures.ended c.events_after-events.ensures.ended) (some_mapped c.serve-next.result _ _ c.is_over-over.ensures.goes_on c.events_after-events.ensures.goes_on) in
+    let new = c.serve-next.new.self in
+    sound_after r.machine new c.take-unlocks.new.self r.wanting c.serve-next.result r.fed r.events c.events_after-events.result i c.take-unlocks.ensures.after inv s.room s.checked s.service c.in-Some.ensures.known s.wants s.over
+    (serve_fine r.machine c.serve-next.new.self i p.0 c.serve-next.result inv.checked p.1 s)
+    (let e = inv.events in omega (arith, few, e))
+
+pub returns-in-Some : goal.returns-in-Some
+returns-in-Some g c =
+    let inv = c.self.invariant in
+    let r = c.self.inside in
+    let k = r.machine.checked.now in
+    let b = branch_of r.machine.branch in
+    let i = c.in-Some.called.number in
+    let bit = c.in-Some.called.gl in
+    let new = c.serve-next.new.self in
+    let next' = c.serve-next.result in
+    let n' = c.events_after-events.result in
+    let p = place k.script.services i c.in-Some.ensures.known in
+    let s = c.serve-next.ensures p.0 p.1 in
+    let v : Chosen = record { number = i; bit = bit; service = p.0 } in
+    let wanting : r.wanting ≡ None = none_wanted want_of r.wanting (ap (λ h. h.wanting) c.self.view_is ∙ c.requires.idle) in
+    let first : r.overrun ≡ None = ap (λ h. h.overrun) c.self.view_is ∙ c.requires.first in
+    let pat : c.demand-pattern.result ≡ pattern_of k.plan b c.args.answer.gl = c.demand-pattern.ensures ∙ ap (λ p. pattern_of p b c.args.answer.gl) c.plan.ensures in
+    let called : service_for (context_in k) (pattern_of k.plan b c.args.answer.gl) k.script.services ≡ Some v =
+    ap (λ n. service_for (context_in k) n k.script.services) (sym pat) ∙ c.in-Some.ensures.chosen ∙ ap (option_map (λ w. record { number = i; bit = bit; service = w })) p.1 in
+    let its : bit_at k i ≡ bit = ap (λ o. unwrap_or o 0) c.in-Some.ensures.bit in
+    let ended = none_mapped next' _ _ c.is_over-over.ensures.ended (λ t. c.if_over.ensures.ended t ∙ ap (λ x. Some x) c.event-event.ensures) in
+    let silent = some_mapped next' _ _ c.is_over-over.ensures.goes_on c.if_over.ensures.goes_on in
+    let counted = none_mapped next' _ _ c.is_over-over.ensures.ended c.events_after-events.ensures.ended in
+    let stays = some_mapped next' _ _ c.is_over-over.ensures.goes_on c.events_after-events.ensures.goes_on in
+    let number = numbered new next' c.if_over.result r.events n' s.room.missed ended silent counted stays in
+    rw (← c.self.view_is) (record {
+      first = first;
+      goes = λ answers. rw wanting
+          (onward_serves k.plan k.script b c.args.answer answers v called
+          ∙ ap (λ n. does (demanded n (Some i)) (served (context_in k) k.script.services bit (service_meaning (context_in k) most_turns p.0 b answers))) (sym pat)
+          ∙ ap (does (demanded c.demand-pattern.result (Some i)))
+          (ap (served (context_in k) k.script.services bit) (sym (s.goes answers))
+          ∙ told_along new r.machine.checked i bit next' c.if_over.result (r.fed + 1) n' c.is_over-over.result r.overrun answers s.checked s.service its s.over ended silent c.is_over-over.ensures.ended new.unlocks.items
+          ∙ ap (λ us. says us (with_event c.if_over.result (last_words_in (held new next' (r.fed + 1) n' c.is_over-over.result r.overrun)) (rest (held new next' (r.fed + 1) n' c.is_over-over.result r.overrun) answers))) (ap (λ (v : ArrayVec ℕ). v.items) (sym c.take-unlocks.ensures.value))));
+      fed = refl;
+      same = number.0;
+      next = number.1;
+      none = quiet new next' c.if_over.result (r.fed + 1) n' c.is_over-over.result r.overrun ended c.is_over-over.ensures.goes_on;
+      overrun = first;
+      checked = ap (λ (z : Bor CheckedScript). z.now) s.checked;
+    })

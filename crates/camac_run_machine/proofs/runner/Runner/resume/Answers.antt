@@ -1,0 +1,106 @@
+use Rattle.std.proofs.Common.{◌≡◌, ℕ, ◌+◌, Some, refl, sym, ap, ◌∙◌, arith}
+use Rattle.std.specs.Prelude.{None}
+use Rattle.std.specs.Borrow.{Bor}
+use Rattle.arrayvec.specs.ArrayVec.{ArrayVec}
+use Rattle.camac_check.specs.Checked.{CheckedScript}
+use Rattle.camac_model.specs.Behaviour.{does, then_do}
+use Rattle.camac_run_machine.specs.declared.machine.Machine.{Machine}
+use Rattle.camac_run_machine.specs.Held.{context_in, state_of, left_in, want_of, piece_of}
+use Rattle.camac_run_machine.specs.Rest.{follows, served, says}
+use Rattle.camac_run_machine.specs.Runner.{bit_at, rest, with_event, last_words_in}
+use Rattle.camac_run_machine.specs.Sound.{held}
+use Rattle.camac_run_machine.proofs.Serving.{served_does, served_stops}
+use Rattle.camac_run_machine.proofs.Sizes.{machine_fits}
+use Rattle.camac_run_machine.proofs.Told.{told_along, numbered, quiet, sound_after, take_fine, settle_fine, none_mapped, some_mapped, few_events, below_along}
+use Rattle.camac_run_machine.proofs.runner.Runner.resume.Goals as goal
+
+pub take-requires : goal.take-requires
+take-requires g c =
+    let wanting : c.self.inside.wanting ≡ Some c.in-Some.wanting = sym c.take-waited.ensures.value ∙ c.in-Some.is in
+    let inv = c.self.invariant in
+    (machine_fits _ c.requires-raw.1.1.1.0, (inv.room, (inv.quiet, (rw wanting at inv.wants, rw wanting at inv.fine))))
+
+pub go_further-next-requires : goal.go_further-next-requires
+go_further-next-requires g c =
+    let wanting : c.self.inside.wanting ≡ Some c.in-Some.wanting = sym c.take-waited.ensures.value ∙ c.in-Some.is in
+    let inv = c.self.invariant in
+    let t = c.in-Ok.ensures.took in
+    (machine_fits _ c.requires-raw.1.1.1.0, (t.room, (ap (λ (v : ArrayVec ℕ). v.items) t.unlocks ∙ inv.quiet, (t.can_follow, take_fine c.self.inside.machine c.take.new.self c.in-Some.wanting c.args.answer c.in-Ok.item (rw wanting at inv.fine) t))))
+
+pub event-event-requires : goal.event-event-requires
+event-event-requires g c =
+    let wanting : c.self.inside.wanting ≡ Some c.in-Some.wanting = sym c.take-waited.ensures.value ∙ c.in-Some.is in
+    let inv = c.self.invariant in
+    let r = c.self.inside in
+    let t = c.in-Ok.ensures.took in
+    let s = c.go_further-next.ensures in
+    (machine_fits _ c.requires-raw.1.1.1.0, below_along c.go_further-next.new.self r.machine.checked r.machine.service (s.checked ∙ t.checked) (s.service ∙ t.service) (rw wanting at inv.service))
+
+pub invariant_of-self : goal.invariant_of-self
+invariant_of-self g c =
+    let wanting : c.self.inside.wanting ≡ Some c.in-Some.wanting = sym c.take-waited.ensures.value ∙ c.in-Some.is in
+    let inv = c.self.invariant in
+    let r = c.self.inside in
+    let mid = c.take.new.self in
+    let new = c.go_further-next.new.self in
+    let next' = c.go_further-next.result in
+    let t = c.in-Ok.ensures.took in
+    let s = c.go_further-next.ensures in
+    let few = few_events next' r.events c.events_after-events.result (none_mapped next' _ _ c.is_over-over.ensures.ended c.events_after-events.ensures.ended) (some_mapped next' _ _ c.is_over-over.ensures.goes_on c.events_after-events.ensures.goes_on) in
+    let fine = take_fine r.machine mid c.in-Some.wanting c.args.answer c.in-Ok.item (rw wanting at inv.fine) t in
+    sound_after r.machine new c.take-unlocks.new.self r.wanting next' r.fed r.events c.events_after-events.result r.machine.service c.take-unlocks.ensures.after inv s.room (s.checked ∙ t.checked) (s.service ∙ t.service) (rw wanting at inv.service) s.wants s.over
+    (settle_fine mid new (λ z. follows z (want_of c.in-Some.wanting)) next' fine s) (let e = inv.events in omega (arith, few, e))
+
+pub returns-in-Ok : goal.returns-in-Ok
+returns-in-Ok g c =
+    let wanting : c.self.inside.wanting ≡ Some c.in-Some.wanting = sym c.take-waited.ensures.value ∙ c.in-Some.is in
+    let r = c.self.inside in
+    let k = r.machine.checked.now in
+    let ctx = context_in k in
+    let vs = k.script.services in
+    let bit = bit_at k r.machine.service in
+    let mid = c.take.new.self in
+    let new = c.go_further-next.new.self in
+    let next' = c.go_further-next.result in
+    let n' = c.events_after-events.result in
+    let d = c.in-Ok.item in
+    let first : r.overrun ≡ None = ap (λ h. h.overrun) c.self.view_is ∙ c.requires.first in
+    let t = c.in-Ok.ensures.took in
+    let s = c.go_further-next.ensures in
+    let ended = none_mapped next' _ _ c.is_over-over.ensures.ended (λ u. c.if_over.ensures.ended u ∙ ap (λ x. Some x) c.event-event.ensures) in
+    let silent = some_mapped next' _ _ c.is_over-over.ensures.goes_on c.if_over.ensures.goes_on in
+    let counted = none_mapped next' _ _ c.is_over-over.ensures.ended c.events_after-events.ensures.ended in
+    let stays = some_mapped next' _ _ c.is_over-over.ensures.goes_on c.events_after-events.ensures.goes_on in
+    let number = numbered new next' c.if_over.result r.events n' s.room.missed ended silent counted stays in
+    rw (← c.self.view_is) (record {
+      first = first;
+      goes = λ answers. rw wanting
+          (ap (served ctx vs bit) (t.goes answers)
+          ∙ served_does ctx vs bit (piece_of d) (then_do (follows (context_in mid.checked.now) (want_of c.in-Some.wanting) (state_of mid answers)) (left_in mid))
+          ∙ ap (does (piece_of d))
+          (ap (served ctx vs bit) (sym (s.goes answers))
+          ∙ told_along new r.machine.checked r.machine.service bit next' c.if_over.result (r.fed + 1) n' c.is_over-over.result r.overrun answers (s.checked ∙ t.checked) (s.service ∙ t.service) refl s.over ended silent c.is_over-over.ensures.ended new.unlocks.items
+          ∙ ap (λ us. says us (with_event c.if_over.result (last_words_in (held new next' (r.fed + 1) n' c.is_over-over.result r.overrun)) (rest (held new next' (r.fed + 1) n' c.is_over-over.result r.overrun) answers))) (ap (λ (v : ArrayVec ℕ). v.items) (sym c.take-unlocks.ensures.value))));
+      fed = refl;
+      same = number.0;
+      next = number.1;
+      none = quiet new next' c.if_over.result (r.fed + 1) n' c.is_over-over.result r.overrun ended c.is_over-over.ensures.goes_on;
+      overrun = first;
+      checked = ap (λ (z : Bor CheckedScript). z.now) (s.checked ∙ t.checked);
+    })
+
+pub returns-in-Err : goal.returns-in-Err
+returns-in-Err g c =
+    let wanting : c.self.inside.wanting ≡ Some c.in-Some.wanting = sym c.take-waited.ensures.value ∙ c.in-Some.is in
+    let r = c.self.inside in
+    let k = r.machine.checked.now in
+    let first : r.overrun ≡ None = ap (λ h. h.overrun) c.self.view_is ∙ c.requires.first in
+    rw (c.stopped-progress.ensures, ← c.self.view_is) (record {
+      now = rw first (λ answers. rw wanting
+          (ap (served (context_in k) k.script.services (bit_at k r.machine.service)) (c.in-Err.ensures.overrun answers)
+          ∙ served_stops (context_in k) k.script.services (bit_at k r.machine.service) _ _));
+      again = rw first tt;
+      same =
+          ap (λ (m : Machine g.row.V g.row.DEPTH g.row.CAP). held m (Some c.in-Some.wanting) r.fed r.events r.has_event (Some c.in-Err.overrun)) c.in-Err.ensures.same
+          ∙ ap (λ o. held r.machine o r.fed r.events r.has_event (Some c.in-Err.overrun)) (sym wanting);
+    })

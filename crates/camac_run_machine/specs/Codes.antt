@@ -1,0 +1,74 @@
+-- Codes of what is wanted and of open blocks: distinct values have distinct codes, by which a proof tells them apart.
+use Rattle.std.specs.Prelude.{◌≡◌, ℕ, List, Option, refl}
+use Rattle.std.specs.Coded.{Coded, code_by, coded×, coded_ℕ, coded_list, coded_option}
+use Rattle.std.proofs.Common.{ap}
+use base.Stored.{Gv, gnil, gnum, gcons}
+use Rattle.camac_branch.specs.contracts.answer.Command as command
+use Rattle.camac_branch.specs.Address.{Address}
+use Rattle.camac_esone.specs.contracts.address.Address as address
+use Rattle.camac_lang.specs.Code.{clash, condition_coded, block_coded}
+use Rattle.camac_lang.specs.Tree.{Block}
+use Rattle.camac_run_machine.specs.contracts.scope.Scope as scope
+use Rattle.camac_run_machine.specs.contracts.transfer.Course as course
+use Rattle.camac_run_machine.specs.Rest.{Want, makes, reads, locks, transfers, Owner, nothing, releases, counts, repeats, returns, Open}
+
+abbrev pub table_coded : Coded (Option (List ℕ))
+table_coded = coded_option (coded_list coded_ℕ)
+
+abbrev pub want_code : Want → Gv
+want_code (makes k) = gcons (gnum 0) (command.the_row.coded.code k)
+want_code (reads k x bits) = gcons (gnum 1) (gcons (command.the_row.coded.code k) (gcons (gnum x) (gnum bits)))
+want_code (locks k body) = gcons (gnum 2) (gcons (gnum k) (block_coded.code body))
+want_code (transfers t f table x) = gcons (gnum 3) (gcons (course.the_row.coded.code t) (gcons (gnum f) (gcons (table_coded.code table) (gnum x))))
+
+pub same_want : (a b : Want) → want_code a ≡ want_code b → a ≡ b
+same_want (makes k) (makes l) e =
+    let h : command.the_row.coded.code k ≡ command.the_row.coded.code l = cc in ap makes (command.the_row.coded.inj k l h)
+same_want (reads k x m) (reads l y n) e =
+    let h : command.the_row.coded.code k ≡ command.the_row.coded.code l = cc in cc (command.the_row.coded.inj k l h)
+same_want (locks k a) (locks l b) e =
+    let h : block_coded.code a ≡ block_coded.code b = cc in cc (block_coded.inj a b h)
+same_want (transfers t f table x) (transfers u g words y) e =
+    let h : course.the_row.coded.code t ≡ course.the_row.coded.code u = cc in
+    let k : table_coded.code table ≡ table_coded.code words = cc in
+    cc (course.the_row.coded.inj t u h, table_coded.inj table words k)
+same_want x y e = clash (want_code x) (want_code y) e refl
+
+abbrev pub want_coded : Coded Want
+want_coded = record { code = want_code; inj = same_want }
+
+abbrev variables_coded : Coded (List ℕ)
+variables_coded = coded_list coded_ℕ
+
+abbrev registers_coded : Coded (List (Option Address))
+registers_coded = coded_list (coded_option address.the_row.coded)
+
+abbrev pub owner_code : Owner → Gv
+owner_code nothing = gcons (gnum 0) gnil
+owner_code (releases k) = gcons (gnum 1) (gnum k)
+owner_code (counts x v last n body) = gcons (gnum 2) (gcons (gnum x) (gcons (gnum v) (gcons (gnum last) (gcons (gnum n) (block_coded.code body)))))
+owner_code (repeats test n body) = gcons (gnum 3) (gcons (condition_coded.code test) (gcons (gnum n) (block_coded.code body)))
+owner_code (returns p vs rs) = gcons (gnum 4) (gcons (scope.the_row.coded.code p) (gcons (variables_coded.code vs) (registers_coded.code rs)))
+
+pub same_owner : (a b : Owner) → owner_code a ≡ owner_code b → a ≡ b
+same_owner nothing nothing e = refl
+same_owner (releases k) (releases l) e = cc
+same_owner (counts x v last n a) (counts y w top m b) e =
+    let h : block_coded.code a ≡ block_coded.code b = cc in cc (block_coded.inj a b h)
+same_owner (repeats t n a) (repeats u m b) e =
+    let g : condition_coded.code t ≡ condition_coded.code u = cc in
+    let h : block_coded.code a ≡ block_coded.code b = cc in
+    cc (condition_coded.inj t u g, block_coded.inj a b h)
+same_owner (returns p vs rs) (returns q ws qs) e =
+    let g : scope.the_row.coded.code p ≡ scope.the_row.coded.code q = cc in
+    let h : variables_coded.code vs ≡ variables_coded.code ws = cc in
+    let k : registers_coded.code rs ≡ registers_coded.code qs = cc in
+    cc (scope.the_row.coded.inj p q g, variables_coded.inj vs ws h, registers_coded.inj rs qs k)
+same_owner x y e = clash (owner_code x) (owner_code y) e refl
+
+abbrev pub owner_coded : Coded Owner
+owner_coded = record { code = owner_code; inj = same_owner }
+
+abbrev pub open_coded : Coded Open
+open_coded =
+    code_by (Block × Owner) (coded× block_coded owner_coded) (λ o. (o.block, o.owner)) (λ p. record { block = p.0; owner = p.1 }) (λ _. refl)

@@ -1,0 +1,34 @@
+-- How far a transfer is, and what its next cycle moves.
+use Rattle.std.specs.Prelude.{ℕ, List, [], ◌∷◌, ◌++◌, Option, Some, None, option_map, drop, if◌then◌else◌}
+use Rattle.std.specs.Borrow.{Bor}
+use Rattle.camac_func.specs.declared.data.DataMove.{DataMove}
+use Rattle.camac_branch.specs.Branch.{Reply}
+use Rattle.camac_esone.specs.Held.{stop_left, repeat_left, scan_left}
+use Rattle.camac_esone.specs.Progress.{Left}
+use Rattle.camac_model.specs.Cycle.{kept}
+use Rattle.camac_model.specs.Transfer.{transfer_data}
+use Rattle.camac_run_machine.specs.declared.transfer.Course.{Course}
+use Rattle.camac_run_machine.specs.declared.transfer.Course.TheVariants.{Stop, Repeat, Scan}
+
+-- where its further cycles go, and its tally so far
+abbrev pub left_at : Course → Left
+left_at (Stop h) = stop_left h
+left_at (Repeat h) = repeat_left h
+left_at (Scan h) = scan_left h
+
+-- the words of a table from one on, where there is a table
+abbrev pub words_from : ℕ → Option (List ℕ) → Option (List ℕ)
+words_from n table = option_map (drop n) table
+
+-- the words of the table that is sent
+abbrev pub words_sent : Option (Bor (List ℕ)) → Option (List ℕ)
+words_sent table = option_map (λ (words : Bor (List ℕ)). words.now) table
+
+-- a read, or the word of the table whose index is the tally so far
+abbrev pub data_of : Course → Option (List ℕ) → Option DataMove
+data_of t table = transfer_data (words_from (left_at t).tally table) []
+
+-- the words of the event after a cycle: a read keeps so many bits of a word with Q=1
+abbrev pub words_after : Option (List ℕ) → ℕ → Reply → List ℕ → List ℕ
+words_after None bits r words = if r.q then words ++ kept bits r ∷ [] else words
+words_after (Some table) bits r words = words

@@ -1,0 +1,317 @@
+-- What a machine holds, as the definitions see it.
+use Rattle.std.specs.Prelude.{◌≡◌, ℕ, zero, suc, ◌+◌, ◌*◌, ◌-◌, ◌<◌, ◌≤◌, List, [], ◌∷◌, ◌++◌, length, map, Option, Some, None, IsSome, IfSome, IfNone, true, false, nat_eq, if◌then◌else◌, slice_index_or, slice_set}
+use Rattle.camac_lang.specs.Tree.{Service}
+use Rattle.camac_branch.specs.Address.{Address}
+use Rattle.camac_lang.specs.View.{part_of, statements_of}
+use Rattle.camac_branch.specs.Branch.{Branch, Answer, reply_to, branch_after, with_lock}
+use Rattle.camac_branch.specs.Crates.{branch_of, is_permitted}
+use Rattle.camac_branch.specs.Plan.{crate_waits}
+use Rattle.camac_branch.specs.declared.answer.CycleDone.{CycleDone}
+use Rattle.camac_branch.specs.declared.answer.Overrun.{Overrun}
+use Rattle.camac_branch.specs.declared.answer.Command.{Command}
+use Rattle.camac_check.specs.Checked.{CheckedScript}
+use Rattle.camac_model.specs.State.{State, Variables, Registers, missed_with}
+use Rattle.camac_model.specs.Behaviour.{Behaviour, does, stops, Piece, demanded, cycled, lock_taken, lock_released, overrun, Action, then_do}
+use Rattle.camac_model.specs.Fine.{Bounds, IsFine, most_turns}
+use Rattle.camac_model.specs.Meaning.{Context, context}
+use Rattle.camac_model.specs.Run.{service_meaning}
+use Rattle.camac_model.specs.Value.{greatest}
+use Rattle.camac_run_machine.specs.Store.{variables_in, registers_in, held_at}
+use Rattle.camac_size.specs.Fits.{fits}
+use Rattle.camac_run_machine.specs.Course.{left_at, words_sent, data_of}
+use Rattle.camac_run_machine.specs.Rest.{address_of, Want, makes, reads, locks, transfers, awaited, follows, Owner, nothing, releases, counts, repeats, returns, Open, rest_in, says}
+use Rattle.camac_run_machine.specs.Within.{Reach, reach_of, ScopeFits, Opens, OpenFit}
+use Rattle.camac_run_machine.specs.declared.item.Item.{Item}
+use Rattle.camac_run_machine.specs.declared.item.Item.TheVariants as item
+use Rattle.camac_run_machine.specs.declared.machine.Frame.{Frame}
+use Rattle.camac_run_machine.specs.declared.machine.Machine.{Machine}
+use Rattle.camac_run_machine.specs.declared.machine.Owner as rust
+use Rattle.camac_run_machine.specs.declared.machine.Wanting.{Wanting}
+use Rattle.camac_run_machine.specs.declared.machine.Wanting.TheVariants as wanting
+use Rattle.camac_run_machine.specs.declared.machine.Wanting.TheVariants.{Cycle, Read, Lock}
+use Rattle.camac_run_machine.specs.declared.transfer.Transfer.{Transfer}
+
+-- the bounds of the service of this number
+abbrev pub bounds_at : CheckedScript → ℕ → Bounds
+bounds_at c i = slice_index_or c.bounds i (record { cycles = 0; words = 0; steps = 0 })
+
+abbrev pub context_in : CheckedScript → Context
+context_in c = context c.plan c.script
+
+-- in a store with these variables and registers
+abbrev pub owner_of : List ℕ → List (Option Address) → rust.Owner → Owner
+owner_of vs rs rust.TheVariants.Plain = nothing
+owner_of vs rs (rust.TheVariants.Locked k) = releases k
+owner_of vs rs (rust.TheVariants.For x v last n body) = counts x v last n (statements_of body.now)
+owner_of vs rs (rust.TheVariants.While test n body) = repeats (map part_of test.now) n (statements_of body.now)
+owner_of vs rs (rust.TheVariants.Return p) = returns p (held_at p.variables vs) (held_at p.registers rs)
+
+abbrev pub open_of : List ℕ → List (Option Address) → Frame → Open
+open_of vs rs f = record { block = statements_of f.rest.now; owner = owner_of vs rs f.owner }
+
+abbrev pub opens_of : List ℕ → List (Option Address) → List Frame → List Open
+opens_of vs rs fs = map (open_of vs rs) fs
+
+abbrev pub transfer_of : Transfer → Want
+transfer_of t = transfers t.course t.function (words_sent t.table) t.tally
+
+-- what is left of a transfer
+abbrev pub transferred : Context → Transfer → Action
+transferred c t s = awaited c (transfer_of t) s
+
+abbrev pub want_of : Wanting → Want
+want_of (Cycle k) = makes k
+want_of (Read k x bits) = reads k x bits
+want_of (Lock k body) = locks k (statements_of body.now)
+want_of (wanting.Transfer k t table x) = transfers t k.f (words_sent table) x
+
+-- a transfer goes on after a cycle that it wanted, and sets one of so many variables
+abbrev pub CanFollow : ℕ → Wanting → Type 0
+CanFollow v (Cycle k) = Unit {0}
+CanFollow v (Read k x bits) = Unit {0}
+CanFollow v (Lock k body) = Unit {0}
+CanFollow v (wanting.Transfer k t table x) = (x < v) × IsSome ((left_at t).wanted [])
+
+-- the crate in which the answer is to be used
+abbrev pub crate_of : Wanting → ℕ
+crate_of (Cycle k) = k.c
+crate_of (Read k x bits) = k.c
+crate_of (Lock k body) = k
+crate_of (wanting.Transfer k t table x) = k.c
+
+-- the piece of a cycle that was made
+abbrev pub made : CycleDone → Piece
+made d = cycled (address_of d.command) d.command.f d.command.mv d.reply d.wait
+
+abbrev pub piece_of : Item → Piece
+piece_of (item.Cycle d) = made d
+piece_of (item.Lock c w) = lock_taken c w
+piece_of (item.Unlock c) = lock_released c
+piece_of (item.Demand p v) = demanded p v
+
+-- how many of the open blocks hold the lock of crate c
+abbrev pub holds : ℕ → Owner → ℕ
+holds c nothing = 0
+holds c (releases k) = if nat_eq c k then 1 else 0
+holds c (counts x v last n body) = 0
+holds c (repeats test n body) = 0
+holds c (returns p vs rs) = 0
+
+abbrev pub times_held : ℕ → List Open → ℕ
+times_held c [] = 0
+times_held c (o ∷ os) = holds c o.owner + times_held c os
+
+-- each crate is locked exactly where one open block holds its lock
+abbrev pub AreHeld : Branch → List Open → Type 0
+AreHeld b os = (c : ℕ) → times_held c os ≡ (if (b c).locked then 1 else 0)
+
+-- how many of the crates 1 to n are locked
+abbrev pub locked_among : Branch → ℕ → ℕ
+locked_among b zero = 0
+locked_among b (suc n) = locked_among b n + (if (b (suc n)).locked then 1 else 0)
+
+module _ {V D C : ℕ} where
+  -- the variables and registers of the innermost body
+  abbrev pub variables_here : Machine V D C → Variables
+  variables_here h = variables_in (held_at h.scope.variables h.variables)
+
+  abbrev pub registers_here : Machine V D C → Registers
+  registers_here h = registers_in (held_at h.scope.registers h.registers)
+
+  -- the open blocks, as the definitions see them
+  abbrev pub owner_in : Machine V D C → rust.Owner → Owner
+  owner_in h o = owner_of h.variables h.registers o
+
+  abbrev pub open_in : Machine V D C → Frame → Open
+  open_in h f = open_of h.variables h.registers f
+
+  abbrev pub opens_in : Machine V D C → List Open
+  opens_in h = opens_of h.variables h.registers h.frames.items
+
+  -- with the answers that are to come
+  abbrev pub state_of : Machine V D C → List Answer → State
+  state_of h answers = record {
+    branch = branch_of h.branch;
+    variables = variables_here h;
+    registers = registers_here h;
+    q = h.q;
+    x = h.x;
+    words = h.words;
+    steps = h.steps;
+    cycles = h.cycles;
+    missed = h.missed;
+    answers = answers;
+  }
+
+  -- what the innermost body may refer to
+  abbrev pub reach : Machine V D C → Reach
+  reach h = reach_of h.checked.now.script h.scope
+
+  -- with a variable of the innermost body set
+  abbrev pub with_value : Machine V D C → ℕ → ℕ → Machine V D C
+  with_value h x v = record h { variables = slice_set h.variables (h.scope.variables.start + x) v }
+
+  abbrev pub bounds_of : Machine V D C → Bounds
+  bounds_of h = bounds_at h.checked.now h.service
+
+  -- what is left of the open blocks
+  abbrev pub left_in : Machine V D C → Action
+  left_in h = rest_in (context_in h.checked.now) (opens_in h)
+
+  -- what is left of the service: where it wants an answer, from that on
+  abbrev pub stands : Option Wanting → Machine V D C → List Answer → Behaviour State
+  stands None h answers = left_in h (state_of h answers)
+  stands (Some w) h answers = then_do (awaited (context_in h.checked.now) (want_of w) (state_of h answers)) (left_in h)
+
+  -- how many blocks more can be opened
+  abbrev pub free : Machine V D C → ℕ
+  free h = D - length h.frames.items
+
+  -- for a read a variable, for a lock a free crate and room for the block, for a transfer that its next cycle is this command
+  abbrev pub IsReady : Machine V D C → Wanting → Type 0
+  IsReady h (Cycle k) = Unit {0}
+  IsReady h (Read k x bits) = (x < (reach h).variables) × (bits ≤ 24)
+  IsReady h (Lock k body) =
+      ((branch_of h.branch k).locked ≡ false) × (1 ≤ k) × (k ≤ 7) × Opens (reach h) (free h) (statements_of body.now)
+  IsReady h (wanting.Transfer k t table x) =
+      (x < (reach h).variables) × ((left_at t).wanted [] ≡ Some (address_of k)) × (data_of t (words_sent table) ≡ Some k.mv)
+
+  abbrev pub IsWanting : Machine V D C → Wanting → Type 0
+  IsWanting h w = IsSome (crate_waits h.checked.now.plan (crate_of w)) × IsReady h w
+
+  abbrev pub IsFineHere : Machine V D C → Behaviour State → Type 0
+  IsFineHere h b = IsFine h.checked.now.plan (bounds_of h) b
+
+  -- whatever the answers are, it is fine to do this and then what is left
+  abbrev pub FineThen : Machine V D C → (Context → Action) → Type 0
+  FineThen h go =
+      (answers : List Answer) → IsFineHere h (then_do (go (context_in h.checked.now) (state_of h answers)) (left_in h))
+
+  -- with these blocks open, the stores are as large as they are said to be and large enough, each lock is held by one of the blocks, and
+  -- there is room to tell its release
+  pub record HasRoomFor (h : Machine V D C) (os : List Open) : Type 0 where
+    pub variables : length h.variables ≡ V
+    pub registers : length h.registers ≡ V
+    pub fits : fits h.checked.now.script V D C ≡ true
+    pub scope : ScopeFits V h.checked.now.script h.scope
+    pub blocks : OpenFit V h.checked.now.script h.scope D os
+    pub words : (bounds_of h).words ≤ C
+    pub steps : (bounds_of h).steps ≤ greatest
+    pub cycles : (bounds_of h).cycles ≤ greatest
+    pub few_missed : h.missed ≤ 65535
+    pub missed : h.missed ≤ h.cycles
+    pub locks : AreHeld (branch_of h.branch) os
+    pub unlocks : length h.unlocks.items + locked_among (branch_of h.branch) 7 ≤ 7
+
+  abbrev pub HasRoom : Machine V D C → Type 0
+  HasRoom h = HasRoomFor h (opens_in h)
+
+  -- what the new machine has left is to do this, and then what the old one had left
+  pub record Advances (old : Machine V D C) (go : Context → Action) (wanting : Option Wanting) (new : Machine V D C) : Type 0 where
+    pub room : HasRoom new
+    pub checked : new.checked ≡ old.checked
+    pub service : new.service ≡ old.service
+    pub wants : IfSome wanting (IsWanting new)
+    -- a block more costs a step
+    pub pace : length new.frames.items + 2 * old.steps ≤ 2 * new.steps + length old.frames.items
+    -- the locks that it releases
+    pub told : List ℕ
+    pub unlocks : new.unlocks.items ≡ old.unlocks.items ++ told
+    pub goes :
+        (answers : List Answer)
+        → says told (stands wanting new answers) ≡ then_do (go (context_in old.checked.now) (state_of old answers)) (left_in old)
+
+  -- this goes on at once, and sets a variable at most
+  pub record Proceeds (old : Machine V D C) (go : Context → Action) (next : Option Wanting) (new : Machine V D C) : Type 0 where
+    pub room : HasRoom new
+    pub same : new ≡ record old { variables = new.variables }
+    pub wants : IfSome next (IsWanting new)
+    pub goes :
+        (answers : List Answer)
+        → stands next new answers ≡ then_do (go (context_in old.checked.now) (state_of old answers)) (left_in old)
+
+  -- a block was opened: what the new machine has left is to do this, and then what the old one had left
+  pub record Enters (old : Machine V D C) (go : Context → Action) (new : Machine V D C) : Type 0 where
+    pub room : HasRoom new
+    pub checked : new.checked ≡ old.checked
+    pub service : new.service ≡ old.service
+    pub steps : new.steps ≡ old.steps
+    pub blocks : length new.frames.items ≡ length old.frames.items + 1
+    pub unlocks : new.unlocks ≡ old.unlocks
+    pub goes :
+        (answers : List Answer)
+        → stands None new answers ≡ then_do (go (context_in old.checked.now) (state_of old answers)) (left_in old)
+
+  -- this wants an answer first
+  pub record Wants (h : Machine V D C) (go : Context → Action) (wanting : Wanting) : Type 0 where
+    pub wants : IsWanting h wanting
+    pub goes :
+        (answers : List Answer)
+        → awaited (context_in h.checked.now) (want_of wanting) (state_of h answers) ≡ go (context_in h.checked.now) (state_of h answers)
+
+  -- the cycle was made with this answer; all else stays
+  pub record Makes (old : Machine V D C) (k : Command) (answer : Answer) (done' : CycleDone) (new : Machine V D C) : Type 0 where
+    pub permitted : is_permitted old.checked.now.plan (branch_of old.branch) k.c answer.wait ≡ true
+    pub done : done' ≡ record { command = k; reply = reply_to old.checked.now.plan (branch_of old.branch) (address_of k) k.f answer; wait = answer.wait }
+    pub branch : branch_of new.branch ≡ branch_after (address_of k) k.f (branch_of old.branch)
+    pub same :
+        new
+        ≡ record old {
+          branch = new.branch;
+          q = done'.reply.q;
+          x = done'.reply.x;
+          cycles = old.cycles + (1 + done'.wait);
+          missed = missed_with done'.reply.x old.missed;
+        }
+
+  -- the wait is not permitted
+  pub record IsRefused (h : Machine V D C) (crate_no : ℕ) (answer : Answer) (o : Overrun) : Type 0 where
+    pub refused : is_permitted h.checked.now.plan (branch_of h.branch) crate_no answer.wait ≡ false
+    pub overrun : o ≡ record { c = crate_no; wait = answer.wait }
+
+  -- the lock was taken with this answer; all else stays
+  pub record TakesLock (old : Machine V D C) (crate_no : ℕ) (answer : Answer) (cost : ℕ) (new : Machine V D C) : Type 0 where
+    pub permitted : is_permitted old.checked.now.plan (branch_of old.branch) crate_no answer.wait ≡ true
+    pub waited : cost ≡ answer.wait
+    pub branch : branch_of new.branch ≡ with_lock crate_no true (branch_of old.branch)
+    pub same : new ≡ record old { branch = new.branch; cycles = old.cycles + cost }
+
+  -- what is left stays the same, up to where an answer is wanted or no block is left
+  pub record Settles (old : Machine V D C) (go : Context → Action) (wanting : Option Wanting) (new : Machine V D C) : Type 0 where
+    pub room : HasRoom new
+    pub checked : new.checked ≡ old.checked
+    pub service : new.service ≡ old.service
+    pub wants : IfSome wanting (IsWanting new)
+    pub over : IfNone wanting (new.frames.items ≡ [])
+    pub goes :
+        (answers : List Answer)
+        → says new.unlocks.items (stands wanting new answers) ≡ then_do (go (context_in old.checked.now) (state_of old answers)) (left_in old)
+
+  -- the answer was used for this, and then what is left is what the new machine has left
+  pub record Takes (old : Machine V D C) (wanting : Wanting) (answer : Answer) (used : Item) (new : Machine V D C) : Type 0 where
+    pub room : HasRoom new
+    pub checked : new.checked ≡ old.checked
+    pub service : new.service ≡ old.service
+    pub unlocks : new.unlocks ≡ old.unlocks
+    pub can_follow : CanFollow (reach new).variables wanting
+    pub goes :
+        (answers : List Answer)
+        → stands (Some wanting) old (answer ∷ answers) ≡ does (piece_of used) (then_do (follows (context_in new.checked.now) (want_of wanting) (state_of new answers)) (left_in new))
+
+  -- the answer's wait is not permitted
+  abbrev pub Overruns : Machine V D C → Wanting → Answer → Overrun → Type 0
+  Overruns h wanting answer o =
+      (answers : List Answer)
+      → stands (Some wanting) h (answer ∷ answers) ≡ stops (overrun o.c o.wait) (state_of h (answer ∷ answers))
+
+  -- what is left is this service from its start
+  pub record Serves (old : Machine V D C) (number : ℕ) (v : Service) (wanting : Option Wanting) (new : Machine V D C) : Type 0 where
+    pub room : HasRoom new
+    pub checked : new.checked ≡ old.checked
+    pub service : new.service ≡ number
+    pub wants : IfSome wanting (IsWanting new)
+    pub over : IfNone wanting (new.frames.items ≡ [])
+    pub goes :
+        (answers : List Answer)
+        → says new.unlocks.items (stands wanting new answers)
+        ≡ service_meaning (context_in old.checked.now) most_turns v (branch_of old.branch) answers

@@ -1,0 +1,10 @@
+pub mod Store
+pub mod Called
+pub mod Course
+pub mod Rest
+pub mod Codes
+pub mod Within
+pub mod Held
+pub mod Runner
+pub mod Sound
+pub mod Ends

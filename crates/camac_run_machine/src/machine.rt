@@ -1,0 +1,327 @@
+// What a service in progress holds: the open blocks, innermost last, and its store.
+
+ghost use Rattle.std.specs.Prelude.{◌≡◌, ◌+◌, ◌*◌, ◌-◌, ◌<◌, ◌≤◌, [], List, length, map, true, false, None, Some, IsSome, slice_get};
+ghost use Rattle.camac_branch.specs.Address.{Address};
+ghost use Rattle.camac_branch.specs.Branch.{Answer, start};
+ghost use Rattle.camac_lang.specs.View.{expression_of, part_of, statement_of};
+ghost use Rattle.camac_branch.specs.Crates.{branch_of};
+ghost use Rattle.camac_lang.specs.Tree.{Service};
+ghost use Rattle.camac_model.specs.Behaviour.{ends};
+ghost use Rattle.camac_model.specs.Fine.{most_turns};
+ghost use Rattle.camac_model.specs.Meaning.{effect};
+ghost use Rattle.camac_model.specs.State.{stepped};
+ghost use Rattle.camac_model.specs.Value.{value, truth};
+ghost use Rattle.camac_run_machine.specs.Held.{variables_here, registers_here, reach, holds, stands, free, IsFineHere, FineThen, HasRoom, Advances, Settles, Serves};
+ghost use Rattle.camac_size.specs.Fits.{fits};
+ghost use Rattle.camac_run_machine.specs.Sound.{event_here};
+ghost use Rattle.camac_run_machine.specs.Store.{registers_in, held_at};
+ghost use Rattle.camac_run_machine.specs.Within.{Refers, PartsRefer, StatementFits};
+
+mod actions;
+mod answers;
+mod blocks;
+mod transfers;
+
+use crate::command::command;
+use crate::condition::holds;
+use crate::scope::Scope;
+use crate::transfer::{Course, Transfer};
+use crate::value::value_of;
+use arrayvec::ArrayVec;
+use camac_branch::{Answer, Branch, Command};
+use camac_check::Checked;
+use camac_esone::{Address, QRepeat, QStop, Scan};
+use camac_event::{EventBuffer, Usage};
+use camac_lang::{CrateCall, Expr, LamCall, Part, Stmt};
+use camac_word::{CrateNo, GlBit, Word24};
+
+/// The most turns that a loop makes.
+const MOST_TURNS: u32 = 65_535;
+
+/// What goes on after a block.
+#[derive(Clone, Copy)]
+pub enum Owner<'a> {
+    /// The block around it.
+    Plain,
+    /// The lock of a crate is released first. It is by number, since a checked number is not copied out of a variant beside borrowed ones.
+    Locked(u32),
+    /// A `for` after the turn with this value of its variable, up to the last one, with the turns that it may still make.
+    For {
+        variable: usize,
+        current: u32,
+        last: u32,
+        turns: u32,
+        body: &'a [Stmt],
+    },
+    /// A `while` with the turns that it may still make.
+    While {
+        test: &'a [Part],
+        turns: u32,
+        body: &'a [Stmt],
+    },
+    /// The caller of a procedure, by what it sees.
+    Return(Scope),
+}
+
+/// The statements that are left of an open block.
+#[derive(Clone, Copy)]
+pub struct Frame<'a> {
+    pub rest: &'a [Stmt],
+    pub owner: Owner<'a>,
+}
+
+impl<'a> Default for Frame<'a> {
+    fn default() -> Frame<'a> {
+        Frame {
+            rest: &[],
+            owner: Owner::Plain,
+        }
+    }
+}
+
+/// What a service in progress wants an answer for.
+#[derive(Clone, Copy)]
+pub enum Wanting<'a> {
+    /// A cycle that keeps no word.
+    Cycle(Command),
+    /// A cycle of which a variable keeps so many bits of the word, 24 at most.
+    Read {
+        command: Command,
+        variable: usize,
+        bits: u32,
+    },
+    /// The lock of a crate over a block.
+    Lock {
+        crate_no: CrateNo,
+        body: &'a [Stmt],
+    },
+    /// The next cycle of a transfer, with the words of the table that it sends, where it sends any, and the variable of its tally.
+    Transfer {
+        command: Command,
+        course: Course,
+        table: Option<&'a [Word24]>,
+        tally: usize,
+    },
+}
+
+#[derive(Drop)]
+pub struct Machine<'a, const V: usize, const DEPTH: usize, const CAP: usize> {
+    pub checked: &'a Checked,
+    // the number of the service in progress, or of the last one
+    pub service: usize,
+    pub frames: ArrayVec<Frame<'a>, DEPTH>,
+    pub variables: [u32; V],
+    pub registers: [Option<Address>; V],
+    // what the innermost body sees of them
+    pub scope: Scope,
+    pub q: bool,
+    pub x: bool,
+    pub words: EventBuffer<CAP>,
+    pub steps: u32,
+    pub cycles: u32,
+    pub missed: u16,
+    pub branch: Branch,
+    // the crates whose locks were released since the last answer
+    pub unlocks: ArrayVec<CrateNo, 7>,
+}
+
+// The address that a register holds.
+fn address_in(registers: &[Option<Address>], register: usize) -> Address
+    requires declared { register < length registers.now }
+    requires set { IsSome (registers_in registers.now register) }
+    ensures { registers_in registers.now register ≡ Some result }
+{
+    match registers[register] {
+        Some(at) => at,
+        None => unreachable!(),
+    }
+}
+
+impl<'a, const V: usize, const DEPTH: usize, const CAP: usize> Machine<'a, V, DEPTH, CAP> {
+    // Holds nothing yet.
+    pub fn start(checked: &'a Checked) -> Self
+        requires { fits checked.now.script V DEPTH CAP ≡ true }
+        ensures room { HasRoom result }
+        ensures checked { result.checked ≡ checked.entry }
+        ensures idle { result.frames.items ≡ [] }
+        ensures quiet { result.unlocks.items ≡ [] }
+        ensures branch { branch_of result.branch ≡ start }
+    {
+        checked.is_checked();
+        checked.script().well_formed();
+        Machine {
+            checked,
+            service: 0,
+            frames: ArrayVec::new(),
+            variables: [0; V],
+            registers: [None; V],
+            scope: Scope::empty(),
+            q: false,
+            x: false,
+            words: EventBuffer::new(),
+            steps: 0,
+            cycles: 0,
+            missed: 0,
+            branch: Branch::start(),
+            unlocks: ArrayVec::new(),
+        }
+    }
+
+    // The words of the event of the service in progress, or of the last one.
+    pub fn words(&self) -> &[Word24]
+        ensures words { result.now ≡ self.now.words }
+        ensures fits { length result.now ≤ CAP }
+    {
+        self.words.words()
+    }
+
+    // The variables of the innermost body.
+    pub fn variables(&self) -> &[u32]
+        requires { HasRoom self.now }
+        ensures values { result.now ≡ held_at self.now.scope.variables self.now.variables }
+        ensures count { length result.now ≡ (reach self.now).variables }
+    {
+        let all = &self.variables[..];
+        &all[self.scope.variables.start..self.scope.variables.end]
+    }
+
+    // The registers of the innermost body.
+    pub fn registers(&self) -> &[Option<Address>]
+        requires { HasRoom self.now }
+        ensures values { result.now ≡ held_at self.now.scope.registers self.now.registers }
+        ensures count { length result.now ≡ (reach self.now).registers }
+    {
+        let all = &self.registers[..];
+        &all[self.scope.registers.start..self.scope.registers.end]
+    }
+
+    // The value of an expression that has one.
+    pub fn value_of(&self, e: &Expr) -> u32
+        requires room { HasRoom self.now }
+        requires declared { Refers (reach self.now).variables (expression_of e.now) }
+        requires has_value { IsSome (value (expression_of e.now) (variables_here self.now)) }
+        ensures { value (expression_of e.now) (variables_here self.now) ≡ Some result }
+    {
+        value_of(e, self.variables())
+    }
+
+    // Whether a condition that has a value holds.
+    pub fn holds(&self, test: &[Part]) -> bool
+        requires room { HasRoom self.now }
+        requires declared { PartsRefer (reach self.now).variables (map part_of test.now) }
+        requires has_value { IsSome (truth (map part_of test.now) (variables_here self.now) self.now.q self.now.x) }
+        ensures { truth (map part_of test.now) (variables_here self.now) self.now.q self.now.x ≡ Some result }
+    {
+        holds(test, self.variables(), self.q, self.x)
+    }
+
+    // The address that a register holds.
+    pub fn address_in(&self, register: usize) -> Address
+        requires room { HasRoom self.now }
+        requires declared { register < (reach self.now).registers }
+        requires set { IsSome (registers_here self.now register) }
+        ensures { registers_here self.now register ≡ Some result }
+    {
+        address_in(self.registers(), register)
+    }
+
+    // Begins a statement.
+    pub fn begin(&mut self, statement: &'a Stmt) -> Option<Wanting<'a>>
+        requires room { HasRoom self.old }
+        requires fits { StatementFits (reach self.old) (free self.old) (statement_of statement.now) }
+        requires fine { FineThen self.old (λ c s. effect c most_turns (statement_of statement.now) (stepped s)) }
+        ensures advances { Advances self.old (λ c s. effect c most_turns (statement_of statement.now) (stepped s)) result self.new }
+        ensures pace { length self.new.frames.items + 2 * self.old.steps < 2 * self.new.steps + length self.old.frames.items }
+    {
+        self.steps += 1;
+        match statement {
+            Stmt::Assign { .. } | Stmt::SetRegister { .. } | Stmt::Put { .. } => {
+                self.plain_statement(statement);
+                None
+            }
+            Stmt::Single { .. } | Stmt::CrateCall { .. } | Stmt::LamCall { .. } => {
+                Some(self.cycle_statement(statement))
+            }
+            Stmt::Scan { .. } | Stmt::QStop { .. } | Stmt::QRepeat { .. } => {
+                self.transfer_statement(statement)
+            }
+            Stmt::If { .. } | Stmt::IfElse { .. } => {
+                self.choice(statement);
+                None
+            }
+            Stmt::Lock { crate_no, body, .. } => Some(self.want_lock(crate_no, body)),
+            Stmt::For { .. } | Stmt::While { .. } => {
+                self.loop_statement(statement);
+                None
+            }
+            Stmt::Call {
+                procedure,
+                arguments,
+                ..
+            } => {
+                self.call(*procedure, arguments);
+                None
+            }
+        }
+    }
+
+    // Goes on until an answer is wanted, or the service is over.
+    pub fn settle(&mut self) -> Option<Wanting<'a>>
+        requires room { HasRoom self.old }
+        requires quiet { self.old.unlocks.items ≡ [] }
+        requires fine { (answers : List Answer) → IsFineHere self.old (stands None self.old answers) }
+        ensures { Settles self.old (λ c. ends) result self.new }
+    {
+        while let Some(frame) = self.frames.pop() {
+            if let Some(wanting) = self.go_on(frame) {
+                return Some(wanting);
+            }
+        }
+        None
+    }
+
+    // Begins a service, and goes on.
+    pub fn serve(&mut self, number: usize) -> Option<Wanting<'a>>
+        requires room { HasRoom self.old }
+        requires quiet { self.old.unlocks.items ≡ [] }
+        requires idle { self.old.frames.items ≡ [] }
+        requires fits { fits self.old.checked.now.script V DEPTH CAP ≡ true }
+        requires number { number < length self.old.checked.now.script.services }
+        ensures { (v : Service) → slice_get self.old.checked.now.script.services number ≡ Some v → Serves self.old number v result self.new }
+    {
+        let checked = self.checked;
+        checked.is_checked();
+        checked.script().well_formed();
+        let script = checked.script();
+        let service = &script.services()[number];
+        let variables = [0; V];
+        let registers = [None; V];
+        self.service = number;
+        self.variables = variables;
+        self.registers = registers;
+        self.scope = Scope::of_service(script, service);
+        self.q = false;
+        self.x = false;
+        self.words.clear();
+        self.steps = 0;
+        self.cycles = 0;
+        self.missed = 0;
+        self.frames.push(Frame {
+            rest: service.body.as_slice(),
+            owner: Owner::Plain,
+        });
+        self.settle()
+    }
+
+    // The event of a service that is over, under this number.
+    pub fn event(&self, number: u32) -> (u32, GlBit, Usage)
+        requires { self.now.service < length self.now.checked.now.script.services }
+        ensures { result ≡ event_here self.now number }
+    {
+        let usage = Usage {
+            cycles: self.cycles,
+            missed: self.missed,
+        };
+        (number, self.checked.gl(self.service), usage)
+    }
+}

@@ -1,0 +1,215 @@
+// Statements that set or write something, and those that make one cycle.
+
+ghost use Rattle.std.specs.Prelude.{◌≡◌, IsTrue, ◌+◌, ◌*◌, ◌-◌, ◌<◌, ◌≤◌, length, None, Some, slice_set};
+ghost use Rattle.camac_branch.specs.Address.{Address};
+ghost use Rattle.camac_branch.specs.Allowed.{width};
+ghost use Rattle.camac_check.specs.Kinds.{is_plain, is_cycle};
+ghost use Rattle.camac_lang.specs.View.{expression_of, move_of, statement_of};
+ghost use Rattle.camac_lang.specs.Tree.{assign, set_register, single, put, crate_call, lam_call, call};
+ghost use Rattle.camac_model.specs.Cycle.{sized};
+ghost use Rattle.camac_model.specs.Fine.{most_turns};
+ghost use Rattle.camac_model.specs.Meaning.{effect};
+ghost use Rattle.camac_model.specs.Value.{value};
+ghost use Rattle.camac_run_machine.specs.Held.{reach, with_value, free, FineThen, HasRoom, Advances, Wants};
+ghost use Rattle.camac_run_machine.specs.Rest.{address_of};
+ghost use Rattle.camac_run_machine.specs.Within.{Refers, MoveFits, StatementFits};
+
+use crate::command::command;
+use crate::machine::{Machine, Wanting};
+use camac_branch::{Command, Plan};
+use camac_esone::{Address, crate_call, lam_call};
+use camac_func::DataMove;
+use camac_lang::{CrateCall, Expr, LamCall, Move, Stmt, WordSize};
+use camac_word::{CrateNo, Function, Word24};
+
+// How many bits a read of this size keeps.
+pub fn bits_kept(plan: &Plan, command: &Command, size: WordSize) -> u32
+    ensures value { result ≡ sized size (width plan.now (address_of command.now) command.now.f) }
+    ensures in_range { result ≤ 24 }
+{
+    let width = plan
+        .allowed(command.c, command.n, command.a, command.f)
+        .unwrap_or(24);
+    match size {
+        WordSize::Full => u32::from(width),
+        WordSize::Short => u32::from(width.min(16)),
+    }
+}
+
+// Sets a register.
+fn set_in(registers: &mut [Option<Address>], register: usize, at: Address)
+    requires { register < length registers.old }
+    ensures { registers.new ≡ slice_set registers.old register (Some at) }
+{
+    registers[register] = Some(at);
+}
+
+impl<'a, const V: usize, const DEPTH: usize, const CAP: usize> Machine<'a, V, DEPTH, CAP> {
+    // `cdreg`.
+    pub fn set_register(
+        &mut self,
+        register: usize,
+        crate_no: &Expr,
+        station: &Expr,
+        sub_address: &Expr,
+    )
+        requires room { HasRoom self.old }
+        requires register { register < (reach self.old).registers }
+        requires crate_no { Refers (reach self.old).variables (expression_of crate_no.now) }
+        requires station { Refers (reach self.old).variables (expression_of station.now) }
+        requires sub_address { Refers (reach self.old).variables (expression_of sub_address.now) }
+        requires fine { FineThen self.old (λ c. effect c most_turns (set_register 0 register (expression_of crate_no.now) (expression_of station.now) (expression_of sub_address.now))) }
+        ensures { Advances self.old (λ c. effect c most_turns (set_register 0 register (expression_of crate_no.now) (expression_of station.now) (expression_of sub_address.now))) None self.new }
+    {
+        let c = self.value_of(crate_no);
+        let n = self.value_of(station);
+        let a = self.value_of(sub_address);
+        let place = self.scope.registers.start + register;
+        set_in(&mut self.registers, place, Address { c, n, a });
+    }
+
+    // `v = e`.
+    pub fn assign(&mut self, variable: usize, value: &Expr)
+        requires room { HasRoom self.old }
+        requires variable { variable < (reach self.old).variables }
+        requires declared { Refers (reach self.old).variables (expression_of value.now) }
+        requires fine { FineThen self.old (λ c. effect c most_turns (assign 0 variable (expression_of value.now))) }
+        ensures { Advances self.old (λ c. effect c most_turns (assign 0 variable (expression_of value.now))) None self.new }
+    {
+        let value = self.value_of(value);
+        self.set_variable(variable, value);
+    }
+
+    // `put`.
+    pub fn put(&mut self, value: &Expr)
+        requires room { HasRoom self.old }
+        requires declared { Refers (reach self.old).variables (expression_of value.now) }
+        requires fine { FineThen self.old (λ c. effect c most_turns (put 0 (expression_of value.now))) }
+        ensures { Advances self.old (λ c. effect c most_turns (put 0 (expression_of value.now))) None self.new }
+    {
+        match Word24::new(self.value_of(value)) {
+            Some(word) => self.words.push(word),
+            None => unreachable!(),
+        }
+    }
+
+    // Sets a variable of the innermost body.
+    pub fn set_variable(&mut self, variable: usize, value: u32)
+        requires room { HasRoom self.old }
+        requires variable { variable < (reach self.old).variables }
+        ensures room { HasRoom self.new }
+        ensures same { self.new ≡ with_value self.old variable value }
+    {
+        let place = self.scope.variables.start + variable;
+        self.variables[place] = value;
+    }
+
+    // `cfsa`, `cssa`.
+    pub fn single(&self, size: WordSize, f: Function, register: usize, moved: &Move) -> Wanting<'a>
+        requires room { HasRoom self.now }
+        requires register { register < (reach self.now).registers }
+        requires moved { MoveFits (reach self.now).variables (move_of moved.now) }
+        requires fine { FineThen self.now (λ c. effect c most_turns (single 0 size f register (move_of moved.now))) }
+        ensures { Wants self.now (λ c. effect c most_turns (single 0 size f register (move_of moved.now))) result }
+    {
+        let at = self.address_in(register);
+        let plan = self.checked.plan();
+        plan.allows_commands();
+        match moved {
+            Move::NoData => Wanting::Cycle(command(at, f, DataMove::None)),
+            Move::Into(variable) => {
+                let command = command(at, f, DataMove::In);
+                let bits = bits_kept(plan, &command, size);
+                Wanting::Read {
+                    command,
+                    variable: *variable,
+                    bits,
+                }
+            }
+            Move::From(value) => match Word24::new(self.value_of(value)) {
+                Some(word) => Wanting::Cycle(command(at, f, DataMove::Out(word))),
+                None => unreachable!(),
+            },
+        }
+    }
+
+    // A call of a crate's controller.
+    pub fn call_crate(&self, call: CrateCall, crate_no: &Expr) -> Wanting<'a>
+        requires room { HasRoom self.now }
+        requires declared { Refers (reach self.now).variables (expression_of crate_no.now) }
+        requires fine { FineThen self.now (λ c. effect c most_turns (crate_call 0 call (expression_of crate_no.now))) }
+        ensures { Wants self.now (λ c. effect c most_turns (crate_call 0 call (expression_of crate_no.now))) result }
+    {
+        let plan = self.checked.plan();
+        plan.allows_commands();
+        match CrateNo::new(self.value_of(crate_no)) {
+            Some(c) => Wanting::Cycle(crate_call(call, c)),
+            None => unreachable!(),
+        }
+    }
+
+    // A call at a LAM's address.
+    pub fn call_lam(&self, call: LamCall, lam: usize) -> Wanting<'a>
+        requires lam { lam < length self.now.checked.now.script.lams }
+        requires fine { FineThen self.now (λ c. effect c most_turns (lam_call 0 call lam)) }
+        ensures { Wants self.now (λ c. effect c most_turns (lam_call 0 call lam)) result }
+    {
+        let plan = self.checked.plan();
+        plan.allows_commands();
+        let lam = &self.checked.script().lams()[lam];
+        let at = Address {
+            c: lam.crate_no,
+            n: lam.station,
+            a: lam.sub_address.get(),
+        };
+        Wanting::Cycle(lam_call(call, at))
+    }
+
+    // A statement without a dataway cycle, and without statements in it.
+    pub fn plain_statement(&mut self, statement: &Stmt)
+        requires room { HasRoom self.old }
+        requires kind { IsTrue (is_plain (statement_of statement.now)) }
+        requires fits { StatementFits (reach self.old) (free self.old) (statement_of statement.now) }
+        requires fine { FineThen self.old (λ c. effect c most_turns (statement_of statement.now)) }
+        ensures { Advances self.old (λ c. effect c most_turns (statement_of statement.now)) None self.new }
+    {
+        match statement {
+            Stmt::Assign {
+                variable,
+                value,
+                ..
+            } => self.assign(*variable, value),
+            Stmt::SetRegister {
+                register,
+                crate_no,
+                station,
+                sub_address,
+                ..
+            } => self.set_register(*register, crate_no, station, sub_address),
+            Stmt::Put { value, .. } => self.put(value),
+            _ => unreachable!(),
+        }
+    }
+
+    // A statement of one dataway cycle.
+    pub fn cycle_statement(&self, statement: &Stmt) -> Wanting<'a>
+        requires room { HasRoom self.now }
+        requires kind { IsTrue (is_cycle (statement_of statement.now)) }
+        requires fits { StatementFits (reach self.now) (free self.now) (statement_of statement.now) }
+        requires fine { FineThen self.now (λ c. effect c most_turns (statement_of statement.now)) }
+        ensures { Wants self.now (λ c. effect c most_turns (statement_of statement.now)) result }
+    {
+        match statement {
+            Stmt::Single {
+                size,
+                function,
+                register,
+                data,
+                ..
+            } => self.single(*size, *function, *register, data),
+            Stmt::CrateCall { call, crate_no, .. } => self.call_crate(*call, crate_no),
+            Stmt::LamCall { call, lam, .. } => self.call_lam(*call, *lam),
+            _ => unreachable!(),
+        }
+    }
+}

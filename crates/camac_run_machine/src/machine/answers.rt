@@ -1,0 +1,190 @@
+// What an answer does: the cycle or the lock that it is for.
+
+ghost use Rattle.std.specs.Prelude.{◌≡◌, ◌+◌, ◌*◌, ◌-◌, ◌<◌, ◌≤◌, [], List, length, true, false, None, Some, IsSome, IfOk, IfErr, OnErr, slice_set, ◌^◌, ◌%◌};
+ghost use Rattle.camac_branch.specs.Branch.{Answer};
+ghost use Rattle.camac_branch.specs.Crates.{branch_of, is_permitted};
+ghost use Rattle.camac_branch.specs.Plan.{crate_waits};
+ghost use Rattle.camac_lang.specs.Tree.{done};
+ghost use Rattle.camac_model.specs.State.{missed_with};
+ghost use Rattle.camac_run_machine.specs.Held.{reach, stands, IsFineHere, FineThen, HasRoom, IsWanting, want_of, CanFollow, Makes, TakesLock, IsRefused, Settles, Takes, Overruns};
+ghost use Rattle.camac_run_machine.specs.Rest.{follows};
+
+use crate::command::command;
+use crate::item::Item;
+use crate::machine::{Frame, Machine, Owner, Wanting};
+use crate::transfer::Transfer;
+use camac_branch::{Answer, Command, CycleDone, Overrun, cycle, lock};
+use camac_lang::Stmt;
+use camac_word::{CrateNo, Word24};
+
+// One more cycle with this X; the number stays at 65,535 (own).
+fn missed_with(x: bool, missed: u16) -> u16
+    ensures { result ≡ missed_with x missed }
+{
+    if x { missed } else { missed.saturating_add(1) }
+}
+
+// Keeps so many bits of a word in a variable.
+fn keep(variables: &mut [u32], variable: usize, bits: u32, word: Word24)
+    requires variable { variable < length variables.old }
+    requires bits { bits ≤ 24 }
+    ensures { variables.new ≡ slice_set variables.old variable (word % 2 ^ bits) }
+{
+    variables[variable] = word.get() % 2u32.pow(bits);
+}
+
+// The word that came in.
+pub fn word_of(done: &CycleDone) -> Word24
+    ensures { result ≡ done.now.reply.word }
+{
+    done.reply.word
+}
+
+impl<'a, const V: usize, const DEPTH: usize, const CAP: usize> Machine<'a, V, DEPTH, CAP> {
+    // Makes a cycle with this answer, and sets the flags and the counts.
+    pub fn make(&mut self, command: Command, answer: Answer) -> Result<CycleDone, Overrun>
+        requires room { HasRoom self.old }
+        requires in_plan { IsSome (crate_waits self.old.checked.now.plan command.c) }
+        requires few { is_permitted self.old.checked.now.plan (branch_of self.old.branch) command.c answer.wait ≡ true → self.old.cycles + (1 + answer.wait) < 2 ^ 32 }
+        ensures made { IfOk result (λ d. Makes self.old command answer d self.new) }
+        ensures overrun { IfErr result (λ o. IsRefused self.old command.c answer o) }
+        ensures same { OnErr result (self.new ≡ self.old) }
+    {
+        let done = cycle(&mut self.branch, self.checked.plan(), command, answer)?;
+        self.q = done.reply.q;
+        self.x = done.reply.x;
+        self.cycles += 1 + u32::from(done.wait);
+        self.missed = missed_with(done.reply.x, self.missed);
+        Ok(done)
+    }
+
+    // Locks auxiliary controllers out of a crate with this answer, and counts its wait.
+    pub fn lock(&mut self, crate_no: CrateNo, answer: Answer) -> Result<u8, Overrun>
+        requires in_plan { IsSome (crate_waits self.old.checked.now.plan crate_no) }
+        requires is_free { (branch_of self.old.branch crate_no).locked ≡ false }
+        requires few { is_permitted self.old.checked.now.plan (branch_of self.old.branch) crate_no answer.wait ≡ true → self.old.cycles + answer.wait < 2 ^ 32 }
+        ensures took { IfOk result (λ w. TakesLock self.old crate_no answer w self.new) }
+        ensures overrun { IfErr result (λ o. IsRefused self.old crate_no answer o) }
+        ensures same { OnErr result (self.new ≡ self.old) }
+    {
+        let wait = lock(&mut self.branch, self.checked.plan(), crate_no, answer)?;
+        self.cycles += u32::from(wait);
+        Ok(wait)
+    }
+
+    // Makes a cycle that keeps no word.
+    pub fn take_cycle(&mut self, command: Command, answer: Answer) -> Result<Item, Overrun>
+        requires room { HasRoom self.old }
+        requires wanting { IsWanting self.old (Wanting.Cycle command) }
+        requires fine { (answers : List Answer) → IsFineHere self.old (stands (Some (Wanting.Cycle command)) self.old answers) }
+        ensures took { IfOk result (λ used. Takes self.old (Wanting.Cycle command) answer used self.new) }
+        ensures overrun { IfErr result (λ o. Overruns self.old (Wanting.Cycle command) answer o) }
+        ensures same { OnErr result (self.new ≡ self.old) }
+    {
+        let done = self.make(command, answer)?;
+        Ok(Item::Cycle(done))
+    }
+
+    // Makes a cycle of which a variable keeps so many bits of the word.
+    pub fn take_read(
+        &mut self,
+        command: Command,
+        variable: usize,
+        bits: u32,
+        answer: Answer,
+    ) -> Result<Item, Overrun>
+        requires room { HasRoom self.old }
+        requires wanting { IsWanting self.old (Wanting.Read command variable bits) }
+        requires fine { (answers : List Answer) → IsFineHere self.old (stands (Some (Wanting.Read command variable bits)) self.old answers) }
+        ensures took { IfOk result (λ used. Takes self.old (Wanting.Read command variable bits) answer used self.new) }
+        ensures overrun { IfErr result (λ o. Overruns self.old (Wanting.Read command variable bits) answer o) }
+        ensures same { OnErr result (self.new ≡ self.old) }
+    {
+        let done = self.make(command, answer)?;
+        let place = self.scope.variables.start + variable;
+        keep(&mut self.variables, place, bits, word_of(&done));
+        Ok(Item::Cycle(done))
+    }
+
+    // Takes the lock of a crate, and opens its block.
+    pub fn take_lock(
+        &mut self,
+        crate_no: CrateNo,
+        body: &'a [Stmt],
+        answer: Answer,
+    ) -> Result<Item, Overrun>
+        requires room { HasRoom self.old }
+        requires quiet { self.old.unlocks.items ≡ [] }
+        requires wanting { IsWanting self.old (Wanting.Lock crate_no body) }
+        requires fine { (answers : List Answer) → IsFineHere self.old (stands (Some (Wanting.Lock crate_no body)) self.old answers) }
+        ensures took { IfOk result (λ used. Takes self.old (Wanting.Lock crate_no body.entry) answer used self.new) }
+        ensures overrun { IfErr result (λ o. Overruns self.old (Wanting.Lock crate_no body.entry) answer o) }
+        ensures same { OnErr result (self.new ≡ self.old) }
+    {
+        let wait = self.lock(crate_no, answer)?;
+        self.frames.push(Frame {
+            rest: body,
+            owner: Owner::Locked(crate_no.get()),
+        });
+        Ok(Item::Lock(crate_no, wait))
+    }
+
+    // Takes the answer that is wanted; or tells a wait that is not permitted.
+    pub fn take(&mut self, wanting: &Wanting<'a>, answer: Answer) -> Result<Item, Overrun>
+        requires room { HasRoom self.old }
+        requires quiet { self.old.unlocks.items ≡ [] }
+        requires wanting { IsWanting self.old wanting.now }
+        requires fine { (answers : List Answer) → IsFineHere self.old (stands (Some wanting.now) self.old answers) }
+        ensures took { IfOk result (λ used. Takes self.old wanting.now answer used self.new) }
+        ensures overrun { IfErr result (λ o. Overruns self.old wanting.now answer o) }
+        ensures same { OnErr result (self.new ≡ self.old) }
+    {
+        match wanting {
+            Wanting::Cycle(command) => self.take_cycle(*command, answer),
+            Wanting::Read {
+                command,
+                variable,
+                bits,
+            } => self.take_read(*command, *variable, *bits, answer),
+            Wanting::Lock { crate_no, body } => self.take_lock(*crate_no, body, answer),
+            Wanting::Transfer { command, table, .. } => {
+                let done = self.make(*command, answer)?;
+                self.put_read(*table, &done);
+                self.steps += 1;
+                Ok(Item::Cycle(done))
+            }
+        }
+    }
+
+    // Goes on after the answer that was wanted: with the transfer that it was wanted for, or else with the open blocks.
+    pub fn go_further(&mut self, wanting: &Wanting<'a>) -> Option<Wanting<'a>>
+        requires room { HasRoom self.old }
+        requires quiet { self.old.unlocks.items ≡ [] }
+        requires follows { CanFollow (reach self.old).variables wanting.now }
+        requires fine { FineThen self.old (λ c. follows c (want_of wanting.now)) }
+        ensures { Settles self.old (λ c. follows c (want_of wanting.now)) result self.new }
+    {
+        match wanting {
+            Wanting::Transfer {
+                command,
+                course,
+                table,
+                tally,
+            } => {
+                let transfer = Transfer {
+                    course: course.after(self.q),
+                    function: command.f,
+                    table: *table,
+                    tally: *tally,
+                };
+                match self.proceed(&transfer) {
+                    Some(next) => Some(next),
+                    None => self.settle(),
+                }
+            }
+            Wanting::Cycle(_) => self.settle(),
+            Wanting::Read { .. } => self.settle(),
+            Wanting::Lock { .. } => self.settle(),
+        }
+    }
+}

@@ -1,0 +1,264 @@
+// Blocks: how one is opened, what goes on after it, and calls of procedures.
+
+ghost use Rattle.std.specs.Prelude.{◌≡◌, IsTrue, ◌||◌, ℕ, suc, ◌+◌, ◌*◌, ◌-◌, ◌<◌, ◌∷◌, ◌++◌, [], List, map, None, Some};
+ghost use Rattle.camac_branch.specs.Branch.{Answer};
+ghost use Rattle.camac_check.specs.Kinds.{is_choice, is_count, is_repeat};
+ghost use Rattle.camac_lang.specs.View.{expression_of, part_of, statement_of, statements_of};
+ghost use Rattle.camac_lang.specs.Tree.{done, choose_else, count, locked, call};
+ghost use Rattle.camac_model.specs.Fine.{most_turns};
+ghost use Rattle.camac_model.specs.Meaning.{effect, block_meaning, count_turns, turns as while_turns};
+ghost use Rattle.camac_model.specs.Value.{value};
+ghost use Rattle.camac_run_machine.specs.Held.{context_in, reach, state_of, owner_in, open_in, opens_in, holds, free, FineThen, HasRoomFor, HasRoom, Advances, Enters, Wants};
+ghost use Rattle.camac_run_machine.specs.Rest.{releases, owed, left_of};
+ghost use Rattle.camac_run_machine.specs.Within.{Refers, CallFits, PartsRefer, StatementFits, Opens, OwnerFits, outer};
+
+use crate::arguments::{pass, unset};
+use crate::condition::holds;
+use crate::machine::{Frame, MOST_TURNS, Machine, Owner, Wanting};
+use camac_branch::{Answer, unlock};
+use camac_lang::{Expr, Part, Stmt};
+use camac_word::CrateNo;
+
+impl<'a, const V: usize, const DEPTH: usize, const CAP: usize> Machine<'a, V, DEPTH, CAP> {
+    // The block of an `if` that is to be done.
+    pub fn chosen(&self, test: &[Part], then: &'a [Stmt], otherwise: &'a [Stmt]) -> &'a [Stmt]
+        requires room { HasRoom self.now }
+        requires declared { PartsRefer (reach self.now).variables (map part_of test.now) }
+        requires then { Opens (reach self.now) (free self.now) (statements_of then.now) }
+        requires otherwise { Opens (reach self.now) (free self.now) (statements_of otherwise.now) }
+        requires fine { FineThen self.now (λ c. effect c most_turns (choose_else 0 (map part_of test.now) (statements_of then.now) (statements_of otherwise.now))) }
+        ensures opens { Opens (reach self.now) (free self.now) (statements_of result.now) }
+        ensures goes { (answers : List Answer) → block_meaning (context_in self.now.checked.now) most_turns (statements_of result.now) (state_of self.now answers) ≡ effect (context_in self.now.checked.now) most_turns (choose_else 0 (map part_of test.now) (statements_of then.now) (statements_of otherwise.now)) (state_of self.now answers) }
+    {
+        if self.holds(test) { then } else { otherwise }
+    }
+
+    // Opens a block inside the open ones, after which nothing is released and no caller goes on.
+    pub fn open(&mut self, body: &'a [Stmt], owner: Owner<'a>)
+        requires room { HasRoom self.old }
+        requires body { Opens (reach self.old) (free self.old) (statements_of body.now) }
+        requires owner { OwnerFits V self.old.checked.now.script self.old.scope (free self.old) (owner_in self.old owner) }
+        requires stays { outer self.old.scope (owner_in self.old owner) ≡ self.old.scope }
+        requires holds_none { (c : ℕ) → holds c (owner_in self.old owner) ≡ 0 }
+        ensures room { HasRoom self.new }
+        ensures frames { self.new.frames.items ≡ self.old.frames.items ++ record { rest = body.entry; owner = owner.entry } ∷ [] }
+        ensures same { self.new ≡ record self.old { frames = self.new.frames } }
+    {
+        self.frames.push(Frame { rest: body, owner });
+    }
+
+    // Begins a turn of a `for`.
+    pub fn turn(&mut self, variable: usize, value: u32, last: u32, turns: u32, body: &'a [Stmt])
+        requires room { HasRoom self.old }
+        requires variable { variable < (reach self.old).variables }
+        requires body { Opens (reach self.old) (free self.old) (statements_of body.now) }
+        requires fine { FineThen self.old (λ c. count_turns (suc (last - value)) turns variable value last (block_meaning c most_turns (statements_of body.now))) }
+        ensures { Advances self.old (λ c. count_turns (suc (last - value)) turns variable value last (block_meaning c most_turns (statements_of body.now))) None self.new }
+    {
+        self.set_variable(variable, value);
+        self.steps += 1;
+        self.open(
+            body,
+            Owner::For {
+                variable,
+                current: value,
+                last,
+                turns: turns - 1,
+                body,
+            },
+        );
+    }
+
+    // `for`.
+    pub fn count(&mut self, variable: usize, from: &Expr, to: &Expr, body: &'a [Stmt])
+        requires room { HasRoom self.old }
+        requires variable { variable < (reach self.old).variables }
+        requires from { Refers (reach self.old).variables (expression_of from.now) }
+        requires to { Refers (reach self.old).variables (expression_of to.now) }
+        requires body { Opens (reach self.old) (free self.old) (statements_of body.now) }
+        requires fine { FineThen self.old (λ c. effect c most_turns (count 0 variable (expression_of from.now) (expression_of to.now) [] (statements_of body.now))) }
+        ensures { Advances self.old (λ c. effect c most_turns (count 0 variable (expression_of from.now) (expression_of to.now) [] (statements_of body.now))) None self.new }
+    {
+        let first = self.value_of(from);
+        let last = self.value_of(to);
+        if first <= last {
+            self.turn(variable, first, last, MOST_TURNS, body);
+        }
+    }
+
+    // Tests a `while`, and begins a turn where it holds.
+    pub fn again(&mut self, test: &'a [Part], turns: u32, body: &'a [Stmt])
+        requires room { HasRoom self.old }
+        requires declared { PartsRefer (reach self.old).variables (map part_of test.now) }
+        requires body { Opens (reach self.old) (free self.old) (statements_of body.now) }
+        requires fine { FineThen self.old (λ c. while_turns turns (map part_of test.now) (block_meaning c most_turns (statements_of body.now))) }
+        ensures { Advances self.old (λ c. while_turns turns (map part_of test.now) (block_meaning c most_turns (statements_of body.now))) None self.new }
+    {
+        if self.holds(test) {
+            self.steps += 1;
+            self.open(
+                body,
+                Owner::While {
+                    test,
+                    turns: turns - 1,
+                    body,
+                },
+            );
+        }
+    }
+
+    // `lock`.
+    pub fn want_lock(&self, crate_no: &Expr, body: &'a [Stmt]) -> Wanting<'a>
+        requires room { HasRoom self.now }
+        requires declared { Refers (reach self.now).variables (expression_of crate_no.now) }
+        requires body { Opens (reach self.now) (free self.now) (statements_of body.now) }
+        requires fine { FineThen self.now (λ c. effect c most_turns (locked 0 (expression_of crate_no.now) (statements_of body.now))) }
+        ensures { Wants self.now (λ c. effect c most_turns (locked 0 (expression_of crate_no.now) (statements_of body.now))) result }
+    {
+        let plan = self.checked.plan();
+        plan.is_plan();
+        match CrateNo::new(self.value_of(crate_no)) {
+            Some(crate_no) => Wanting::Lock { crate_no, body },
+            None => unreachable!(),
+        }
+    }
+
+    // `call`: evaluates the arguments in the caller's store, and opens the body with no register set.
+    pub fn call(&mut self, procedure: usize, arguments: &[Expr])
+        requires room { HasRoom self.old }
+        requires fits { CallFits (reach self.old) (free self.old) procedure (map expression_of arguments.now) }
+        requires fine { FineThen self.old (λ c. effect c most_turns (call 0 procedure (map expression_of arguments.now))) }
+        ensures { Enters self.old (λ c. effect c most_turns (call 0 procedure (map expression_of arguments.now))) self.new }
+    {
+        let script = self.checked.script();
+        script.well_formed();
+        let callee = &script.procedures()[procedure];
+        let caller = self.scope;
+        let scope = caller.of_procedure(procedure, callee);
+        pass(
+            arguments,
+            caller.variables,
+            scope.variables.start,
+            &mut self.variables,
+        );
+        unset(scope.registers, &mut self.registers);
+        self.scope = scope;
+        self.frames.push(Frame {
+            rest: callee.body.as_slice(),
+            owner: Owner::Return(caller),
+        });
+    }
+
+    // `if`, with or without `else`: opens the block that is to be done.
+    pub fn choice(&mut self, statement: &'a Stmt)
+        requires room { HasRoom self.old }
+        requires kind { IsTrue (is_choice (statement_of statement.now)) }
+        requires fits { StatementFits (reach self.old) (free self.old) (statement_of statement.now) }
+        requires fine { FineThen self.old (λ c. effect c most_turns (statement_of statement.now)) }
+        ensures { Enters self.old (λ c. effect c most_turns (statement_of statement.now)) self.new }
+    {
+        match statement {
+            Stmt::If { test, then, .. } => {
+                let body = self.chosen(&test.parts, then, &[]);
+                self.open(body, Owner::Plain);
+            }
+            Stmt::IfElse {
+                test,
+                then,
+                otherwise,
+                ..
+            } => {
+                let body = self.chosen(&test.parts, then, otherwise);
+                self.open(body, Owner::Plain);
+            }
+            _ => unreachable!(),
+        }
+    }
+
+    // A loop: its first turn, if it has one.
+    pub fn loop_statement(&mut self, statement: &'a Stmt)
+        requires room { HasRoom self.old }
+        requires kind { IsTrue (is_count (statement_of statement.now) || is_repeat (statement_of statement.now)) }
+        requires fits { StatementFits (reach self.old) (free self.old) (statement_of statement.now) }
+        requires fine { FineThen self.old (λ c. effect c most_turns (statement_of statement.now)) }
+        ensures { Advances self.old (λ c. effect c most_turns (statement_of statement.now)) None self.new }
+    {
+        match statement {
+            Stmt::For {
+                variable,
+                from,
+                to,
+                body,
+                ..
+            } => self.count(*variable, from, to, body),
+            Stmt::While { test, body, .. } => self.again(&test.parts, MOST_TURNS, body),
+            _ => unreachable!(),
+        }
+    }
+
+    // Releases the lock of a crate.
+    pub fn release(&mut self, crate_no: u32)
+        requires room { HasRoomFor self.old (opens_in self.old ++ record { block = done; owner = releases crate_no } ∷ []) }
+        requires fine { FineThen self.old (λ c. owed c (releases crate_no)) }
+        ensures { Advances self.old (λ c. owed c (releases crate_no)) None self.new }
+    {
+        match CrateNo::new(crate_no) {
+            Some(crate_no) => {
+                unlock(&mut self.branch, crate_no);
+                self.steps += 1;
+                self.unlocks.push(crate_no);
+            }
+            None => unreachable!(),
+        }
+    }
+
+    // Goes on after a block that is over.
+    pub fn leave(&mut self, owner: &Owner<'a>)
+        requires room { HasRoomFor self.old (opens_in self.old ++ record { block = done; owner = owner_in self.old owner.now } ∷ []) }
+        requires fine { FineThen self.old (λ c. owed c (owner_in self.old owner.now)) }
+        ensures { Advances self.old (λ c. owed c (owner_in self.old owner.now)) None self.new }
+    {
+        match owner {
+            Owner::Plain => {}
+            Owner::Locked(crate_no) => {
+                self.release(*crate_no);
+            }
+            Owner::For {
+                variable,
+                current,
+                last,
+                turns,
+                body,
+            } => {
+                if *current < *last {
+                    self.turn(*variable, *current + 1, *last, *turns, body);
+                } else {
+                    self.set_variable(*variable, *last);
+                }
+            }
+            Owner::While { test, turns, body } => self.again(test, *turns, body),
+            Owner::Return(caller) => self.scope = *caller,
+        }
+    }
+
+    // Begins the next statement of a block that was the innermost, or leaves it.
+    pub fn go_on(&mut self, frame: Frame<'a>) -> Option<Wanting<'a>>
+        requires room { HasRoomFor self.old (opens_in self.old ++ open_in self.old frame ∷ []) }
+        requires fine { FineThen self.old (λ c. left_of c (open_in self.old frame)) }
+        ensures { Advances self.old (λ c. left_of c (open_in self.old frame.entry)) result self.new }
+    {
+        match frame.rest {
+            [] => {
+                self.leave(&frame.owner);
+                None
+            }
+            [first, rest @ ..] => {
+                self.frames.push(Frame {
+                    rest,
+                    owner: frame.owner,
+                });
+                self.begin(first)
+            }
+        }
+    }
+}

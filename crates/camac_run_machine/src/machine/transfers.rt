@@ -1,0 +1,206 @@
+// Block transfers, cycle by cycle.
+
+ghost use Rattle.std.specs.Prelude.{◌≡◌, IsTrue, ◌*◌, ◌-◌, ◌<◌, ◌≤◌, length, None, Some, IsSome, ◌^◌, ◌%◌};
+ghost use Rattle.camac_branch.specs.Allowed.{width};
+ghost use Rattle.camac_check.specs.Kinds.{is_transfer};
+ghost use Rattle.camac_lang.specs.View.{expression_of, statement_of};
+ghost use Rattle.camac_lang.specs.Tree.{done, address_scan, q_stop, q_repeat};
+ghost use Rattle.camac_model.specs.Fine.{most_turns};
+ghost use Rattle.camac_model.specs.Meaning.{sent, effect};
+ghost use Rattle.camac_run_machine.specs.Held.{context_in, reach, free, FineThen, HasRoom, Proceeds, transferred};
+ghost use Rattle.camac_run_machine.specs.Course.{words_sent, words_after};
+ghost use Rattle.camac_run_machine.specs.Rest.{address_of};
+ghost use Rattle.camac_run_machine.specs.Within.{Refers, StatementFits};
+
+use crate::command::command;
+use crate::machine::actions::bits_kept;
+use crate::machine::answers::word_of;
+use crate::machine::{Machine, Wanting};
+use crate::transfer::{Course, Transfer};
+use camac_branch::CycleDone;
+use camac_esone::{QRepeat, QStop, Scan};
+use camac_lang::{Expr, Stmt, WordSize};
+use camac_word::{Function, Word24};
+
+// The low bits of a word.
+fn cut(word: Word24, bits: u32) -> Word24
+    requires { bits ≤ 24 }
+    ensures { result ≡ word % 2 ^ bits }
+{
+    match Word24::new(word.get() % 2u32.pow(bits)) {
+        Some(word) => word,
+        None => unreachable!(),
+    }
+}
+
+impl<'a, const V: usize, const DEPTH: usize, const CAP: usize> Machine<'a, V, DEPTH, CAP> {
+    // The words of the table that a transfer sends, where it sends any.
+    pub fn sent(&self, table: Option<usize>) -> Option<&'a [Word24]>
+        requires { IsSome (sent (context_in self.now.checked.now) table) }
+        ensures { sent (context_in self.now.checked.now) table ≡ Some (words_sent result) }
+    {
+        let checked = self.checked;
+        match table {
+            None => None,
+            Some(number) => Some(checked.script().tables()[number].words.as_slice()),
+        }
+    }
+
+    // `cfmad`.
+    pub fn scan(
+        &mut self,
+        function: Function,
+        first: usize,
+        last: usize,
+        max: &Expr,
+        tally: usize,
+    ) -> Option<Wanting<'a>>
+        requires room { HasRoom self.old }
+        requires first { first < (reach self.old).registers }
+        requires last { last < (reach self.old).registers }
+        requires max { Refers (reach self.old).variables (expression_of max.now) }
+        requires tally { tally < (reach self.old).variables }
+        requires fine { FineThen self.old (λ c. effect c most_turns (address_scan 0 function first last (expression_of max.now) tally)) }
+        ensures { Proceeds self.old (λ c. effect c most_turns (address_scan 0 function first last (expression_of max.now) tally)) result self.new }
+    {
+        let first = self.address_in(first);
+        let last = self.address_in(last);
+        let max = self.value_of(max);
+        self.proceed(&Transfer {
+            course: Course::Scan(Scan::new(first, last, max)),
+            function,
+            table: None,
+            tally,
+        })
+    }
+
+    // `cfubc`.
+    pub fn q_stop(
+        &mut self,
+        function: Function,
+        register: usize,
+        table: Option<usize>,
+        max: &Expr,
+        tally: usize,
+    ) -> Option<Wanting<'a>>
+        requires room { HasRoom self.old }
+        requires register { register < (reach self.old).registers }
+        requires max { Refers (reach self.old).variables (expression_of max.now) }
+        requires tally { tally < (reach self.old).variables }
+        requires fine { FineThen self.old (λ c. effect c most_turns (q_stop 0 function register table (expression_of max.now) tally)) }
+        ensures { Proceeds self.old (λ c. effect c most_turns (q_stop 0 function register table (expression_of max.now) tally)) result self.new }
+    {
+        let words = self.sent(table);
+        let at = self.address_in(register);
+        let max = self.value_of(max);
+        self.proceed(&Transfer {
+            course: Course::Stop(QStop::new(at, max)),
+            function,
+            table: words,
+            tally,
+        })
+    }
+
+    // `cfubr`.
+    pub fn q_repeat(
+        &mut self,
+        function: Function,
+        register: usize,
+        table: Option<usize>,
+        max: &Expr,
+        limit: &Expr,
+        tally: usize,
+    ) -> Option<Wanting<'a>>
+        requires room { HasRoom self.old }
+        requires register { register < (reach self.old).registers }
+        requires max { Refers (reach self.old).variables (expression_of max.now) }
+        requires limit { Refers (reach self.old).variables (expression_of limit.now) }
+        requires tally { tally < (reach self.old).variables }
+        requires fine { FineThen self.old (λ c. effect c most_turns (q_repeat 0 function register table (expression_of max.now) (expression_of limit.now) tally)) }
+        ensures { Proceeds self.old (λ c. effect c most_turns (q_repeat 0 function register table (expression_of max.now) (expression_of limit.now) tally)) result self.new }
+    {
+        let words = self.sent(table);
+        let at = self.address_in(register);
+        let max = self.value_of(max);
+        let limit = self.value_of(limit);
+        self.proceed(&Transfer {
+            course: Course::Repeat(QRepeat::new(at, max, limit)),
+            function,
+            table: words,
+            tally,
+        })
+    }
+
+    // A transfer: to its first cycle, or else to its tally.
+    pub fn transfer_statement(&mut self, statement: &Stmt) -> Option<Wanting<'a>>
+        requires room { HasRoom self.old }
+        requires kind { IsTrue (is_transfer (statement_of statement.now)) }
+        requires fits { StatementFits (reach self.old) (free self.old) (statement_of statement.now) }
+        requires fine { FineThen self.old (λ c. effect c most_turns (statement_of statement.now)) }
+        ensures { Proceeds self.old (λ c. effect c most_turns (statement_of statement.now)) result self.new }
+    {
+        match statement {
+            Stmt::Scan {
+                function,
+                first,
+                last,
+                max,
+                tally,
+                ..
+            } => self.scan(*function, *first, *last, max, *tally),
+            Stmt::QStop {
+                function,
+                register,
+                table,
+                max,
+                tally,
+                ..
+            } => self.q_stop(*function, *register, *table, max, *tally),
+            Stmt::QRepeat {
+                function,
+                register,
+                table,
+                max,
+                limit,
+                tally,
+                ..
+            } => self.q_repeat(*function, *register, *table, max, limit, *tally),
+            _ => unreachable!(),
+        }
+    }
+
+    // Goes on with a transfer: to its next cycle, or else to its tally.
+    pub fn proceed(&mut self, transfer: &Transfer<'a>) -> Option<Wanting<'a>>
+        requires room { HasRoom self.old }
+        requires tally { transfer.now.tally < (reach self.old).variables }
+        requires fine { FineThen self.old (λ c. transferred c transfer.now) }
+        ensures { Proceeds self.old (λ c. transferred c transfer.now) result self.new }
+    {
+        let plan = self.checked.plan();
+        plan.allows_commands();
+        match transfer.next() {
+            Some(command) => Some(Wanting::Transfer {
+                command,
+                course: transfer.course,
+                table: transfer.table,
+                tally: transfer.tally,
+            }),
+            None => {
+                self.set_variable(transfer.tally, transfer.course.tally());
+                None
+            }
+        }
+    }
+
+    // Puts the word of a transfer's cycle into the event, where it is a read that had Q=1, cut to its width.
+    pub fn put_read(&mut self, table: Option<&'a [Word24]>, done: &CycleDone)
+        requires room { length (words_after (words_sent table) (width self.old.checked.now.plan (address_of done.now.command) done.now.command.f) done.now.reply self.old.words) ≤ CAP }
+        ensures words { self.new.words ≡ words_after (words_sent table.entry) (width self.old.checked.now.plan (address_of done.now.command) done.now.command.f) done.now.reply self.old.words }
+        ensures same { self.new ≡ record self.old { words = self.new.words } }
+    {
+        if done.reply.q && table.is_none() {
+            let bits = bits_kept(self.checked.plan(), &done.command, WordSize::Full);
+            self.words.push(cut(word_of(done), bits));
+        }
+    }
+}

@@ -1,0 +1,247 @@
+// A run that is fed an answer at a time, and takes no memory.
+
+ghost use Rattle.std.specs.Prelude.{◌≡◌, ◌+◌, ◌<◌, ◌≤◌, ◌^◌, List, [], length, true, Some, None, false, IsSome, IfNone, OnSome, if◌then◌else◌};
+ghost use Rattle.camac_branch.specs.Branch.{Answer};
+ghost use Rattle.camac_run_machine.specs.Held.{bounds_at};
+ghost use Rattle.camac_size.specs.Fits.{fits};
+ghost use Rattle.camac_model.specs.Behaviour.{stops, short, ends};
+ghost use Rattle.camac_model.specs.Run.{the_run};
+ghost use Rattle.camac_run_machine.specs.Runner.{state_in, rest, last_words_in, Progresses, steps_of, words_of};
+
+use crate::item::{Item, Progress};
+use crate::machine::{Machine, Wanting};
+use crate::service::service_for;
+use arrayvec::ArrayVec;
+use camac_branch::{Answer, Overrun, demand};
+use camac_check::Checked;
+use camac_event::Usage;
+use camac_word::{GlBit, Word24};
+use std::marker::Model;
+
+/// A run of a script over the answers so far, with room for `V` variables, `V` registers, `DEPTH` open blocks and `CAP` words of an
+/// event. At every moment what it told is the beginning of each run on more answers.
+#[derive(Drop)]
+pub struct Runner<'a, const V: usize, const DEPTH: usize, const CAP: usize> {
+    machine: Machine<'a, V, DEPTH, CAP>,
+    // what the service in progress wants, where one is
+    wanting: Option<Wanting<'a>>,
+    fed: u32,
+    events: u32,
+    // whether the last answer left an event
+    has_event: bool,
+    // the wait that was not permitted
+    overrun: Option<Overrun>,
+}
+
+impl<'a, const V: usize, const DEPTH: usize, const CAP: usize> Model for Runner<'a, V, DEPTH, CAP> {
+    ghost use Rattle.std.specs.Coded.{codes};
+    ghost use Rattle.camac_check.specs.Checked.{checked_coded};
+    ghost use Rattle.camac_run_machine.specs.Codes.{want_coded, open_coded};
+    ghost use Rattle.camac_run_machine.specs.Runner.{Held};
+    ghost use Rattle.camac_run_machine.specs.Sound.{held, IsSound};
+
+    ghost Value = { Held };
+
+    ghost coded = { Prim.hlevel (codes, checked_coded, want_coded, open_coded) };
+
+    ghost view = { λ r. held r.machine r.wanting r.fed r.events r.has_event r.overrun };
+
+    ghost invariant = { λ r. IsSound r.machine r.wanting r.fed r.events };
+}
+
+impl<'a, const V: usize, const DEPTH: usize, const CAP: usize> Runner<'a, V, DEPTH, CAP> {
+    /// Stands before the first graded-L operation. It takes no memory. The script fits the sizes.
+    pub fn start(checked: &'a Checked) -> Self
+        requires { fits checked.now.script V DEPTH CAP ≡ true }
+        ensures rest { (answers : List Answer) → rest result answers ≡ the_run checked.now.plan checked.now.script answers }
+        ensures checked { result.checked ≡ checked.now }
+        ensures fed { result.fed ≡ 0 }
+        ensures events { result.events ≡ 0 }
+        ensures overrun { result.overrun ≡ None }
+        ensures quiet { last_words_in result ≡ [] }
+    {
+        checked.is_checked();
+        checked.script().well_formed();
+        Runner {
+            machine: Machine::start(checked),
+            wanting: None,
+            fed: 0,
+            events: 0,
+            has_event: false,
+            overrun: None,
+        }
+    }
+
+    /// Feeds an answer. It takes no memory. From the first wait on that is not permitted, it answers that wait and nothing else changes.
+    pub fn next(&mut self, answer: Answer) -> Progress
+        requires { self.old.fed < 1000000 }
+        ensures { Progresses self.old answer result self.new }
+    {
+        if let Some(overrun) = self.overrun {
+            return Progress::Overrun(overrun);
+        }
+        match self.wanting {
+            None => self.demand(answer),
+            Some(_) => self.resume(answer),
+        }
+    }
+
+    // A graded-L operation.
+    fn demand(&mut self, answer: Answer) -> Progress
+        requires fed { self.old.fed < 1000000 }
+        requires first { self.old.overrun ≡ None }
+        requires idle { self.old.wanting ≡ None }
+        ensures { Progresses self.old answer result self.new }
+    {
+        let checked = self.machine.checked;
+        let pattern = demand(&self.machine.branch, checked.plan(), answer);
+        self.fed += 1;
+        match service_for(checked, pattern) {
+            None => {
+                self.has_event = false;
+                Progress::Went {
+                    item: Item::Demand(pattern, None),
+                    unlocks: ArrayVec::new(),
+                    event: None,
+                }
+            }
+            Some(called) => {
+                let next = self.machine.serve(called.number);
+                let over = is_over(&next);
+                let events = events_after(over, self.events);
+                let event = self.machine.event(events);
+                let unlocks = self.machine.unlocks.take();
+                self.wanting = next;
+                self.has_event = over;
+                self.events = events;
+                Progress::Went {
+                    item: Item::Demand(pattern, Some(called.number)),
+                    unlocks,
+                    event: if_over(over, event),
+                }
+            }
+        }
+    }
+
+    // The answer that the service in progress wants.
+    fn resume(&mut self, answer: Answer) -> Progress
+        requires fed { self.old.fed < 1000000 }
+        requires first { self.old.overrun ≡ None }
+        requires wanting { IsSome self.old.wanting }
+        ensures { Progresses self.old answer result self.new }
+    {
+        let waited = self.wanting.take();
+        match waited {
+            None => unreachable!(),
+            Some(wanting) => match self.machine.take(&wanting, answer) {
+                Ok(item) => {
+                    let next = self.machine.go_further(&wanting);
+                    let over = is_over(&next);
+                    let events = events_after(over, self.events);
+                    let event = self.machine.event(events);
+                    let unlocks = self.machine.unlocks.take();
+                    self.fed += 1;
+                    self.wanting = next;
+                    self.has_event = over;
+                    self.events = events;
+                    Progress::Went {
+                        item,
+                        unlocks,
+                        event: if_over(over, event),
+                    }
+                }
+                Err(overrun) => {
+                    let progress = stopped(&overrun);
+                    self.wanting = Some(wanting);
+                    self.overrun = Some(overrun);
+                    progress
+                }
+            },
+        }
+    }
+
+    /// Whether a service is in progress.
+    pub fn in_service(&self) -> bool
+        ensures { rest self.now [] ≡ (if result then stops short (state_in self.now []) else ends tt) }
+    {
+        match self.wanting {
+            Some(_) => true,
+            None => false,
+        }
+    }
+
+    /// How many answers were used.
+    pub fn fed(&self) -> u32
+        ensures { result ≡ self.now.fed }
+    {
+        self.fed
+    }
+
+    /// How many words the event of the service in progress has, 0 where none is.
+    pub fn event_words(&self) -> usize
+        ensures { result ≡ length (words_of (rest self.now [])) }
+    {
+        match self.wanting {
+            Some(_) => self.machine.words().len(),
+            None => 0,
+        }
+    }
+
+    /// How many steps the service in progress has made, 0 where none is.
+    pub fn steps(&self) -> u32
+        ensures steps { result ≡ steps_of (rest self.now []) }
+        ensures within { result ≤ (bounds_at self.now.checked self.now.service).steps }
+    {
+        match self.wanting {
+            Some(_) => self.machine.steps,
+            None => 0,
+        }
+    }
+
+    /// The words of the event that the last answer left, none where it left none.
+    pub fn last_words(&self) -> &[Word24]
+        ensures words { result.now ≡ last_words_in self.now }
+        ensures fits { length result.now ≤ CAP }
+    {
+        if self.has_event {
+            self.machine.words()
+        } else {
+            &[]
+        }
+    }
+}
+
+// A wait that is not permitted.
+fn stopped(overrun: &Overrun) -> Progress
+    ensures { result ≡ Progress.Overrun overrun.now }
+{
+    Progress::Overrun(*overrun)
+}
+
+// Whether a service wants nothing more.
+fn is_over(next: &Option<Wanting>) -> bool
+    ensures ended { IfNone next.now (result ≡ true) }
+    ensures goes_on { OnSome next.now (result ≡ false) }
+{
+    match next {
+        None => true,
+        Some(_) => false,
+    }
+}
+
+// How many events there are, where a service is over or goes on.
+fn events_after(over: bool, events: u32) -> u32
+    requires { events + 1 < 2 ^ 32 }
+    ensures ended { over ≡ true → result ≡ events + 1 }
+    ensures goes_on { over ≡ false → result ≡ events }
+{
+    if over { events + 1 } else { events }
+}
+
+// The event of a service that is over.
+fn if_over(over: bool, event: (u32, GlBit, Usage)) -> Option<(u32, GlBit, Usage)>
+    ensures ended { over ≡ true → result ≡ Some event }
+    ensures goes_on { over ≡ false → result ≡ None }
+{
+    if over { Some(event) } else { None }
+}

@@ -1,0 +1,117 @@
+// A transfer in progress.
+
+ghost use Rattle.std.specs.Prelude.{◌≡◌, ◌<◌, ◌^◌, [], Some, IsSome, IfSome, option_map};
+ghost use Rattle.camac_esone.specs.Calls.{IsOnBranch};
+ghost use Rattle.camac_esone.specs.Progress.{Continues};
+ghost use Rattle.camac_run_machine.specs.Course.{left_at, data_of, words_sent};
+ghost use Rattle.camac_run_machine.specs.Rest.{address_of};
+
+use crate::command::command;
+use camac_branch::Command;
+use camac_esone::{Address, QRepeat, QStop, Scan};
+use camac_func::DataMove;
+use camac_word::{Function, Word24};
+
+/// How far a transfer is.
+#[derive(Clone, Copy)]
+pub enum Course {
+    /// Q-stop.
+    Stop(QStop),
+    /// Q-repeat.
+    Repeat(QRepeat),
+    /// The address scan.
+    Scan(Scan),
+}
+
+impl Course {
+    /// Where the next cycle goes, or none at the end.
+    pub fn next(&self) -> Option<Address>
+        ensures { result ≡ (left_at self.now).wanted [] }
+    {
+        match self {
+            Course::Stop(stop) => stop.next(),
+            Course::Repeat(repeat) => repeat.next(),
+            Course::Scan(scan) => scan.next(),
+        }
+    }
+
+    /// After the cycle that `next` asked for, with this Q.
+    pub fn after(&self, q: bool) -> Self
+        requires { IsSome ((left_at self.now).wanted []) }
+        ensures { Continues (left_at self.now) q (left_at result) }
+    {
+        match self {
+            Course::Stop(stop) => {
+                let mut stop = *stop;
+                stop.take(q);
+                Course::Stop(stop)
+            }
+            Course::Repeat(repeat) => {
+                let mut repeat = *repeat;
+                repeat.take(q);
+                Course::Repeat(repeat)
+            }
+            Course::Scan(scan) => {
+                let mut scan = *scan;
+                scan.take(q);
+                Course::Scan(scan)
+            }
+        }
+    }
+
+    /// How many cycles had Q=1.
+    pub fn tally(&self) -> u32
+        ensures { result ≡ (left_at self.now).tally }
+    {
+        match self {
+            Course::Stop(stop) => stop.tally(),
+            Course::Repeat(repeat) => repeat.tally(),
+            Course::Scan(scan) => scan.tally(),
+        }
+    }
+
+    /// The number of the table word that the next cycle sends, from 0.
+    fn index(&self) -> usize
+        ensures value { result ≡ (left_at self.now).tally }
+        ensures in_range { result < 2 ^ 32 }
+    {
+        self.tally() as usize
+    }
+}
+
+/// A transfer in progress.
+#[derive(Clone, Copy)]
+pub struct Transfer<'a> {
+    pub course: Course,
+    pub function: Function,
+    /// The words of the table that it sends; a read sends none.
+    pub table: Option<&'a [Word24]>,
+    /// The variable that is set to the tally at the end.
+    pub tally: usize,
+}
+
+impl<'a> Transfer<'a> {
+    /// The command of its next cycle, or none at the end.
+    pub fn next(&self) -> Option<Command>
+        requires at { IfSome ((left_at self.now.course).wanted []) IsOnBranch }
+        requires data { IfSome ((left_at self.now.course).wanted []) (λ at. IsSome (data_of self.now.course (words_sent self.now.table))) }
+        ensures wanted { (left_at self.now.course).wanted [] ≡ option_map address_of result }
+        ensures moves { IfSome result (λ k. (data_of self.now.course (words_sent self.now.table) ≡ Some k.mv) × (k.f ≡ self.now.function)) }
+    {
+        match self.course.next() {
+            None => None,
+            Some(at) => Some(command(at, self.function, self.data())),
+        }
+    }
+
+    // What its next cycle moves.
+    fn data(&self) -> DataMove
+        requires { IsSome (data_of self.now.course (words_sent self.now.table)) }
+        ensures { data_of self.now.course (words_sent self.now.table) ≡ Some result }
+    {
+        match self.table {
+            None => DataMove::In,
+            Some(words) => DataMove::Out(words[self.course.index()]),
+        }
+    }
+}

@@ -1,0 +1,27 @@
+// The value of an expression.
+
+ghost use Rattle.std.specs.Prelude.{◌≡◌, length, true, Some, IsSome};
+ghost use Rattle.camac_lang.specs.Expressions.{refers};
+ghost use Rattle.camac_lang.specs.View.{expression_of};
+ghost use Rattle.camac_model.specs.Value.{value};
+ghost use Rattle.camac_run_machine.specs.Store.{variables_in};
+
+use camac_lang::Expr;
+
+/// The value of an expression that has one.
+pub fn value_of(e: &Expr, variables: &[u32]) -> u32
+    requires declared { refers (length variables.now) (expression_of e.now) ≡ true }
+    requires has_value { IsSome (value (expression_of e.now) (variables_in variables.now)) }
+    ensures { value (expression_of e.now) (variables_in variables.now) ≡ Some result }
+{
+    match e {
+        Expr::Num(n) => *n,
+        Expr::Var(x) => variables[*x],
+        Expr::Group(e) => value_of(e, variables),
+        Expr::Add(a, b) => value_of(a, variables) + value_of(b, variables),
+        Expr::Sub(a, b) => value_of(a, variables) - value_of(b, variables),
+        Expr::Mul(a, b) => value_of(a, variables) * value_of(b, variables),
+        Expr::Div(e, d) => value_of(e, variables) / d.get(),
+        Expr::Rem(e, d) => value_of(e, variables) % d.get(),
+    }
+}

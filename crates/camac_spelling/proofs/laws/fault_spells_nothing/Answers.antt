@@ -1,5 +1,0 @@
-use Rattle.camac_spelling.proofs.Read as read
-use Rattle.camac_spelling.proofs.laws.fault_spells_nothing.Goals as goal
-
-pub returns : goal.returns
-returns c = read.fault_spells_nothing

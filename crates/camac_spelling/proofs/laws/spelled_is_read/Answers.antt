@@ -1,5 +1,0 @@
-use Rattle.camac_spelling.proofs.Read as read
-use Rattle.camac_spelling.proofs.laws.spelled_is_read.Goals as goal
-
-pub returns : goal.returns
-returns c = read.spelled_is_read

@@ -1,0 +1,166 @@
+//! The sample plan, and what its builders refuse.
+
+use camac_branch::{BuildFault, Plan, TypeName};
+use camac_module::{Decl, ModuleType};
+use camac_word::{CrateNo, Function, GlBit, Station, SubAddress};
+use std::alloc::Global;
+use std::test::Fail;
+
+fn crate_no(value: u32) -> Result<CrateNo, Fail> {
+    Ok(CrateNo::new(value).ok_or("crate number")?)
+}
+
+fn station(value: u32) -> Result<Station, Fail> {
+    Ok(Station::new(value).ok_or("station number")?)
+}
+
+fn sub_address(value: u32) -> Result<SubAddress, Fail> {
+    Ok(SubAddress::new(value).ok_or("sub-address")?)
+}
+
+fn function(value: u32) -> Result<Function, Fail> {
+    Ok(Function::new(value).ok_or("function code")?)
+}
+
+fn bit(value: u32) -> Result<GlBit, Fail> {
+    Ok(GlBit::new(value).ok_or("graded-L bit")?)
+}
+
+fn name(text: &str) -> Result<TypeName, Fail> {
+    Ok(TypeName::new(text.as_bytes()).ok_or("type name")?)
+}
+
+fn declare(commands: &mut ModuleType, f: u32, a: u32, width: u8, probe: bool) -> Result<(), Fail> {
+    let d = Decl {
+        f: function(f)?,
+        a: sub_address(a)?,
+        width,
+        probe,
+    };
+    commands.declare(d)?;
+    Ok(())
+}
+
+fn adc_commands(alloc: Global) -> Result<ModuleType, Fail> {
+    let mut commands = ModuleType::new(alloc);
+    for a in 0..12 {
+        declare(&mut commands, 0, a, 12, false)?;
+    }
+    for a in 12..16 {
+        declare(&mut commands, 0, a, 24, true)?;
+    }
+    for f in [8, 10, 24, 26] {
+        declare(&mut commands, f, 12, 24, false)?;
+    }
+    Ok(commands)
+}
+
+fn register_commands(alloc: Global) -> Result<ModuleType, Fail> {
+    let mut commands = ModuleType::new(alloc);
+    declare(&mut commands, 16, 0, 8, false)?;
+    for f in [0, 27, 5] {
+        declare(&mut commands, f, 0, 24, false)?;
+    }
+    Ok(commands)
+}
+
+fn sample(alloc: Global) -> Result<Plan, Fail> {
+    let mut plan = Plan::new(alloc, 4096).ok_or("buffer")?;
+    let adc = plan.add_type(name("ADC")?, adc_commands(alloc)?)?;
+    let register = plan.add_type(name("REG")?, register_commands(alloc)?)?;
+    plan.add_crate(crate_no(1)?, 2)?;
+    plan.add_station(crate_no(1)?, station(5)?, adc, Some(bit(3)?))?;
+    plan.add_station(crate_no(1)?, station(6)?, register, None)?;
+    Ok(plan)
+}
+
+#[test]
+fn builder_faults_of_types_and_crates(rt: HostRuntime) -> Result<(), Fail> {
+    let mut plan = sample(rt.alloc())?;
+    let again = plan.add_type(name("ADC")?, ModuleType::new(rt.alloc()));
+    assert_eq!(rt; again, Err(BuildFault::TypeTwice));
+    assert_eq!(rt;
+        plan.add_crate(crate_no(1)?, 2),
+        Err(BuildFault::CrateTwice)
+    );
+    assert_eq!(rt;
+        plan.add_crate(crate_no(2)?, 16),
+        Err(BuildFault::OutOfRange)
+    );
+    Ok(())
+}
+
+#[test]
+fn builder_faults_of_stations(rt: HostRuntime) -> Result<(), Fail> {
+    let mut plan = sample(rt.alloc())?;
+    let past = plan.add_station(crate_no(1)?, station(24)?, 0, None);
+    assert_eq!(rt; past, Err(BuildFault::OutOfRange));
+    let again = plan.add_station(crate_no(1)?, station(5)?, 0, None);
+    assert_eq!(rt; again, Err(BuildFault::StationTwice));
+    let same_bit = plan.add_station(crate_no(1)?, station(7)?, 0, Some(bit(3)?));
+    assert_eq!(rt; same_bit, Err(BuildFault::BitTwice));
+    Ok(())
+}
+
+#[test]
+fn builder_faults_of_buffers(rt: HostRuntime) {
+    assert!(rt; Plan::new(rt.alloc(), 0).is_none());
+    assert!(rt; Plan::new(rt.alloc(), 4097).is_none());
+}
+
+#[test]
+fn type_copy(rt: HostRuntime) -> Result<(), Fail> {
+    let commands = adc_commands(rt.alloc())?;
+    let copy = commands.try_clone(rt.alloc())?;
+    assert_eq!(rt; copy.counts(), (20, 4));
+    for a in 0..16 {
+        let a = sub_address(a)?;
+        assert_eq!(rt;
+            copy.width(function(0)?, a),
+            commands.width(function(0)?, a)
+        );
+    }
+    Ok(())
+}
+
+#[test]
+fn plan_copy(rt: HostRuntime) -> Result<(), Fail> {
+    let plan = sample(rt.alloc())?;
+    let copy = plan.try_clone(rt.alloc())?;
+    assert_eq!(rt; copy.types(), plan.types());
+    for i in 0..plan.types() {
+        assert_eq!(rt; copy.type_counts(i), plan.type_counts(i));
+    }
+    let (c, n) = (crate_no(1)?, station(5)?);
+    for a in 0..16 {
+        let (a, f) = (sub_address(a)?, function(0)?);
+        assert_eq!(rt; copy.allowed(c, n, a, f), plan.allowed(c, n, a, f));
+    }
+    Ok(())
+}
+
+// The widths in crate 1.
+fn widths(plan: &Plan, n: u32, f: u32, first: u32, last: u32) -> Result<Option<(u8, u8)>, Fail> {
+    let (first, last) = (sub_address(first)?, sub_address(last)?);
+    if first > last {
+        return Ok(None);
+    }
+    Ok(plan.widths(crate_no(1)?, station(n)?, function(f)?, first, last))
+}
+
+#[test]
+fn widths_of_range(rt: HostRuntime) -> Result<(), Fail> {
+    let plan = sample(rt.alloc())?;
+    assert_eq!(rt; widths(&plan, 5, 0, 0, 11)?, Some((12, 12)));
+    assert_eq!(rt; widths(&plan, 5, 0, 0, 15)?, Some((12, 24)));
+    assert_eq!(rt; widths(&plan, 6, 0, 0, 1)?, None);
+    Ok(())
+}
+
+#[test]
+fn widths_of_controller(rt: HostRuntime) -> Result<(), Fail> {
+    let plan = sample(rt.alloc())?;
+    assert_eq!(rt; widths(&plan, 30, 24, 9, 10)?, Some((24, 24)));
+    assert_eq!(rt; widths(&plan, 30, 24, 9, 11)?, None);
+    Ok(())
+}

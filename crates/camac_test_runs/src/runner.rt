@@ -1,0 +1,98 @@
+// A run that is fed its answers one by one.
+
+use camac_branch::Answer;
+use camac_check::{Checked, check};
+use camac_names::resolve;
+use camac_run_machine::{Item, Progress, Runner};
+use camac_test_fixtures::scripts::STRAIGHT_LINE;
+use camac_text::parse;
+use camac_tool::sample_plan;
+use camac_word::Word24;
+use std::alloc::Global;
+use std::process::Abort;
+use std::test::Fail;
+
+fn straight_line(alloc: Global) -> Result<Checked, Fail> {
+    let plan = sample_plan(alloc)?;
+    let script = parse(alloc, STRAIGHT_LINE)?;
+    let linked = resolve(alloc, script, &plan)?;
+    Ok(check(alloc, linked)?)
+}
+
+fn answer(q: bool, word: u32, wait: u8, gl: u32) -> Result<Answer, Fail> {
+    let word = Word24::new(word).ok_or("a word of 24 bits")?;
+    let gl = Word24::new(gl).ok_or("a pattern of 24 bits")?;
+    Ok(Answer::new(true, q, word, wait, gl).ok_or("a wait below 16")?)
+}
+
+fn expect_at(
+    rt: &impl Abort,
+    runner: &Runner<1, 1, 1>,
+    fed: u32,
+    in_service: bool,
+    steps: u32,
+) -> Result<(), Fail> {
+    assert_eq!(rt; runner.fed(), fed);
+    assert_eq!(rt; runner.in_service(), in_service);
+    assert_eq!(rt; runner.steps(), steps);
+    assert_eq!(rt; runner.event_words(), 0);
+    Ok(())
+}
+
+fn feed(rt: &impl Abort, runner: &mut Runner<1, 1, 1>, answer: Answer) -> Progress {
+    assert!(rt; runner.fed() < 1_000_000);
+    runner.next(answer)
+}
+
+fn expect_demand(rt: &impl Abort, progress: &Progress) -> Result<(), Fail> {
+    let Progress::Went { item, event, .. } = progress else {
+        return Err(Fail::from("a wait that is permitted"));
+    };
+    let Item::Demand(pattern, service) = item else {
+        return Err(Fail::from("a demand"));
+    };
+    assert_eq!(rt; pattern.get(), 4);
+    assert_eq!(rt; *service, Some(0));
+    assert!(rt; event.is_none());
+    Ok(())
+}
+
+fn expect_event(rt: &impl Abort, progress: &Progress) -> Result<(), Fail> {
+    let Progress::Went { item, event, .. } = progress else {
+        return Err(Fail::from("a wait that is permitted"));
+    };
+    let Item::Cycle(cycle) = item else {
+        return Err(Fail::from("a cycle"));
+    };
+    let Some((number, gl, usage)) = event else {
+        return Err(Fail::from("an event"));
+    };
+    assert_eq!(rt; cycle.wait, 2);
+    assert_eq!(rt; *number, 1);
+    assert_eq!(rt; gl.get(), 3);
+    assert_eq!(rt; usage.cycles, 3);
+    assert_eq!(rt; usage.missed, 0);
+    Ok(())
+}
+
+fn expect_straight_line(rt: &impl Abort, checked: &Checked) -> Result<(), Fail> {
+    assert!(rt; checked.fits(1, 1, 1));
+    let mut runner = Runner::<1, 1, 1>::start(checked);
+    expect_at(rt, &runner, 0, false, 0)?;
+    let progress = feed(rt, &mut runner, answer(false, 0, 0, 4)?);
+    expect_demand(rt, &progress)?;
+    expect_at(rt, &runner, 1, true, 2)?;
+    assert!(rt; runner.last_words().is_empty());
+    let progress = feed(rt, &mut runner, answer(true, 0x123fff, 2, 0)?);
+    expect_event(rt, &progress)?;
+    expect_at(rt, &runner, 2, false, 0)?;
+    let word = runner.last_words().first().ok_or("a word")?;
+    assert_eq!(rt; word.get(), 0xfff);
+    Ok(())
+}
+
+#[test]
+fn runner_straight_line(rt: HostRuntime) -> Result<(), Fail> {
+    let checked = straight_line(rt.alloc())?;
+    expect_straight_line(&rt, &checked)
+}

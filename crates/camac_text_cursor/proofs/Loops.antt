@@ -1,0 +1,33 @@
+-- A loop of the parser beside the loop that reads.
+use Rattle.std.proofs.Common.{◌≡◌, Bool, true, false, List, [], ◌∷◌, ◌++◌, Option, Result, Ok, sym, ap, ◌∙◌}
+use Rattle.camac_text_tokens.specs.declared.token.TokenKind.{TokenKind}
+use Rattle.camac_text_tokens.specs.Fault.{Fault, Fails}
+use Rattle.camac_text_tokens.specs.declared.fault.TextFault.{TextFault}
+use Rattle.camac_text_tokens.specs.declared.fault.TextFault.TheVariants as fault
+use Rattle.camac_text_cursor.specs.Reading.{State, Reader, then_read, give, kind_of, while_next, one_more}
+use Rattle.camac_text_cursor.proofs.Steps.{Progresses, while_on, while_off}
+
+module _ {A : Type 0} (goes_on : Option TokenKind → Bool) (turn : A → Reader A) (progress : Progresses goes_on turn) (x : A) (s : State) (total : Result (A × State) Fault) where
+  pub goes : (y : A) (s' : State) → goes_on (kind_of s.rest) ≡ true → turn x s ≡ Ok (y, s') → while_next goes_on turn x s ≡ total → while_next goes_on turn y s' ≡ total
+  goes y s' on took so_far = ap (λ (r : Result (A × State) Fault). then_read r (while_next goes_on turn)) (sym took) ∙ sym (while_on goes_on turn progress x s on) ∙ so_far
+
+  pub fails : (e : TextFault) → goes_on (kind_of s.rest) ≡ true → Fails e (turn x s) → while_next goes_on turn x s ≡ total → Fails e total
+  fails fault.OutOfMemory on failed so_far = tt
+  fails (fault.Broken rule line) on failed so_far = sym so_far ∙ while_on goes_on turn progress x s on ∙ ap (λ (r : Result (A × State) Fault). then_read r (while_next goes_on turn)) failed
+
+  pub ends : goes_on (kind_of s.rest) ≡ false → while_next goes_on turn x s ≡ total → total ≡ Ok (x, s)
+  ends off so_far = sym so_far ∙ while_off goes_on turn x s off
+
+-- a loop that makes a list
+module _ {A : Type 0} (goes_on : Option TokenKind → Bool) (read : Reader A) (progress : Progresses goes_on (one_more read)) (xs : List A) (s : State) (total : Result (List A × State) Fault) where
+  pub more : (x : A) (s' : State) → goes_on (kind_of s.rest) ≡ true → read s ≡ Ok (x, s') → while_next goes_on (one_more read) xs s ≡ total → while_next goes_on (one_more read) (xs ++ x ∷ []) s' ≡ total
+  more x s' on took so_far = goes goes_on (one_more read) progress xs s total (xs ++ x ∷ []) s' on (ap (λ (r : Result (A × State) Fault). then_read r (λ y. give (xs ++ y ∷ []))) took) so_far
+
+  pub more_fails : (e : TextFault) → goes_on (kind_of s.rest) ≡ true → Fails e (read s) → while_next goes_on (one_more read) xs s ≡ total → Fails e total
+  more_fails fault.OutOfMemory on failed so_far = tt
+  more_fails (fault.Broken rule line) on failed so_far = fails goes_on (one_more read) progress xs s total (fault.Broken rule line) on (ap (λ (r : Result (A × State) Fault). then_read r (λ y. give (xs ++ y ∷ []))) failed) so_far
+
+-- what fails, fails whatever would follow it
+pub then_fails : {A B : Type 0} (e : TextFault) (r : Result (A × State) Fault) (g : A → Reader B) → Fails e r → Fails e (then_read r g)
+then_fails fault.OutOfMemory r g failed = tt
+then_fails (fault.Broken rule line) r g failed = ap (λ (q : Result (_ × State) Fault). then_read q g) failed

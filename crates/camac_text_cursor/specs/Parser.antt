@@ -1,0 +1,35 @@
+-- What the parser's functions return, beside the readers.
+use Rattle.std.specs.Prelude.{◌≡◌, map, Result, Ok, Err}
+use Rattle.camac_lang.specs.Expressions.{Callable}
+use Rattle.camac_lang.specs.View.{item_of, table_of, lam_of, procedure_of, service_of}
+use Rattle.camac_text_tokens.specs.declared.fault.TextFault.{TextFault}
+use Rattle.camac_text_cursor.specs.declared.cursor.Parser.{Parser}
+use Rattle.camac_text_cursor.specs.declared.cursor.Called.{Called}
+use Rattle.camac_text_tokens.specs.Fault.{Fault, Fails}
+use Rattle.camac_text_cursor.specs.Reading.{State}
+
+abbrev pub callable_of : Called → Callable
+callable_of q = record { parameters = q.parameters; depth = q.depth }
+
+abbrev pub state : Parser → State
+state p = record {
+  rest = p.rest.now;
+  end_line = p.end_line;
+  order = map item_of p.order.items;
+  tables = map table_of p.tables.items;
+  lams = map lam_of p.lams.items;
+  variables = p.variables.items;
+  procedures = map procedure_of p.procedures.items;
+  services = map service_of p.services.items;
+  callables = map callable_of p.callables.items;
+  in_procedure = p.in_procedure;
+  variable_count = p.variable_count;
+  declared = p.declared.items;
+  registers = p.registers.items;
+  statements = p.statements;
+}
+
+-- What a function returned, seen by view, and what it left are what is read, unless memory was refused.
+abbrev pub Gives : {X Y : Type 0} → (X → Y) → Result X TextFault → Parser → Result (Y × State) Fault → Type 0
+Gives view (Ok x) after read = read ≡ Ok (view x, state after)
+Gives view (Err e) after read = Fails e read

@@ -1,0 +1,103 @@
+-- Readers: from what is left of the tokens and what is declared so far, to a value or the first fault.
+use Rattle.std.specs.Prelude.{ℕ, zero, suc, Bool, List, [], ◌∷◌, ◌++◌, length, Option, Some, None, Result, Ok, Err, if◌then◌else◌}
+use Rattle.camac_lang.specs.Expressions.{Callable}
+use Rattle.camac_lang.specs.Tree.{Text, Item, Table, Lam, Procedure, Service}
+use Rattle.camac_text_tokens.specs.declared.token.Token.{Token}
+use Rattle.camac_text_tokens.specs.declared.token.TokenKind.{TokenKind}
+use Rattle.camac_text_tokens.specs.declared.fault.TextRule.{TextRule}
+use Rattle.camac_text_tokens.specs.Fault.{Fault}
+
+pub record State : Type 0 where
+  -- what is left of the tokens, and the line of the text's end
+  pub rest : List Token
+  pub end_line : ℕ
+  -- the declarations so far: their order, and each kind
+  pub order : List Item
+  pub tables : List Table
+  pub lams : List Lam
+  pub variables : List Text
+  pub procedures : List Procedure
+  pub services : List Service
+  -- what can be called: the number of parameters and the depth of each procedure
+  pub callables : List Callable
+  -- whether the body in hand is a procedure's; then the variables are its parameters
+  pub in_procedure : Bool
+  -- the variables of the script and the parameters of all procedures
+  pub variable_count : ℕ
+  -- the names of tables, LAMs, variables and procedures and, in a procedure, of its parameters
+  pub declared : List Text
+  -- the registers of the body in hand
+  pub registers : List Text
+  -- the statements of all bodies
+  pub statements : ℕ
+
+abbrev pub Reader : Type 0 → Type 0
+Reader A = State → Result (A × State) Fault
+
+abbrev pub then_read : {A B : Type 0} → Result (A × State) Fault → (A → Reader B) → Result (B × State) Fault
+then_read (Ok x) next = next x.0 x.1
+then_read (Err e) next = Err e
+
+infixl 10 ◌>>=◌
+abbrev pub ◌>>=◌ : {A B : Type 0} → Reader A → (A → Reader B) → Reader B
+f >>= g = λ s. then_read (f s) g
+
+infixl 10 ◌>>◌
+abbrev pub ◌>>◌ : {A B : Type 0} → Reader A → Reader B → Reader B
+f >> g = f >>= λ _. g
+
+abbrev pub give : {A : Type 0} → A → Reader A
+give x = λ s. Ok (x, s)
+
+-- what a look at the state tells
+abbrev pub ask : {A : Type 0} → (State → A) → Reader A
+ask look = λ s. Ok (look s, s)
+
+-- a change of the state
+abbrev pub change : (State → State) → Reader (Unit {0})
+change to = λ s. Ok (tt, to s)
+
+-- the line of the next token, or of the text's end
+abbrev pub line_of : List Token → ℕ → ℕ
+line_of [] end_line = end_line
+line_of (t ∷ ts) end_line = t.line
+
+abbrev pub kind_of : List Token → Option TokenKind
+kind_of [] = None
+kind_of (t ∷ ts) = Some t.kind
+
+abbrev pub behind : List Token → List Token
+behind [] = []
+behind (t ∷ ts) = ts
+
+abbrev pub line_here : Reader ℕ
+line_here = ask (λ s. line_of s.rest s.end_line)
+
+abbrev pub peek : Reader (Option TokenKind)
+peek = ask (λ s. kind_of s.rest)
+
+abbrev pub advance : Reader (Unit {0})
+advance = change (λ s. record s { rest = behind s.rest })
+
+-- a fault at the next token
+abbrev pub fail : {A : Type 0} → TextRule → Reader A
+fail rule = λ s. Err (record { rule = rule; line = line_of s.rest s.end_line })
+
+-- a fault at the next token, where a rule is broken
+abbrev pub check : Bool → TextRule → Reader (Unit {0})
+check holds rule = if holds then give tt else fail rule
+
+-- A turn after the other while the next token is of a kind. There are fewer turns than tokens.
+unfoldable pub turns : {A : Type 0} → ℕ → (Option TokenKind → Bool) → (A → Reader A) → A → Reader A
+turns zero goes_on turn x = give x
+turns (suc n) goes_on turn x = peek >>= λ k. if goes_on k then turn x >>= turns n goes_on turn else give x
+
+unfoldable pub while_next : {A : Type 0} → (Option TokenKind → Bool) → (A → Reader A) → A → Reader A
+while_next goes_on turn x = λ s. turns (suc (length s.rest)) goes_on turn x s
+
+-- a list, one after the other while the next token is of a kind
+abbrev pub one_more : {A : Type 0} → Reader A → List A → Reader (List A)
+one_more read xs = read >>= λ x. give (xs ++ x ∷ [])
+
+unfoldable pub many : {A : Type 0} → (Option TokenKind → Bool) → Reader A → Reader (List A)
+many goes_on read = while_next goes_on (one_more read) []

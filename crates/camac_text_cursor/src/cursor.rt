@@ -1,0 +1,227 @@
+// The parser's state, and its steps over single tokens.
+
+ghost use Rattle.std.specs.Prelude.{◌≡◌};
+ghost use Rattle.camac_text_tokens.specs.Fault.{Fails};
+ghost use Rattle.camac_text_cursor.specs.Reading.{line_of, kind_of, behind};
+ghost use Rattle.camac_text_cursor.specs.Readers.{begin, is_keyword, is_sign, is_name, expect, expect_sign, name_here, number_here, any_number, branch_number, function_number, sub_address_number};
+ghost use Rattle.camac_text_cursor.specs.Parser.{state, Gives};
+
+use camac_lang::{Item, Lam, Name, Procedure, Service, Table};
+use camac_text_tokens::{Keyword, Sign, TextFault, TextRule, Token, TokenKind};
+use camac_word::{Function, SubAddress};
+use std::alloc::Global;
+
+/// What a call of a procedure needs: the number of its arguments, and the braces and brackets that the body has open at most.
+#[derive(Clone, Copy, Debug, PartialEq, Eq)]
+pub struct Called {
+    pub parameters: usize,
+    pub depth: u32,
+}
+
+/// What is left of the tokens, and what is declared so far.
+#[derive(Drop)]
+pub struct Parser<'a> {
+    pub alloc: Global,
+    pub rest: &'a [Token],
+    /// The line of the text's end.
+    pub end_line: u32,
+    pub order: Vec<Item>,
+    pub tables: Vec<Table>,
+    pub lams: Vec<Lam>,
+    /// Those that the body in hand sees: the script's, and in a procedure its parameters.
+    pub variables: Vec<Name>,
+    pub procedures: Vec<Procedure>,
+    pub services: Vec<Service>,
+    /// What can be called, one for each procedure.
+    pub callables: Vec<Called>,
+    /// Whether the body in hand is a procedure's.
+    pub in_procedure: bool,
+    /// The variables of the script and the parameters of all procedures.
+    pub variable_count: usize,
+    /// The names of tables, LAMs, variables and procedures and, in a procedure, of its parameters.
+    pub declared: Vec<Name>,
+    /// The registers of the body in hand.
+    pub registers: Vec<Name>,
+    /// The statements of all bodies.
+    pub statements: u32,
+}
+
+impl Parser<'_> {
+    /// The kind of the next token.
+    pub fn peek(&self) -> Option<TokenKind>
+        ensures { result ≡ kind_of self.now.rest.now }
+    {
+        match self.rest {
+            [] => None,
+            [token, ..] => Some(token.kind.duplicate()),
+        }
+    }
+
+    /// The line of the next token, or of the text's end.
+    pub fn line_here(&self) -> u32
+        ensures { result ≡ line_of self.now.rest.now self.now.end_line }
+    {
+        match self.rest {
+            [] => self.end_line,
+            [token, ..] => token.line,
+        }
+    }
+
+    /// A fault at the next token.
+    pub fn fault(&self, rule: TextRule) -> TextFault
+        ensures { result ≡ TextFault.Broken rule (line_of self.now.rest.now self.now.end_line) }
+    {
+        TextFault::Broken {
+            rule,
+            line: self.line_here(),
+        }
+    }
+
+    /// Takes the next token, if there is one.
+    pub fn advance(&mut self)
+        ensures { state self.new ≡ record (state self.old) { rest = behind self.old.rest.now } }
+    {
+        if let [_, rest @ ..] = self.rest {
+            self.rest = rest;
+        }
+    }
+
+    /// Whether this keyword stands next.
+    pub fn next_is(&self, keyword: Keyword) -> bool
+        ensures { result ≡ is_keyword keyword (kind_of self.now.rest.now) }
+    {
+        match self.peek() {
+            Some(TokenKind::Keyword(next)) => next == keyword,
+            _ => false,
+        }
+    }
+
+    /// Whether this sign stands next.
+    pub fn next_is_sign(&self, sign: Sign) -> bool
+        ensures { result ≡ is_sign sign (kind_of self.now.rest.now) }
+    {
+        match self.peek() {
+            Some(TokenKind::Sign(next)) => next == sign,
+            _ => false,
+        }
+    }
+
+    /// Whether a name stands next.
+    pub fn next_is_name(&self) -> bool
+        ensures { result ≡ is_name (kind_of self.now.rest.now) }
+    {
+        matches!(self.peek(), Some(TokenKind::Name(_)))
+    }
+
+    /// Takes this keyword, else answers S2 at what stands there.
+    #[tactic(auto, unfolding(crate::specs::Readers::expect))]
+    pub fn expect(&mut self, keyword: Keyword) -> Result<(), TextFault>
+        ensures { Gives (λ _. tt) result self.new (expect keyword (state self.old)) }
+    {
+        if !self.next_is(keyword) {
+            return Err(self.fault(TextRule::UnexpectedToken));
+        }
+        self.advance();
+        Ok(())
+    }
+
+    /// Takes this sign, else answers S2 at what stands there.
+    #[tactic(auto, unfolding(crate::specs::Readers::expect_sign))]
+    pub fn expect_sign(&mut self, sign: Sign) -> Result<(), TextFault>
+        ensures { Gives (λ _. tt) result self.new (expect_sign sign (state self.old)) }
+    {
+        if !self.next_is_sign(sign) {
+            return Err(self.fault(TextRule::UnexpectedToken));
+        }
+        self.advance();
+        Ok(())
+    }
+
+    /// The name that stands next, and stays there; S2 at anything else.
+    #[tactic(auto, unfolding(crate::specs::Readers::name_here))]
+    pub fn name_here(&mut self) -> Result<Name, TextFault>
+        ensures { Gives (λ n. n) result self.new (name_here (state self.old)) }
+    {
+        match self.peek() {
+            Some(TokenKind::Name(name)) => Ok(name),
+            _ => Err(self.fault(TextRule::UnexpectedToken)),
+        }
+    }
+
+    /// The number that stands next, and stays there; S2 at anything else.
+    #[tactic(auto, unfolding(crate::specs::Readers::number_here))]
+    pub fn number_here(&mut self) -> Result<u32, TextFault>
+        ensures { Gives (λ n. n) result self.new (number_here (state self.old)) }
+    {
+        match self.peek() {
+            Some(TokenKind::Number(number)) => Ok(number),
+            _ => Err(self.fault(TextRule::UnexpectedToken)),
+        }
+    }
+
+    /// Takes a number, else answers S2 at what stands there.
+    #[tactic(auto, unfolding(crate::specs::Readers::any_number))]
+    pub fn any_number(&mut self) -> Result<u32, TextFault>
+        ensures { Gives (λ n. n) result self.new (any_number (state self.old)) }
+    {
+        let number = self.number_here()?;
+        self.advance();
+        Ok(number)
+    }
+
+    /// Takes the number 1, else answers S2 where no number stands, S7 at another one.
+    #[tactic(auto, unfolding(crate::specs::Readers::branch_number))]
+    pub fn branch_number(&mut self) -> Result<(), TextFault>
+        ensures { Gives (λ _. tt) result self.new (branch_number (state self.old)) }
+    {
+        let number = self.number_here()?;
+        if number != 1 {
+            return Err(self.fault(TextRule::BranchNotOne));
+        }
+        self.advance();
+        Ok(())
+    }
+
+    /// Takes a function code, 0 to 31, else answers S2 where no number stands, S3 at a greater one.
+    #[tactic(auto, unfolding(crate::specs::Readers::function_number))]
+    pub fn function_number(&mut self) -> Result<Function, TextFault>
+        ensures { Gives (λ n. n) result self.new (function_number (state self.old)) }
+    {
+        let number = self.number_here()?;
+        match Function::new(number) {
+            Some(function) => {
+                self.advance();
+                Ok(function)
+            }
+            None => Err(self.fault(TextRule::NumberTooLarge)),
+        }
+    }
+
+    /// Takes a sub-address, 0 to 15, else answers S2 where no number stands, S3 at a greater one.
+    #[tactic(auto, unfolding(crate::specs::Readers::sub_address_number))]
+    pub fn sub_address_number(&mut self) -> Result<SubAddress, TextFault>
+        ensures { Gives (λ n. n) result self.new (sub_address_number (state self.old)) }
+    {
+        let number = self.number_here()?;
+        match SubAddress::new(number) {
+            Some(sub_address) => {
+                self.advance();
+                Ok(sub_address)
+            }
+            None => Err(self.fault(TextRule::NumberTooLarge)),
+        }
+    }
+
+    /// Takes the first token of a statement, which is counted; S6 where 4,096 are there already.
+    #[tactic(auto, unfolding(crate::specs::Readers::begin))]
+    pub fn begin(&mut self) -> Result<(), TextFault>
+        ensures { Gives (λ _. tt) result self.new (begin (state self.old)) }
+    {
+        if self.statements >= 4096 {
+            return Err(self.fault(TextRule::LimitPassed));
+        }
+        self.statements += 1;
+        self.advance();
+        Ok(())
+    }
+}

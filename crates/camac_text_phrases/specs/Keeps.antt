@@ -1,0 +1,44 @@
+-- What is read at each place of the ranges that a loop keeps.
+use Rattle.std.specs.Prelude.{ℕ, List, [], ◌∷◌, ◌++◌, map, Bool, not, nat_eq, if◌then◌else◌}
+use Rattle.camac_lang.specs.Tests.{each}
+use Rattle.camac_lang.specs.Tree.{Keep}
+use Rattle.camac_text_tokens.specs.declared.token.Keyword.TheVariants as word
+use Rattle.camac_text_tokens.specs.declared.token.Sign.TheVariants as sign
+use Rattle.camac_text_tokens.specs.declared.fault.TextRule.TheVariants.{DeclaredTwice}
+use Rattle.camac_text_cursor.specs.Reading.{Reader, ◌>>=◌, ◌>>◌, give, peek, advance, check, while_next}
+use Rattle.camac_text_cursor.specs.Readers.{is_keyword, is_sign, expect, expect_sign, any_number, variable_here}
+
+-- the variables that a further keep may not have: the loop's own, and those that are kept
+abbrev pub taken : ℕ → List Keep → List ℕ
+taken own keeps = own ∷ map (λ k. k.variable) keeps
+
+abbrev pub is_free : ℕ → ℕ → List Keep → Bool
+is_free place own keeps = each (λ x. not (nat_eq x place)) (taken own keeps)
+
+unfoldable pub keep_at : ℕ → List Keep → Reader Keep
+keep_at own keeps = do
+  place ← variable_here
+  check (is_free place own keeps) DeclaredTwice
+  advance
+  expect word.In
+  low ← any_number
+  expect_sign sign.UpTo
+  high ← any_number
+  give (record { variable = place; low = low; high = high })
+
+-- `,` and a keep
+unfoldable pub next_keep : ℕ → List Keep → Reader Keep
+next_keep own keeps = advance >> keep_at own keeps
+
+abbrev pub one_more_keep : ℕ → List Keep → Reader (List Keep)
+one_more_keep own keeps = next_keep own keeps >>= λ k. give (keeps ++ k ∷ [])
+
+unfoldable pub keep_list : ℕ → Reader (List Keep)
+keep_list own = do
+  advance
+  first ← keep_at own []
+  while_next (is_sign sign.Comma) (one_more_keep own) (first ∷ [])
+
+-- the kept ranges of a loop with this variable of its own, if it has any
+unfoldable pub keeps_at : ℕ → Reader (List Keep)
+keeps_at own = peek >>= λ k. if is_keyword word.Keep k then keep_list own else give []

@@ -1,0 +1,101 @@
+-- Every statement and every block that is spelled is read.
+use Rattle.std.proofs.Common.{◌≡◌, ℕ, ◌+◌, ◌≤◌, max, List, [], ◌∷◌, ◌++◌, length, take, Some, refl, sym, ap, ◌∙◌, append_assoc, arith}
+use Rattle.std.proofs.lemmas.List.{append-nil}
+use Rattle.camac_lang.specs.Depth.{statement_depth, inner_depth}
+use Rattle.camac_lang.specs.Statements.{after as reached_by, after_block, statements_in, statements}
+use Rattle.camac_lang.specs.Tree.{Text, Statement, assign, set_register, single, address_scan, q_stop, q_repeat, put, crate_call, lam_call, choose, choose_else, count, repeat, locked, call, Block, done, next}
+use Rattle.camac_lang.proofs.Grows.{block_grows}
+use Rattle.camac_lang.proofs.Options.{then_parts}
+use Rattle.camac_text_tokens.specs.declared.token.Token.{Token}
+use Rattle.camac_text_cursor.specs.Reading.{State, kind_of, one_more, give}
+use Rattle.camac_text_statements.specs.Statements.{statement_with, is_no_end, block_at}
+use Rattle.camac_text_cursor.proofs.Steps.{while_off}
+use Rattle.camac_text_cursor.proofs.Uses.{scope_of}
+use Rattle.camac_text_statements.proofs.Bodies.{statements_progress}
+use Rattle.camac_text_spelling.specs.Pieces.{Names, Front}
+use Rattle.camac_text_spelling.specs.Statements as spell
+use Rattle.camac_text_spelling.proofs.Fronts.{front_split}
+use Rattle.camac_text_spelling.proofs.Gives.{ok, after, while_turn, left}
+use Rattle.camac_text_spelling.proofs.Runs.{Runs, left_at, listed}
+use Rattle.camac_text_spelling.proofs.Opens.{statement_opens, block_ends}
+use Rattle.camac_text_spelling.proofs.GivesActions.{IsGiven, assignment_given, setting_given, single_given, put_given, crate_given, lam_call_given}
+use Rattle.camac_text_spelling.proofs.GivesTransfers.{scan_given, stop_given, repeat_transfer_given}
+use Rattle.camac_text_spelling.proofs.GivesStatements.{AreGiven, RunsBraced, braced_given, choose_given, choose_else_given, locked_given}
+use Rattle.camac_text_spelling.proofs.GivesLoops.{count_given, repeat_given}
+use Rattle.camac_text_spelling.proofs.GivesCalls.{call_given}
+
+done_given : (n : Names) → AreGiven n done
+done_given n room acc s rest j k m c f brace =
+    let some_same : j ≡ k = same j k c.reached in
+    let counted : m ≡ s.statements + 0 = c.counted in
+    let is_m : s.statements ≡ m = omega arith in
+    while_off is_no_end (one_more (statement_with room (block_at room))) acc s (ap (λ (ts : List Token). is_no_end (kind_of ts)) f ∙ ap is_no_end brace)
+    ∙ ap (λ (xs : List Statement). ok xs s) (sym (append-nil acc))
+    ∙ left (acc ++ []) s s.rest rest f
+    ∙ ap (λ (rs : List Text). ok (acc ++ []) (record s { rest = rest; registers = rs })) (c.registers ∙ ap (λ (i : ℕ). take i n.registers) some_same)
+    ∙ ap (λ (i : ℕ). ok (acc ++ []) (record s { rest = rest; registers = take k n.registers; statements = i })) is_m
+  where
+    same : (a b : ℕ) → Some a ≡ Some b → a ≡ b
+    same a b e = cc
+
+next_given : (n : Names) (x : Statement) (b : Block) → IsGiven n x → AreGiven n b → AreGiven n (next x b)
+next_given n x b first others room acc s rest j k m c f brace =
+    let parts = front_split s.rest (spell.statement n x) (spell.block n b) rest f in
+    let us : List Token = parts.0 in
+    let p = then_parts (λ i. after_block (scope_of s) i b) (reached_by (scope_of s) j x) k c.reached in
+    let grows : p.0 ≤ k = block_grows (scope_of s) p.0 k b p.2 in
+    let within : k ≤ length n.registers = c.within in
+    let deep : max (statement_depth s.callables x) (inner_depth s.callables b) ≤ room = c.deep in
+    let counted : m ≡ s.statements + (statements_in x + statements b) = c.counted in
+    let few : m ≤ 4096 = c.few in
+    let m1 : ℕ = s.statements + statements_in x in
+    let one : Runs n s j p.0 m1 room (reached_by (scope_of s) j x) (statement_depth s.callables x) (statements_in x) = record {
+      finds = c.finds;
+      sets = c.sets;
+      registers = c.registers;
+      reached = p.1;
+      within = omega arith;
+      deep = omega arith;
+      counted = refl;
+      few = omega arith;
+    } in
+    let u : State = left_at n s us p.0 m1 in
+    let rest_of : Runs n u p.0 k m room (after_block (scope_of s) p.0 b) (inner_depth s.callables b) (statements b) = record {
+      finds = c.finds;
+      sets = c.sets;
+      registers = refl;
+      reached = p.2;
+      within = c.within;
+      deep = omega arith;
+      counted = omega arith;
+      few = c.few;
+    } in
+    while_turn is_no_end (one_more (statement_with room (block_at room))) (statements_progress room) acc s (acc ++ x ∷ []) u (statement_opens n x s.rest us parts.1)
+    (after (statement_with room (block_at room) s) (λ y. give (acc ++ y ∷ [])) x u (first room s us j p.0 m1 one parts.1 (block_ends n b us rest parts.2 brace)) refl)
+    (others room (acc ++ x ∷ []) u rest p.0 k m rest_of parts.2 brace ∙ ap (λ (xs : List Statement). ok xs (left_at n s rest k m)) (append_assoc acc (x ∷ []) (listed b)))
+
+mutual
+  statement_given : (n : Names) (x : Statement) → IsGiven n x
+  statement_given n (assign line x e) = assignment_given n line x e
+  statement_given n (set_register line r c s a) = setting_given n line r c s a
+  statement_given n (single line size f r d) = single_given n line size f r d
+  statement_given n (address_scan line f r1 r2 e x) = scan_given n line f r1 r2 e x
+  statement_given n (q_stop line f r g e x) = stop_given n line f r g e x
+  statement_given n (q_repeat line f r g e l x) = repeat_transfer_given n line f r g e l x
+  statement_given n (put line e) = put_given n line e
+  statement_given n (crate_call line k e) = crate_given n line k e
+  statement_given n (lam_call line k l) = lam_call_given n line k l
+  statement_given n (choose line c a) = choose_given n line c a (block_given n a)
+  statement_given n (choose_else line c a b) = choose_else_given n line c a b (block_given n a) (block_given n b)
+  statement_given n (count line x e1 e2 ks b) = count_given n line x e1 e2 ks b (block_given n b)
+  statement_given n (repeat line c t x ks b) = repeat_given n line c t x ks b (block_given n b)
+  statement_given n (locked line e b) = locked_given n line e b (block_given n b)
+  statement_given n (call line p es) = call_given n line p es
+
+  block_given : (n : Names) (b : Block) → AreGiven n b
+  block_given n done = done_given n
+  block_given n (next x b) = next_given n x b (statement_given n x) (block_given n b)
+
+-- a body in its braces
+pub body_given : (n : Names) (b : Block) (room : ℕ) (s : State) (rest : List Token) (j k m : ℕ) → RunsBraced n s j k m room b → Front s.rest (spell.braced (spell.block n b)) rest → block_at room s ≡ ok (listed b) (left_at n s rest k m)
+body_given n b room s rest j k m c f = braced_given n b (block_given n b) room s rest j k m c f

@@ -1,0 +1,191 @@
+-- Declarations that are spelled are read.
+use Rattle.std.proofs.Common.{◌≡◌, ℕ, suc, ◌+◌, ◌≤◌, ◌<◌, true, false, nat_lt, List, [], ◌∷◌, ◌++◌, map, length, Option, Some, refl, sym, ap, ◌∙◌, append_assoc, arith}
+use Rattle.std.proofs.lemmas.Bool.{lt-ltb}
+use Rattle.std.proofs.lemmas.List.{append-nil}
+use Rattle.camac_lang.specs.Tests.{is_new, are_new}
+use Rattle.camac_lang.specs.Tree.{Text, Block, Lam, Service, next_service, Script}
+use Rattle.camac_text_tokens.specs.declared.fault.TextRule.TheVariants.{LimitPassed}
+use Rattle.camac_text_tokens.specs.declared.token.Keyword.TheVariants as keyword
+use Rattle.camac_text_tokens.specs.declared.token.Token.{Token}
+use Rattle.camac_text_tokens.specs.declared.token.TokenKind.{TokenKind}
+use Rattle.camac_text_tokens.specs.declared.token.TokenKind.TheVariants as kind
+use Rattle.camac_text_cursor.specs.Reading.{State, ◌>>◌, give, change, advance, kind_of, behind, while_next}
+use Rattle.camac_text_cursor.specs.Readers.{is_name, new_name, with_variable, new_variable, expect, any_number, branch_number, sub_address_number, used_lam, added}
+use Rattle.camac_text_statements.specs.Statements.{block_at}
+use Rattle.camac_text.specs.Declarations.{with_lam, lam_declaration, one_more_variable, with_variables_of, variable_declaration, with_service, service_declaration, declaration_by, declaration_at}
+use Rattle.camac_text_cursor.proofs.Steps.{while_off}
+use Rattle.camac_text_cursor.proofs.Registers.{first_of_both, second_of_both}
+use Rattle.camac_text.proofs.Variables.{variables_progress}
+use Rattle.camac_text.proofs.Listed.{new_same, front_or_behind}
+use Rattle.camac_text_spelling.specs.Pieces.{Piece, first_piece, word, numeral, name, name_at, Names, Front}
+use Rattle.camac_text_spelling.specs.Declarations as spell
+use Rattle.camac_text_spelling.specs.Statements.{braced, block}
+use Rattle.camac_text_spelling.proofs.Fronts.{front_first, front_line}
+use Rattle.camac_text_spelling.proofs.Gives.{at, ok, after, checked, while_turn, expected, number_given, branch_given, sub_address_given, new_name_seen, lam_given}
+use Rattle.camac_text_spelling.proofs.Fresh.{take_all}
+use Rattle.camac_text_spelling.proofs.Runs.{left_at, listed, block_of_listed}
+use Rattle.camac_text_spelling.proofs.GivesStatements.{RunsBraced}
+use Rattle.camac_text_spelling.proofs.GivesBlocks.{body_given}
+
+-- how a declaration begins
+pub first_given : (line : ℕ) (k : TokenKind) (s : State) (ps : List Piece) (rest : List Token) → Front s.rest (first_piece line k ∷ ps) rest → declaration_at s ≡ declaration_by line (Some k) s
+unfolding declaration_at
+first_given line k s ps rest f =
+    let h = front_line s.rest s.end_line line k ps rest f in
+    ap (λ (l : ℕ). declaration_by l (kind_of s.rest) s) h.1 ∙ ap (λ (o : Option TokenKind). declaration_by line o s) h.0
+
+-- ---- a LAM
+
+pub lam_declared : (l : Lam) (s : State) (rest : List Token) → length s.lams < 64 → is_new l.name s.declared ≡ true → nat_lt l.sub_address 16 ≡ true → Front s.rest (spell.lam_declaration l) rest → declaration_at s ≡ ok tt (with_lam l (at s rest))
+unfolding lam_declaration
+lam_declared l s rest room new below f =
+    let q4 : List Piece = numeral l.sub_address ∷ [] in
+    let q3 : List Piece = numeral l.station ∷ q4 in
+    let q2 : List Piece = numeral l.crate_no ∷ q3 in
+    let q1 : List Piece = numeral 1 ∷ q2 in
+    let h = front_line s.rest s.end_line l.line (kind.Keyword keyword.Cdlam) (name l.name ∷ q1) rest f in
+    let t1 : List Token = behind s.rest in
+    let f1 = front_first t1 (name l.name) q1 rest h.2 in
+    let t2 : List Token = behind t1 in
+    let f2 = front_first t2 (numeral 1) q2 rest f1.1 in
+    let t3 : List Token = behind t2 in
+    let f3 = front_first t3 (numeral l.crate_no) q3 rest f2.1 in
+    let t4 : List Token = behind t3 in
+    let f4 = front_first t4 (numeral l.station) q4 rest f3.1 in
+    let t5 : List Token = behind t4 in
+    let f5 = front_first t5 (numeral l.sub_address) [] rest f4.1 in
+    first_given l.line (kind.Keyword keyword.Cdlam) s (name l.name ∷ q1) rest f
+    ∙ checked (nat_lt (length s.lams) 64) LimitPassed _ s (lt-ltb (length s.lams) 64 room)
+    (after (new_name (at s t1)) _ l.name (at s t1) (new_name_seen (at s t1) l.name f1.0 new)
+    (after (branch_number (at s t2)) _ tt (at s t3) (branch_given (at s t2) f2.0)
+    (after (any_number (at s t3)) _ l.crate_no (at s t4) (number_given (at s t3) l.crate_no f3.0)
+    (after (any_number (at s t4)) _ l.station (at s t5) (number_given (at s t4) l.station f4.0)
+    (after (sub_address_number (at s t5)) _ l.sub_address (at s (behind t5)) (sub_address_given (at s t5) l.sub_address f5.0 below)
+    (ap (λ (ts : List Token). ok tt (with_lam l (at s ts))) f5.1))))))
+
+-- ---- variables
+
+-- with these variables more
+abbrev pub with_names : State → List Token → List Text → State
+with_names s rest xs = record s { rest = rest; variables = s.variables ++ xs; variable_count = s.variable_count + length xs; declared = s.declared ++ xs }
+
+-- a variable or a parameter, whose name stands next
+pub name_added : (s : State) (x : Text) → s.variable_count < 64 → added x s ≡ ok tt (with_names s (behind s.rest) (x ∷ []))
+unfolding added
+name_added s x room =
+    let one_more : suc s.variable_count ≡ s.variable_count + 1 = omega arith in
+    checked (nat_lt s.variable_count 64) LimitPassed (advance >> change (with_variable x)) s (lt-ltb s.variable_count 64 room)
+    (ap (λ (i : ℕ). ok tt (record s { rest = behind s.rest; variables = s.variables ++ x ∷ []; variable_count = i; declared = s.declared ++ x ∷ [] })) one_more)
+
+variable_declared : (s : State) (x : Text) → kind_of s.rest ≡ Some (kind.Name x) → is_new x s.declared ≡ true → s.variable_count < 64 → new_variable s ≡ ok tt (with_names s (behind s.rest) (x ∷ []))
+unfolding new_variable
+variable_declared s x e new room = after (new_name s) added x s (new_name_seen s x e new) (name_added s x room)
+
+-- none more
+pub no_names : (s : State) (rest : List Token) → s.rest ≡ rest → s ≡ with_names s rest []
+no_names s rest same =
+    let no_more : s.variable_count ≡ s.variable_count + 0 = omega arith in
+    ap (λ (ts : List Token). at s ts) same
+    ∙ ap (λ (xs : List Text). record s { rest = rest; variables = xs }) (sym (append-nil s.variables))
+    ∙ ap (λ (i : ℕ). record s { rest = rest; variables = s.variables ++ []; variable_count = i }) no_more
+    ∙ ap (λ (xs : List Text). record s { rest = rest; variables = s.variables ++ []; variable_count = s.variable_count + 0; declared = xs }) (sym (append-nil s.declared))
+
+-- new behind one more name as in front of it
+pub new_after : (x : Text) (xs ds : List Text) → are_new xs (x ∷ ds) ≡ true → are_new xs (ds ++ x ∷ []) ≡ true
+new_after x xs ds e = new_same xs (ds ++ x ∷ []) (x ∷ ds) (λ z. sym (front_or_behind (x ∷ []) ds ds (λ y. refl) z)) ∙ e
+
+-- one name and then others
+pub names_joined : (s : State) (between rest : List Token) (x : Text) (xs : List Text) → with_names (with_names s between (x ∷ [])) rest xs ≡ with_names s rest (x ∷ xs)
+names_joined s between rest x xs =
+    let many : (s.variable_count + 1) + length xs ≡ s.variable_count + suc (length xs) = omega arith in
+    ap (λ (ys : List Text). record s { rest = rest; variables = ys; variable_count = (s.variable_count + 1) + length xs; declared = (s.declared ++ x ∷ []) ++ xs }) (append_assoc s.variables (x ∷ []) xs)
+    ∙ ap (λ (i : ℕ). record s { rest = rest; variables = s.variables ++ x ∷ xs; variable_count = i; declared = (s.declared ++ x ∷ []) ++ xs }) many
+    ∙ ap (λ (ys : List Text). record s { rest = rest; variables = s.variables ++ x ∷ xs; variable_count = s.variable_count + suc (length xs); declared = ys }) (append_assoc s.declared (x ∷ []) xs)
+
+names_declared : (xs : List Text) (counted : ℕ) (s : State) (rest : List Token) → are_new xs s.declared ≡ true → s.variable_count + length xs ≤ 64 → Front s.rest (map name xs) rest → is_name (kind_of rest) ≡ false → while_next is_name one_more_variable counted s ≡ ok (counted + length xs) (with_names s rest xs)
+names_declared [] counted s rest new room f off =
+    while_off is_name one_more_variable counted s (ap (λ (ts : List Token). is_name (kind_of ts)) f ∙ off)
+    ∙ ap (λ (i : ℕ). ok i s) (let zero_more : counted ≡ counted + 0 = omega arith in zero_more)
+    ∙ ap (λ (w : State). ok (counted + 0) w) (no_names s rest f)
+names_declared (x ∷ xs) counted s rest new room f off =
+    let h = front_first s.rest (name x) (map name xs) rest f in
+    let u : State = with_names s (behind s.rest) (x ∷ []) in
+    let total : (counted + 1) + length xs ≡ counted + suc (length xs) = omega arith in
+    while_turn is_name one_more_variable variables_progress counted s (counted + 1) u (ap is_name h.0)
+    (after (new_variable s) (λ _. give (counted + 1)) tt u (variable_declared s x h.0 (first_of_both (is_new x s.declared) _ new) (omega arith)) refl)
+    (names_declared xs (counted + 1) u rest (new_after x xs s.declared (second_of_both (is_new x s.declared) _ new)) (omega arith) h.1 off
+    ∙ ap (λ (i : ℕ). ok i (with_names u rest xs)) total
+    ∙ ap (λ (w : State). ok (counted + suc (length xs)) w) (names_joined s (behind s.rest) rest x xs))
+
+pub variables_declared : (line n : ℕ) (xs : List Text) (s : State) (rest : List Token) → 1 ≤ n → length xs ≡ n → are_new xs s.declared ≡ true → s.variable_count + length xs ≤ 64 → Front s.rest (spell.variable_declaration line xs) rest → is_name (kind_of rest) ≡ false → declaration_at s ≡ ok tt (with_variables_of line n (with_names s rest xs))
+unfolding variable_declaration
+variables_declared line n [] s rest some many new room f off = absurd (omega arith)
+variables_declared line n (x ∷ xs) s rest some many new room f off =
+    let h = front_line s.rest s.end_line line (kind.Keyword keyword.Var) (map name (x ∷ xs)) rest f in
+    let t1 : List Token = behind s.rest in
+    let f1 = front_first t1 (name x) (map name xs) rest h.2 in
+    let u : State = with_names s (behind t1) (x ∷ []) in
+    let is_n : 1 + length xs ≡ n = omega arith in
+    first_given line (kind.Keyword keyword.Var) s (map name (x ∷ xs)) rest f
+    ∙ after (new_variable (at s t1)) _ tt u (variable_declared (at s t1) x f1.0 (first_of_both (is_new x s.declared) _ new) (omega arith))
+    (after (while_next is_name one_more_variable 1 u) _ (1 + length xs) (with_names u rest xs) (names_declared xs 1 u rest (new_after x xs s.declared (second_of_both (is_new x s.declared) _ new)) (omega arith) f1.1 off)
+    (ap (λ (i : ℕ). ok tt (with_variables_of line i (with_names u rest xs))) is_n
+    ∙ ap (λ (w : State). ok tt (with_variables_of line n w)) (names_joined (at s t1) (behind t1) rest x xs)))
+
+-- ---- a service
+
+-- with this service more, and the statements of its body
+abbrev pub with_body : State → List Token → Service → ℕ → State
+with_body s rest v m = record s { rest = rest; services = s.services ++ v ∷ []; registers = []; statements = m; order = s.order ++ next_service ∷ [] }
+
+pub service_declared : (t : Script) (v : Service) (s : State) (rest : List Token) (m : ℕ) → length s.services < 24 → nat_lt v.lam (length s.lams) ≡ true → RunsBraced (spell.service_names t v) s 0 (length v.registers) m 16 v.body → Front s.rest (spell.service_declaration t v) rest → declaration_at s ≡ ok tt (with_body s rest v m)
+unfolding service_declaration
+service_declared t v s rest m room lam_fits c f =
+    let n : Names = spell.service_names t v in
+    let q8 : List Piece = braced (block n v.body) in
+    let q7 : List Piece = word keyword.Words ∷ q8 in
+    let q6 : List Piece = numeral v.words ∷ q7 in
+    let q5 : List Piece = word keyword.Event ∷ q6 in
+    let q4 : List Piece = word keyword.Cycles ∷ q5 in
+    let q3 : List Piece = numeral v.cycles ∷ q4 in
+    let q2 : List Piece = word keyword.Within ∷ q3 in
+    let q1 : List Piece = name_at n.lams v.lam ∷ q2 in
+    let h = front_line s.rest s.end_line v.line (kind.Keyword keyword.Service) q1 rest f in
+    let t1 : List Token = behind s.rest in
+    let f1 = front_first t1 (name_at n.lams v.lam) q2 rest h.2 in
+    let t2 : List Token = behind t1 in
+    let f2 = front_first t2 (word keyword.Within) q3 rest f1.1 in
+    let t3 : List Token = behind t2 in
+    let f3 = front_first t3 (numeral v.cycles) q4 rest f2.1 in
+    let t4 : List Token = behind t3 in
+    let f4 = front_first t4 (word keyword.Cycles) q5 rest f3.1 in
+    let t5 : List Token = behind t4 in
+    let f5 = front_first t5 (word keyword.Event) q6 rest f4.1 in
+    let t6 : List Token = behind t5 in
+    let f6 = front_first t6 (numeral v.words) q7 rest f5.1 in
+    let t7 : List Token = behind t6 in
+    let f7 = front_first t7 (word keyword.Words) q8 rest f6.1 in
+    let t8 : List Token = behind t7 in
+    let inside : RunsBraced n (at s t8) 0 (length v.registers) m 16 v.body = record {
+      finds = c.finds;
+      sets = c.sets;
+      registers = c.registers;
+      reached = c.reached;
+      within = c.within;
+      deep = c.deep;
+      counted = c.counted;
+      few = c.few;
+    } in
+    let k : ℕ = length v.registers in
+    first_given v.line (kind.Keyword keyword.Service) s q1 rest f
+    ∙ checked (nat_lt (length s.services) 24) LimitPassed _ s (lt-ltb (length s.services) 24 room)
+    (after (used_lam (at s t1)) _ v.lam (at s t2) (lam_given n (at s t1) v.lam c.finds lam_fits f1.0)
+    (after (expect keyword.Within (at s t2)) _ tt (at s t3) (expected keyword.Within (at s t2) f2.0)
+    (after (any_number (at s t3)) _ v.cycles (at s t4) (number_given (at s t3) v.cycles f3.0)
+    (after (expect keyword.Cycles (at s t4)) _ tt (at s t5) (expected keyword.Cycles (at s t4) f4.0)
+    (after (expect keyword.Event (at s t5)) _ tt (at s t6) (expected keyword.Event (at s t5) f5.0)
+    (after (any_number (at s t6)) _ v.words (at s t7) (number_given (at s t6) v.words f6.0)
+    (after (expect keyword.Words (at s t7)) _ tt (at s t8) (expected keyword.Words (at s t7) f7.0)
+    (after (block_at 16 (at s t8)) _ (listed v.body) (left_at n s rest k m) (body_given n v.body 16 (at s t8) rest 0 k m inside f7.1)
+    (ap (λ (rs : List Text). ok tt (with_service v.line v.lam v.cycles v.words (listed v.body) (record s { rest = rest; registers = rs; statements = m }))) (take_all v.registers)
+    ∙ ap (λ (b : Block). ok tt (with_body s rest (record v { body = b }) m)) (block_of_listed v.body))))))))))

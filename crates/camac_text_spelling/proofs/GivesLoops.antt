@@ -1,0 +1,145 @@
+-- Loops that are spelled are read.
+use Rattle.std.proofs.Common.{◌≡◌, ℕ, suc, ◌+◌, ◌≤◌, max, nat_lt, List, [], ◌∷◌, ◌++◌, length, take, Some, refl, ap, ◌∙◌, arith}
+use Rattle.camac_lang.specs.Depth.{expression_depth, part_depth, inner_depth}
+use Rattle.camac_lang.specs.Expressions.{expression_fits, condition_fits}
+use Rattle.camac_lang.specs.Statements.{head_fits, begun as begun_by, after_block, statements}
+use Rattle.camac_lang.specs.Tests.{most, is_number}
+use Rattle.camac_lang.specs.Tree.{Expression, Condition, Keep, Statement, count, repeat, Block}
+use Rattle.camac_lang.proofs.Options.{unless_parts, then_parts}
+use Rattle.camac_text_tokens.specs.declared.token.Keyword.TheVariants as keyword
+use Rattle.camac_text_tokens.specs.declared.token.Sign.TheVariants as mark
+use Rattle.camac_text_tokens.specs.declared.token.Token.{Token}
+use Rattle.camac_text_tokens.specs.declared.token.TokenKind.TheVariants as kind
+use Rattle.camac_text_cursor.specs.Reading.{State, kind_of, behind}
+use Rattle.camac_text_cursor.specs.Readers.{is_keyword, expect, expect_sign, any_number, used_variable}
+use Rattle.camac_text_phrases.specs.Expressions.{expression_at}
+use Rattle.camac_text_phrases.specs.Conditions.{condition_at}
+use Rattle.camac_text_phrases.specs.Keeps.{keeps_at}
+use Rattle.camac_text_cursor.specs.Readers.{begin}
+use Rattle.camac_text_statements.specs.Statements.{counting, repetition, block_at}
+use Rattle.camac_text_cursor.proofs.Uses.{scope_of}
+use Rattle.camac_text_statements.proofs.Acts.{begun}
+use Rattle.camac_text_cursor.proofs.Registers.{first_of_both, second_of_both}
+use Rattle.camac_text_spelling.specs.Pieces.{Piece, word, sign, numeral, separated, name_at, Names, Front}
+use Rattle.camac_text_spelling.specs.Phrases as phrase
+use Rattle.camac_text_spelling.specs.Statements as spell
+use Rattle.camac_text_spelling.proofs.Fronts.{front_split, front_first, front_line}
+use Rattle.camac_text_spelling.proofs.Gives.{at, ok, after, expected, expected_sign, number_given, variable_given}
+use Rattle.camac_text_spelling.proofs.GivesExpressions.{NoSign, expression_given}
+use Rattle.camac_text_spelling.proofs.GivesPhrases.{no_sign, condition_given}
+use Rattle.camac_text_spelling.proofs.GivesKeeps.{keeps_given}
+use Rattle.camac_text_spelling.proofs.Runs.{left_at, begin_given, first_given, listed, block_of_listed}
+use Rattle.camac_text_spelling.proofs.GivesActions.{IsGiven}
+use Rattle.camac_text_spelling.proofs.GivesStatements.{AreGiven, RunsBraced, braced_given, brace_no_sign, brace_first}
+
+-- kept ranges, or the brace
+keeps_first : (n : Names) (ks : List Keep) (ts us : List Token) → Front ts (phrase.keeps n ks) us → kind_of us ≡ Some (kind.Sign mark.LeftBrace) → NoSign (kind_of ts)
+keeps_first n [] ts us f brace = no_sign (kind_of ts) _ (ap kind_of f ∙ brace) brace_no_sign
+keeps_first n (k ∷ ks) ts us f brace = no_sign (kind_of ts) _ (front_first ts (word keyword.Keep) (separated (sign mark.Comma) (phrase.keep n) (k ∷ ks)) us f).0 (record { product = refl; sum = refl })
+
+-- ---- loops
+
+pub count_given : (n : Names) (line v : ℕ) (e1 e2 : Expression) (ks : List Keep) (b : Block) → AreGiven n b → IsGiven n (count line v e1 e2 ks b)
+unfolding counting
+count_given n line v e1 e2 ks b given room s rest j k m c f ends =
+    let x : Statement = count line v e1 e2 ks b in
+    let p1 : List Piece = phrase.expression n e1 in
+    let p2 : List Piece = phrase.expression n e2 in
+    let p3 : List Piece = phrase.keeps n ks in
+    let body : List Piece = spell.braced (spell.block n b) in
+    let all : List Piece = name_at n.variables v ∷ sign mark.Equals ∷ (p1 ++ word keyword.To ∷ (p2 ++ (p3 ++ body))) in
+    let h = front_line s.rest s.end_line line (kind.Keyword keyword.For) all rest f in
+    let t1 : List Token = behind s.rest in
+    let own = front_first t1 (name_at n.variables v) (sign mark.Equals ∷ (p1 ++ word keyword.To ∷ (p2 ++ (p3 ++ body)))) rest h.2 in
+    let t2 : List Token = behind t1 in
+    let equals = front_first t2 (sign mark.Equals) (p1 ++ word keyword.To ∷ (p2 ++ (p3 ++ body))) rest own.1 in
+    let t3 : List Token = behind t2 in
+    let s1 = front_split t3 p1 (word keyword.To ∷ (p2 ++ (p3 ++ body))) rest equals.1 in
+    let to = front_first s1.0 (word keyword.To) (p2 ++ (p3 ++ body)) rest s1.2 in
+    let t4 : List Token = behind s1.0 in
+    let s2 = front_split t4 p2 (p3 ++ body) rest to.1 in
+    let s3 = front_split s2.0 p3 body rest s2.2 in
+    let us : List Token = s3.0 in
+    let brace = brace_first n b us rest s3.2 in
+    let p = then_parts (λ i. after_block (scope_of s) i b) (begun_by (scope_of s) j x) k c.reached in
+    let r = unless_parts (head_fits (scope_of s) j x) j p.0 p.1 in
+    let own_fits = first_of_both (nat_lt v (length s.variables)) _ r.0 in
+    let fits = second_of_both (nat_lt v (length s.variables)) _ r.0 in
+    let fits_more = second_of_both (expression_fits (scope_of s) e1) _ fits in
+    let deep : max (expression_depth e1) (max (expression_depth e2) (suc (inner_depth s.callables b))) ≤ room = c.deep in
+    let counted : m ≡ s.statements + suc (statements b) = c.counted in
+    let few : m ≤ 4096 = c.few in
+    let g : State = begun s in
+    let inside : RunsBraced n (at g us) p.0 k m room b = record {
+      finds = c.finds;
+      sets = c.sets;
+      registers = c.registers ∙ ap (λ (i : ℕ). take i n.registers) r.1;
+      reached = p.2;
+      within = c.within;
+      deep = omega arith;
+      counted = omega arith;
+      few = c.few;
+    } in
+    first_given line room (block_at room) (kind.Keyword keyword.For) s all rest f
+    ∙ after (begin s) _ tt g (begin_given s (omega arith))
+    (after (used_variable g) _ v (at g t2) (variable_given n g v c.finds own_fits own.0)
+    (after (expect_sign mark.Equals (at g t2)) _ tt (at g t3) (expected_sign mark.Equals (at g t2) equals.0)
+    (after (expression_at room (at g t3)) _ e1 (at g s1.0) (expression_given n e1 room (at g t3) s1.0 c.finds (first_of_both (expression_fits (scope_of s) e1) _ fits) (omega arith) s1.1 (no_sign (kind_of s1.0) _ to.0 (record { product = refl; sum = refl })))
+    (after (expect keyword.To (at g s1.0)) _ tt (at g t4) (expected keyword.To (at g s1.0) to.0)
+    (after (expression_at room (at g t4)) _ e2 (at g s2.0) (expression_given n e2 room (at g t4) s2.0 c.finds (first_of_both (expression_fits (scope_of s) e2) _ fits_more) (omega arith) s2.1 (keeps_first n ks s2.0 us s3.1 brace))
+    (after (keeps_at v (at g s2.0)) _ ks (at g us) (keeps_given n v ks (at g s2.0) us c.finds (second_of_both (expression_fits (scope_of s) e2) _ fits_more) s3.1 brace)
+    (after (block_at room (at g us)) _ (listed b) (left_at n s rest k m) (braced_given n b given room (at g us) rest p.0 k m inside s3.2)
+    (ap (λ (w : Block). ok (count line v e1 e2 ks w) (left_at n s rest k m)) (block_of_listed b)))))))))
+
+pub repeat_given : (n : Names) (line : ℕ) (t : Condition) (turns v : ℕ) (ks : List Keep) (b : Block) → AreGiven n b → IsGiven n (repeat line t turns v ks b)
+unfolding repetition
+repeat_given n line t turns v ks b given room s rest j k m c f ends =
+    let x : Statement = repeat line t turns v ks b in
+    let p1 : List Piece = phrase.condition n t in
+    let p3 : List Piece = phrase.keeps n ks in
+    let body : List Piece = spell.braced (spell.block n b) in
+    let q4 : List Piece = name_at n.variables v ∷ (p3 ++ body) in
+    let q3 : List Piece = word keyword.By ∷ q4 in
+    let q2 : List Piece = numeral turns ∷ q3 in
+    let q1 : List Piece = word keyword.Turns ∷ q2 in
+    let h = front_line s.rest s.end_line line (kind.Keyword keyword.While) (p1 ++ q1) rest f in
+    let s1 = front_split (behind s.rest) p1 q1 rest h.2 in
+    let f1 = front_first s1.0 (word keyword.Turns) q2 rest s1.2 in
+    let t2 : List Token = behind s1.0 in
+    let f2 = front_first t2 (numeral turns) q3 rest f1.1 in
+    let t3 : List Token = behind t2 in
+    let f3 = front_first t3 (word keyword.By) q4 rest f2.1 in
+    let t4 : List Token = behind t3 in
+    let f4 = front_first t4 (name_at n.variables v) (p3 ++ body) rest f3.1 in
+    let t5 : List Token = behind t4 in
+    let s3 = front_split t5 p3 body rest f4.1 in
+    let us : List Token = s3.0 in
+    let brace = brace_first n b us rest s3.2 in
+    let p = then_parts (λ i. after_block (scope_of s) i b) (begun_by (scope_of s) j x) k c.reached in
+    let r = unless_parts (head_fits (scope_of s) j x) j p.0 p.1 in
+    let fits = second_of_both (condition_fits (scope_of s) t) _ r.0 in
+    let fits_more = second_of_both (is_number turns) _ fits in
+    let deep : max (most part_depth t) (suc (inner_depth s.callables b)) ≤ room = c.deep in
+    let counted : m ≡ s.statements + suc (statements b) = c.counted in
+    let few : m ≤ 4096 = c.few in
+    let g : State = begun s in
+    let inside : RunsBraced n (at g us) p.0 k m room b = record {
+      finds = c.finds;
+      sets = c.sets;
+      registers = c.registers ∙ ap (λ (i : ℕ). take i n.registers) r.1;
+      reached = p.2;
+      within = c.within;
+      deep = omega arith;
+      counted = omega arith;
+      few = c.few;
+    } in
+    first_given line room (block_at room) (kind.Keyword keyword.While) s (p1 ++ q1) rest f
+    ∙ after (begin s) _ tt g (begin_given s (omega arith))
+    (after (condition_at room g) _ t (at g s1.0) (condition_given n t room g s1.0 c.finds (first_of_both (condition_fits (scope_of s) t) _ r.0) (omega arith) s1.1 (no_sign (kind_of s1.0) _ f1.0 (record { product = refl; sum = refl })) (ap (is_keyword keyword.And) f1.0))
+    (after (expect keyword.Turns (at g s1.0)) _ tt (at g t2) (expected keyword.Turns (at g s1.0) f1.0)
+    (after (any_number (at g t2)) _ turns (at g t3) (number_given (at g t2) turns f2.0)
+    (after (expect keyword.By (at g t3)) _ tt (at g t4) (expected keyword.By (at g t3) f3.0)
+    (after (used_variable (at g t4)) _ v (at g t5) (variable_given n (at g t4) v c.finds (first_of_both (nat_lt v (length s.variables)) _ fits_more) f4.0)
+    (after (keeps_at v (at g t5)) _ ks (at g us) (keeps_given n v ks (at g t5) us c.finds (second_of_both (nat_lt v (length s.variables)) _ fits_more) s3.1 brace)
+    (after (block_at room (at g us)) _ (listed b) (left_at n s rest k m) (braced_given n b given room (at g us) rest p.0 k m inside s3.2)
+    (ap (λ (w : Block). ok (repeat line t turns v ks w) (left_at n s rest k m)) (block_of_listed b)))))))))

@@ -1,0 +1,231 @@
+-- Procedures that are spelled are read.
+use Rattle.std.proofs.Common.{◌≡◌, ℕ, suc, ◌+◌, ◌≤◌, ◌<◌, true, false, cond, nat_lt, List, [], ◌∷◌, ◌++◌, length, Option, Some, refl, sym, ap, ◌∙◌, append_assoc, length-append, arith}
+use Rattle.std.proofs.lemmas.Bool.{lt-ltb}
+use Rattle.std.proofs.lemmas.List.{append-nil}
+use Rattle.std.proofs.Math.Seq.{take-append_seam}
+use Rattle.camac_lang.specs.Depth.{callable}
+use Rattle.camac_lang.specs.Tests.{is_new, are_new}
+use Rattle.camac_lang.specs.Tree.{Text, Block, Parameter, Procedure, next_procedure, Script}
+use Rattle.camac_text_tokens.specs.declared.fault.TextRule.TheVariants.{LimitPassed}
+use Rattle.camac_text_tokens.specs.declared.token.Keyword.TheVariants as keyword
+use Rattle.camac_text_tokens.specs.declared.token.Sign.TheVariants as mark
+use Rattle.camac_text_tokens.specs.declared.token.Token.{Token}
+use Rattle.camac_text_tokens.specs.declared.token.TokenKind.{TokenKind}
+use Rattle.camac_text_tokens.specs.declared.token.TokenKind.TheVariants as kind
+use Rattle.camac_text_cursor.specs.Reading.{State, ◌>>◌, give, kind_of, behind, while_next, one_more}
+use Rattle.camac_text_cursor.specs.Readers.{is_sign, expect, expect_sign, any_number, new_name, added, new_parameter}
+use Rattle.camac_text_cursor.proofs.Steps.{while_off}
+use Rattle.camac_text_cursor.proofs.Registers.{first_of_both, second_of_both}
+use Rattle.camac_text_statements.specs.Statements.{block_at}
+use Rattle.camac_text.specs.Declarations.{declaration_at}
+use Rattle.camac_text.specs.Procedures.{parameter_at, next_parameter, parameter_list, parameters_at, Heading, heading_at, in_heading, procedure_made, with_procedure, procedure_declaration}
+use Rattle.camac_text.proofs.ParametersRead.{names_of, parameters_progress}
+use Rattle.camac_text_spelling.specs.Pieces.{Piece, word, sign, numeral, name, others, separated, Names, Front}
+use Rattle.camac_text_spelling.specs.Declarations as spell
+use Rattle.camac_text_spelling.specs.Statements.{braced, block}
+use Rattle.camac_text_spelling.proofs.Fronts.{front_split, front_first, front_line}
+use Rattle.camac_text_spelling.proofs.Gives.{at, ok, after, checked, while_turn, left, expected, expected_sign, sign_same, number_given, new_name_seen}
+use Rattle.camac_text_spelling.proofs.Fresh.{take_all}
+use Rattle.camac_text_spelling.proofs.Runs.{left_at, listed, block_of_listed}
+use Rattle.camac_text_spelling.proofs.GivesStatements.{RunsBraced}
+use Rattle.camac_text_spelling.proofs.GivesBlocks.{body_given}
+use Rattle.camac_text_spelling.proofs.GivesDeclarations.{first_given, with_names, name_added, no_names, new_after, names_joined}
+
+-- ---- one parameter
+
+name_of_parameter : (s : State) (x : Text) → kind_of s.rest ≡ Some (kind.Name x) → is_new x s.declared ≡ true → length s.variables < 8 → s.variable_count < 64 → new_parameter s ≡ ok x (with_names s (behind s.rest) (x ∷ []))
+unfolding new_parameter
+name_of_parameter s x e new few room =
+    after (new_name s) _ x s (new_name_seen s x e new)
+    (checked (nat_lt (length s.variables) 8) LimitPassed (added x >> give x) s (lt-ltb (length s.variables) 8 few)
+    (after (added x s) (λ _. give x) tt (with_names s (behind s.rest) (x ∷ [])) (name_added s x room) refl))
+
+parameter_given : (s : State) (p : Parameter) (rest : List Token) → is_new p.name s.declared ≡ true → length s.variables < 8 → s.variable_count < 64 → Front s.rest (spell.parameter p) rest → parameter_at s ≡ ok p (with_names s rest (p.name ∷ []))
+unfolding parameter_at
+parameter_given s p rest new few room f =
+    let q3 : List Piece = numeral p.high ∷ [] in
+    let q2 : List Piece = sign mark.UpTo ∷ q3 in
+    let q1 : List Piece = numeral p.low ∷ q2 in
+    let h = front_first s.rest (name p.name) (word keyword.In ∷ q1) rest f in
+    let u : State = with_names s s.rest (p.name ∷ []) in
+    let t1 : List Token = behind s.rest in
+    let f1 = front_first t1 (word keyword.In) q1 rest h.1 in
+    let t2 : List Token = behind t1 in
+    let f2 = front_first t2 (numeral p.low) q2 rest f1.1 in
+    let t3 : List Token = behind t2 in
+    let f3 = front_first t3 (sign mark.UpTo) q3 rest f2.1 in
+    let t4 : List Token = behind t3 in
+    let f4 = front_first t4 (numeral p.high) [] rest f3.1 in
+    after (new_parameter s) _ p.name (at u t1) (name_of_parameter s p.name h.0 new few room)
+    (after (expect keyword.In (at u t1)) _ tt (at u t2) (expected keyword.In (at u t1) f1.0)
+    (after (any_number (at u t2)) _ p.low (at u t3) (number_given (at u t2) p.low f2.0)
+    (after (expect_sign mark.UpTo (at u t3)) _ tt (at u t4) (expected_sign mark.UpTo (at u t3) f3.0)
+    (after (any_number (at u t4)) _ p.high (at u (behind t4)) (number_given (at u t4) p.high f4.0) (left p u (behind t4) rest f4.1)))))
+
+-- ---- all parameters
+
+abbrev comma_first : List Parameter → List Piece
+comma_first ps = others (sign mark.Comma) spell.parameter ps
+
+parameters_more : (ps acc : List Parameter) (s : State) (rest : List Token) → are_new (names_of ps) s.declared ≡ true → length s.variables + length ps ≤ 8 → s.variable_count + length ps ≤ 64 → Front s.rest (comma_first ps) rest → is_sign mark.Comma (kind_of rest) ≡ false → while_next (is_sign mark.Comma) (one_more next_parameter) acc s ≡ ok (acc ++ ps) (with_names s rest (names_of ps))
+unfolding next_parameter
+parameters_more [] acc s rest new few room f off =
+    while_off (is_sign mark.Comma) (one_more next_parameter) acc s (ap (λ (ts : List Token). is_sign mark.Comma (kind_of ts)) f ∙ off)
+    ∙ ap (λ (xs : List Parameter). ok xs s) (sym (append-nil acc))
+    ∙ ap (λ (w : State). ok (acc ++ []) w) (no_names s rest f)
+parameters_more (p ∷ ps) acc s rest new few room f off =
+    let m = front_split s.rest (sign mark.Comma ∷ spell.parameter p) (comma_first ps) rest f in
+    let us : List Token = m.0 in
+    let h = front_first s.rest (sign mark.Comma) (spell.parameter p) us m.1 in
+    let t : State = at s (behind s.rest) in
+    let u : State = with_names s us (p.name ∷ []) in
+    let longer : length (s.variables ++ p.name ∷ []) ≡ length s.variables + 1 = length-append s.variables (p.name ∷ []) in
+    while_turn (is_sign mark.Comma) (one_more next_parameter) parameters_progress acc s (acc ++ p ∷ []) u (ap (is_sign mark.Comma) h.0 ∙ sign_same mark.Comma)
+    (after (next_parameter s) (λ q. give (acc ++ q ∷ [])) p u (parameter_given t p us (first_of_both (is_new p.name s.declared) _ new) (omega arith) (omega arith) h.1) refl)
+    (parameters_more ps (acc ++ p ∷ []) u rest (new_after p.name (names_of ps) s.declared (second_of_both (is_new p.name s.declared) _ new)) (omega arith) (omega arith) m.2 off
+    ∙ ap (λ (xs : List Parameter). ok xs (with_names u rest (names_of ps))) (append_assoc acc (p ∷ []) ps)
+    ∙ ap (λ (w : State). ok (acc ++ p ∷ ps) w) (names_joined s us rest p.name (names_of ps)))
+
+parameters_listed : (p : Parameter) (ps : List Parameter) (s : State) (rest : List Token) → are_new (names_of (p ∷ ps)) s.declared ≡ true → length s.variables + suc (length ps) ≤ 8 → s.variable_count + suc (length ps) ≤ 64 → Front s.rest (separated (sign mark.Comma) spell.parameter (p ∷ ps)) rest → is_sign mark.Comma (kind_of rest) ≡ false → parameter_list s ≡ ok (p ∷ ps) (with_names s rest (names_of (p ∷ ps)))
+unfolding parameter_list
+parameters_listed p ps s rest new few room f off =
+    let m = front_split s.rest (spell.parameter p) (comma_first ps) rest f in
+    let us : List Token = m.0 in
+    let u : State = with_names s us (p.name ∷ []) in
+    let longer : length (s.variables ++ p.name ∷ []) ≡ length s.variables + 1 = length-append s.variables (p.name ∷ []) in
+    after (parameter_at s) _ p u (parameter_given s p us (first_of_both (is_new p.name s.declared) _ new) (omega arith) (omega arith) m.1)
+    (parameters_more ps (p ∷ []) u rest (new_after p.name (names_of ps) s.declared (second_of_both (is_new p.name s.declared) _ new)) (omega arith) (omega arith) m.2 off
+    ∙ ap (λ (w : State). ok (p ∷ ps) w) (names_joined s us rest p.name (names_of ps)))
+
+-- the bracket behind them
+parameters_given : (ps : List Parameter) (s : State) (rest : List Token) → are_new (names_of ps) s.declared ≡ true → length s.variables + length ps ≤ 8 → s.variable_count + length ps ≤ 64 → Front s.rest (separated (sign mark.Comma) spell.parameter ps) rest → kind_of rest ≡ Some (kind.Sign mark.RightBracket) → parameters_at s ≡ ok ps (with_names s rest (names_of ps))
+unfolding parameters_at
+parameters_given [] s rest new few room f bracket =
+    ap (λ (k : Option TokenKind). cond (is_sign mark.RightBracket k) (give []) parameter_list s) (ap kind_of f ∙ bracket)
+    ∙ ap (λ (w : State). ok [] w) (no_names s rest f)
+parameters_given (p ∷ ps) s rest new few room f bracket =
+    let m = front_split s.rest (spell.parameter p) (comma_first ps) rest f in
+    let h = front_first s.rest (name p.name) (word keyword.In ∷ numeral p.low ∷ sign mark.UpTo ∷ numeral p.high ∷ []) m.0 m.1 in
+    ap (λ (k : Option TokenKind). cond (is_sign mark.RightBracket k) (give []) parameter_list s) h.0
+    ∙ parameters_listed p ps s rest new few room f (ap (is_sign mark.Comma) bracket)
+
+-- ---- the heading
+
+abbrev heading_of : Procedure → Heading
+heading_of p = record { parameters = p.parameters; cycles = p.cycles; words = p.words; steps = p.steps }
+
+abbrev behind_bracket : Procedure → List Piece → List Piece
+behind_bracket p ps =
+    word keyword.Within ∷ numeral p.cycles ∷ word keyword.Cycles ∷ word keyword.Event ∷ numeral p.words ∷ word keyword.Words
+    ∷ word keyword.Steps ∷ numeral p.steps ∷ ps
+
+abbrev heading : Procedure → List Piece → List Piece
+heading p ps =
+    sign mark.LeftBracket ∷ (separated (sign mark.Comma) spell.parameter p.parameters ++ sign mark.RightBracket ∷ behind_bracket p ps)
+
+-- the heading is read, and what is left of the tokens
+heading_given : (p : Procedure) (s : State) (ps : List Piece) (rest : List Token) → are_new (names_of p.parameters) s.declared ≡ true → length s.variables + length p.parameters ≤ 8 → s.variable_count + length p.parameters ≤ 64 → Front s.rest (heading p ps) rest → (us : List Token) × (heading_at s ≡ ok (heading_of p) (with_names s us (names_of p.parameters))) × Front us ps rest
+unfolding heading_at
+heading_given p s ps rest new few room f =
+    let q0 : List Piece = separated (sign mark.Comma) spell.parameter p.parameters in
+    let q8 : List Piece = numeral p.steps ∷ ps in
+    let q7 : List Piece = word keyword.Steps ∷ q8 in
+    let q6 : List Piece = word keyword.Words ∷ q7 in
+    let q5 : List Piece = numeral p.words ∷ q6 in
+    let q4 : List Piece = word keyword.Event ∷ q5 in
+    let q3 : List Piece = word keyword.Cycles ∷ q4 in
+    let q2 : List Piece = numeral p.cycles ∷ q3 in
+    let q1 : List Piece = word keyword.Within ∷ q2 in
+    let h = front_first s.rest (sign mark.LeftBracket) (q0 ++ sign mark.RightBracket ∷ q1) rest f in
+    let t0 : List Token = behind s.rest in
+    let m = front_split t0 q0 (sign mark.RightBracket ∷ q1) rest h.1 in
+    let t1 : List Token = m.0 in
+    let f1 = front_first t1 (sign mark.RightBracket) q1 rest m.2 in
+    let t2 : List Token = behind t1 in
+    let f2 = front_first t2 (word keyword.Within) q2 rest f1.1 in
+    let t3 : List Token = behind t2 in
+    let f3 = front_first t3 (numeral p.cycles) q3 rest f2.1 in
+    let t4 : List Token = behind t3 in
+    let f4 = front_first t4 (word keyword.Cycles) q4 rest f3.1 in
+    let t5 : List Token = behind t4 in
+    let f5 = front_first t5 (word keyword.Event) q5 rest f4.1 in
+    let t6 : List Token = behind t5 in
+    let f6 = front_first t6 (numeral p.words) q6 rest f5.1 in
+    let t7 : List Token = behind t6 in
+    let f7 = front_first t7 (word keyword.Words) q7 rest f6.1 in
+    let t8 : List Token = behind t7 in
+    let f8 = front_first t8 (word keyword.Steps) q8 rest f7.1 in
+    let t9 : List Token = behind t8 in
+    let f9 = front_first t9 (numeral p.steps) ps rest f8.1 in
+    let u : State = with_names s t1 (names_of p.parameters) in
+    let read =
+    after (expect_sign mark.LeftBracket s) _ tt (at s t0) (expected_sign mark.LeftBracket s h.0)
+    (after (parameters_at (at s t0)) _ p.parameters u (parameters_given p.parameters (at s t0) t1 new few room m.1 f1.0)
+    (after (expect_sign mark.RightBracket u) _ tt (at u t2) (expected_sign mark.RightBracket u f1.0)
+    (after (expect keyword.Within (at u t2)) _ tt (at u t3) (expected keyword.Within (at u t2) f2.0)
+    (after (any_number (at u t3)) _ p.cycles (at u t4) (number_given (at u t3) p.cycles f3.0)
+    (after (expect keyword.Cycles (at u t4)) _ tt (at u t5) (expected keyword.Cycles (at u t4) f4.0)
+    (after (expect keyword.Event (at u t5)) _ tt (at u t6) (expected keyword.Event (at u t5) f5.0)
+    (after (any_number (at u t6)) _ p.words (at u t7) (number_given (at u t6) p.words f6.0)
+    (after (expect keyword.Words (at u t7)) _ tt (at u t8) (expected keyword.Words (at u t7) f7.0)
+    (after (expect keyword.Steps (at u t8)) _ tt (at u t9) (expected keyword.Steps (at u t8) f8.0)
+    (after (any_number (at u t9)) _ p.steps (at u (behind t9)) (number_given (at u t9) p.steps f9.0) refl)))))))))) in
+    (behind t9, read, f9.1)
+
+-- ---- the whole procedure
+
+-- the state in which its body begins
+abbrev pub inside : State → List Token → Procedure → State
+inside s rest p = with_names (in_heading p.name s) rest (names_of p.parameters)
+
+-- with this procedure more, and the statements of its body
+abbrev pub with_procedure_body : State → List Token → Procedure → ℕ → State
+with_procedure_body s rest p m = record s {
+  rest = rest;
+  variable_count = s.variable_count + length (names_of p.parameters);
+  declared = s.declared ++ p.name ∷ [];
+  registers = [];
+  in_procedure = false;
+  procedures = s.procedures ++ p ∷ [];
+  callables = s.callables ++ callable s.callables p ∷ [];
+  statements = m;
+  order = s.order ++ next_procedure ∷ [];
+}
+
+pub procedure_declared : (t : Script) (p : Procedure) (s : State) (rest : List Token) (m : ℕ) → length s.procedures < 16 → is_new p.name s.declared ≡ true → are_new (names_of p.parameters) (s.declared ++ p.name ∷ []) ≡ true → length p.parameters ≤ 8 → s.variable_count + length p.parameters ≤ 64 → RunsBraced (spell.procedure_names t p) (inside s s.rest p) 0 (length p.registers) m 16 p.body → Front s.rest (spell.procedure_declaration t p) rest → declaration_at s ≡ ok tt (with_procedure_body s rest p m)
+unfolding procedure_declaration
+procedure_declared t p s rest m room new new_parameters few count c f =
+    let n : Names = spell.procedure_names t p in
+    let body : List Piece = braced (block n p.body) in
+    let q1 : List Piece = heading p body in
+    let h = front_line s.rest s.end_line p.line (kind.Keyword keyword.Proc) (name p.name ∷ q1) rest f in
+    let t1 : List Token = behind s.rest in
+    let f1 = front_first t1 (name p.name) q1 rest h.2 in
+    let t2 : List Token = behind t1 in
+    let u : State = in_heading p.name (at s t2) in
+    let g = heading_given p u body rest new_parameters (omega arith) count f1.1 in
+    let us : List Token = g.0 in
+    let v : State = with_names u us (names_of p.parameters) in
+    let runs : RunsBraced n v 0 (length p.registers) m 16 p.body = record {
+      finds = c.finds;
+      sets = c.sets;
+      registers = c.registers;
+      reached = c.reached;
+      within = c.within;
+      deep = c.deep;
+      counted = c.counted;
+      few = c.few;
+    } in
+    let k : ℕ = length p.registers in
+    let w : State = left_at n v rest k m in
+    let names : ℕ = length (s.declared ++ p.name ∷ []) in
+    let made : (rs : List Text) (b : Block) → Procedure = λ rs b. record p { registers = rs; body = b } in
+    let with_it : Procedure → State = λ q. with_procedure q s.variables names w in
+    first_given p.line (kind.Keyword keyword.Proc) s (name p.name ∷ q1) rest f
+    ∙ checked (nat_lt (length s.procedures) 16) LimitPassed _ s (lt-ltb (length s.procedures) 16 room)
+    (after (new_name (at s t1)) _ p.name (at s t1) (new_name_seen (at s t1) p.name f1.0 new)
+    (after (heading_at u) _ (heading_of p) v g.1
+    (after (block_at 16 v) _ (listed p.body) w (body_given n p.body 16 v rest 0 k m runs g.2)
+    (ap (λ (rs : List Text). ok tt (with_it (procedure_made p.line p.name (heading_of p) rs (listed p.body)))) (take_all p.registers)
+    ∙ ap (λ (b : Block). ok tt (with_it (record p { body = b }))) (block_of_listed p.body)
+    ∙ ap (λ (ds : List Text). ok tt (record (with_procedure_body s rest p m) { declared = ds })) (take-append_seam (s.declared ++ p.name ∷ []) (names_of p.parameters))))))

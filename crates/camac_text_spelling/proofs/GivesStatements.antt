@@ -1,0 +1,198 @@
+-- Statements that hold blocks, and blocks, that are spelled are read.
+use Rattle.std.proofs.Common.{◌≡◌, ℕ, zero, suc, ◌+◌, ◌≤◌, max, false, List, [], ◌∷◌, ◌++◌, length, take, Option, Some, refl, ap, ◌∙◌, arith, not}
+use Rattle.camac_lang.specs.Depth.{expression_depth, part_depth, inner_depth}
+use Rattle.camac_lang.specs.Statements.{head_fits, begun as begun_by, after_block, statements}
+use Rattle.camac_lang.specs.Tests.{most}
+use Rattle.camac_lang.specs.Tree.{Expression, Condition, Statement, choose, choose_else, locked, Block}
+use Rattle.camac_lang.specs.View.{block_of}
+use Rattle.camac_lang.proofs.Grows.{block_grows}
+use Rattle.camac_lang.proofs.Options.{unless_parts, then_parts}
+use Rattle.camac_text_tokens.specs.declared.fault.TextRule.TheVariants.{UnexpectedToken}
+use Rattle.camac_text_tokens.specs.declared.token.Keyword.TheVariants as keyword
+use Rattle.camac_text_tokens.specs.declared.token.Sign.TheVariants as mark
+use Rattle.camac_text_tokens.specs.declared.token.Token.{Token}
+use Rattle.camac_text_tokens.specs.declared.token.TokenKind.{TokenKind}
+use Rattle.camac_text_tokens.specs.declared.token.TokenKind.TheVariants as kind
+use Rattle.camac_text_cursor.specs.Reading.{State, Reader, kind_of, behind, while_next, one_more, many}
+use Rattle.camac_text_cursor.specs.Readers.{is_keyword, expect_sign}
+use Rattle.camac_text_phrases.specs.Expressions.{expression_at}
+use Rattle.camac_text_phrases.specs.Conditions.{condition_at}
+use Rattle.camac_text_cursor.specs.Readers.{begin}
+use Rattle.camac_text_statements.specs.Statements.{else_by, choice, locking, statement_with, is_no_end, block_at}
+use Rattle.camac_text_cursor.proofs.Uses.{scope_of}
+use Rattle.camac_text_statements.proofs.Acts.{begun}
+use Rattle.camac_text_cursor.proofs.Registers.{first_of_both, second_of_both}
+use Rattle.camac_text_spelling.specs.Pieces.{Piece, word, sign, Names, Front}
+use Rattle.camac_text_spelling.specs.Phrases as phrase
+use Rattle.camac_text_spelling.specs.Statements as spell
+use Rattle.camac_text_spelling.proofs.Fronts.{front_split, front_first, front_line}
+use Rattle.camac_text_spelling.proofs.Gives.{at, ok, after, checked, left, expected_sign}
+use Rattle.camac_text_spelling.proofs.GivesExpressions.{NoSign, expression_given}
+use Rattle.camac_text_spelling.proofs.GivesPhrases.{no_sign, condition_given}
+use Rattle.camac_text_spelling.proofs.Runs.{Runs, left_at, begin_given, first_given, listed, block_of_listed}
+use Rattle.camac_text_spelling.proofs.GivesActions.{IsGiven}
+
+-- The statements of a block that is spelled are read, up to its brace.
+abbrev pub AreGiven : Names → Block → Type 0
+AreGiven n b = (room : ℕ) (acc : List Statement) (s : State) (rest : List Token) (j k m : ℕ) → Runs n s j k m room (after_block (scope_of s) j b) (inner_depth s.callables b) (statements b) → Front s.rest (spell.block n b) rest → kind_of rest ≡ Some (kind.Sign mark.RightBrace) → while_next is_no_end (one_more (statement_with room (block_at room))) acc s ≡ ok (acc ++ listed b) (left_at n s rest k m)
+
+-- a block in its braces
+abbrev pub RunsBraced : Names → State → ℕ → ℕ → ℕ → ℕ → Block → Type 0
+RunsBraced n s j k m room b = Runs n s j k m room (after_block (scope_of s) j b) (suc (inner_depth s.callables b)) (statements b)
+
+pub braced_given : (n : Names) (b : Block) → AreGiven n b → (room : ℕ) (s : State) (rest : List Token) (j k m : ℕ) → RunsBraced n s j k m room b → Front s.rest (spell.braced (spell.block n b)) rest → block_at room s ≡ ok (listed b) (left_at n s rest k m)
+unfolding block_at many
+braced_given n b given zero s rest j k m c f = let deep : suc (inner_depth s.callables b) ≤ 0 = c.deep in absurd (omega arith)
+braced_given n b given (suc room) s rest j k m c f =
+    let ps : List Piece = spell.block n b in
+    let h = front_first s.rest (sign mark.LeftBrace) (ps ++ sign mark.RightBrace ∷ []) rest f in
+    let u : State = at s (behind s.rest) in
+    let parts = front_split (behind s.rest) ps (sign mark.RightBrace ∷ []) rest h.1 in
+    let us : List Token = parts.0 in
+    let closing = front_first us (sign mark.RightBrace) [] rest parts.2 in
+    let deep : suc (inner_depth s.callables b) ≤ suc room = c.deep in
+    let inside : Runs n u j k m room (after_block (scope_of s) j b) (inner_depth s.callables b) (statements b) = record {
+      finds = c.finds;
+      sets = c.sets;
+      registers = c.registers;
+      reached = c.reached;
+      within = c.within;
+      deep = omega arith;
+      counted = c.counted;
+      few = c.few;
+    } in
+    let v : State = left_at n s us k m in
+    after (expect_sign mark.LeftBrace s) _ tt u (expected_sign mark.LeftBrace s h.0)
+    (after (many is_no_end (statement_with room (block_at room)) u) _ (listed b) v (given room [] u us j k m inside parts.1 closing.0)
+    (after (expect_sign mark.RightBrace v) _ tt (at v (behind us)) (expected_sign mark.RightBrace v closing.0) (left (listed b) v (behind us) rest closing.1)))
+
+pub brace_no_sign : NoSign (Some (kind.Sign mark.LeftBrace))
+brace_no_sign = record { product = refl; sum = refl }
+
+-- the brace of a block
+pub brace_first : (n : Names) (b : Block) (ts rest : List Token) → Front ts (spell.braced (spell.block n b)) rest → kind_of ts ≡ Some (kind.Sign mark.LeftBrace)
+brace_first n b ts rest f = (front_first ts (sign mark.LeftBrace) (spell.block n b ++ sign mark.RightBrace ∷ []) rest f).0
+
+-- ---- `lock`
+
+pub locked_given : (n : Names) (line : ℕ) (e : Expression) (b : Block) → AreGiven n b → IsGiven n (locked line e b)
+unfolding locking
+locked_given n line e b given room s rest j k m c f ends =
+    let x : Statement = locked line e b in
+    let p1 : List Piece = phrase.expression n e in
+    let body : List Piece = spell.braced (spell.block n b) in
+    let h = front_line s.rest s.end_line line (kind.Keyword keyword.Lock) (p1 ++ body) rest f in
+    let parts = front_split (behind s.rest) p1 body rest h.2 in
+    let us : List Token = parts.0 in
+    let p = then_parts (λ i. after_block (scope_of s) i b) (begun_by (scope_of s) j x) k c.reached in
+    let r = unless_parts (head_fits (scope_of s) j x) j p.0 p.1 in
+    let deep : max (expression_depth e) (suc (inner_depth s.callables b)) ≤ room = c.deep in
+    let counted : m ≡ s.statements + suc (statements b) = c.counted in
+    let few : m ≤ 4096 = c.few in
+    let inside : RunsBraced n (at (begun s) us) p.0 k m room b = record {
+      finds = c.finds;
+      sets = c.sets;
+      registers = c.registers ∙ ap (λ (i : ℕ). take i n.registers) r.1;
+      reached = p.2;
+      within = c.within;
+      deep = omega arith;
+      counted = omega arith;
+      few = c.few;
+    } in
+    first_given line room (block_at room) (kind.Keyword keyword.Lock) s (p1 ++ body) rest f
+    ∙ checked (not s.in_procedure) UnexpectedToken _ s (first_of_both (not s.in_procedure) _ r.0)
+    (after (begin s) _ tt (begun s) (begin_given s (omega arith))
+    (after (expression_at room (begun s)) _ e (at (begun s) us) (expression_given n e room (begun s) us c.finds (second_of_both (not s.in_procedure) _ r.0) (omega arith) parts.1 (no_sign (kind_of us) _ (brace_first n b us rest parts.2) brace_no_sign))
+    (after (block_at room (at (begun s) us)) _ (listed b) (left_at n s rest k m) (braced_given n b given room (at (begun s) us) rest p.0 k m inside parts.2)
+    (ap (λ (w : Block). ok (locked line e w) (left_at n s rest k m)) (block_of_listed b)))))
+
+-- ---- `if`
+
+no_else_by : (block : Reader (List Statement)) (line : ℕ) (c : Condition) (xs : List Statement) (o : Option TokenKind) (s : State) → is_keyword keyword.Else o ≡ false → else_by block line c xs o s ≡ ok (choose line c (block_of xs)) s
+no_else_by block line c xs (Some (kind.Keyword keyword.Else)) s off = absurd cc
+no_else_by block line c xs _ s off = refl
+
+pub choose_given : (n : Names) (line : ℕ) (t : Condition) (b : Block) → AreGiven n b → IsGiven n (choose line t b)
+unfolding choice
+choose_given n line t b given room s rest j k m c f ends =
+    let x : Statement = choose line t b in
+    let p1 : List Piece = phrase.condition n t in
+    let body : List Piece = spell.braced (spell.block n b) in
+    let h = front_line s.rest s.end_line line (kind.Keyword keyword.If) (p1 ++ body) rest f in
+    let parts = front_split (behind s.rest) p1 body rest h.2 in
+    let us : List Token = parts.0 in
+    let brace = brace_first n b us rest parts.2 in
+    let p = then_parts (λ i. after_block (scope_of s) i b) (begun_by (scope_of s) j x) k c.reached in
+    let r = unless_parts (head_fits (scope_of s) j x) j p.0 p.1 in
+    let deep : max (most part_depth t) (suc (inner_depth s.callables b)) ≤ room = c.deep in
+    let counted : m ≡ s.statements + suc (statements b) = c.counted in
+    let few : m ≤ 4096 = c.few in
+    let inside : RunsBraced n (at (begun s) us) p.0 k m room b = record {
+      finds = c.finds;
+      sets = c.sets;
+      registers = c.registers ∙ ap (λ (i : ℕ). take i n.registers) r.1;
+      reached = p.2;
+      within = c.within;
+      deep = omega arith;
+      counted = omega arith;
+      few = c.few;
+    } in
+    first_given line room (block_at room) (kind.Keyword keyword.If) s (p1 ++ body) rest f
+    ∙ after (begin s) _ tt (begun s) (begin_given s (omega arith))
+    (after (condition_at room (begun s)) _ t (at (begun s) us) (condition_given n t room (begun s) us c.finds r.0 (omega arith) parts.1 (no_sign (kind_of us) _ brace brace_no_sign) (ap (is_keyword keyword.And) brace))
+    (after (block_at room (at (begun s) us)) _ (listed b) (left_at n s rest k m) (braced_given n b given room (at (begun s) us) rest p.0 k m inside parts.2)
+    (no_else_by (block_at room) line t (listed b) (kind_of rest) (left_at n s rest k m) ends.no_else
+    ∙ ap (λ (w : Block). ok (choose line t w) (left_at n s rest k m)) (block_of_listed b))))
+
+pub choose_else_given : (n : Names) (line : ℕ) (t : Condition) (a b : Block) → AreGiven n a → AreGiven n b → IsGiven n (choose_else line t a b)
+unfolding choice
+choose_else_given n line t a b given_a given_b room s rest j k m c f ends =
+    let x : Statement = choose_else line t a b in
+    let p1 : List Piece = phrase.condition n t in
+    let body : List Piece = spell.braced (spell.block n a) in
+    let other : List Piece = spell.braced (spell.block n b) in
+    let h = front_line s.rest s.end_line line (kind.Keyword keyword.If) (p1 ++ (body ++ word keyword.Else ∷ other)) rest f in
+    let parts = front_split (behind s.rest) p1 (body ++ word keyword.Else ∷ other) rest h.2 in
+    let us : List Token = parts.0 in
+    let more = front_split us body (word keyword.Else ∷ other) rest parts.2 in
+    let vs : List Token = more.0 in
+    let els = front_first vs (word keyword.Else) other rest more.2 in
+    let brace = brace_first n a us vs more.1 in
+    let p = then_parts (λ i. after_block (scope_of s) i b) _ k c.reached in
+    let q = then_parts (λ i. after_block (scope_of s) i a) (begun_by (scope_of s) j x) p.0 p.1 in
+    let r = unless_parts (head_fits (scope_of s) j x) j q.0 q.1 in
+    let grows : p.0 ≤ k = block_grows (scope_of s) p.0 k b p.2 in
+    let within : k ≤ length n.registers = c.within in
+    let deep : max (most part_depth t) (max (suc (inner_depth s.callables a)) (suc (inner_depth s.callables b))) ≤ room = c.deep in
+    let counted : m ≡ s.statements + suc (statements a + statements b) = c.counted in
+    let few : m ≤ 4096 = c.few in
+    let m1 : ℕ = suc s.statements + statements a in
+    let inside_a : RunsBraced n (at (begun s) us) q.0 p.0 m1 room a = record {
+      finds = c.finds;
+      sets = c.sets;
+      registers = c.registers ∙ ap (λ (i : ℕ). take i n.registers) r.1;
+      reached = q.2;
+      within = omega arith;
+      deep = omega arith;
+      counted = refl;
+      few = omega arith;
+    } in
+    let w : State = left_at n s (behind vs) p.0 m1 in
+    let inside_b : RunsBraced n w p.0 k m room b = record {
+      finds = c.finds;
+      sets = c.sets;
+      registers = refl;
+      reached = p.2;
+      within = c.within;
+      deep = omega arith;
+      counted = omega arith;
+      few = c.few;
+    } in
+    first_given line room (block_at room) (kind.Keyword keyword.If) s (p1 ++ (body ++ word keyword.Else ∷ other)) rest f
+    ∙ after (begin s) _ tt (begun s) (begin_given s (omega arith))
+    (after (condition_at room (begun s)) _ t (at (begun s) us) (condition_given n t room (begun s) us c.finds r.0 (omega arith) parts.1 (no_sign (kind_of us) _ brace brace_no_sign) (ap (is_keyword keyword.And) brace))
+    (after (block_at room (at (begun s) us)) _ (listed a) (left_at n s vs p.0 m1) (braced_given n a given_a room (at (begun s) us) vs q.0 p.0 m1 inside_a more.1)
+    (ap (λ (o : Option TokenKind). else_by (block_at room) line t (listed a) o (left_at n s vs p.0 m1)) els.0
+    ∙ after (block_at room w) _ (listed b) (left_at n s rest k m) (braced_given n b given_b room w rest p.0 k m inside_b els.1)
+    (ap (λ (z : Block). ok (choose_else line t z (block_of (listed b))) (left_at n s rest k m)) (block_of_listed a)
+    ∙ ap (λ (z : Block). ok (choose_else line t a z) (left_at n s rest k m)) (block_of_listed b)))))

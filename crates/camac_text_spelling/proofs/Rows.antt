@@ -1,0 +1,59 @@
+-- The standard example is spelled, by computation.
+use Rattle.std.proofs.Common.{ℕ, List, [], ◌∷◌, refl}
+use Rattle.std.specs.Prelude.{codes}
+use Rattle.camac_lang.specs.Scope.{is_well_formed}
+use Rattle.camac_text_tokens.specs.declared.token.Keyword.TheVariants as keyword
+use Rattle.camac_text_tokens.specs.declared.token.Sign.TheVariants as mark
+use Rattle.camac_text_tokens.specs.declared.token.Token.{Token}
+use Rattle.camac_text_tokens.specs.declared.token.TokenKind.{TokenKind}
+use Rattle.camac_text_tokens.specs.declared.token.TokenKind.TheVariants as kind
+use Rattle.camac_text_tokens.specs.Scanning.{front_of, tokens_from, tokens_of}
+use Rattle.camac_text_tokens.specs.Words.{keyword as keyword_of}
+use Rattle.camac_lang.specs.Example.{straight_line}
+use Rattle.camac_text_spelling.specs.Spells.{IsSpelled}
+use Rattle.camac_text_spelling.specs.Laws.{example_text}
+
+abbrev at : ℕ → TokenKind → Token
+at line k = record { kind = k; line = line }
+
+abbrev example_tokens : List Token
+example_tokens =
+    at 1 (kind.Keyword keyword.Cdlam) ∷
+    at 1 (kind.Name (codes "adc")) ∷
+    at 1 (kind.Number 1) ∷
+    at 1 (kind.Number 1) ∷
+    at 1 (kind.Number 5) ∷
+    at 1 (kind.Number 12) ∷
+    at 2 (kind.Keyword keyword.Var) ∷
+    at 2 (kind.Name (codes "v")) ∷
+    at 3 (kind.Keyword keyword.Service) ∷
+    at 3 (kind.Name (codes "adc")) ∷
+    at 3 (kind.Keyword keyword.Within) ∷
+    at 3 (kind.Number 3) ∷
+    at 3 (kind.Keyword keyword.Cycles) ∷
+    at 3 (kind.Keyword keyword.Event) ∷
+    at 3 (kind.Number 1) ∷
+    at 3 (kind.Keyword keyword.Words) ∷
+    at 3 (kind.Sign mark.LeftBrace) ∷
+    at 4 (kind.Keyword keyword.Cdreg) ∷
+    at 4 (kind.Name (codes "r")) ∷
+    at 4 (kind.Number 1) ∷
+    at 4 (kind.Number 1) ∷
+    at 4 (kind.Number 5) ∷
+    at 4 (kind.Number 0) ∷
+    at 5 (kind.Keyword keyword.Cfsa) ∷
+    at 5 (kind.Number 0) ∷
+    at 5 (kind.Name (codes "r")) ∷
+    at 5 (kind.Sign mark.Into) ∷
+    at 5 (kind.Name (codes "v")) ∷
+    at 6 (kind.Keyword keyword.Put) ∷
+    at 6 (kind.Name (codes "v")) ∷
+    at 6 (kind.Sign mark.RightBrace) ∷ []
+
+pub example_is_spelled : IsSpelled example_text straight_line
+unfolding tokens_of tokens_from front_of keyword_of is_well_formed
+example_is_spelled = record {
+  tokens = example_tokens;
+  made = refl;
+  spelled = record { all = ((refl, refl), ((refl, tt), ((refl, tt), ((refl, tt), ((refl, tt), ((refl, tt), ((refl, refl), ((refl, tt), ((refl, refl), ((refl, tt), ((refl, tt), ((refl, tt), ((refl, tt), ((refl, tt), ((refl, tt), ((refl, tt), ((refl, tt), ((refl, refl), ((refl, tt), ((refl, tt), ((refl, tt), ((refl, tt), ((refl, tt), ((refl, refl), ((refl, tt), ((refl, tt), ((refl, tt), ((refl, tt), ((refl, refl), ((refl, tt), ((refl, tt), refl))))))))))))))))))))))))))))))); stands = refl };
+}

@@ -1,0 +1,211 @@
+-- Declarations that are read are spelled so, and the whole script.
+use Rattle.std.proofs.Common.{◌≡◌, ℕ, ◌+◌, nat_lt, List, [], ◌∷◌, ◌++◌, map, length, Option, Some, Ok, refl, sym, ap, subst, ◌∙◌, append_assoc, length-append}
+use Rattle.std.proofs.lemmas.List.{append-nil, map_push, map-append}
+use Rattle.camac_lang.specs.Tree.{Text, Table, Lam, Procedure, Service, next_variables, Script}
+use Rattle.camac_lang.specs.View.{block_of}
+use Rattle.camac_text_tokens.specs.declared.fault.TextRule.TheVariants.{LimitPassed, NumberTooLarge}
+use Rattle.camac_text_tokens.specs.declared.token.Keyword.TheVariants as keyword
+use Rattle.camac_text_tokens.specs.declared.token.Sign.TheVariants as mark
+use Rattle.camac_text_tokens.specs.declared.token.Token.{Token}
+use Rattle.camac_text_tokens.specs.declared.token.TokenKind.{TokenKind}
+use Rattle.camac_text_tokens.specs.declared.token.TokenKind.TheVariants as kind
+use Rattle.camac_text_cursor.specs.Reading.{State, give, change, kind_of, line_of, behind, while_next, advance, Reader, ◌>>◌}
+use Rattle.camac_text_cursor.specs.Readers.{new_name, new_variable, is_name, expect, any_number, branch_number, sub_address_number, used_lam, expect_sign, number_here}
+use Rattle.camac_text_statements.specs.Statements.{block_at}
+use Rattle.camac_text.specs.Declarations.{with_lam as lam_added, lam_declaration, one_more_variable, with_variables_of, variable_declaration, with_service as service_added, service_declaration, declaration_by, declaration_at, is_token, declarations_at}
+use Rattle.camac_text.specs.Tables.{word_behind, one_more_word, is_number, table_words, with_table as table_added, table_declaration}
+use Rattle.camac_text.specs.Parser.{start, tree_so_far}
+use Rattle.camac_text_cursor.proofs.Steps.{then_ok, ok_is, err_no_ok, while_keeps}
+use Rattle.camac_text_cursor.proofs.Moves.{check_ok, any_number_ok, sub_address_ok, new_name_ok, number_ok}
+use Rattle.camac_text.proofs.Variables.{DeclaresOne, new_variable_ok}
+use Rattle.camac_text_spelling.specs.Pieces.{Piece, first_word, numeral, name, text_at, Front, Names}
+use Rattle.camac_text_spelling.specs.Declarations as spell
+use Rattle.camac_text_spelling.specs.Declarations.{service_names}
+use Rattle.camac_text_spelling.proofs.Fronts.{front_join, front_token, front_begin}
+use Rattle.camac_text_spelling.proofs.Found.{found_named, found_lam, found_table, found_procedure}
+use Rattle.camac_text_spelling.proofs.Takes.{Tells, Took, join, returns, took_one, took_first, took_token, took_word, took_sign, took_branch, took_lam}
+use Rattle.camac_text_spelling.proofs.SpelledProcedures.{procedure_spelled}
+use Rattle.camac_text_spelling.proofs.SpelledStatements.{took_block}
+use Rattle.camac_text_spelling.proofs.Declared.{Extends, itself, Declares, with_table, declares_table, with_lam, declares_lam, declares_variables, with_service, declares_service, Sofar, one_more}
+
+-- ---- names
+
+-- a tree with these declarations tells the names, and the service those of its registers
+tells_names : (s : State) (t : Script) (v : Service) → Extends (tree_so_far s) t → v.registers ≡ s.registers → Tells (service_names t v) s
+tells_names s t v x same = record {
+  variables = λ z p e. found_named z p s.variables x.variables e ∙ ap (λ (xs : List Text). text_at xs p) (sym x.variables_are);
+  registers = λ z p e. found_named z p s.registers [] e ∙ ap (λ (xs : List Text). text_at xs p) (append-nil s.registers ∙ sym same);
+  lams = λ z p e.
+      found_lam z p s.lams (map (λ (l : Lam). l.name) x.lams) e
+      ∙ ap (λ (xs : List Text). text_at xs p) (sym (map-append (λ (l : Lam). l.name) s.lams x.lams) ∙ ap (map (λ (l : Lam). l.name)) (sym x.lams_are));
+  tables = λ z p e.
+      found_table z p s.tables (map (λ (g : Table). g.name) x.tables) e
+      ∙ ap (λ (xs : List Text). text_at xs p) (sym (map-append (λ (g : Table). g.name) s.tables x.tables) ∙ ap (map (λ (g : Table). g.name)) (sym x.tables_are));
+  procedures = λ z p e.
+      found_procedure z p s.procedures (map (λ (q : Procedure). q.name) x.procedures) e
+      ∙ ap (λ (xs : List Text). text_at xs p) (sym (map-append (λ (q : Procedure). q.name) s.procedures x.procedures) ∙ ap (map (λ (q : Procedure). q.name)) (sym x.procedures_are));
+}
+
+abbrev own : State → Service
+own s = record { line = 0; lam = 0; cycles = 0; words = 0; registers = s.registers; body = block_of [] }
+
+-- the tokens of what uses no names
+plainly : (s : State) (ps : List Piece) (u : State) → Took (service_names (tree_so_far u) (own u)) s ps u → Front s.rest ps u.rest
+plainly s ps u took = took.front (tells_names u (tree_so_far u) (own u) (itself (tree_so_far u)) refl)
+
+-- ---- a LAM
+
+lam_spelled : (s : State) (y : Unit {0} × State) → kind_of s.rest ≡ Some (kind.Keyword keyword.Cdlam) → lam_declaration (line_of s.rest s.end_line) s ≡ Ok y → Declares (tree_so_far s) s.rest (tree_so_far y.1) y.1.rest
+unfolding lam_declaration
+lam_spelled s y next e =
+    let t : State = record s { rest = behind s.rest } in
+    let c0 = check_ok (nat_lt (length s.lams) 64) LimitPassed _ s y e in
+    let a = then_ok (new_name t) _ y c0.1 in
+    let h = new_name_ok t a.0 a.1 in
+    let u : State = record a.0.1 { rest = behind a.0.1.rest } in
+    let b = then_ok (branch_number u) _ y a.2 in
+    let c = then_ok (any_number b.0.1) _ y b.2 in
+    let d = then_ok (any_number c.0.1) _ y c.2 in
+    let f = then_ok (sub_address_number d.0.1) _ y d.2 in
+    let l : Lam = record { line = line_of s.rest s.end_line; name = a.0.0; crate_no = c.0.0; station = d.0.0; sub_address = f.0.0 } in
+    let v : State = f.0.1 in
+    let took : Took (service_names (tree_so_far v) (own v)) s (spell.lam_declaration l) v =
+    join (took_first s (kind.Keyword keyword.Cdlam) next) (join (took_one {s' = u} h.next (ap (λ (w : State). record w { rest = behind w.rest }) h.left)) (join (took_branch u b.0 b.1)
+    (join (took_token (any_number_ok b.0.1 c.0 c.1)) (join (took_token (any_number_ok c.0.1 d.0 d.1)) (took_token (sub_address_ok d.0.1 f.0 f.1).one))))) in
+    subst (λ (p : Unit {0} × State). Declares (tree_so_far s) s.rest (tree_so_far p.1) p.1.rest) (ok_is (tt, lam_added l v) y f.2)
+    (subst (λ (w : Script). Declares w s.rest (with_lam (tree_so_far v) l) v.rest) took.same (declares_lam (tree_so_far v) l s.rest v.rest (plainly s (spell.lam_declaration l) v took)))
+
+-- ---- a table
+
+-- the words so far
+words_push : (ws : List ℕ) (w : ℕ) → map numeral (ws ++ w ∷ []) ≡ map numeral ws ++ numeral w ∷ []
+words_push ws w = map_push numeral ws w
+
+took_word_of : {n : Names} (count : ℕ) (s : State) (y : ℕ × State) → word_behind count s ≡ Ok y → Took n s (numeral y.0 ∷ []) y.1
+unfolding word_behind
+took_word_of {n} count s y e =
+    let m = then_ok (number_here s) _ y e in
+    let h = number_ok s m.0 m.1 in
+    let rest : Reader ℕ = advance >> give m.0.0 in
+    let a = check_ok (nat_lt m.0.0 16777216) NumberTooLarge _ m.0.1 y m.2 in
+    let b = check_ok (nat_lt count 1024) LimitPassed rest m.0.1 y a.1 in
+    let one : Took n s (numeral m.0.0 ∷ []) (record m.0.1 { rest = behind m.0.1.rest }) = took_one h.0 (ap (λ (w : State). record w { rest = behind w.rest }) h.1) in
+    returns {x = m.0.0} (λ w. numeral w ∷ []) b.1 one
+
+took_words : {n : Names} (s : State) (y : List ℕ × State) → table_words s ≡ Ok y → Took n s (map numeral y.0) y.1
+unfolding table_words
+took_words {n} s y e =
+    let m = then_ok (word_behind 0 s) (λ first. while_next is_number one_more_word (first ∷ [])) y e in
+    while_keeps (λ (ws : List ℕ) (u : State). Took n s (map numeral ws) u) is_number one_more_word (λ ws u vs v so on took.
+    let a = then_ok (word_behind (length ws) u) (λ w. give (ws ++ w ∷ [])) (vs, v) took in
+    returns {x = ws ++ a.0.0 ∷ []} (map numeral) a.2 (subst (λ (ps : List Piece). Took n s ps a.0.1) (sym (words_push ws a.0.0)) (join so (took_word_of (length ws) u a.0 a.1)))) (m.0.0 ∷ []) m.0.1 y (took_word_of 0 s m.0 m.1) m.2
+
+table_spelled : (s : State) (y : Unit {0} × State) → kind_of s.rest ≡ Some (kind.Keyword keyword.Table) → table_declaration (line_of s.rest s.end_line) s ≡ Ok y → Declares (tree_so_far s) s.rest (tree_so_far y.1) y.1.rest
+unfolding table_declaration
+table_spelled s y next e =
+    let t : State = record s { rest = behind s.rest } in
+    let c0 = check_ok (nat_lt (length s.tables) 16) LimitPassed _ s y e in
+    let a = then_ok (new_name t) _ y c0.1 in
+    let h = new_name_ok t a.0 a.1 in
+    let u : State = record a.0.1 { rest = behind a.0.1.rest } in
+    let b = then_ok (expect_sign mark.Equals u) _ y a.2 in
+    let c = then_ok (table_words b.0.1) _ y b.2 in
+    let l : Table = record { line = line_of s.rest s.end_line; name = a.0.0; words = c.0.0 } in
+    let v : State = c.0.1 in
+    let took : Took (service_names (tree_so_far v) (own v)) s (spell.table_declaration l) v =
+    join (took_first s (kind.Keyword keyword.Table) next) (join (took_one {s' = u} h.next (ap (λ (w : State). record w { rest = behind w.rest }) h.left)) (join (took_sign mark.Equals u b.0 b.1) (took_words b.0.1 c.0 c.1))) in
+    subst (λ (p : Unit {0} × State). Declares (tree_so_far s) s.rest (tree_so_far p.1) p.1.rest) (ok_is (tt, table_added l v) y c.2)
+    (subst (λ (w : Script). Declares w s.rest (with_table (tree_so_far v) l) v.rest) took.same (declares_table (tree_so_far v) l s.rest v.rest (plainly s (spell.table_declaration l) v took)))
+
+-- ---- variables
+
+-- so many variables are declared
+record Names' (s : State) (count : ℕ) (u : State) : Type 0 where
+  names : List Text
+  counted : length names ≡ count
+  front : Front s.rest (map name names) u.rest
+  tree : tree_so_far u ≡ record (tree_so_far s) { variables = s.variables ++ names }
+
+no_names : (s : State) → Names' s 0 s
+no_names s = record { names = []; counted = refl; front = refl; tree = ap (λ (xs : List Text). record (tree_so_far s) { variables = xs }) (sym (append-nil s.variables)) }
+
+name_more : (s : State) (n : ℕ) (u : State) (x : Text) (v : State) → Names' s n u → DeclaresOne u x v → Names' s (n + 1) v
+name_more s n u x v d one =
+    let rest : v.rest ≡ behind u.rest = ap (λ (w : State). w.rest) one.left in
+    let here : Front u.rest (name x ∷ []) v.rest = subst (λ (ts : List Token). Front u.rest (name x ∷ []) ts) (sym rest) (front_token u.rest (kind.Name x) one.next) in
+    record {
+      names = d.names ++ x ∷ [];
+      counted = length-append d.names (x ∷ []) ∙ ap (λ (k : ℕ). k + 1) d.counted;
+      front = subst (λ (ps : List Piece). Front s.rest ps v.rest) (sym (map_push name d.names x)) (front_join s.rest (map name d.names) u.rest (name x ∷ []) v.rest d.front here);
+      tree = ap tree_so_far one.left
+          ∙ ap (λ (w : Script). record w { variables = w.variables ++ x ∷ [] }) d.tree
+          ∙ ap (λ (xs : List Text). record (tree_so_far s) { variables = xs }) (append_assoc s.variables d.names (x ∷ []));
+    }
+
+name_turn : (s : State) (n : ℕ) (u : State) (m : ℕ) (v : State) → Names' s n u → one_more_variable n u ≡ Ok (m, v) → Names' s m v
+name_turn s n u m v d e =
+    let a = then_ok (new_variable u) (λ _. give (n + 1)) (m, v) e in
+    let one = new_variable_ok u a.0 a.1 in
+    subst (λ (p : ℕ × State). Names' s p.0 p.1) (ok_is (n + 1, a.0.1) (m, v) a.2) (name_more s n u one.0 a.0.1 d one.1)
+
+variables_spelled : (s : State) (y : Unit {0} × State) → kind_of s.rest ≡ Some (kind.Keyword keyword.Var) → variable_declaration (line_of s.rest s.end_line) s ≡ Ok y → Declares (tree_so_far s) s.rest (tree_so_far y.1) y.1.rest
+unfolding variable_declaration
+variables_spelled s y next e =
+    let line : ℕ = line_of s.rest s.end_line in
+    let t : State = record s { rest = behind s.rest } in
+    let a = then_ok (new_variable t) _ y e in
+    let first = new_variable_ok t a.0 a.1 in
+    let one : Names' t 1 a.0.1 = name_more t 0 t first.0 a.0.1 (no_names t) first.1 in
+    let b = then_ok (while_next is_name one_more_variable 1 a.0.1) (λ count. change (with_variables_of line count)) y a.2 in
+    let d = while_keeps (λ (n : ℕ) (u : State). Names' t n u) is_name one_more_variable (λ n u m v d on took. name_turn t n u m v d took) 1 a.0.1 b.0 one b.1 in
+    let v : State = b.0.1 in
+    let front : Front s.rest (spell.variable_declaration line d.names) v.rest = front_join s.rest (first_word line keyword.Var ∷ []) t.rest (map name d.names) v.rest (front_begin s.rest s.end_line (kind.Keyword keyword.Var) next) d.front in
+    subst (λ (p : Unit {0} × State). Declares (tree_so_far s) s.rest (tree_so_far p.1) p.1.rest) (ok_is (tt, with_variables_of line b.0.0 v) y b.2)
+    (subst (λ (w : Script). Declares (tree_so_far s) s.rest (record w { order = w.order ++ next_variables line b.0.0 ∷ [] }) v.rest) (sym d.tree)
+    (declares_variables (tree_so_far s) line b.0.0 d.names s.rest v.rest d.counted front))
+
+-- ---- a service
+
+service_spelled : (s : State) (y : Unit {0} × State) → kind_of s.rest ≡ Some (kind.Keyword keyword.Service) → service_declaration (line_of s.rest s.end_line) s ≡ Ok y → Declares (tree_so_far s) s.rest (tree_so_far y.1) y.1.rest
+unfolding service_declaration
+service_spelled s y next e =
+    let line : ℕ = line_of s.rest s.end_line in
+    let t : State = record s { rest = behind s.rest } in
+    let c0 = check_ok (nat_lt (length s.services) 24) LimitPassed _ s y e in
+    let l = then_ok (used_lam t) _ y c0.1 in
+    let a = then_ok (expect keyword.Within l.0.1) _ y l.2 in
+    let b = then_ok (any_number a.0.1) _ y a.2 in
+    let c = then_ok (expect keyword.Cycles b.0.1) _ y b.2 in
+    let d = then_ok (expect keyword.Event c.0.1) _ y c.2 in
+    let f = then_ok (any_number d.0.1) _ y d.2 in
+    let g = then_ok (expect keyword.Words f.0.1) _ y f.2 in
+    let h = then_ok (block_at 16 g.0.1) (λ body. change (service_added line l.0.0 b.0.0 f.0.0 body)) y g.2 in
+    let u : State = h.0.1 in
+    let v : Service = record { line = line; lam = l.0.0; cycles = b.0.0; words = f.0.0; registers = u.registers; body = block_of h.0.0 } in
+    let took : (w : Script) → Took (service_names w v) s (spell.service_declaration w v) u = λ w.
+    join (took_first s (kind.Keyword keyword.Service) next) (join (took_lam t l.0 l.1) (join (took_word keyword.Within l.0.1 a.0 a.1) (join (took_token (any_number_ok a.0.1 b.0 b.1))
+    (join (took_word keyword.Cycles b.0.1 c.0 c.1) (join (took_word keyword.Event c.0.1 d.0 d.1) (join (took_token (any_number_ok d.0.1 f.0 f.1)) (join (took_word keyword.Words f.0.1 g.0 g.1)
+    (took_block (service_names w v) 16 g.0.1 h.0 h.1)))))))) in
+    subst (λ (p : Unit {0} × State). Declares (tree_so_far s) s.rest (tree_so_far p.1) p.1.rest) (ok_is (tt, service_added line l.0.0 b.0.0 f.0.0 h.0.0 u) y h.2)
+    (subst (λ (w : Script). Declares w s.rest (with_service (tree_so_far u) v) u.rest) (took (tree_so_far u)).same
+    (declares_service (tree_so_far u) v s.rest u.rest (λ w x. (took w).front (tells_names u w v x refl))))
+
+-- ---- the whole script
+
+declaration_spelled_by : (s : State) (k : Option TokenKind) (y : Unit {0} × State) → kind_of s.rest ≡ k → declaration_by (line_of s.rest s.end_line) k s ≡ Ok y → Declares (tree_so_far s) s.rest (tree_so_far y.1) y.1.rest
+declaration_spelled_by s (Some (kind.Keyword keyword.Table)) y next e = table_spelled s y next e
+declaration_spelled_by s (Some (kind.Keyword keyword.Cdlam)) y next e = lam_spelled s y next e
+declaration_spelled_by s (Some (kind.Keyword keyword.Var)) y next e = variables_spelled s y next e
+declaration_spelled_by s (Some (kind.Keyword keyword.Proc)) y next e = procedure_spelled s y next e
+declaration_spelled_by s (Some (kind.Keyword keyword.Service)) y next e = service_spelled s y next e
+declaration_spelled_by s _ y next e = absurd (err_no_ok _ _ e)
+
+declaration_spelled : (s : State) (y : Unit {0} × State) → declaration_at s ≡ Ok y → Declares (tree_so_far s) s.rest (tree_so_far y.1) y.1.rest
+unfolding declaration_at
+declaration_spelled s y e = declaration_spelled_by s (kind_of s.rest) y refl e
+
+pub declarations_spelled : (ts : List Token) (end_line : ℕ) (y : Unit {0} × State) → declarations_at (start ts end_line) ≡ Ok y → Front ts (spell.script (tree_so_far y.1)) y.1.rest
+unfolding declarations_at
+declarations_spelled ts end_line y e =
+    let so = while_keeps (λ (_ : Unit {0}) (u : State). Sofar ts (tree_so_far u) u.rest) is_token (λ _. declaration_at) (λ _ u x v so on took. one_more ts (tree_so_far u) u.rest (tree_so_far v) v.rest so (declaration_spelled u (x, v) took)) tt (start ts end_line) y (record { counted = refl; front = λ t x. refl }) e in
+    so.front (tree_so_far y.1) (itself (tree_so_far y.1))

@@ -1,0 +1,293 @@
+-- Procedures that are read are spelled so.
+use Rattle.std.proofs.Common.{◌≡◌, ℕ, Bool, true, false, cond, nat_lt, List, [], ◌∷◌, ◌++◌, map, length, Some, Ok, refl, sym, ap, subst, ◌∙◌, append_assoc}
+use Rattle.std.proofs.lemmas.List.{append-nil, map_push, map-append}
+use Rattle.camac_lang.specs.Tree.{Text, Table, Lam, Parameter, Procedure, next_procedure, Script}
+use Rattle.camac_text_tokens.specs.declared.fault.TextRule.TheVariants.{LimitPassed}
+use Rattle.camac_text_tokens.specs.declared.token.Keyword.{Keyword}
+use Rattle.camac_text_tokens.specs.declared.token.Keyword.TheVariants as keyword
+use Rattle.camac_text_tokens.specs.declared.token.Sign.{Sign}
+use Rattle.camac_text_tokens.specs.declared.token.Sign.TheVariants as mark
+use Rattle.camac_text_tokens.specs.declared.token.TokenKind.{TokenKind}
+use Rattle.camac_text_tokens.specs.declared.token.TokenKind.TheVariants as kind
+use Rattle.camac_text_cursor.specs.Reading.{State, Reader, ◌>>=◌, ◌>>◌, give, ask, change, advance, kind_of, line_of, behind, while_next, one_more}
+use Rattle.camac_text_cursor.specs.Readers.{is_sign, expect, expect_sign, any_number, new_name, added, new_parameter}
+use Rattle.camac_text_cursor.proofs.Steps.{then_ok, ok_is, while_keeps}
+use Rattle.camac_text_cursor.proofs.Moves.{TakesOne, check_ok, any_number_ok, new_name_ok}
+use Rattle.camac_text_statements.specs.Statements.{block_at}
+use Rattle.camac_text.specs.Parser.{tree_so_far}
+use Rattle.camac_text.specs.Procedures.{parameter_at, next_parameter, parameter_list, parameters_at, Heading, heading_at, in_heading, procedure_made, with_procedure as procedure_added, procedure_declaration}
+use Rattle.camac_text.proofs.Variables.{added_ok}
+use Rattle.camac_text_spelling.specs.Pieces.{Piece, piece, first_word, word, sign, numeral, name, separated, text_at, Front}
+use Rattle.camac_text_spelling.specs.Declarations as spell
+use Rattle.camac_text_spelling.specs.Statements.{braced, block}
+use Rattle.camac_text_spelling.specs.Declarations.{procedure_names}
+use Rattle.camac_text_spelling.proofs.Fronts.{front_join, front_token, front_begin}
+use Rattle.camac_text_spelling.proofs.Found.{found_named, found_lam, found_table, found_procedure}
+use Rattle.camac_text_spelling.proofs.Lists.{separated_push}
+use Rattle.camac_text_spelling.proofs.Takes.{Tells, Took, keyword_is, sign_is, expected}
+use Rattle.camac_text_spelling.proofs.SpelledStatements.{took_block}
+use Rattle.camac_text_spelling.proofs.Declared.{Extends, Declares, with_procedure, declares_procedure}
+
+-- The tokens between two states are these pieces, and these variables are declared between them.
+record Heads (s : State) (ps : List Piece) (xs : List Text) (s' : State) : Type 0 where
+  front : Front s.rest ps s'.rest
+  tree : tree_so_far s' ≡ record (tree_so_far s) { variables = s.variables ++ xs }
+
+heads : {s : State} {ps : List Piece} {xs : List Text} {u : State} {qs : List Piece} {ys : List Text} {v : State} → Heads s ps xs u → Heads u qs ys v → Heads s (ps ++ qs) (xs ++ ys) v
+heads {s} {ps} {xs} {u} {qs} {ys} {v} a b = record {
+  front = front_join s.rest ps u.rest qs v.rest a.front b.front;
+  tree = b.tree
+      ∙ ap (λ (w : Script). record w { variables = w.variables ++ ys }) a.tree
+      ∙ ap (λ (zs : List Text). record (tree_so_far s) { variables = zs }) (append_assoc s.variables xs ys);
+}
+
+heads_one : {s : State} {k : TokenKind} {s' : State} → kind_of s.rest ≡ Some k → s' ≡ record s { rest = behind s.rest } → Heads s (piece k ∷ []) [] s'
+heads_one {s} {k} {s'} ahead left = subst (λ (u : State). Heads s (piece k ∷ []) [] u) (sym left) (record { front = front_token s.rest k ahead; tree = ap (λ (zs : List Text). record (tree_so_far s) { variables = zs }) (sym (append-nil s.variables)) })
+
+heads_token : {s : State} {k : TokenKind} {s' : State} → TakesOne s k s' → Heads s (piece k ∷ []) [] s'
+heads_token t = heads_one t.next t.left
+
+heads_word : (w : Keyword) (s : State) (y : Unit {0} × State) → expect w s ≡ Ok y → Heads s (word w ∷ []) [] y.1
+unfolding expect
+heads_word w s y e = let h = expected _ s y e in heads_one (keyword_is w (kind_of s.rest) h.0) h.1
+
+heads_sign : (w : Sign) (s : State) (y : Unit {0} × State) → expect_sign w s ≡ Ok y → Heads s (sign w ∷ []) [] y.1
+unfolding expect_sign
+heads_sign w s y e = let h = expected _ s y e in heads_one (sign_is w (kind_of s.rest) h.0) h.1
+
+-- ---- the heading
+
+parameter_name : (s : State) (y : Text × State) → new_parameter s ≡ Ok y → Heads s (name y.0 ∷ []) (y.0 ∷ []) y.1
+unfolding new_parameter
+parameter_name s y e =
+    let m = then_ok (new_name s) _ y e in
+    let h = new_name_ok s m.0 m.1 in
+    let c = check_ok (nat_lt (length m.0.1.variables) 8) LimitPassed (added m.0.0 >> give m.0.0) m.0.1 y m.2 in
+    let at : (added m.0.0 >> give m.0.0) s ≡ Ok y = subst (λ (u : State). (added m.0.0 >> give m.0.0) u ≡ Ok y) h.left c.1 in
+    let a = then_ok (added m.0.0 s) (λ _. give m.0.0) y at in
+    let d = added_ok s m.0.0 a.0 h.next h.free a.1 in
+    let grown : Heads s (name m.0.0 ∷ []) (m.0.0 ∷ []) a.0.1 = record {
+      front = subst (λ (w : State). Front s.rest (name m.0.0 ∷ []) w.rest) (sym d.left) (front_token s.rest (kind.Name m.0.0) h.next);
+      tree = ap tree_so_far d.left;
+    } in
+    subst (λ (p : Text × State). Heads s (name p.0 ∷ []) (p.0 ∷ []) p.1) (ok_is (m.0.0, a.0.1) y a.2) grown
+
+abbrev parameter_of : Parameter → Text
+parameter_of p = p.name
+
+one_parameter : (s : State) (y : Parameter × State) → parameter_at s ≡ Ok y → Heads s (spell.parameter y.0) (y.0.name ∷ []) y.1
+unfolding parameter_at
+one_parameter s y e =
+    let x = then_ok (new_parameter s) _ y e in
+    let a = then_ok (expect keyword.In x.0.1) _ y x.2 in
+    let l = then_ok (any_number a.0.1) _ y a.2 in
+    let u = then_ok (expect_sign mark.UpTo l.0.1) _ y l.2 in
+    let h = then_ok (any_number u.0.1) (λ high. give (let p : Parameter = record { name = x.0.0; low = l.0.0; high = high } in p)) y u.2 in
+    let p : Parameter = record { name = x.0.0; low = l.0.0; high = h.0.0 } in
+    subst (λ (q : Parameter × State). Heads s (spell.parameter q.0) (q.0.name ∷ []) q.1) (ok_is (p, h.0.1) y h.2)
+    (heads (parameter_name s x.0 x.1) (heads (heads_word keyword.In x.0.1 a.0 a.1) (heads (heads_token (any_number_ok a.0.1 l.0 l.1)) (heads (heads_sign mark.UpTo l.0.1 u.0 u.1) (heads_token (any_number_ok u.0.1 h.0 h.1))))))
+
+abbrev listed : List Parameter → List Piece
+listed ps = separated (sign mark.Comma) spell.parameter ps
+
+record Parameters (s : State) (first : Parameter) (ps : List Parameter) (u : State) : Type 0 where
+  tail : List Parameter
+  same : ps ≡ first ∷ tail
+  read : Heads s (listed (first ∷ tail)) (map parameter_of (first ∷ tail)) u
+
+parameter_more : (s : State) (first : Parameter) (ps : List Parameter) (u : State) (p : Parameter) (v : State) → Parameters s first ps u → Heads u (sign mark.Comma ∷ spell.parameter p) (p.name ∷ []) v → Parameters s first (ps ++ p ∷ []) v
+parameter_more s first ps u p v so one = record {
+  tail = so.tail ++ p ∷ [];
+  same = ap (λ (w : List Parameter). w ++ p ∷ []) so.same;
+  read = subst (λ (qs : List Piece). Heads s qs (map parameter_of (first ∷ (so.tail ++ p ∷ []))) v) (sym (separated_push (sign mark.Comma) spell.parameter first so.tail p))
+      (subst (λ (xs : List Text). Heads s (listed (first ∷ so.tail) ++ sign mark.Comma ∷ spell.parameter p) xs v) (sym (map_push parameter_of (first ∷ so.tail) p)) (heads so.read one));
+}
+
+another : (s : State) (y : Parameter × State) → is_sign mark.Comma (kind_of s.rest) ≡ true → next_parameter s ≡ Ok y → Heads s (sign mark.Comma ∷ spell.parameter y.0) (y.0.name ∷ []) y.1
+unfolding next_parameter
+another s y on e =
+    let u : State = record s { rest = behind s.rest } in
+    heads (heads_one {s' = u} (sign_is mark.Comma (kind_of s.rest) on) refl) (one_parameter u y e)
+
+parameters_list : (s : State) (y : List Parameter × State) → parameter_list s ≡ Ok y → Heads s (listed y.0) (map parameter_of y.0) y.1
+unfolding parameter_list
+parameters_list s y e =
+    let m = then_ok (parameter_at s) (λ first. while_next (is_sign mark.Comma) (one_more next_parameter) (first ∷ [])) y e in
+    let begins : Parameters s m.0.0 (m.0.0 ∷ []) m.0.1 = record { tail = []; same = refl; read = subst (λ (qs : List Piece). Heads s qs (m.0.0.name ∷ []) m.0.1) (sym (append-nil (spell.parameter m.0.0))) (one_parameter s m.0 m.1) } in
+    let all = while_keeps (λ (ps : List Parameter) (u : State). Parameters s m.0.0 ps u) (is_sign mark.Comma) (one_more next_parameter) (λ ps u qs v so on took.
+    let a = then_ok (next_parameter u) (λ p. give (ps ++ p ∷ [])) (qs, v) took in
+    subst (λ (z : List Parameter × State). Parameters s m.0.0 z.0 z.1) (ok_is (ps ++ a.0.0 ∷ [], a.0.1) (qs, v) a.2) (parameter_more s m.0.0 ps u a.0.0 a.0.1 so (another u a.0 on a.1))) (m.0.0 ∷ []) m.0.1 y begins m.2 in
+    subst (λ (ps : List Parameter). Heads s (listed ps) (map parameter_of ps) y.1) (sym all.same) all.read
+
+parameters_by : (b : Bool) (s : State) (y : List Parameter × State) → cond b (give []) parameter_list s ≡ Ok y → Heads s (listed y.0) (map parameter_of y.0) y.1
+parameters_by true s y e = subst (λ (z : List Parameter × State). Heads s (listed z.0) (map parameter_of z.0) z.1) (ok_is ([], s) y e) (record { front = refl; tree = ap (λ (zs : List Text). record (tree_so_far s) { variables = zs }) (sym (append-nil s.variables)) })
+parameters_by false s y e = parameters_list s y e
+
+all_parameters : (s : State) (y : List Parameter × State) → parameters_at s ≡ Ok y → Heads s (listed y.0) (map parameter_of y.0) y.1
+unfolding parameters_at
+all_parameters s y e = parameters_by (is_sign mark.RightBracket (kind_of s.rest)) s y e
+
+abbrev heading : Heading → List Piece
+heading h =
+    sign mark.LeftBracket ∷ (listed h.parameters ++ sign mark.RightBracket
+    ∷ word keyword.Within ∷ numeral h.cycles ∷ word keyword.Cycles ∷ word keyword.Event ∷ numeral h.words ∷ word keyword.Words
+    ∷ word keyword.Steps ∷ numeral h.steps ∷ [])
+
+-- the end of a heading, behind these parameters and this number of cycles
+abbrev last_reader : List Parameter → ℕ → Reader Heading
+last_reader ps cycles = do
+  expect keyword.Event
+  words ← any_number
+  expect keyword.Words
+  expect keyword.Steps
+  steps ← any_number
+  give (record { parameters = ps; cycles = cycles; words = words; steps = steps })
+
+abbrev last_pieces : Heading → List Piece
+last_pieces h = word keyword.Event ∷ numeral h.words ∷ word keyword.Words ∷ word keyword.Steps ∷ numeral h.steps ∷ []
+
+record LastRead (ps : List Parameter) (cycles : ℕ) (s : State) (h : Heading) (s' : State) : Type 0 where
+  parameters : h.parameters ≡ ps
+  same_cycles : h.cycles ≡ cycles
+  read : Heads s (last_pieces h) [] s'
+
+last_read : (ps : List Parameter) (cycles : ℕ) (s : State) (y : Heading × State) → last_reader ps cycles s ≡ Ok y → LastRead ps cycles s y.0 y.1
+last_read ps cycles s y e =
+    let g = then_ok (expect keyword.Event s) _ y e in
+    let h = then_ok (any_number g.0.1) _ y g.2 in
+    let i = then_ok (expect keyword.Words h.0.1) _ y h.2 in
+    let j = then_ok (expect keyword.Steps i.0.1) _ y i.2 in
+    let k = then_ok (any_number j.0.1) (λ steps. give (let w : Heading = record { parameters = ps; cycles = cycles; words = h.0.0; steps = steps } in w)) y j.2 in
+    let w : Heading = record { parameters = ps; cycles = cycles; words = h.0.0; steps = k.0.0 } in
+    subst (λ (z : Heading × State). LastRead ps cycles s z.0 z.1) (ok_is (w, k.0.1) y k.2) (record {
+      parameters = refl;
+      same_cycles = refl;
+      read = heads (heads_word keyword.Event s g.0 g.1) (heads (heads_token (any_number_ok g.0.1 h.0 h.1)) (heads (heads_word keyword.Words h.0.1 i.0 i.1) (heads (heads_word keyword.Steps i.0.1 j.0 j.1) (heads_token (any_number_ok j.0.1 k.0 k.1)))));
+    })
+
+-- behind the parameters
+abbrev middle_reader : List Parameter → Reader Heading
+middle_reader ps = do
+  expect_sign mark.RightBracket
+  expect keyword.Within
+  cycles ← any_number
+  expect keyword.Cycles
+  last_reader ps cycles
+
+abbrev middle_pieces : Heading → List Piece
+middle_pieces h = sign mark.RightBracket ∷ word keyword.Within ∷ numeral h.cycles ∷ word keyword.Cycles ∷ last_pieces h
+
+record MiddleRead (ps : List Parameter) (s : State) (h : Heading) (s' : State) : Type 0 where
+  parameters : h.parameters ≡ ps
+  read : Heads s (middle_pieces h) [] s'
+
+middle_read : (ps : List Parameter) (s : State) (y : Heading × State) → middle_reader ps s ≡ Ok y → MiddleRead ps s y.0 y.1
+middle_read ps s y e =
+    let b = then_ok (expect_sign mark.RightBracket s) _ y e in
+    let c = then_ok (expect keyword.Within b.0.1) _ y b.2 in
+    let d = then_ok (any_number c.0.1) _ y c.2 in
+    let f = then_ok (expect keyword.Cycles d.0.1) (λ _. last_reader ps d.0.0) y d.2 in
+    let l = last_read ps d.0.0 f.0.1 y f.2 in
+    record {
+      parameters = l.parameters;
+      read = subst (λ (i : ℕ). Heads s (sign mark.RightBracket ∷ word keyword.Within ∷ numeral i ∷ word keyword.Cycles ∷ last_pieces y.0) [] y.1) (sym l.same_cycles)
+          (heads (heads_sign mark.RightBracket s b.0 b.1) (heads (heads_word keyword.Within b.0.1 c.0 c.1) (heads (heads_token (any_number_ok c.0.1 d.0 d.1)) (heads (heads_word keyword.Cycles d.0.1 f.0 f.1) l.read))));
+    }
+
+read_heading : (s : State) (y : Heading × State) → heading_at s ≡ Ok y → Heads s (heading y.0) (map parameter_of y.0.parameters ++ []) y.1
+unfolding heading_at
+read_heading s y e =
+    let a = then_ok (expect_sign mark.LeftBracket s) _ y e in
+    let p = then_ok (parameters_at a.0.1) middle_reader y a.2 in
+    let m = middle_read p.0.0 p.0.1 y p.2 in
+    subst (λ (ps : List Parameter). Heads s (sign mark.LeftBracket ∷ (listed ps ++ middle_pieces y.0)) (map parameter_of ps ++ []) y.1) (sym m.parameters)
+    (heads (heads_sign mark.LeftBracket s a.0 a.1) (heads (all_parameters a.0.1 p.0 p.1) m.read))
+
+-- ---- the body
+
+-- a tree with these declarations tells the names that a procedure uses, and the procedure those of its parameters and registers
+tells_inside : (s : State) (t w : Script) (p : Procedure) → Extends w t → tree_so_far s ≡ record w { variables = map parameter_of p.parameters } → p.registers ≡ s.registers → Tells (procedure_names t p) s
+tells_inside s t w p x tree same =
+    let variables : s.variables ≡ map parameter_of p.parameters = ap (λ (z : Script). z.variables) tree in
+    let lams : s.lams ≡ w.lams = ap (λ (z : Script). z.lams) tree in
+    let tables : s.tables ≡ w.tables = ap (λ (z : Script). z.tables) tree in
+    let procedures : s.procedures ≡ w.procedures = ap (λ (z : Script). z.procedures) tree in
+    record {
+      variables = λ z i e. found_named z i s.variables [] e ∙ ap (λ (xs : List Text). text_at xs i) (append-nil s.variables ∙ variables);
+      registers = λ z i e. found_named z i s.registers [] e ∙ ap (λ (xs : List Text). text_at xs i) (append-nil s.registers ∙ sym same);
+      lams = λ z i e.
+          found_lam z i s.lams (map (λ (l : Lam). l.name) x.lams) e
+          ∙ ap (λ (xs : List Text). text_at xs i) (sym (map-append (λ (l : Lam). l.name) s.lams x.lams) ∙ ap (map (λ (l : Lam). l.name)) (ap (λ (ls : List Lam). ls ++ x.lams) lams ∙ sym x.lams_are));
+      tables = λ z i e.
+          found_table z i s.tables (map (λ (g : Table). g.name) x.tables) e
+          ∙ ap (λ (xs : List Text). text_at xs i) (sym (map-append (λ (g : Table). g.name) s.tables x.tables) ∙ ap (map (λ (g : Table). g.name)) (ap (λ (gs : List Table). gs ++ x.tables) tables ∙ sym x.tables_are));
+      procedures = λ z i e.
+          found_procedure z i s.procedures (map (λ (q : Procedure). q.name) x.procedures) e
+          ∙ ap (λ (xs : List Text). text_at xs i) (sym (map-append (λ (q : Procedure). q.name) s.procedures x.procedures) ∙ ap (map (λ (q : Procedure). q.name)) (ap (λ (qs : List Procedure). qs ++ x.procedures) procedures ∙ sym x.procedures_are));
+    }
+
+-- what was declared before a procedure is declared again behind it
+record Encloses (s : State) (p : Procedure) (v : State) : Type 0 where
+  declares : Declares (tree_so_far s) s.rest (with_procedure (tree_so_far s) p) v.rest
+  tree : tree_so_far v ≡ record (tree_so_far s) { variables = map parameter_of p.parameters }
+
+body_pieces : Script → Procedure → List Piece
+body_pieces t p = braced (block (procedure_names t p) p.body)
+
+encloses : (s : State) (p : Procedure) (u : State) (h : Heading) (w v : State) → Front s.rest (first_word p.line keyword.Proc ∷ name p.name ∷ []) u.rest → tree_so_far u ≡ record (tree_so_far s) { variables = [] } → Heads u (heading h) (map parameter_of h.parameters ++ []) w → p.parameters ≡ h.parameters → p.cycles ≡ h.cycles → p.words ≡ h.words → p.steps ≡ h.steps → p.registers ≡ v.registers → ((t : Script) → Took (procedure_names t p) w (body_pieces t p) v) → Encloses s p v
+unfolding body_pieces
+encloses s p u h w v opens start read parameters cycles words steps registers taken =
+    let names : List Text = map parameter_of p.parameters in
+    let tree : tree_so_far v ≡ record (tree_so_far s) { variables = names } =
+    (taken (tree_so_far s)).same
+    ∙ read.tree
+    ∙ ap (λ (z : Script). record z { variables = z.variables ++ (map parameter_of h.parameters ++ []) }) start
+    ∙ ap (λ (zs : List Text). record (tree_so_far s) { variables = zs }) (append-nil (map parameter_of h.parameters) ∙ ap (map parameter_of) (sym parameters)) in
+    let made : Heading = record { parameters = p.parameters; cycles = p.cycles; words = p.words; steps = p.steps } in
+    let same : h ≡ made =
+    ap (λ (ps : List Parameter). let m : Heading = record { parameters = ps; cycles = h.cycles; words = h.words; steps = h.steps } in m) (sym parameters)
+    ∙ ap (λ (i : ℕ). let m : Heading = record { parameters = p.parameters; cycles = i; words = h.words; steps = h.steps } in m) (sym cycles)
+    ∙ ap (λ (i : ℕ). let m : Heading = record { parameters = p.parameters; cycles = p.cycles; words = i; steps = h.steps } in m) (sym words)
+    ∙ ap (λ (i : ℕ). let m : Heading = record { parameters = p.parameters; cycles = p.cycles; words = p.words; steps = i } in m) (sym steps) in
+    let headed : Front u.rest (heading made) w.rest = subst (λ (m : Heading). Front u.rest (heading m) w.rest) same read.front in
+    let front : (t : Script) → Extends (tree_so_far s) t → Front s.rest (spell.procedure_declaration t p) v.rest = λ t ext.
+    let inside : Front w.rest (body_pieces t p) v.rest = (taken t).front (tells_inside v t (tree_so_far s) p ext tree registers) in
+    let both : Front u.rest (heading made ++ body_pieces t p) v.rest = front_join u.rest (heading made) w.rest (body_pieces t p) v.rest headed inside in
+    let joined : Front u.rest (sign mark.LeftBracket ∷ (listed p.parameters ++ (middle_pieces made ++ body_pieces t p))) v.rest =
+    subst (λ (qs : List Piece). Front u.rest (sign mark.LeftBracket ∷ qs) v.rest) (append_assoc (listed p.parameters) (middle_pieces made) (body_pieces t p)) both in
+    front_join s.rest (first_word p.line keyword.Proc ∷ name p.name ∷ []) u.rest (sign mark.LeftBracket ∷ (listed p.parameters ++ (middle_pieces made ++ body_pieces t p))) v.rest opens joined in
+    record { declares = declares_procedure (tree_so_far s) p s.rest v.rest front; tree = tree }
+
+-- behind its name
+abbrev behind_name : ℕ → Text → List Text → ℕ → Reader (Unit {0})
+behind_name line x variables names = do
+  h ← heading_at
+  body ← block_at 16
+  registers ← ask (λ w. w.registers)
+  change (procedure_added (procedure_made line x h registers body) variables names)
+
+behind_name_spelled : (s : State) (x : Text) (names : ℕ) (u : State) (y : Unit {0} × State) → Front s.rest (first_word (line_of s.rest s.end_line) keyword.Proc ∷ name x ∷ []) u.rest → tree_so_far u ≡ record (tree_so_far s) { variables = [] } → behind_name (line_of s.rest s.end_line) x s.variables names u ≡ Ok y → Declares (tree_so_far s) s.rest (tree_so_far y.1) y.1.rest
+unfolding body_pieces
+behind_name_spelled s x names u y opens start e =
+    let line : ℕ = line_of s.rest s.end_line in
+    let h = then_ok (heading_at u) _ y e in
+    let b = then_ok (block_at 16 h.0.1) _ y h.2 in
+    let v : State = b.0.1 in
+    let p : Procedure = procedure_made line x h.0.0 v.registers b.0.0 in
+    let made = encloses s p u h.0.0 h.0.1 v opens start (read_heading u h.0 h.1) refl refl refl refl refl (λ t. took_block (procedure_names t p) 16 h.0.1 b.0 b.1) in
+    subst (λ (z : Unit {0} × State). Declares (tree_so_far s) s.rest (tree_so_far z.1) z.1.rest) (ok_is (tt, procedure_added p s.variables names v) y b.2)
+    (subst (λ (w : Script). Declares (tree_so_far s) s.rest (record w { variables = s.variables; procedures = w.procedures ++ p ∷ []; order = w.order ++ next_procedure ∷ [] }) v.rest) (sym made.tree) made.declares)
+
+pub procedure_spelled : (s : State) (y : Unit {0} × State) → kind_of s.rest ≡ Some (kind.Keyword keyword.Proc) → procedure_declaration (line_of s.rest s.end_line) s ≡ Ok y → Declares (tree_so_far s) s.rest (tree_so_far y.1) y.1.rest
+unfolding procedure_declaration
+procedure_spelled s y ahead e =
+    let line : ℕ = line_of s.rest s.end_line in
+    let t : State = record s { rest = behind s.rest } in
+    let c0 = check_ok (nat_lt (length s.procedures) 16) LimitPassed _ s y e in
+    let a = then_ok (new_name t) (λ x. advance >> (ask (λ w. w.variables) >>= λ variables. change (in_heading x) >> (ask (λ w. length w.declared) >>= λ names. behind_name line x variables names))) y c0.1 in
+    let n = new_name_ok t a.0 a.1 in
+    let after_name : Reader (Unit {0}) = advance >> (ask (λ w. w.variables) >>= λ variables. change (in_heading a.0.0) >> (ask (λ w. length w.declared) >>= λ names. behind_name line a.0.0 variables names)) in
+    let at : after_name t ≡ Ok y = subst (λ (w : State). after_name w ≡ Ok y) n.left a.2 in
+    let u : State = record t { rest = behind t.rest } in
+    let opens : Front s.rest (first_word line keyword.Proc ∷ name a.0.0 ∷ []) u.rest = front_join s.rest (first_word line keyword.Proc ∷ []) t.rest (name a.0.0 ∷ []) u.rest (front_begin s.rest s.end_line (kind.Keyword keyword.Proc) ahead) (front_token t.rest (kind.Name a.0.0) n.next) in
+    behind_name_spelled s a.0.0 (length (in_heading a.0.0 u).declared) (in_heading a.0.0 u) y opens refl at

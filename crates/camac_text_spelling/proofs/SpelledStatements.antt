@@ -1,0 +1,144 @@
+-- Statements and blocks that are read are spelled so.
+use Rattle.std.proofs.Common.{◌≡◌, ℕ, zero, suc, Bool, true, false, not, cond, List, [], ◌∷◌, ◌++◌, Option, Some, Ok, refl, sym, ap, subst, ◌∙◌, append_assoc}
+use Rattle.std.proofs.lemmas.List.{append-nil}
+use Rattle.camac_lang.specs.Tree.{Statement, choose, choose_else, count, repeat, locked, Condition}
+use Rattle.camac_lang.specs.View.{block_of}
+use Rattle.camac_lang.specs.declared.word.WordSize.TheVariants.{Full, Short}
+use Rattle.camac_text_tokens.specs.declared.fault.TextRule.TheVariants.{UnexpectedToken, LimitPassed}
+use Rattle.camac_text_tokens.specs.declared.token.Keyword.TheVariants as keyword
+use Rattle.camac_text_tokens.specs.declared.token.Sign.TheVariants as mark
+use Rattle.camac_text_tokens.specs.declared.token.TokenKind.{TokenKind}
+use Rattle.camac_text_tokens.specs.declared.token.TokenKind.TheVariants as kind
+use Rattle.camac_text_cursor.specs.Reading.{State, Reader, give, fail, kind_of, line_of, behind, one_more, many}
+use Rattle.camac_text_cursor.specs.Readers.{is_sign, expect, expect_sign, any_number, used_variable}
+use Rattle.camac_text_phrases.specs.Expressions.{expression_at}
+use Rattle.camac_text_phrases.specs.Conditions.{condition_at}
+use Rattle.camac_text_phrases.specs.Keeps.{keeps_at}
+use Rattle.camac_text_cursor.specs.Readers.{begin}
+use Rattle.camac_text_statements.specs.Statements.{else_by, choice, counting, repetition, locking, nested_by, statement_by, statement_with, is_no_end, block_at}
+use Rattle.camac_text_cursor.proofs.Steps.{then_ok, err_no_ok, while_keeps}
+use Rattle.camac_text_cursor.proofs.Moves.{any_number_ok, check_ok}
+use Rattle.camac_text_spelling.specs.Pieces.{Piece, first_word, word, Names}
+use Rattle.camac_text_spelling.specs.Phrases as phrase
+use Rattle.camac_text_spelling.specs.Statements as spell
+use Rattle.camac_text_spelling.proofs.Takes.{Took, join, returns, nothing, took_one, took_token, took_word, took_sign, took_variable}
+use Rattle.camac_text_spelling.proofs.SpelledExpressions.{took_expression}
+use Rattle.camac_text_spelling.proofs.SpelledPhrases.{took_condition, took_keeps}
+use Rattle.camac_text_spelling.proofs.SpelledActions.{took_begin, took_assignment, took_setting, took_single, took_put}
+use Rattle.camac_text_spelling.proofs.SpelledTransfers.{took_transfer_by}
+
+abbrev body : Names → List Statement → List Piece
+body n xs = spell.block n (block_of xs)
+
+abbrev in_braces : Names → List Statement → List Piece
+in_braces n xs = spell.braced (body n xs)
+
+module _ (n : Names) (room : ℕ) (block : Reader (List Statement)) (block_took : (s : State) (y : List Statement × State) → block s ≡ Ok y → Took n s (in_braces n y.0) y.1) where
+  took_else : (s : State) (line : ℕ) (c : Condition) (xs : List Statement) (u : State) (k : Option TokenKind) (y : Statement × State) → Took n s (first_word line keyword.If ∷ (phrase.condition n c ++ in_braces n xs)) u → kind_of u.rest ≡ k → else_by block line c xs k u ≡ Ok y → Took n s (spell.statement n y.0) y.1
+  took_else s line c xs u (Some (kind.Keyword keyword.Else)) y before next e =
+      let v : State = record u { rest = behind u.rest } in
+      let m = then_ok (block v) (λ other. give (choose_else line c (block_of xs) (block_of other))) y e in
+      let all : Took n s ((first_word line keyword.If ∷ (phrase.condition n c ++ in_braces n xs)) ++ (word keyword.Else ∷ in_braces n m.0.0)) m.0.1 = join before (join (took_one {s' = v} next refl) (block_took v m.0 m.1)) in
+      returns {x = choose_else line c (block_of xs) (block_of m.0.0)} (spell.statement n) m.2
+      (subst (λ (ps : List Piece). Took n s (first_word line keyword.If ∷ ps) m.0.1) (append_assoc (phrase.condition n c) (in_braces n xs) (word keyword.Else ∷ in_braces n m.0.0)) all)
+  took_else s line c xs u _ y before next e = returns {x = choose line c (block_of xs)} (spell.statement n) e before
+
+  took_choice : (s : State) (y : Statement × State) → kind_of s.rest ≡ Some (kind.Keyword keyword.If) → choice room block (line_of s.rest s.end_line) s ≡ Ok y → Took n s (spell.statement n y.0) y.1
+  unfolding choice
+  took_choice s y next e =
+      let line : ℕ = line_of s.rest s.end_line in
+      let a = then_ok (begin s) _ y e in
+      let c = then_ok (condition_at room a.0.1) _ y a.2 in
+      let b = then_ok (block c.0.1) _ y c.2 in
+      took_else s line c.0.0 b.0.0 b.0.1 (kind_of b.0.1.rest) y
+      (join (took_begin s (kind.Keyword keyword.If) a.0 next a.1) (join (took_condition room a.0.1 c.0 c.1) (block_took c.0.1 b.0 b.1))) refl b.2
+
+  took_counting : (s : State) (y : Statement × State) → kind_of s.rest ≡ Some (kind.Keyword keyword.For) → counting room block (line_of s.rest s.end_line) s ≡ Ok y → Took n s (spell.statement n y.0) y.1
+  unfolding counting
+  took_counting s y next e =
+      let line : ℕ = line_of s.rest s.end_line in
+      let a = then_ok (begin s) _ y e in
+      let x = then_ok (used_variable a.0.1) _ y a.2 in
+      let q = then_ok (expect_sign mark.Equals x.0.1) _ y x.2 in
+      let f = then_ok (expression_at room q.0.1) _ y q.2 in
+      let w = then_ok (expect keyword.To f.0.1) _ y f.2 in
+      let l = then_ok (expression_at room w.0.1) _ y w.2 in
+      let k = then_ok (keeps_at x.0.0 l.0.1) _ y l.2 in
+      let b = then_ok (block k.0.1) (λ xs. give (count line x.0.0 f.0.0 l.0.0 k.0.0 (block_of xs))) y k.2 in
+      returns {x = count line x.0.0 f.0.0 l.0.0 k.0.0 (block_of b.0.0)} (spell.statement n) b.2
+      (join (took_begin s (kind.Keyword keyword.For) a.0 next a.1) (join (took_variable a.0.1 x.0 x.1) (join (took_sign mark.Equals x.0.1 q.0 q.1)
+      (join (took_expression room q.0.1 f.0 f.1) (join (took_word keyword.To f.0.1 w.0 w.1) (join (took_expression room w.0.1 l.0 l.1)
+      (join (took_keeps x.0.0 l.0.1 k.0 k.1) (block_took k.0.1 b.0 b.1))))))))
+
+  took_repetition : (s : State) (y : Statement × State) → kind_of s.rest ≡ Some (kind.Keyword keyword.While) → repetition room block (line_of s.rest s.end_line) s ≡ Ok y → Took n s (spell.statement n y.0) y.1
+  unfolding repetition
+  took_repetition s y next e =
+      let line : ℕ = line_of s.rest s.end_line in
+      let a = then_ok (begin s) _ y e in
+      let c = then_ok (condition_at room a.0.1) _ y a.2 in
+      let w = then_ok (expect keyword.Turns c.0.1) _ y c.2 in
+      let t = then_ok (any_number w.0.1) _ y w.2 in
+      let v = then_ok (expect keyword.By t.0.1) _ y t.2 in
+      let m = then_ok (used_variable v.0.1) _ y v.2 in
+      let k = then_ok (keeps_at m.0.0 m.0.1) _ y m.2 in
+      let b = then_ok (block k.0.1) (λ xs. give (repeat line c.0.0 t.0.0 m.0.0 k.0.0 (block_of xs))) y k.2 in
+      returns {x = repeat line c.0.0 t.0.0 m.0.0 k.0.0 (block_of b.0.0)} (spell.statement n) b.2
+      (join (took_begin s (kind.Keyword keyword.While) a.0 next a.1) (join (took_condition room a.0.1 c.0 c.1) (join (took_word keyword.Turns c.0.1 w.0 w.1)
+      (join (took_token (any_number_ok w.0.1 t.0 t.1)) (join (took_word keyword.By t.0.1 v.0 v.1) (join (took_variable v.0.1 m.0 m.1)
+      (join (took_keeps m.0.0 m.0.1 k.0 k.1) (block_took k.0.1 b.0 b.1))))))))
+
+  took_locking : (s : State) (y : Statement × State) → kind_of s.rest ≡ Some (kind.Keyword keyword.Lock) → locking room block (line_of s.rest s.end_line) s ≡ Ok y → Took n s (spell.statement n y.0) y.1
+  unfolding locking
+  took_locking s y next e =
+      let line : ℕ = line_of s.rest s.end_line in
+      let outside = check_ok (not s.in_procedure) UnexpectedToken _ s y e in
+      let a = then_ok (begin s) _ y outside.1 in
+      let c = then_ok (expression_at room a.0.1) _ y a.2 in
+      let b = then_ok (block c.0.1) (λ xs. give (locked line c.0.0 (block_of xs))) y c.2 in
+      returns {x = locked line c.0.0 (block_of b.0.0)} (spell.statement n) b.2
+      (join (took_begin s (kind.Keyword keyword.Lock) a.0 next a.1) (join (took_expression room a.0.1 c.0 c.1) (block_took c.0.1 b.0 b.1)))
+
+  took_nested : (s : State) (k : Option TokenKind) (y : Statement × State) → kind_of s.rest ≡ k → nested_by room block (line_of s.rest s.end_line) k s ≡ Ok y → Took n s (spell.statement n y.0) y.1
+  took_nested s (Some (kind.Keyword keyword.If)) y next e = took_choice s y next e
+  took_nested s (Some (kind.Keyword keyword.For)) y next e = took_counting s y next e
+  took_nested s (Some (kind.Keyword keyword.While)) y next e = took_repetition s y next e
+  took_nested s (Some (kind.Keyword keyword.Lock)) y next e = took_locking s y next e
+  took_nested s k y next e = took_transfer_by room s k y next e
+
+  took_statement_by : (s : State) (k : Option TokenKind) (y : Statement × State) → kind_of s.rest ≡ k → statement_by room block (line_of s.rest s.end_line) k s ≡ Ok y → Took n s (spell.statement n y.0) y.1
+  took_statement_by s (Some (kind.Name x)) y next e = took_assignment room s y e
+  took_statement_by s (Some (kind.Keyword keyword.Cdreg)) y next e = took_setting room s y next e
+  took_statement_by s (Some (kind.Keyword keyword.Cfsa)) y next e = took_single Full room s y next e
+  took_statement_by s (Some (kind.Keyword keyword.Cssa)) y next e = took_single Short room s y next e
+  took_statement_by s (Some (kind.Keyword keyword.Put)) y next e = took_put room s y next e
+  took_statement_by s k y next e = took_nested s k y next e
+
+  pub took_statement : (s : State) (y : Statement × State) → statement_with room block s ≡ Ok y → Took n s (spell.statement n y.0) y.1
+  unfolding statement_with
+  took_statement s y e = took_statement_by s (kind_of s.rest) y refl e
+
+-- ---- blocks
+
+block_push : (n : Names) (xs : List Statement) (x : Statement) → body n (xs ++ x ∷ []) ≡ body n xs ++ spell.statement n x
+block_push n [] x = append-nil (spell.statement n x)
+block_push n (y ∷ ys) x = ap (λ (w : List Piece). spell.statement n y ++ w) (block_push n ys x) ∙ sym (append_assoc (spell.statement n y) (body n ys) (spell.statement n x))
+
+took_turn : (n : Names) (room : ℕ) (block : Reader (List Statement)) → ((s : State) (y : List Statement × State) → block s ≡ Ok y → Took n s (in_braces n y.0) y.1) → (s : State) (xs : List Statement) (u : State) (y : List Statement × State) → Took n s (body n xs) u → one_more (statement_with room block) xs u ≡ Ok y → Took n s (body n y.0) y.1
+took_turn n room block block_took s xs u y before e =
+    let m = then_ok (statement_with room block u) (λ x. give (xs ++ x ∷ [])) y e in
+    returns {x = xs ++ m.0.0 ∷ []} (body n) m.2 (subst (λ (ps : List Piece). Took n s ps m.0.1) (sym (block_push n xs m.0.0)) (join before (took_statement n room block block_took u m.0 m.1)))
+
+no_room : (b : Bool) (s : State) (y : List Statement × State) → cond b (fail LimitPassed) (fail UnexpectedToken) s ≡ Ok y → ⊥
+no_room true s y e = err_no_ok _ _ e
+no_room false s y e = err_no_ok _ _ e
+
+pub took_block : (n : Names) (room : ℕ) (s : State) (y : List Statement × State) → block_at room s ≡ Ok y → Took n s (in_braces n y.0) y.1
+unfolding block_at many
+took_block n zero s y e = absurd (no_room (is_sign mark.LeftBrace (kind_of s.rest)) s y e)
+took_block n (suc room) s y e =
+    let read : Reader Statement = statement_with room (block_at room) in
+    let a = then_ok (expect_sign mark.LeftBrace s) _ y e in
+    let b = then_ok (many is_no_end read a.0.1) _ y a.2 in
+    let c = then_ok (expect_sign mark.RightBrace b.0.1) (λ _. give b.0.0) y b.2 in
+    let inside = while_keeps (λ (xs : List Statement) (u : State). Took n a.0.1 (body n xs) u) is_no_end (one_more read) (λ xs u ys v before on took. took_turn n room (block_at room) (took_block n room) a.0.1 xs u (ys, v) before took) [] a.0.1 b.0 (nothing n a.0.1) b.1 in
+    returns {x = b.0.0} (in_braces n) c.2 (join (took_sign mark.LeftBrace s a.0 a.1) (join inside (took_sign mark.RightBrace b.0.1 c.0 c.1)))

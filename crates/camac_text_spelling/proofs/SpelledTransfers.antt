@@ -1,0 +1,145 @@
+-- Transfers and calls of procedures that are read are spelled so.
+use Rattle.std.proofs.Common.{◌≡◌, ℕ, zero, suc, Bool, true, false, cond, List, [], ◌∷◌, ◌++◌, Option, Some, None, Ok, refl, sym, subst}
+use Rattle.std.proofs.lemmas.List.{append-nil}
+use Rattle.camac_lang.specs.Tree.{Expression, Statement, address_scan, q_stop, q_repeat, call}
+use Rattle.camac_text_tokens.specs.declared.fault.TextRule.TheVariants.{UnexpectedToken, LimitPassed}
+use Rattle.camac_text_tokens.specs.declared.token.Keyword.{Keyword}
+use Rattle.camac_text_tokens.specs.declared.token.Keyword.TheVariants as keyword
+use Rattle.camac_text_tokens.specs.declared.token.Sign.TheVariants as mark
+use Rattle.camac_text_tokens.specs.declared.token.TokenKind.{TokenKind}
+use Rattle.camac_text_tokens.specs.declared.token.TokenKind.TheVariants as kind
+use Rattle.camac_text_cursor.specs.Reading.{State, Reader, ◌>>=◌, give, fail, kind_of, line_of, behind}
+use Rattle.camac_text_cursor.specs.Readers.{begin, is_sign, expect, expect_sign, function_number, used_register, used_variable, used_table, procedure_here, called}
+use Rattle.camac_text_phrases.specs.Arguments.{argument_behind, more_arguments, arguments_at}
+use Rattle.camac_text_phrases.specs.Expressions.{expression_at}
+use Rattle.camac_text_statements.specs.Statements.{transfer_by}
+use Rattle.camac_text_statements.specs.Transfers.{last_bound, table_by, table_at, scanning, stopping, repeating, calling}
+use Rattle.camac_text_cursor.proofs.Steps.{then_ok, err_no_ok}
+use Rattle.camac_text_cursor.proofs.Moves.{function_ok}
+use Rattle.camac_text_spelling.specs.Pieces.{Piece, word, sign, separated, Names}
+use Rattle.camac_text_spelling.specs.Phrases as phrase
+use Rattle.camac_text_spelling.specs.Statements as spell
+use Rattle.camac_text_spelling.proofs.Takes.{Took, join, returns, nothing, took_one, took_token, took_word, took_sign, took_register, took_variable, took_table, sees_procedure, took_called}
+use Rattle.camac_text_spelling.proofs.Lists.{separated_push}
+use Rattle.camac_text_spelling.proofs.SpelledExpressions.{took_expression}
+use Rattle.camac_text_spelling.proofs.SpelledActions.{took_begin, took_crate_call}
+
+-- ---- transfers
+
+abbrev bounded : Names → Keyword → Expression × ℕ → List Piece
+bounded n w end = word w ∷ (phrase.expression n end.0 ++ phrase.tally n end.1)
+
+took_bound : {n : Names} (w : Keyword) (room : ℕ) (s : State) (y : (Expression × ℕ) × State) → last_bound w room s ≡ Ok y → Took n s (bounded n w y.0) y.1
+unfolding last_bound
+took_bound {n} w room s y e =
+    let a = then_ok (expect w s) _ y e in
+    let b = then_ok (expression_at room a.0.1) _ y a.2 in
+    let c = then_ok (expect keyword.Tally b.0.1) _ y b.2 in
+    let d = then_ok (used_variable c.0.1) (λ x. give (b.0.0, x)) y c.2 in
+    returns {x = (b.0.0, d.0.0)} (bounded n w) d.2 (join (took_word w s a.0 a.1) (join (took_expression room a.0.1 b.0 b.1) (join (took_word keyword.Tally b.0.1 c.0 c.1) (took_variable c.0.1 d.0 d.1))))
+
+took_table_by : {n : Names} (k : Option TokenKind) (s : State) (y : Option ℕ × State) → kind_of s.rest ≡ k → table_by k s ≡ Ok y → Took n s (phrase.table n y.0) y.1
+took_table_by {n} (Some (kind.Keyword keyword.Table)) s y next e =
+    let u : State = record s { rest = behind s.rest } in
+    let m = then_ok (used_table u) (λ place. give (Some place)) y e in
+    returns {x = Some m.0.0} (phrase.table n) m.2 (join (took_one {s' = u} next refl) (took_table u m.0 m.1))
+took_table_by {n} _ s y next e = returns {x = None} (phrase.table n) e (nothing n s)
+
+took_write : {n : Names} (s : State) (y : Option ℕ × State) → table_at s ≡ Ok y → Took n s (phrase.table n y.0) y.1
+unfolding table_at
+took_write s y e = took_table_by (kind_of s.rest) s y refl e
+
+took_scanning : {n : Names} (room : ℕ) (s : State) (y : Statement × State) → kind_of s.rest ≡ Some (kind.Keyword keyword.Cfmad) → scanning room (line_of s.rest s.end_line) s ≡ Ok y → Took n s (spell.statement n y.0) y.1
+unfolding scanning
+took_scanning {n} room s y next e =
+    let line : ℕ = line_of s.rest s.end_line in
+    let a = then_ok (begin s) _ y e in
+    let f = then_ok (function_number a.0.1) _ y a.2 in
+    let r = then_ok (used_register f.0.1) _ y f.2 in
+    let l = then_ok (used_register r.0.1) _ y r.2 in
+    let b = then_ok (last_bound keyword.Max room l.0.1) (λ end. give (address_scan line f.0.0 r.0.0 l.0.0 end.0 end.1)) y l.2 in
+    returns {x = address_scan line f.0.0 r.0.0 l.0.0 b.0.0.0 b.0.0.1} (spell.statement n) b.2
+    (join (took_begin s (kind.Keyword keyword.Cfmad) a.0 next a.1) (join (took_token (function_ok a.0.1 f.0 f.1).one) (join (took_register f.0.1 r.0 r.1) (join (took_register r.0.1 l.0 l.1) (took_bound keyword.Max room l.0.1 b.0 b.1)))))
+
+took_stopping : {n : Names} (room : ℕ) (s : State) (y : Statement × State) → kind_of s.rest ≡ Some (kind.Keyword keyword.Cfubc) → stopping room (line_of s.rest s.end_line) s ≡ Ok y → Took n s (spell.statement n y.0) y.1
+unfolding stopping
+took_stopping {n} room s y next e =
+    let line : ℕ = line_of s.rest s.end_line in
+    let a = then_ok (begin s) _ y e in
+    let f = then_ok (function_number a.0.1) _ y a.2 in
+    let r = then_ok (used_register f.0.1) _ y f.2 in
+    let g = then_ok (table_at r.0.1) _ y r.2 in
+    let b = then_ok (last_bound keyword.Max room g.0.1) (λ end. give (q_stop line f.0.0 r.0.0 g.0.0 end.0 end.1)) y g.2 in
+    returns {x = q_stop line f.0.0 r.0.0 g.0.0 b.0.0.0 b.0.0.1} (spell.statement n) b.2
+    (join (took_begin s (kind.Keyword keyword.Cfubc) a.0 next a.1) (join (took_token (function_ok a.0.1 f.0 f.1).one) (join (took_register f.0.1 r.0 r.1) (join (took_write r.0.1 g.0 g.1) (took_bound keyword.Max room g.0.1 b.0 b.1)))))
+
+took_repeating : {n : Names} (room : ℕ) (s : State) (y : Statement × State) → kind_of s.rest ≡ Some (kind.Keyword keyword.Cfubr) → repeating room (line_of s.rest s.end_line) s ≡ Ok y → Took n s (spell.statement n y.0) y.1
+unfolding repeating
+took_repeating {n} room s y next e =
+    let line : ℕ = line_of s.rest s.end_line in
+    let a = then_ok (begin s) _ y e in
+    let f = then_ok (function_number a.0.1) _ y a.2 in
+    let r = then_ok (used_register f.0.1) _ y f.2 in
+    let g = then_ok (table_at r.0.1) _ y r.2 in
+    let w = then_ok (expect keyword.Max g.0.1) _ y g.2 in
+    let m = then_ok (expression_at room w.0.1) _ y w.2 in
+    let b = then_ok (last_bound keyword.Limit room m.0.1) (λ end. give (q_repeat line f.0.0 r.0.0 g.0.0 m.0.0 end.0 end.1)) y m.2 in
+    let most : Took n g.0.1 (phrase.most n m.0.0 ++ bounded n keyword.Limit b.0.0) b.0.1 = join (took_word keyword.Max g.0.1 w.0 w.1) (join (took_expression room w.0.1 m.0 m.1) (took_bound keyword.Limit room m.0.1 b.0 b.1)) in
+    returns {x = q_repeat line f.0.0 r.0.0 g.0.0 m.0.0 b.0.0.0 b.0.0.1} (spell.statement n) b.2
+    (join (took_begin s (kind.Keyword keyword.Cfubr) a.0 next a.1) (join (took_token (function_ok a.0.1 f.0 f.1).one) (join (took_register f.0.1 r.0 r.1) (join (took_write r.0.1 g.0 g.1) most))))
+
+-- ---- calls
+
+abbrev listed : Names → List Expression → List Piece
+listed n es = separated (sign mark.Comma) (phrase.expression n) es
+
+-- an argument behind these
+took_argument : {n : Names} (room : ℕ) (es : List Expression) (s u : State) (y : Expression × State) → Took n s (listed n es) u → argument_behind room es u ≡ Ok y → Took n s (listed n (es ++ y.0 ∷ [])) y.1
+took_argument {n} room [] s u y before e = subst (λ (ps : List Piece). Took n s ps y.1) (sym (append-nil (phrase.expression n y.0))) (join before (took_expression room u y e))
+took_argument {n} room (x ∷ xs) s u y before e =
+    let a = then_ok (expect_sign mark.Comma u) (λ _. expression_at room) y e in
+    subst (λ (ps : List Piece). Took n s ps y.1) (sym (separated_push (sign mark.Comma) (phrase.expression n) x xs y.0)) (join before (join (took_sign mark.Comma u a.0 a.1) (took_expression room a.0.1 y a.2)))
+
+took_more : {n : Names} (room m : ℕ) (es : List Expression) (s u : State) (y : List Expression × State) → Took n s (listed n es) u → more_arguments room m es u ≡ Ok y → Took n s (listed n y.0) y.1
+unfolding more_arguments
+took_more {n} room zero es s u y before e = returns {x = es} (listed n) e before
+took_more {n} room (suc m) es s u y before e =
+    let a = then_ok (argument_behind room es u) _ y e in
+    took_more room m (es ++ a.0.0 ∷ []) s a.0.1 y (took_argument room es s u a.0 before a.1) a.2
+
+no_room : (b : Bool) (s : State) (y : List Expression × State) → cond b (fail LimitPassed) (fail UnexpectedToken) s ≡ Ok y → ⊥
+no_room true s y e = err_no_ok _ _ e
+no_room false s y e = err_no_ok _ _ e
+
+abbrev in_brackets : Names → List Expression → List Piece
+in_brackets n es = sign mark.LeftBracket ∷ (listed n es ++ sign mark.RightBracket ∷ [])
+
+took_arguments : {n : Names} (room m : ℕ) (s : State) (y : List Expression × State) → arguments_at room m s ≡ Ok y → Took n s (in_brackets n y.0) y.1
+unfolding arguments_at
+took_arguments zero m s y e = absurd (no_room (is_sign mark.LeftBracket (kind_of s.rest)) s y e)
+took_arguments {n} (suc room) m s y e =
+    let a = then_ok (expect_sign mark.LeftBracket s) _ y e in
+    let b = then_ok (more_arguments room m [] a.0.1) _ y a.2 in
+    let c = then_ok (expect_sign mark.RightBracket b.0.1) (λ _. give b.0.0) y b.2 in
+    returns {x = b.0.0} (in_brackets n) c.2 (join (took_sign mark.LeftBracket s a.0 a.1) (join (took_more room m [] a.0.1 a.0.1 b.0 (nothing n a.0.1) b.1) (took_sign mark.RightBracket b.0.1 c.0 c.1)))
+
+took_calling : {n : Names} (room : ℕ) (s : State) (y : Statement × State) → kind_of s.rest ≡ Some (kind.Keyword keyword.Call) → calling room (line_of s.rest s.end_line) s ≡ Ok y → Took n s (spell.statement n y.0) y.1
+unfolding calling
+took_calling {n} room s y next e =
+    let line : ℕ = line_of s.rest s.end_line in
+    let a = then_ok (begin s) _ y e in
+    let p = then_ok (procedure_here a.0.1) (λ place. called room place >>= λ wanted. arguments_at room wanted >>= λ es. give (call line place es)) y a.2 in
+    let here = sees_procedure {n = n} a.0.1 p.0 p.1 in
+    let rest : Reader Statement = called room p.0.0 >>= λ wanted. arguments_at room wanted >>= λ es. give (call line p.0.0 es) in
+    let at : rest a.0.1 ≡ Ok y = subst (λ (u : State). rest u ≡ Ok y) here.left p.2 in
+    let q = then_ok (called room p.0.0 a.0.1) (λ wanted. arguments_at room wanted >>= λ es. give (call line p.0.0 es)) y at in
+    let b = then_ok (arguments_at room q.0.0 q.0.1) (λ es. give (call line p.0.0 es)) y q.2 in
+    returns {x = call line p.0.0 b.0.0} (spell.statement n) b.2
+    (join (took_begin s (kind.Keyword keyword.Call) a.0 next a.1) (join (took_called room p.0.0 a.0.1 p.0.1 q.0 here q.1) (took_arguments room q.0.0 q.0.1 b.0 b.1)))
+
+pub took_transfer_by : {n : Names} (room : ℕ) (s : State) (k : Option TokenKind) (y : Statement × State) → kind_of s.rest ≡ k → transfer_by room (line_of s.rest s.end_line) k s ≡ Ok y → Took n s (spell.statement n y.0) y.1
+took_transfer_by room s (Some (kind.Keyword keyword.Cfmad)) y next e = took_scanning room s y next e
+took_transfer_by room s (Some (kind.Keyword keyword.Cfubc)) y next e = took_stopping room s y next e
+took_transfer_by room s (Some (kind.Keyword keyword.Cfubr)) y next e = took_repeating room s y next e
+took_transfer_by room s (Some (kind.Keyword keyword.Call)) y next e = took_calling room s y next e
+took_transfer_by room s k y next e = took_crate_call room s k y next e

@@ -1,0 +1,207 @@
+-- Which pieces the tokens between two states are, and what readers of single tokens take.
+use Rattle.std.proofs.Common.{◌≡◌, ℕ, Bool, true, false, cond, eqb, nat_le, List, [], ◌∷◌, ◌++◌, Option, Some, None, Result, Ok, refl, sym, ap, subst, ◌∙◌, rules}
+use Rattle.std.proofs.lemmas.Bool.{eqb-true}
+use Rattle.std.specs.Prelude.{slice_get}
+use denote.Enum.Bare.{same_true}
+use Rattle.camac_lang.specs.Expressions.{Callable}
+use Rattle.camac_lang.specs.Tree.{Text, Table, Lam, Procedure}
+use Rattle.camac_text_tokens.specs.contracts.token.Keyword as keyword_type
+use Rattle.camac_text_tokens.specs.contracts.token.Sign as sign_type
+use Rattle.camac_text_tokens.specs.declared.token.Keyword.{Keyword}
+use Rattle.camac_text_tokens.specs.declared.token.Sign.{Sign}
+use Rattle.camac_text_tokens.specs.declared.token.TokenKind.{TokenKind}
+use Rattle.camac_text_tokens.specs.declared.token.TokenKind.TheVariants as kind
+use Rattle.camac_text_tokens.specs.declared.fault.TextRule.TheVariants.{UnexpectedToken, BranchNotOne, LimitPassed}
+use Rattle.camac_text_tokens.specs.Fault.{Fault}
+use Rattle.camac_text_cursor.specs.Names.{place_of, lam_place, table_place, procedure_place}
+use Rattle.camac_text_cursor.specs.Reading.{◌>>◌, State, advance, fail, kind_of, line_of, behind, give}
+use Rattle.camac_text_cursor.specs.Readers.{is_keyword, is_sign, expect, expect_sign, name_here, number_here, branch_number, used_at, used_register, used_variable, used_lam, known_at, variable_here, used_table, procedure_here, callable_by, called}
+use Rattle.camac_text.specs.Parser.{tree_so_far}
+use Rattle.camac_text_cursor.proofs.Steps.{then_ok, ok_is, err_no_ok}
+use Rattle.camac_text_cursor.proofs.Moves.{TakesOne, check_ok, name_ok, number_ok}
+use Rattle.camac_text_spelling.specs.Pieces.{Piece, piece, first_piece, text_at, name_at, Names, Front}
+use Rattle.camac_text_spelling.proofs.Fronts.{front_join, front_token, front_begin}
+
+-- These are the names of what is declared so far.
+pub record Knows (n : Names) (vs rs : List Text) (ls : List Lam) (gs : List Table) (ps : List Procedure) : Type 0 where
+  pub variables : (x : Text) (p : ℕ) → place_of x vs ≡ Some p → x ≡ text_at n.variables p
+  pub registers : (x : Text) (p : ℕ) → place_of x rs ≡ Some p → x ≡ text_at n.registers p
+  pub lams : (x : Text) (p : ℕ) → lam_place x ls ≡ Some p → x ≡ text_at n.lams p
+  pub tables : (x : Text) (p : ℕ) → table_place x gs ≡ Some p → x ≡ text_at n.tables p
+  pub procedures : (x : Text) (p : ℕ) → procedure_place x ps ≡ Some p → x ≡ text_at n.procedures p
+
+abbrev pub Tells : Names → State → Type 0
+Tells n s = Knows n s.variables s.registers s.lams s.tables s.procedures
+
+-- The tokens between two states are these pieces, and no declaration is between them.
+pub record Took (n : Names) (s : State) (ps : List Piece) (s' : State) : Type 0 where
+  pub front : Tells n s' → Front s.rest ps s'.rest
+  pub tells : Tells n s' → Tells n s
+  pub same : tree_so_far s' ≡ tree_so_far s
+
+pub join : {n : Names} {s : State} {ps : List Piece} {u : State} {qs : List Piece} {v : State} → Took n s ps u → Took n u qs v → Took n s (ps ++ qs) v
+join {n} {s} {ps} {u} {qs} {v} a b = record {
+  front = λ t. front_join s.rest ps u.rest qs v.rest (a.front (b.tells t)) (b.front t);
+  tells = λ t. a.tells (b.tells t);
+  same = b.same ∙ a.same;
+}
+
+-- what is given back
+pub returns : {A : Type 0} {n : Names} {s : State} {x : A} {u : State} {y : A × State} (spell : A → List Piece) → (let r : Result (A × State) Fault = Ok (x, u) in r) ≡ Ok y → Took n s (spell x) u → Took n s (spell y.0) y.1
+returns {A} {n} {s} {x} {u} {y} spell e took = subst (λ (p : A × State). Took n s (spell p.0) p.1) (ok_is (x, u) y e) took
+
+pub nothing : (n : Names) (s : State) → Took n s [] s
+nothing n s = record { front = λ t. refl; tells = λ t. t; same = refl }
+
+pub took_one : {n : Names} {s : State} {k : TokenKind} {s' : State} → kind_of s.rest ≡ Some k → s' ≡ record s { rest = behind s.rest } → Took n s (piece k ∷ []) s'
+took_one {n} {s} {k} {s'} next left = subst (λ (u : State). Took n s (piece k ∷ []) u) (sym left) (record { front = λ t. front_token s.rest k next; tells = λ t. t; same = refl })
+
+pub took_token : {n : Names} {s : State} {k : TokenKind} {s' : State} → TakesOne s k s' → Took n s (piece k ∷ []) s'
+took_token t = took_one t.next t.left
+
+-- the first token of a declaration
+pub took_first : {n : Names} (s : State) (k : TokenKind) → kind_of s.rest ≡ Some k → Took n s (first_piece (line_of s.rest s.end_line) k ∷ []) (record s { rest = behind s.rest })
+took_first s k next = record { front = λ t. front_begin s.rest s.end_line k next; tells = λ t. t; same = refl }
+
+-- ---- words and signs
+
+pub keyword_is : (w : Keyword) (k : Option TokenKind) → is_keyword w k ≡ true → k ≡ Some (kind.Keyword w)
+keyword_is w (Some (kind.Keyword v)) e = ap (λ (u : Keyword). Some (kind.Keyword u)) (same_true keyword_type.the_type (search rules) v w e)
+keyword_is w _ e = absurd cc
+
+pub sign_is : (w : Sign) (k : Option TokenKind) → is_sign w k ≡ true → k ≡ Some (kind.Sign w)
+sign_is w (Some (kind.Sign v)) e = ap (λ (u : Sign). Some (kind.Sign u)) (same_true sign_type.the_type (search rules) v w e)
+sign_is w _ e = absurd cc
+
+pub expected : (b : Bool) (s : State) (y : Unit {0} × State) → cond b advance (fail UnexpectedToken) s ≡ Ok y → (b ≡ true) × (y.1 ≡ record s { rest = behind s.rest })
+expected true s y e = (refl, sym (ap (λ (p : Unit {0} × State). p.1) (ok_is _ y e)))
+expected false s y e = absurd (err_no_ok _ _ e)
+
+pub took_word : {n : Names} (w : Keyword) (s : State) (y : Unit {0} × State) → expect w s ≡ Ok y → Took n s (piece (kind.Keyword w) ∷ []) y.1
+unfolding expect
+took_word w s y e = let h = expected (is_keyword w (kind_of s.rest)) s y e in took_one (keyword_is w (kind_of s.rest) h.0) h.1
+
+pub took_sign : {n : Names} (w : Sign) (s : State) (y : Unit {0} × State) → expect_sign w s ≡ Ok y → Took n s (piece (kind.Sign w) ∷ []) y.1
+unfolding expect_sign
+took_sign w s y e = let h = expected (is_sign w (kind_of s.rest)) s y e in took_one (sign_is w (kind_of s.rest) h.0) h.1
+
+-- ---- numbers
+
+pub took_branch : {n : Names} (s : State) (y : Unit {0} × State) → branch_number s ≡ Ok y → Took n s (piece (kind.Number 1) ∷ []) y.1
+unfolding branch_number
+took_branch {n} s y e =
+    let m = then_ok (number_here s) _ y e in
+    let h = number_ok s m.0 m.1 in
+    let c = check_ok (eqb m.0.0 1) BranchNotOne advance m.0.1 y m.2 in
+    let one : m.0.0 ≡ 1 = eqb-true m.0.0 1 c.0 in
+    let next : kind_of s.rest ≡ Some (kind.Number 1) = h.0 ∙ ap (λ (k : ℕ). Some (kind.Number k)) one in
+    took_one next (ap (λ (p : Unit {0} × State). p.1) (sym (ok_is _ y c.1)) ∙ ap (λ (w : State). record w { rest = behind w.rest }) h.1)
+
+-- ---- names
+
+-- the piece is another where the names are known
+pub named : {n : Names} {s : State} {x : Text} {s' : State} (y : Text) → (Tells n s' → x ≡ y) → Took n s (piece (kind.Name x) ∷ []) s' → Took n s (piece (kind.Name y) ∷ []) s'
+named {n} {s} {x} {s'} y same took = record {
+  front = λ t. subst (λ (z : Text). Front s.rest (piece (kind.Name z) ∷ []) s'.rest) (same t) (took.front t);
+  tells = took.tells;
+  same = took.same;
+}
+
+used_is : (place : Option ℕ) (s : State) (y : ℕ × State) → used_at place s ≡ Ok y → (place ≡ Some y.0) × (y.1 ≡ record s { rest = behind s.rest })
+used_is (Some place) s y e = subst (λ (p : ℕ × State). (Some place ≡ Some p.0) × (p.1 ≡ record s { rest = behind s.rest })) (ok_is (place, record s { rest = behind s.rest }) y e) (refl, refl)
+used_is None s y e = absurd (err_no_ok _ _ e)
+
+-- a name that is used, where it stands in a list
+used : {n : Names} (s : State) (x : Text) (place : Option ℕ) (y : ℕ × State) (names : List Text) → kind_of s.rest ≡ Some (kind.Name x) → used_at place s ≡ Ok y → (Tells n s → place ≡ Some y.0 → x ≡ text_at names y.0) → Took n s (name_at names y.0 ∷ []) y.1
+used {n} s x place y names next e tells =
+    let u = used_is place s y e in
+    let one : Took n s (piece (kind.Name x) ∷ []) y.1 = took_one next u.1 in
+    named (text_at names y.0) (λ t. tells (one.tells t) u.0) one
+
+pub took_register : {n : Names} (s : State) (y : ℕ × State) → used_register s ≡ Ok y → Took n s (name_at n.registers y.0 ∷ []) y.1
+unfolding used_register
+took_register {n} s y e =
+    let m = then_ok (name_here s) _ y e in
+    let h = name_ok s m.0 m.1 in
+    let at : used_at (place_of m.0.0 s.registers) s ≡ Ok y = subst (λ (u : State). used_at (place_of m.0.0 u.registers) u ≡ Ok y) h.1 m.2 in
+    used s m.0.0 (place_of m.0.0 s.registers) y n.registers h.0 at (λ t found. t.registers m.0.0 y.0 found)
+
+pub took_variable : {n : Names} (s : State) (y : ℕ × State) → used_variable s ≡ Ok y → Took n s (name_at n.variables y.0 ∷ []) y.1
+unfolding used_variable
+took_variable {n} s y e =
+    let m = then_ok (name_here s) _ y e in
+    let h = name_ok s m.0 m.1 in
+    let at : used_at (place_of m.0.0 s.variables) s ≡ Ok y = subst (λ (u : State). used_at (place_of m.0.0 u.variables) u ≡ Ok y) h.1 m.2 in
+    used s m.0.0 (place_of m.0.0 s.variables) y n.variables h.0 at (λ t found. t.variables m.0.0 y.0 found)
+
+pub took_lam : {n : Names} (s : State) (y : ℕ × State) → used_lam s ≡ Ok y → Took n s (name_at n.lams y.0 ∷ []) y.1
+unfolding used_lam
+took_lam {n} s y e =
+    let m = then_ok (name_here s) _ y e in
+    let h = name_ok s m.0 m.1 in
+    let at : used_at (lam_place m.0.0 s.lams) s ≡ Ok y = subst (λ (u : State). used_at (lam_place m.0.0 u.lams) u ≡ Ok y) h.1 m.2 in
+    used s m.0.0 (lam_place m.0.0 s.lams) y n.lams h.0 at (λ t found. t.lams m.0.0 y.0 found)
+
+pub took_table : {n : Names} (s : State) (y : ℕ × State) → used_table s ≡ Ok y → Took n s (name_at n.tables y.0 ∷ []) y.1
+unfolding used_table
+took_table {n} s y e =
+    let m = then_ok (name_here s) _ y e in
+    let h = name_ok s m.0 m.1 in
+    let at : used_at (table_place m.0.0 s.tables) s ≡ Ok y = subst (λ (u : State). used_at (table_place m.0.0 u.tables) u ≡ Ok y) h.1 m.2 in
+    used s m.0.0 (table_place m.0.0 s.tables) y n.tables h.0 at (λ t found. t.tables m.0.0 y.0 found)
+
+known_is : (place : Option ℕ) (s : State) (y : ℕ × State) → known_at place s ≡ Ok y → (place ≡ Some y.0) × (y.1 ≡ s)
+known_is (Some place) s y e = subst (λ (p : ℕ × State). (Some place ≡ Some p.0) × (p.1 ≡ s)) (ok_is (place, s) y e) (refl, refl)
+known_is None s y e = absurd (err_no_ok _ _ e)
+
+-- the name of a variable stands next, and stays there
+pub record SeesVariable (n : Names) (s : State) (place : ℕ) (s' : State) : Type 0 where
+  pub name : Text
+  pub next : kind_of s.rest ≡ Some (kind.Name name)
+  pub found : place_of name s.variables ≡ Some place
+  pub same : Tells n s → name ≡ text_at n.variables place
+  pub left : s' ≡ s
+
+pub sees_variable : {n : Names} (s : State) (y : ℕ × State) → variable_here s ≡ Ok y → SeesVariable n s y.0 y.1
+unfolding variable_here
+sees_variable s y e =
+    let m = then_ok (name_here s) _ y e in
+    let h = name_ok s m.0 m.1 in
+    let at : known_at (place_of m.0.0 s.variables) s ≡ Ok y = subst (λ (u : State). known_at (place_of m.0.0 u.variables) u ≡ Ok y) h.1 m.2 in
+    let k = known_is (place_of m.0.0 s.variables) s y at in
+    record { name = m.0.0; next = h.0; found = k.0; same = λ t. t.variables m.0.0 y.0 k.0; left = k.1 }
+
+-- its piece
+pub seen : {n : Names} {s : State} {place : ℕ} {u v : State} (here : SeesVariable n s place u) → Took n s (piece (kind.Name here.name) ∷ []) v → Took n s (name_at n.variables place ∷ []) v
+seen {n} {s} {place} here took = named (text_at n.variables place) (λ t. here.same (took.tells t)) took
+
+-- ---- procedures
+
+-- the name of a procedure stands next, and stays there
+pub record SeesProcedure (n : Names) (s : State) (place : ℕ) (s' : State) : Type 0 where
+  pub name : Text
+  pub next : kind_of s.rest ≡ Some (kind.Name name)
+  pub same : Tells n s → name ≡ text_at n.procedures place
+  pub left : s' ≡ s
+
+pub sees_procedure : {n : Names} (s : State) (y : ℕ × State) → procedure_here s ≡ Ok y → SeesProcedure n s y.0 y.1
+unfolding procedure_here
+sees_procedure s y e =
+    let m = then_ok (name_here s) _ y e in
+    let h = name_ok s m.0 m.1 in
+    let at : known_at (procedure_place m.0.0 s.procedures) s ≡ Ok y = subst (λ (u : State). known_at (procedure_place m.0.0 u.procedures) u ≡ Ok y) h.1 m.2 in
+    let k = known_is (procedure_place m.0.0 s.procedures) s y at in
+    record { name = m.0.0; next = h.0; same = λ t. t.procedures m.0.0 y.0 k.0; left = k.1 }
+
+callable_moves : (room : ℕ) (found : Option Callable) (s : State) (y : ℕ × State) → callable_by room found s ≡ Ok y → y.1 ≡ record s { rest = behind s.rest }
+callable_moves room None s y e = absurd (err_no_ok _ _ e)
+callable_moves room (Some q) s y e =
+    let c = check_ok (nat_le q.depth room) LimitPassed (advance >> give q.parameters) s y e in
+    sym (ap (λ (p : ℕ × State). p.1) (ok_is (q.parameters, record s { rest = behind s.rest }) y c.1))
+
+-- the procedure that is called
+pub took_called : {n : Names} (room place : ℕ) (s t : State) (y : ℕ × State) → SeesProcedure n s place t → called room place s ≡ Ok y → Took n s (name_at n.procedures place ∷ []) y.1
+unfolding called
+took_called {n} room place s t y here e =
+    let one : Took n s (piece (kind.Name here.name) ∷ []) y.1 = took_one here.next (callable_moves room (slice_get s.callables place) s y e) in
+    named (text_at n.procedures place) (λ k. here.same (one.tells k)) one

@@ -1,0 +1,5 @@
+use Rattle.camac_text_spelling.proofs.Read as read
+use Rattle.camac_text_spelling.proofs.laws.spelled_is_read.Goals as goal
+
+pub returns : goal.returns
+returns c = read.spelled_is_read

@@ -1,0 +1,44 @@
+-- Laws of the spelling.
+use Rattle.std.specs.Prelude.{◌≡◌, ℕ, List, ◌∷◌, ◌++◌, Ok, Err, codes}
+use Rattle.camac_lang.specs.Example.{straight_line}
+use Rattle.camac_lang.specs.Tree.{Script}
+use Rattle.camac_text_tokens.specs.declared.token.Token.{Token}
+use Rattle.camac_text_tokens.specs.Fault.{Fault}
+use Rattle.camac_text.specs.Parser.{tree_of_tokens, script_of}
+use Rattle.camac_text.specs.Places.{IsPlaced}
+use Rattle.camac_text_spelling.specs.Spells.{Spells, IsSpelled}
+
+-- the text of the standard example
+abbrev pub example_text : List ℕ
+example_text =
+    codes "cdlam adc 1 1 5 12\nvar v\nservice adc within 3 cycles event 1 words {\ncdreg r 1 1 5 0\ncfsa 0 r -> v\nput v }"
+
+abbrev pub ExampleIsSpelled : Type 0
+ExampleIsSpelled = IsSpelled example_text straight_line
+
+-- the tree that is read of a text is one that its tokens spell
+abbrev pub ReadIsSpelled : Type 0
+ReadIsSpelled = (text : List ℕ) (tree : Script) → script_of text ≡ Ok tree → IsSpelled text tree
+
+-- a tree that tokens spell is read of them
+abbrev pub SpelledTokensAreRead : Type 0
+SpelledTokensAreRead =
+    (tokens : List Token) (end_line : ℕ) (tree : Script) → Spells tokens tree → tree_of_tokens tokens end_line ≡ Ok tree
+
+-- and of a text that has these tokens
+abbrev pub SpelledIsRead : Type 0
+SpelledIsRead = (text : List ℕ) (tree : Script) → IsSpelled text tree → script_of text ≡ Ok tree
+
+-- tokens spell one tree at most
+abbrev pub SpelledOnce : Type 0
+SpelledOnce = (tokens : List Token) (a b : Script) → Spells tokens a → Spells tokens b → a ≡ b
+
+-- No list with the same tokens, up to the one at which the fault is, spells a tree.
+abbrev pub FaultSpellsNothing : Type 0
+FaultSpellsNothing =
+    (tokens : List Token) (end_line : ℕ) (fault : Fault) (at : IsPlaced tokens end_line fault) (t : Token) (rest others : List Token) (tree : Script)
+    → at.left ≡ t ∷ rest → Spells (at.taken ++ t ∷ others) tree → ⊥
+
+-- nor do the tokens of a text that is refused
+abbrev pub RefusedIsNotSpelled : Type 0
+RefusedIsNotSpelled = (text : List ℕ) (fault : Fault) → script_of text ≡ Err fault → (tree : Script) → IsSpelled text tree → ⊥

@@ -1,0 +1,173 @@
+-- What a `for`, a `while` and a `lock` leave, where this is what a block leaves.
+use Rattle.std.proofs.Common.{not, ◌≡◌, ℕ, ◌≤◌, ◌<◌, Bool, true, nat_lt, List, [], length, Some, Ok, refl, ap, subst, arith}
+use Rattle.std.specs.Prelude.{option_and_then}
+use Rattle.std.proofs.lemmas.Bool.{lt-ltb}
+use Rattle.camac_lang.specs.Depth.{expression_depth, part_depth, inner_depth}
+use Rattle.camac_lang.specs.Expressions.{Scope, expression_fits}
+use Rattle.camac_lang.specs.Statements.{keeps_fit, after_block}
+use Rattle.camac_lang.specs.Tests.{most, unless_broken}
+use Rattle.camac_lang.specs.Tree.{Expression, Condition, Keep, Statement, count, repeat, locked}
+use Rattle.camac_lang.specs.View.{block_of}
+use Rattle.camac_text_tokens.specs.declared.fault.TextRule.TheVariants.{UnexpectedToken}
+use Rattle.camac_text_tokens.specs.declared.token.Keyword.TheVariants as word
+use Rattle.camac_text_tokens.specs.declared.token.Sign.TheVariants as sign
+use Rattle.camac_text_tokens.specs.declared.token.TokenKind.{TokenKind}
+use Rattle.camac_text_tokens.specs.declared.token.TokenKind.TheVariants as kind
+use Rattle.camac_text_cursor.specs.Reading.{State, Reader, ◌>>=◌, ◌>>◌, give, kind_of}
+use Rattle.camac_text_cursor.specs.Readers.{begin, expect, expect_sign, any_number, used_variable}
+use Rattle.camac_text_phrases.specs.Expressions.{expression_at}
+use Rattle.camac_text_phrases.specs.Conditions.{condition_at}
+use Rattle.camac_text_phrases.specs.Keeps.{keeps_at}
+use Rattle.camac_text_statements.specs.Statements.{counting, repetition, locking}
+use Rattle.camac_text_cursor.proofs.Steps.{then_ok, ok_is}
+use Rattle.camac_text_cursor.proofs.Moves.{check_ok, AllFit, Moves, kind_fit, moved, then_moves, one_moves, any_number_ok, expect_ok, expect_sign_ok}
+use Rattle.camac_text_cursor.proofs.Uses.{scope_of, same_scope, used_variable_ok}
+use Rattle.camac_text_phrases.proofs.BracketsRead.{expression_ok}
+use Rattle.camac_text_phrases.proofs.ConditionsRead.{condition_ok}
+use Rattle.camac_text_phrases.proofs.KeepsRead.{keeps_ok, keeps_stand}
+use Rattle.camac_text_cursor.proofs.Registers.{both}
+use Rattle.camac_text_statements.proofs.Acts.{begun, begin_ok, Acts}
+use Rattle.camac_text_statements.proofs.Blocks.{Body, behind_moves, holds_block}
+
+-- what fits behind some tokens fits before them
+expression_before : (s t : State) (e : Expression) → Moves s t → (AllFit t.rest → expression_fits (scope_of t) e ≡ true) → AllFit s.rest → expression_fits (scope_of s) e ≡ true
+expression_before s t e m fits h = subst (λ (c : Scope). expression_fits c e ≡ true) (same_scope s t m) (fits (m.fit h))
+
+variable_before : (s t : State) (x : ℕ) → Moves s t → x < length t.variables → nat_lt x (length s.variables) ≡ true
+variable_before s t x m below = subst (λ (u : State). nat_lt x (length u.variables) ≡ true) m.same (lt-ltb x (length t.variables) below)
+
+keeps_before : (s t : State) (own : ℕ) (ks : List Keep) → Moves s t → (AllFit t.rest → keeps_fit (scope_of t) own ks ≡ true) → AllFit s.rest → keeps_fit (scope_of s) own ks ≡ true
+keeps_before s t own ks m fits h = subst (λ (c : Scope). keeps_fit c own ks ≡ true) (same_scope s t m) (fits (m.fit h))
+
+module _ (room : ℕ) (block : Reader (List Statement)) (block_is : (s : State) (y : List Statement × State) → block s ≡ Ok y → Body room s y.0 y.1) where
+  -- a `for` behind its first bound
+  record Bounded (line own : ℕ) (first : Expression) (s : State) (y : Statement × State) : Type 0 where
+    last : Expression
+    keeps : List Keep
+    body : List Statement
+    left : State
+    last_fits : AllFit s.rest → expression_fits (scope_of s) last ≡ true
+    last_deep : expression_depth last ≤ room
+    keeps_stand : AllFit s.rest → keeps_fit (scope_of s) own keeps ≡ true
+    holds : Body room s body left
+    is : (count line own first last keeps (block_of body), left) ≡ y
+
+  abbrev from_to : ℕ → ℕ → Expression → Reader Statement
+  from_to line own first = expect word.To >> (expression_at room >>= λ last. keeps_at own >>= λ ks. block >>= λ xs. give (count line own first last ks (block_of xs)))
+
+  bounded : (line own : ℕ) (first : Expression) (s : State) (y : Statement × State) → from_to line own first s ≡ Ok y → Bounded line own first s y
+  bounded line own first s y e =
+      let a = then_ok (expect word.To s) (λ _. expression_at room >>= λ last. keeps_at own >>= λ ks. block >>= λ xs. give (count line own first last ks (block_of xs))) y e in
+      let to_a : Moves s a.0.1 = expect_ok word.To s a.0 a.1 in
+      let b = then_ok (expression_at room a.0.1) (λ last. keeps_at own >>= λ ks. block >>= λ xs. give (count line own first last ks (block_of xs))) y a.2 in
+      let last = expression_ok room a.0.1 b.0 b.1 in
+      let to_b : Moves s b.0.1 = then_moves s a.0.1 b.0.1 to_a last.moves in
+      let c = then_ok (keeps_at own b.0.1) (λ ks. block >>= λ xs. give (count line own first b.0.0 ks (block_of xs))) y b.2 in
+      let keeps = keeps_ok own b.0.1 c.0 c.1 in
+      let to_c : Moves s c.0.1 = then_moves s b.0.1 c.0.1 to_b keeps.moves in
+      let d = then_ok (block c.0.1) (λ xs. give (count line own first b.0.0 c.0.0 (block_of xs))) y c.2 in
+      record {
+        last = b.0.0;
+        keeps = c.0.0;
+        body = d.0.0;
+        left = d.0.1;
+        last_fits = expression_before s a.0.1 b.0.0 to_a last.fits;
+        last_deep = last.deep;
+        keeps_stand = keeps_before s b.0.1 own c.0.0 to_b (keeps_stand own b.0.1 c.0.0 c.0.1 keeps);
+        holds = behind_moves room s c.0.1 d.0.0 d.0.1 to_c (block_is c.0.1 d.0 d.1);
+        is = ok_is (count line own first b.0.0 c.0.0 (block_of d.0.0), d.0.1) y d.2;
+      }
+
+  counts : (s : State) (j : TokenKind) (line own : ℕ) (first : Expression) (u : State) (y : Statement × State) → kind_of s.rest ≡ Some j → s.statements < 4096 → own < length s.variables → Moves (begun s) u → (AllFit s.rest → expression_fits (scope_of s) first ≡ true) → expression_depth first ≤ room → Bounded line own first u y → Acts room s y.0 y.1
+  counts s j line own first u y next below within to_u first_fits deep_first r =
+      let body : Body room (begun s) r.body r.left = behind_moves room (begun s) u r.body r.left to_u r.holds in
+      let deep_last : expression_depth r.last ≤ room = r.last_deep in
+      let inner : inner_depth s.callables (block_of r.body) < room = body.deep in
+      subst (λ (p : Statement × State). Acts room s p.0 p.1) r.is
+      (holds_block room s j (count line own first r.last r.keeps (block_of r.body)) r.body r.left next below
+      (λ h.
+      let h_b : AllFit (begun s).rest = (moved s).fit h in
+      ap (λ (holds : Bool). option_and_then (λ (n : ℕ). after_block (scope_of s) n (block_of r.body)) (unless_broken holds (length s.registers)))
+      (both _ _ (lt-ltb own (length s.variables) within)
+      (both _ _ (first_fits h)
+      (both _ _ (expression_before (begun s) u r.last to_u r.last_fits h_b)
+      (keeps_before (begun s) u own r.keeps to_u r.keeps_stand h_b)))))
+      refl (omega arith) body)
+
+  pub counting_is : (s : State) (j : TokenKind) (line : ℕ) (y : Statement × State) → kind_of s.rest ≡ Some j → counting room block line s ≡ Ok y → Acts room s y.0 y.1
+  unfolding counting
+  counting_is s j line y next e =
+      let rest : Reader Statement = used_variable >>= λ own. expect_sign sign.Equals >> (expression_at room >>= λ first. from_to line own first) in
+      let z = then_ok (begin s) (λ _. rest) y e in
+      let begins = begin_ok s z.0 z.1 in
+      let b : State = begun s in
+      let at : rest b ≡ Ok y = subst (λ (u : State). rest u ≡ Ok y) begins.1 z.2 in
+      let v = then_ok (used_variable b) (λ own. expect_sign sign.Equals >> (expression_at room >>= λ first. from_to line own first)) y at in
+      let own = used_variable_ok b v.0 v.1 in
+      let a1 = then_ok (expect_sign sign.Equals v.0.1) (λ _. expression_at room >>= λ first. from_to line v.0.0 first) y v.2 in
+      let to_1 : Moves b a1.0.1 = then_moves b v.0.1 a1.0.1 own.1 (expect_sign_ok sign.Equals v.0.1 a1.0 a1.1) in
+      let a2 = then_ok (expression_at room a1.0.1) (λ first. from_to line v.0.0 first) y a1.2 in
+      let first = expression_ok room a1.0.1 a2.0 a2.1 in
+      let to_2 : Moves b a2.0.1 = then_moves b a1.0.1 a2.0.1 to_1 first.moves in
+      counts s j line v.0.0 a2.0.0 a2.0.1 y next begins.0 own.0 to_2 (λ h. expression_before b a1.0.1 a2.0.0 to_1 first.fits ((moved s).fit h)) first.deep (bounded line v.0.0 a2.0.0 a2.0.1 y a2.2)
+
+  pub repetition_is : (s : State) (j : TokenKind) (line : ℕ) (y : Statement × State) → kind_of s.rest ≡ Some j → repetition room block line s ≡ Ok y → Acts room s y.0 y.1
+  unfolding repetition
+  repetition_is s j line y next e =
+      let by_to : Condition → ℕ → Reader Statement = λ c turns. expect word.By >> (used_variable >>= λ own. keeps_at own >>= λ ks. block >>= λ xs. give (repeat line c turns own ks (block_of xs))) in
+      let rest : Reader Statement = condition_at room >>= λ c. expect word.Turns >> (any_number >>= λ turns. by_to c turns) in
+      let z = then_ok (begin s) (λ _. rest) y e in
+      let begins = begin_ok s z.0 z.1 in
+      let b : State = begun s in
+      let at : rest b ≡ Ok y = subst (λ (u : State). rest u ≡ Ok y) begins.1 z.2 in
+      let a1 = then_ok (condition_at room b) (λ c. expect word.Turns >> (any_number >>= λ turns. by_to c turns)) y at in
+      let test = condition_ok room b a1.0 a1.1 in
+      let a2 = then_ok (expect word.Turns a1.0.1) (λ _. any_number >>= λ turns. by_to a1.0.0 turns) y a1.2 in
+      let to_2 : Moves b a2.0.1 = then_moves b a1.0.1 a2.0.1 test.moves (expect_ok word.Turns a1.0.1 a2.0 a2.1) in
+      let a3 = then_ok (any_number a2.0.1) (λ turns. by_to a1.0.0 turns) y a2.2 in
+      let turns = any_number_ok a2.0.1 a3.0 a3.1 in
+      let to_3 : Moves b a3.0.1 = then_moves b a2.0.1 a3.0.1 to_2 (one_moves a2.0.1 (kind.Number a3.0.0) a3.0.1 turns) in
+      let a4 = then_ok (expect word.By a3.0.1) (λ _. used_variable >>= λ own. keeps_at own >>= λ ks. block >>= λ xs. give (repeat line a1.0.0 a3.0.0 own ks (block_of xs))) y a3.2 in
+      let to_4 : Moves b a4.0.1 = then_moves b a3.0.1 a4.0.1 to_3 (expect_ok word.By a3.0.1 a4.0 a4.1) in
+      let v = then_ok (used_variable a4.0.1) (λ own. keeps_at own >>= λ ks. block >>= λ xs. give (repeat line a1.0.0 a3.0.0 own ks (block_of xs))) y a4.2 in
+      let own = used_variable_ok a4.0.1 v.0 v.1 in
+      let to_v : Moves b v.0.1 = then_moves b a4.0.1 v.0.1 to_4 own.1 in
+      let a5 = then_ok (keeps_at v.0.0 v.0.1) (λ ks. block >>= λ xs. give (repeat line a1.0.0 a3.0.0 v.0.0 ks (block_of xs))) y v.2 in
+      let keeps = keeps_ok v.0.0 v.0.1 a5.0 a5.1 in
+      let to_5 : Moves b a5.0.1 = then_moves b v.0.1 a5.0.1 to_v keeps.moves in
+      let a6 = then_ok (block a5.0.1) (λ xs. give (repeat line a1.0.0 a3.0.0 v.0.0 a5.0.0 (block_of xs))) y a5.2 in
+      let body : Body room b a6.0.0 a6.0.1 = behind_moves room b a5.0.1 a6.0.0 a6.0.1 to_5 (block_is a5.0.1 a6.0 a6.1) in
+      let x : Statement = repeat line a1.0.0 a3.0.0 v.0.0 a5.0.0 (block_of a6.0.0) in
+      let deep_test : most part_depth a1.0.0 ≤ room = test.deep in
+      let inner : inner_depth s.callables (block_of a6.0.0) < room = body.deep in
+      subst (λ (p : Statement × State). Acts room s p.0 p.1) (ok_is (x, a6.0.1) y a6.2)
+      (holds_block room s j x a6.0.0 a6.0.1 next begins.0
+      (λ h.
+      let h_b : AllFit b.rest = (moved s).fit h in
+      ap (λ (holds : Bool). option_and_then (λ (n : ℕ). after_block (scope_of s) n (block_of a6.0.0)) (unless_broken holds (length s.registers)))
+      (both _ _ (test.fits h_b)
+      (both _ _ (kind_fit a2.0.1.rest (kind.Number a3.0.0) turns.next (to_2.fit h_b))
+      (both _ _ (variable_before b a4.0.1 v.0.0 to_4 own.0)
+      (keeps_before b v.0.1 v.0.0 a5.0.0 to_v (keeps_stand v.0.0 v.0.1 a5.0.0 a5.0.1 keeps) h_b)))))
+      refl (omega arith) body)
+
+  pub locking_is : (s : State) (j : TokenKind) (line : ℕ) (y : Statement × State) → kind_of s.rest ≡ Some j → locking room block line s ≡ Ok y → Acts room s y.0 y.1
+  unfolding locking
+  locking_is s j line y next e =
+      let rest : Reader Statement = expression_at room >>= λ c. block >>= λ xs. give (locked line c (block_of xs)) in
+      let free = check_ok (not s.in_procedure) UnexpectedToken (begin >> rest) s y e in
+      let z = then_ok (begin s) (λ _. rest) y free.1 in
+      let begins = begin_ok s z.0 z.1 in
+      let b : State = begun s in
+      let at : rest b ≡ Ok y = subst (λ (u : State). rest u ≡ Ok y) begins.1 z.2 in
+      let a1 = then_ok (expression_at room b) (λ c. block >>= λ xs. give (locked line c (block_of xs))) y at in
+      let read = expression_ok room b a1.0 a1.1 in
+      let a2 = then_ok (block a1.0.1) (λ xs. give (locked line a1.0.0 (block_of xs))) y a1.2 in
+      let body : Body room b a2.0.0 a2.0.1 = behind_moves room b a1.0.1 a2.0.0 a2.0.1 read.moves (block_is a1.0.1 a2.0 a2.1) in
+      let x : Statement = locked line a1.0.0 (block_of a2.0.0) in
+      let deep : expression_depth a1.0.0 ≤ room = read.deep in
+      let inner : inner_depth s.callables (block_of a2.0.0) < room = body.deep in
+      subst (λ (p : Statement × State). Acts room s p.0 p.1) (ok_is (x, a2.0.1) y a2.2)
+      (holds_block room s j x a2.0.0 a2.0.1 next begins.0
+      (λ h. ap (λ (holds : Bool). option_and_then (λ (n : ℕ). after_block (scope_of s) n (block_of a2.0.0)) (unless_broken holds (length s.registers))) (both _ _ free.0 (read.fits ((moved s).fit h))))
+      refl (omega arith) body)

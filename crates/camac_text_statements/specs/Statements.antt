@@ -1,0 +1,224 @@
+-- What is read at each place of a statement.
+use Rattle.std.specs.Prelude.{ℕ, zero, suc, Bool, true, false, List, Option, Some, not, if◌then◌else◌}
+use Rattle.camac_lang.specs.Tree.{Move, no_data, into, from, Statement, assign, set_register, single, put, crate_call, lam_call, choose, choose_else, count, repeat, locked, Condition}
+use Rattle.camac_lang.specs.View.{block_of}
+use Rattle.camac_lang.specs.declared.word.WordSize.{WordSize}
+use Rattle.camac_lang.specs.declared.word.WordSize.TheVariants.{Full, Short}
+use Rattle.camac_lang.specs.declared.word.CrateCall.{CrateCall}
+use Rattle.camac_lang.specs.declared.word.CrateCall.TheVariants as crate_word
+use Rattle.camac_lang.specs.declared.word.LamCall.{LamCall}
+use Rattle.camac_lang.specs.declared.word.LamCall.TheVariants as lam_word
+use Rattle.camac_text_tokens.specs.declared.token.Keyword.TheVariants as word
+use Rattle.camac_text_tokens.specs.declared.token.Sign.TheVariants as sign
+use Rattle.camac_text_tokens.specs.declared.token.TokenKind.{TokenKind}
+use Rattle.camac_text_tokens.specs.declared.token.TokenKind.TheVariants as kind
+use Rattle.camac_text_tokens.specs.declared.fault.TextRule.TheVariants.{UnexpectedToken, LimitPassed}
+use Rattle.camac_text_cursor.specs.Reading.{Reader, ◌>>=◌, ◌>>◌, give, peek, advance, line_here, fail, many, ask, check}
+use Rattle.camac_text_cursor.specs.Readers.{begin, is_sign, expect, expect_sign, any_number, branch_number, function_number, set_name, used_register, used_variable, variable_here, used_lam}
+use Rattle.camac_text_phrases.specs.Expressions.{expression_at}
+use Rattle.camac_text_statements.specs.Transfers.{scanning, stopping, repeating, calling}
+use Rattle.camac_text_phrases.specs.Conditions.{condition_at}
+use Rattle.camac_text_phrases.specs.Keeps.{keeps_at}
+
+unfoldable pub assignment : ℕ → ℕ → Reader Statement
+assignment room line = do
+  place ← variable_here
+  begin
+  expect_sign sign.Equals
+  value ← expression_at room
+  give (assign line place value)
+
+unfoldable pub register_setting : ℕ → ℕ → Reader Statement
+register_setting room line = do
+  begin
+  register ← set_name
+  branch_number
+  crate_no ← expression_at room
+  station ← expression_at room
+  sub_address ← expression_at room
+  give (set_register line register crate_no station sub_address)
+
+-- what a single action moves
+abbrev pub move_by : ℕ → Option TokenKind → Reader Move
+move_by room (Some (kind.Sign sign.Into)) = do
+  advance
+  place ← used_variable
+  give (into place)
+move_by room (Some (kind.Sign sign.From)) = do
+  advance
+  value ← expression_at room
+  give (from value)
+move_by room _ = give no_data
+
+unfoldable pub move_at : ℕ → Reader Move
+move_at room = peek >>= move_by room
+
+unfoldable pub single_action : WordSize → ℕ → ℕ → Reader Statement
+single_action size room line = do
+  begin
+  function ← function_number
+  register ← used_register
+  move ← move_at room
+  give (single line size function register move)
+
+unfoldable pub put_action : ℕ → ℕ → Reader Statement
+put_action room line = do
+  begin
+  value ← expression_at room
+  give (put line value)
+
+-- ---- crate calls and LAM calls
+
+-- `on` or `off`
+abbrev pub switch_by : Option TokenKind → Reader Bool
+switch_by (Some (kind.Keyword word.On)) = advance >> give true
+switch_by (Some (kind.Keyword word.Off)) = advance >> give false
+switch_by _ = fail UnexpectedToken
+
+unfoldable pub switch : Reader Bool
+switch = peek >>= switch_by
+
+unfoldable pub crate_action : CrateCall → ℕ → ℕ → Reader Statement
+crate_action call room line = do
+  begin
+  crate_no ← expression_at room
+  give (crate_call line call crate_no)
+
+-- one that is switched on or off
+unfoldable pub crate_switch : CrateCall → CrateCall → ℕ → ℕ → Reader Statement
+crate_switch on off room line = do
+  begin
+  crate_no ← expression_at room
+  is_on ← switch
+  give (crate_call line (if is_on then on else off) crate_no)
+
+unfoldable pub lam_action : LamCall → ℕ → Reader Statement
+lam_action call line = do
+  begin
+  lam ← used_lam
+  give (lam_call line call lam)
+
+unfoldable pub lam_switch : ℕ → Reader Statement
+lam_switch line = do
+  begin
+  lam ← used_lam
+  is_on ← switch
+  give (lam_call line (if is_on then lam_word.Enable else lam_word.Disable) lam)
+
+abbrev pub lam_call_by : ℕ → Option TokenKind → Reader Statement
+lam_call_by line (Some (kind.Keyword word.Cclm)) = lam_switch line
+lam_call_by line (Some (kind.Keyword word.Cclc)) = lam_action lam_word.Clear line
+lam_call_by line (Some (kind.Keyword word.Ctlm)) = lam_action lam_word.Test line
+lam_call_by line _ = fail UnexpectedToken
+
+abbrev pub crate_call_by : ℕ → ℕ → Option TokenKind → Reader Statement
+crate_call_by room line (Some (kind.Keyword word.Cccz)) = crate_action crate_word.Initialise room line
+crate_call_by room line (Some (kind.Keyword word.Cccc)) = crate_action crate_word.Clear room line
+crate_call_by room line (Some (kind.Keyword word.Ctci)) = crate_action crate_word.TestInhibit room line
+crate_call_by room line (Some (kind.Keyword word.Ctcd)) = crate_action crate_word.TestDemandOutput room line
+crate_call_by room line (Some (kind.Keyword word.Ctgl)) = crate_action crate_word.TestDemand room line
+crate_call_by room line (Some (kind.Keyword word.Ccci)) = crate_switch crate_word.InhibitOn crate_word.InhibitOff room line
+crate_call_by room line (Some (kind.Keyword word.Cccd)) = crate_switch crate_word.DemandOn crate_word.DemandOff room line
+crate_call_by room line k = lam_call_by line k
+
+-- ---- all statements
+
+-- a transfer or a call, whichever keyword stands next
+abbrev pub transfer_by : ℕ → ℕ → Option TokenKind → Reader Statement
+transfer_by room line (Some (kind.Keyword word.Cfmad)) = scanning room line
+transfer_by room line (Some (kind.Keyword word.Cfubc)) = stopping room line
+transfer_by room line (Some (kind.Keyword word.Cfubr)) = repeating room line
+transfer_by room line (Some (kind.Keyword word.Call)) = calling room line
+transfer_by room line k = crate_call_by room line k
+
+-- ---- statements that hold blocks
+
+-- what stands behind a condition and its block
+abbrev pub else_by : Reader (List Statement) → ℕ → Condition → List Statement → Option TokenKind → Reader Statement
+else_by block line test body (Some (kind.Keyword word.Else)) = do
+  advance
+  other ← block
+  give (choose_else line test (block_of body) (block_of other))
+else_by block line test body _ = give (choose line test (block_of body))
+
+-- `if`
+unfoldable pub choice : ℕ → Reader (List Statement) → ℕ → Reader Statement
+choice room block line = do
+  begin
+  test ← condition_at room
+  body ← block
+  next ← peek
+  else_by block line test body next
+
+-- `for`
+unfoldable pub counting : ℕ → Reader (List Statement) → ℕ → Reader Statement
+counting room block line = do
+  begin
+  own ← used_variable
+  expect_sign sign.Equals
+  first ← expression_at room
+  expect word.To
+  last ← expression_at room
+  keeps ← keeps_at own
+  body ← block
+  give (count line own first last keeps (block_of body))
+
+-- `while`
+unfoldable pub repetition : ℕ → Reader (List Statement) → ℕ → Reader Statement
+repetition room block line = do
+  begin
+  test ← condition_at room
+  expect word.Turns
+  turns ← any_number
+  expect word.By
+  measure ← used_variable
+  keeps ← keeps_at measure
+  body ← block
+  give (repeat line test turns measure keeps (block_of body))
+
+-- `lock`, which stands in no procedure
+unfoldable pub locking : ℕ → Reader (List Statement) → ℕ → Reader Statement
+locking room block line = do
+  is_procedure ← ask (λ s. s.in_procedure)
+  check (not is_procedure) UnexpectedToken
+  begin
+  crate_no ← expression_at room
+  body ← block
+  give (locked line crate_no (block_of body))
+
+-- a statement that holds blocks, which are read so
+abbrev pub nested_by : ℕ → Reader (List Statement) → ℕ → Option TokenKind → Reader Statement
+nested_by room block line (Some (kind.Keyword word.If)) = choice room block line
+nested_by room block line (Some (kind.Keyword word.For)) = counting room block line
+nested_by room block line (Some (kind.Keyword word.While)) = repetition room block line
+nested_by room block line (Some (kind.Keyword word.Lock)) = locking room block line
+nested_by room block line k = transfer_by room line k
+
+-- a statement, where so many brackets and braces may be open at once and this is read as a block
+abbrev pub statement_by : ℕ → Reader (List Statement) → ℕ → Option TokenKind → Reader Statement
+statement_by room block line (Some (kind.Name x)) = assignment room line
+statement_by room block line (Some (kind.Keyword word.Cdreg)) = register_setting room line
+statement_by room block line (Some (kind.Keyword word.Cfsa)) = single_action Full room line
+statement_by room block line (Some (kind.Keyword word.Cssa)) = single_action Short room line
+statement_by room block line (Some (kind.Keyword word.Put)) = put_action room line
+statement_by room block line k = nested_by room block line k
+
+unfoldable pub statement_with : ℕ → Reader (List Statement) → Reader Statement
+statement_with room block = do
+  line ← line_here
+  next ← peek
+  statement_by room block line next
+
+-- ---- blocks
+
+abbrev pub is_no_end : Option TokenKind → Bool
+is_no_end k = not (is_sign sign.RightBrace k)
+
+-- a block, where so many braces may be open at once
+unfoldable pub block_at : ℕ → Reader (List Statement)
+block_at zero = peek >>= λ k. if is_sign sign.LeftBrace k then fail LimitPassed else fail UnexpectedToken
+block_at (suc room) = do
+  expect_sign sign.LeftBrace
+  body ← many is_no_end (statement_with room (block_at room))
+  expect_sign sign.RightBrace
+  give body

@@ -1,0 +1,72 @@
+-- What is read at each place of a transfer and of a call.
+use Rattle.std.specs.Prelude.{ℕ, Option, Some, None}
+use Rattle.camac_lang.specs.Tree.{Expression, Statement, address_scan, q_stop, q_repeat, call}
+use Rattle.camac_text_tokens.specs.declared.token.Keyword.{Keyword}
+use Rattle.camac_text_tokens.specs.declared.token.Keyword.TheVariants as word
+use Rattle.camac_text_tokens.specs.declared.token.TokenKind.{TokenKind}
+use Rattle.camac_text_tokens.specs.declared.token.TokenKind.TheVariants as kind
+use Rattle.camac_text_cursor.specs.Reading.{Reader, ◌>>=◌, ◌>>◌, give, peek, advance}
+use Rattle.camac_text_cursor.specs.Readers.{begin, expect, function_number, used_register, used_variable, used_table, procedure_here, called}
+use Rattle.camac_text_phrases.specs.Expressions.{expression_at}
+use Rattle.camac_text_phrases.specs.Arguments.{arguments_at}
+
+-- the last bound of a transfer behind its word, and the tally
+unfoldable pub last_bound : Keyword → ℕ → Reader (Expression × ℕ)
+last_bound behind room = do
+  expect behind
+  bound ← expression_at room
+  expect word.Tally
+  tally ← used_variable
+  give (bound, tally)
+
+-- the table of a write
+abbrev pub table_by : Option TokenKind → Reader (Option ℕ)
+table_by (Some (kind.Keyword word.Table)) = do
+  advance
+  place ← used_table
+  give (Some place)
+table_by _ = give None
+
+unfoldable pub table_at : Reader (Option ℕ)
+table_at = peek >>= table_by
+
+-- `cfmad`
+unfoldable pub scanning : ℕ → ℕ → Reader Statement
+scanning room line = do
+  begin
+  function ← function_number
+  first ← used_register
+  last ← used_register
+  end ← last_bound word.Max room
+  give (address_scan line function first last end.0 end.1)
+
+-- `cfubc`
+unfoldable pub stopping : ℕ → ℕ → Reader Statement
+stopping room line = do
+  begin
+  function ← function_number
+  register ← used_register
+  table ← table_at
+  end ← last_bound word.Max room
+  give (q_stop line function register table end.0 end.1)
+
+-- `cfubr`
+unfoldable pub repeating : ℕ → ℕ → Reader Statement
+repeating room line = do
+  begin
+  function ← function_number
+  register ← used_register
+  table ← table_at
+  expect word.Max
+  most ← expression_at room
+  end ← last_bound word.Limit room
+  give (q_repeat line function register table most end.0 end.1)
+
+-- `call`
+unfoldable pub calling : ℕ → ℕ → Reader Statement
+calling room line = do
+  begin
+  place ← procedure_here
+  wanted ← called room place
+  arguments ← arguments_at room wanted
+  give (call line place arguments)

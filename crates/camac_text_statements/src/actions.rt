@@ -1,0 +1,96 @@
+// Assignments, registers, single actions and words of the event.
+
+ghost use Rattle.std.specs.Prelude.{◌≡◌};
+ghost use Rattle.camac_lang.specs.View.{move_of, statement_of};
+ghost use Rattle.camac_text_statements.specs.Statements.{assignment, register_setting, move_at, single_action, put_action};
+ghost use Rattle.camac_text_cursor.specs.Parser.{state, Gives};
+
+use camac_lang::{Move, Stmt, WordSize};
+use camac_text_cursor::Parser;
+use camac_text_phrases::expression;
+use camac_text_tokens::{Sign, TextFault, TokenKind};
+
+#[tactic(auto, unfolding(crate::specs::Statements::assignment))]
+pub fn assignment(parser: &mut Parser<'_>, room: u32, line: u32) -> Result<Stmt, TextFault>
+    ensures { Gives statement_of result parser.new (assignment room line (state parser.old)) }
+{
+    let variable = parser.variable_here()?;
+    parser.begin()?;
+    parser.expect_sign(Sign::Equals)?;
+    let value = expression(parser, room)?;
+    Ok(Stmt::Assign {
+        line,
+        variable,
+        value,
+    })
+}
+
+#[tactic(auto, unfolding(crate::specs::Statements::register_setting))]
+pub fn register_setting(parser: &mut Parser<'_>, room: u32, line: u32) -> Result<Stmt, TextFault>
+    ensures { Gives statement_of result parser.new (register_setting room line (state parser.old)) }
+{
+    parser.begin()?;
+    let register = parser.set_name()?;
+    parser.branch_number()?;
+    let crate_no = expression(parser, room)?;
+    let station = expression(parser, room)?;
+    let sub_address = expression(parser, room)?;
+    Ok(Stmt::SetRegister {
+        line,
+        register,
+        crate_no,
+        station,
+        sub_address,
+    })
+}
+
+#[tactic(auto, unfolding(crate::specs::Statements::single_action))]
+pub fn single_action(
+    parser: &mut Parser<'_>,
+    size: WordSize,
+    room: u32,
+    line: u32,
+) -> Result<Stmt, TextFault>
+    ensures { Gives statement_of result parser.new (single_action size room line (state parser.old)) }
+{
+    parser.begin()?;
+    let function = parser.function_number()?;
+    let register = parser.used_register()?;
+    let data = data_move(parser, room)?;
+    Ok(Stmt::Single {
+        line,
+        size,
+        function,
+        register,
+        data,
+    })
+}
+
+/// What a single action moves.
+#[tactic(auto, unfolding(crate::specs::Statements::move_at))]
+fn data_move(parser: &mut Parser<'_>, room: u32) -> Result<Move, TextFault>
+    ensures { Gives move_of result parser.new (move_at room (state parser.old)) }
+{
+    match parser.peek() {
+        Some(TokenKind::Sign(Sign::Into)) => {
+            parser.advance();
+            let place = parser.used_variable()?;
+            Ok(Move::Into(place))
+        }
+        Some(TokenKind::Sign(Sign::From)) => {
+            parser.advance();
+            let value = expression(parser, room)?;
+            Ok(Move::From(value))
+        }
+        _ => Ok(Move::NoData),
+    }
+}
+
+#[tactic(auto, unfolding(crate::specs::Statements::put_action))]
+pub fn put_action(parser: &mut Parser<'_>, room: u32, line: u32) -> Result<Stmt, TextFault>
+    ensures { Gives statement_of result parser.new (put_action room line (state parser.old)) }
+{
+    parser.begin()?;
+    let value = expression(parser, room)?;
+    Ok(Stmt::Put { line, value })
+}

@@ -1,0 +1,137 @@
+// Transfers, and calls of procedures.
+
+ghost use Rattle.std.specs.Prelude.{◌≡◌};
+ghost use Rattle.camac_lang.specs.View.{expression_of, statement_of};
+ghost use Rattle.camac_text_cursor.specs.Reading.{kind_of};
+ghost use Rattle.camac_text_cursor.specs.Parser.{state, Gives};
+ghost use Rattle.camac_text_statements.specs.Transfers.{last_bound, table_at, scanning, stopping, repeating, calling};
+ghost use Rattle.camac_text_statements.specs.Statements.{transfer_by};
+
+use crate::calls::crate_call;
+use camac_lang::{Expr, Stmt};
+use camac_text_cursor::Parser;
+use camac_text_phrases::{arguments, expression};
+use camac_text_tokens::{Keyword, TextFault, TokenKind};
+
+/// A transfer or a call, whichever keyword stands next.
+pub fn transfer(parser: &mut Parser<'_>, room: u32, line: u32) -> Result<Stmt, TextFault>
+    ensures { Gives statement_of result parser.new (transfer_by room line (kind_of parser.old.rest.now) (state parser.old)) }
+{
+    match parser.peek() {
+        Some(TokenKind::Keyword(Keyword::Cfmad)) => scan(parser, room, line),
+        Some(TokenKind::Keyword(Keyword::Cfubc)) => q_stop(parser, room, line),
+        Some(TokenKind::Keyword(Keyword::Cfubr)) => q_repeat(parser, room, line),
+        Some(TokenKind::Keyword(Keyword::Call)) => call(parser, room, line),
+        _ => crate_call(parser, room, line),
+    }
+}
+
+/// `cfmad`
+#[tactic(auto, unfolding(crate::specs::Transfers::scanning))]
+fn scan(parser: &mut Parser<'_>, room: u32, line: u32) -> Result<Stmt, TextFault>
+    ensures { Gives statement_of result parser.new (scanning room line (state parser.old)) }
+{
+    parser.begin()?;
+    let function = parser.function_number()?;
+    let first = parser.used_register()?;
+    let last = parser.used_register()?;
+    let (max, tally) = last_bound(parser, Keyword::Max, room)?;
+    Ok(Stmt::Scan {
+        line,
+        function,
+        first,
+        last,
+        max,
+        tally,
+    })
+}
+
+/// `cfubc`
+#[tactic(auto, unfolding(crate::specs::Transfers::stopping))]
+fn q_stop(parser: &mut Parser<'_>, room: u32, line: u32) -> Result<Stmt, TextFault>
+    ensures { Gives statement_of result parser.new (stopping room line (state parser.old)) }
+{
+    parser.begin()?;
+    let function = parser.function_number()?;
+    let register = parser.used_register()?;
+    let table = table(parser)?;
+    let (max, tally) = last_bound(parser, Keyword::Max, room)?;
+    Ok(Stmt::QStop {
+        line,
+        function,
+        register,
+        table,
+        max,
+        tally,
+    })
+}
+
+/// `cfubr`
+#[tactic(auto, unfolding(crate::specs::Transfers::repeating))]
+fn q_repeat(parser: &mut Parser<'_>, room: u32, line: u32) -> Result<Stmt, TextFault>
+    ensures { Gives statement_of result parser.new (repeating room line (state parser.old)) }
+{
+    parser.begin()?;
+    let function = parser.function_number()?;
+    let register = parser.used_register()?;
+    let table = table(parser)?;
+    parser.expect(Keyword::Max)?;
+    let max = expression(parser, room)?;
+    let (limit, tally) = last_bound(parser, Keyword::Limit, room)?;
+    Ok(Stmt::QRepeat {
+        line,
+        function,
+        register,
+        table,
+        max,
+        limit,
+        tally,
+    })
+}
+
+/// The table of a write, if one is named.
+#[tactic(auto, unfolding(crate::specs::Transfers::table_at))]
+fn table(parser: &mut Parser<'_>) -> Result<Option<usize>, TextFault>
+    ensures { Gives (λ t. t) result parser.new (table_at (state parser.old)) }
+{
+    match parser.peek() {
+        Some(TokenKind::Keyword(Keyword::Table)) => {
+            parser.advance();
+            let place = parser.used_table()?;
+            Ok(Some(place))
+        }
+        _ => Ok(None),
+    }
+}
+
+/// The last bound of a transfer behind its word, and the tally.
+#[tactic(auto, unfolding(crate::specs::Transfers::last_bound))]
+fn last_bound(
+    parser: &mut Parser<'_>,
+    behind: Keyword,
+    room: u32,
+) -> Result<(Expr, usize), TextFault>
+    ensures { Gives (λ p. (expression_of p.0, p.1)) result parser.new (last_bound behind room (state parser.old)) }
+{
+    parser.expect(behind)?;
+    let bound = expression(parser, room)?;
+    parser.expect(Keyword::Tally)?;
+    let tally = parser.used_variable()?;
+    Ok((bound, tally))
+}
+
+/// `call`
+#[tactic(auto, unfolding(crate::specs::Transfers::calling))]
+fn call(parser: &mut Parser<'_>, room: u32, line: u32) -> Result<Stmt, TextFault>
+    ensures { Gives statement_of result parser.new (calling room line (state parser.old)) }
+{
+    parser.begin()?;
+    let procedure = parser.procedure_here()?;
+    let wanted = parser.called(room, procedure)?;
+    let arguments = arguments(parser, room, wanted)?;
+    Ok(Stmt::Call {
+        line,
+        procedure,
+        arguments,
+    })
+}

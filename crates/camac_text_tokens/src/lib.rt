@@ -1,0 +1,12 @@
+//! Cuts the text of a script into tokens.
+#![tactic(auto)]
+
+mod fault;
+mod scanner;
+mod signs;
+mod token;
+mod words;
+
+pub use fault::{TextFault, TextRule};
+pub use scanner::{last_line, tokens};
+pub use token::{Keyword, Sign, Token, TokenKind};

@@ -1,0 +1,111 @@
+-- Texts one after another over two writers.
+use Rattle.std.proofs.Common.{◌≡◌, ℕ, ◌<◌, List, [], ◌∷◌, ◌++◌, length, Option, Some, None, refl, sym, ap, subst, ◌∙◌, append_assoc, append-nil, length-append, arith}
+use Rattle.std.specs.Prelude.{Result, Ok, Err}
+use Rattle.std.specs.Result.{IsErr}
+use Rattle.std.specs.Io.KnownBytes.{Appends}
+use Rattle.std.proofs.KnownBytes.{Appends-trans}
+use Rattle.camac_word.specs.Writing.{AppendsFront, Writes}
+use Rattle.camac_tool_play.specs.Sent.{Sent, listed, recorded, to_listing, to_events, listing_of, events_of, Held, held, Sends, SendsFront, SendsBy}
+
+pub listing_of-append : (a b : List Sent) → listing_of (a ++ b) ≡ listing_of a ++ listing_of b
+listing_of-append [] b = refl
+listing_of-append (listed x ∷ a) b = ap (λ (l : List ℕ). x ∷ l) (listing_of-append a b)
+listing_of-append (recorded x ∷ a) b = listing_of-append a b
+
+pub events_of-append : (a b : List Sent) → events_of (a ++ b) ≡ events_of a ++ events_of b
+events_of-append [] b = refl
+events_of-append (listed x ∷ a) b = events_of-append a b
+events_of-append (recorded x ∷ a) b = ap (λ (l : List ℕ). x ∷ l) (events_of-append a b)
+
+listing_listed : (t : List ℕ) → listing_of (to_listing t) ≡ t
+listing_listed [] = refl
+listing_listed (b ∷ t) = ap (λ (l : List ℕ). b ∷ l) (listing_listed t)
+
+pub events_listed : (t : List ℕ) → events_of (to_listing t) ≡ []
+events_listed [] = refl
+events_listed (b ∷ t) = events_listed t
+
+listing_recorded : (t : List ℕ) → listing_of (to_events t) ≡ []
+listing_recorded [] = refl
+listing_recorded (b ∷ t) = listing_recorded t
+
+pub events_recorded : (t : List ℕ) → events_of (to_events t) ≡ t
+events_recorded [] = refl
+events_recorded (b ∷ t) = ap (λ (l : List ℕ). b ∷ l) (events_recorded t)
+
+pub to_listing-append : (a b : List ℕ) → to_listing (a ++ b) ≡ to_listing a ++ to_listing b
+to_listing-append [] b = refl
+to_listing-append (x ∷ a) b = ap (λ (l : List Sent). listed x ∷ l) (to_listing-append a b)
+
+to_events-append : (a b : List ℕ) → to_events (a ++ b) ≡ to_events a ++ to_events b
+to_events-append [] b = refl
+to_events-append (x ∷ a) b = ap (λ (l : List Sent). recorded x ∷ l) (to_events-append a b)
+
+some_listed : (t : List ℕ) → 0 < length t → 0 < length (to_listing t)
+some_listed [] h = absurd (omega (arith, h))
+some_listed (x ∷ t) h = omega arith
+
+some_recorded : (t : List ℕ) → 0 < length t → 0 < length (to_events t)
+some_recorded [] h = absurd (omega (arith, h))
+some_recorded (x ∷ t) h = omega arith
+
+stays : (a : Option (List ℕ)) (t : List ℕ) → t ≡ [] → Appends a a t
+stays None t e = tt
+stays (Some xs) t e = sym (ap (λ (l : List ℕ). xs ++ l) e ∙ append-nil xs)
+
+pub sends_nothing : (a : Held) → Sends a a []
+sends_nothing a = record { listing = stays a.listing [] refl; events = stays a.events [] refl }
+
+pub sends_listing : (l m e : Option (List ℕ)) (t : List ℕ) → Appends l m t → Sends (held l e) (held m e) (to_listing t)
+sends_listing l m e t p = record {
+  listing = subst (λ (x : List ℕ). Appends l m x) (sym (listing_listed t)) p;
+  events = stays e (events_of (to_listing t)) (events_listed t);
+}
+
+pub sends_events : (l e f : Option (List ℕ)) (t : List ℕ) → Appends e f t → Sends (held l e) (held l f) (to_events t)
+sends_events l e f t p = record {
+  listing = stays l (listing_of (to_events t)) (listing_recorded t);
+  events = subst (λ (x : List ℕ). Appends e f x) (sym (events_recorded t)) p;
+}
+
+pub front_listing : (l m e : Option (List ℕ)) (t : List ℕ) → AppendsFront l m t → SendsFront (held l e) (held m e) (to_listing t)
+front_listing l m e t (front, rest, split, some, p) =
+    (to_listing front, to_listing rest, ap to_listing split ∙ to_listing-append front rest, some_listed rest some, sends_listing l m e front p)
+
+pub front_events : (l e f : Option (List ℕ)) (t : List ℕ) → AppendsFront e f t → SendsFront (held l e) (held l f) (to_events t)
+front_events l e f t (front, rest, split, some, p) =
+    (to_events front, to_events rest, ap to_events split ∙ to_events-append front rest, some_recorded rest some, sends_events l e f front p)
+
+pub Sends-trans : (a b c : Held) (x y : List Sent) → Sends a b x → Sends b c y → Sends a c (x ++ y)
+Sends-trans a b c x y p q = record {
+  listing = subst (λ (l : List ℕ). Appends a.listing c.listing l) (sym (listing_of-append x y)) (Appends-trans a.listing b.listing c.listing (listing_of x) (listing_of y) p.listing q.listing);
+  events = subst (λ (l : List ℕ). Appends a.events c.events l) (sym (events_of-append x y)) (Appends-trans a.events b.events c.events (events_of x) (events_of y) p.events q.events);
+}
+
+-- a front of the first text
+pub SendsFront-longer : (a c : Held) (x y : List Sent) → SendsFront a c x → SendsFront a c (x ++ y)
+SendsFront-longer a c x y (front, rest, split, some, p) =
+    (front, rest ++ y, ap (λ (l : List Sent). l ++ y) split ∙ append_assoc front rest y, omega (arith, length-append rest y), p)
+
+-- a front of the second text
+pub SendsFront-after : (a b c : Held) (x y : List Sent) → Sends a b x → SendsFront b c y → SendsFront a c (x ++ y)
+SendsFront-after a b c x y p (front, rest, split, some, q) =
+    (x ++ front, rest, ap (λ (l : List Sent). x ++ l) split ∙ sym (append_assoc x front rest), some, Sends-trans a b c x front p q)
+
+-- the second text, as far as it went
+pub SendsBy-after : {T E : Type 0} (r : Result T E) (a b c : Held) (x y : List Sent) → Sends a b x → SendsBy b c r y → SendsBy a c r (x ++ y)
+SendsBy-after (Ok v) a b c x y p q = Sends-trans a b c x y p q
+SendsBy-after (Err e) a b c x y p q = SendsFront-after a b c x y p q
+
+pub SendsBy-at_err : {T E : Type 0} (r : Result T E) (a c : Held) (x : List Sent) → IsErr r → SendsFront a c x → SendsBy a c r x
+SendsBy-at_err (Ok v) a c x is front = cc
+SendsBy-at_err (Err e) a c x is front = front
+
+-- a text for one of the writers, as far as it went
+pub by_listing : {T E : Type 0} (r : Result T E) (l m e : Option (List ℕ)) (t : List ℕ) → Writes l m r t → SendsBy (held l e) (held m e) r (to_listing t)
+by_listing (Ok v) l m e t p = sends_listing l m e t p
+by_listing (Err x) l m e t p = front_listing l m e t p
+
+pub by_events : {T E : Type 0} (r : Result T E) (l e f : Option (List ℕ)) (t : List ℕ) → Writes e f r t → SendsBy (held l e) (held l f) r (to_events t)
+by_events (Ok v) l e f t p = sends_events l e f t p
+by_events (Err x) l e f t p = front_events l e f t p

@@ -1,0 +1,80 @@
+// A run, from the text of its answers to its listing and its event file.
+
+ghost use Rattle.std.specs.Prelude.{◌≡◌, ◌||◌, ◌<◌, ◌^◌, true, is_err, IfOk, IfErr};
+ghost use Rattle.camac_answer.specs.Answers.{left_in, left_of, stage_of, given_by, reader_failed};
+ghost use Rattle.camac_answer.specs.declared.answers.Stage.TheVariants.{Running};
+ghost use Rattle.camac_tool_play.specs.Headline.{PlayKeepsHeadline};
+ghost use Rattle.camac_tool_play.specs.Play.{Plays, is_read_fault, is_write_fault};
+ghost use Rattle.camac_tool_play.specs.Played.{ending_text};
+ghost use Rattle.camac_tool_play.specs.Sent.{held};
+ghost use Rattle.camac_tool_play.specs.declared.fault.PlayFault.TheVariants.{Write};
+ghost use Rattle.camac_word.specs.Watched.{inner_of, has_failed};
+ghost use Rattle.camac_word.specs.Writing.{Writes};
+
+use crate::ending::Ending;
+use crate::fault::PlayFault;
+use crate::feeding::feed;
+use crate::telling::close;
+use camac_answer::Answers;
+use camac_check::Checked;
+use camac_event::write_header;
+use camac_run::runs_by_headline;
+use camac_word::Watched;
+use std::alloc::Global;
+use std::io::{Read, Write};
+
+/// Runs a checked script on the answers of a text: the listing goes to `out`, the event file to `events`. What an answer did is written
+/// before the next one is asked for, and the last line of the listing at the end. A fault of the text counts only where the run needs
+/// that answer. After a write fault nothing more is written to either writer; after a read fault no last line is.
+pub fn play<R: Read, W: Write, E: Write>(
+    alloc: Global,
+    checked: &Checked,
+    answers: &mut Watched<R>,
+    out: &mut Watched<W>,
+    events: &mut Watched<E>,
+) -> Result<Ending, PlayFault>
+    ensures plays { Plays checked.now.plan checked.now.script (left_in Running 0 (R.remaining (inner_of answers.old)))
+        (held (W.contents (inner_of out.old)) (E.contents (inner_of events.old))) (held (W.contents (inner_of out.new)) (E.contents (inner_of events.new))) result }
+    ensures headline { PlayKeepsHeadline checked.now.plan checked.now.script checked.now.bounds (left_in Running 0 (R.remaining (inner_of answers.old)))
+        (E.contents (inner_of events.old)) (E.contents (inner_of events.new)) result }
+    ensures out_failed { (has_failed out.new || has_failed events.new) ≡ ((has_failed out.old || has_failed events.old) || is_write_fault result) }
+    ensures in_failed { has_failed answers.new ≡ (has_failed answers.old || is_read_fault result) }
+{
+    let mut answers = Answers::new(alloc, answers).unwrap();
+    play_on(checked, &mut answers, out, events)
+}
+
+// A run on answers of which none was taken yet.
+fn play_on<R: Read, W: Write, E: Write>(
+    checked: &Checked,
+    answers: &mut Answers<'_, R>,
+    out: &mut Watched<W>,
+    events: &mut Watched<E>,
+) -> Result<Ending, PlayFault>
+    requires running { stage_of answers.old ≡ Running }
+    requires given { given_by answers.old ≡ 0 }
+    ensures plays { Plays checked.now.plan checked.now.script (left_of R.remaining answers.old)
+        (held (W.contents (inner_of out.old)) (E.contents (inner_of events.old))) (held (W.contents (inner_of out.new)) (E.contents (inner_of events.new))) result }
+    ensures headline { PlayKeepsHeadline checked.now.plan checked.now.script checked.now.bounds (left_of R.remaining answers.old)
+        (E.contents (inner_of events.old)) (E.contents (inner_of events.new)) result }
+    ensures out_failed { (has_failed out.new || has_failed events.new) ≡ ((has_failed out.old || has_failed events.old) || is_write_fault result) }
+    ensures in_failed { reader_failed answers.new ≡ (reader_failed answers.old || is_read_fault result) }
+    ensures same_reader { answers.new.reader.ghost_name ≡ answers.old.reader.ghost_name }
+{
+    runs_by_headline(checked);
+    write_header(events)?;
+    let (ending, count) = feed(checked, answers, out, events)?;
+    finish(out, ending, count)
+}
+
+// The last line.
+fn finish<W: Write>(out: &mut Watched<W>, ending: Ending, count: u32) -> Result<Ending, PlayFault>
+    ensures value { IfOk result (λ e. e ≡ ending) }
+    ensures text { Writes (W.contents (inner_of out.old)) (W.contents (inner_of out.new)) result (ending_text ending count) }
+    ensures fault { IfErr result (λ f. f ≡ Write) }
+    ensures few { count < 2 ^ 32 }
+    ensures failed { has_failed out.new ≡ (has_failed out.old || is_err result) }
+{
+    close(out, &ending, count)?;
+    Ok(ending)
+}

@@ -1,0 +1,24 @@
+use Rattle.std.proofs.Common.{rules, map, string_bytes}
+use Rattle.std.proofs.lemmas.Result.{err_from_is_err_and}
+use Rattle.clap.specs.Words.{app_of}
+use Rattle.camac_tool_words.proofs.Faults.{of_memory, of_no_job, of_usage}
+use Rattle.camac_tool_words.proofs.words.read_words.Goals as goal
+
+pub returns-in_err-command-clause-fault : goal.returns-in_err-command-clause-fault
+returns-in_err-command-clause-fault c =
+    let p = err_from_is_err_and c.from_residual.result c.from_residual.ensures.1 in
+    rw p.1 (of_memory (map string_bytes c.args.words.now) _ p.2)
+
+pub returns-in_err-matches-clause-fault : goal.returns-in_err-matches-clause-fault
+returns-in_err-matches-clause-fault c =
+    let p = err_from_is_err_and c.from_residual-in_err-matches.result c.from_residual-in_err-matches.ensures.1 in
+    rw (p.1, p.2) (of_usage (app_of c.in_ok-command.command) _ c.in_err-matches.field-0.0 c.in_err-matches.ensures.passes (search rules))
+
+pub returns-in_err-error-clause-fault : goal.returns-in_err-error-clause-fault
+returns-in_err-error-clause-fault c =
+    let p = err_from_is_err_and c.from_residual-in_err-error.result c.from_residual-in_err-error.ensures.1 in
+    rw p.1 (of_memory (map string_bytes c.args.words.now) _ p.2)
+
+pub returns-in_default-clause-fault : goal.returns-in_default-clause-fault
+returns-in_default-clause-fault c =
+    of_no_job (app_of c.in_ok-command.command) _ c.in_ok-error.error _ (c.in_ok-matches.ensures.ok.2 (search rules)).1 (search rules) (search rules)

@@ -1,0 +1,82 @@
+-- The command line as `clap` is told of it, and the job that its matches name.
+use Rattle.std.specs.Prelude.{◌≡◌, ◌⊎◌, ◌<◌, ℕ, true, List, [], ◌∷◌, map, codes, count_by, Option, Some, None}
+use Rattle.std.specs.Str.{bytes_eq}
+use Rattle.clap.specs.Words.{App, Row, Rule, Text, first_of, kind_of, new_app, new_rule, subcommand_of, takes, with_rule, with_subcommand}
+use Rattle.clap.specs.declared.error.kind.ErrorKind.TheVariants as kind
+use Rattle.camac_tool_words.specs.declared.words.Job.{Job}
+use Rattle.camac_tool_words.specs.declared.words.Job.TheVariants.{Plan, Check, Run, Events}
+use Rattle.camac_tool_words.specs.declared.words.JobFault.{JobFault}
+use Rattle.camac_tool_words.specs.declared.words.JobFault.TheVariants.{Usage, InTwice}
+
+abbrev pub word_rule : Text → Rule
+word_rule name = record (new_rule name) { required = true }
+
+abbrev pub plan_app : App
+plan_app = with_rule (new_app (codes "plan")) (word_rule (codes "PLAN"))
+
+abbrev pub check_app : App
+check_app = with_rule (with_rule (new_app (codes "check")) (word_rule (codes "PLAN"))) (word_rule (codes "SCRIPT"))
+
+abbrev pub run_app : App
+run_app =
+    with_rule (with_rule (with_rule (with_rule (new_app (codes "run")) (word_rule (codes "PLAN"))) (word_rule (codes "SCRIPT"))) (word_rule (codes "ANSWERS"))) (word_rule (codes "EVENTS"))
+
+abbrev pub events_app : App
+events_app = with_rule (new_app (codes "events")) (word_rule (codes "FILE"))
+
+-- the program's name is not among the words, a subcommand has to be named, and `--version` tells the version
+abbrev pub camac_top : App
+camac_top =
+    record (new_app (codes "camac")) { top = record (new_app (codes "camac")).top { has_version = true; no_binary_name = true; subcommand_required = true } }
+
+abbrev pub camac_app : App
+camac_app = with_subcommand (with_subcommand (with_subcommand (with_subcommand camac_top plan_app.top) check_app.top) run_app.top) events_app.top
+
+abbrev pub name_of : Job → Text
+name_of (Plan plan) = codes "plan"
+name_of (Check plan script) = codes "check"
+name_of (Run plan script answers events) = codes "run"
+name_of (Events file) = codes "events"
+
+-- the names of a job's words, in order
+abbrev pub ids_of : Job → List Text
+ids_of (Plan plan) = codes "PLAN" ∷ []
+ids_of (Check plan script) = codes "PLAN" ∷ codes "SCRIPT" ∷ []
+ids_of (Run plan script answers events) = codes "PLAN" ∷ codes "SCRIPT" ∷ codes "ANSWERS" ∷ codes "EVENTS" ∷ []
+ids_of (Events file) = codes "FILE" ∷ []
+
+abbrev pub words_of : Job → List Text
+words_of (Plan plan) = plan.now ∷ []
+words_of (Check plan script) = plan.now ∷ script.now ∷ []
+words_of (Run plan script answers events) = plan.now ∷ script.now ∷ answers.now ∷ events.now ∷ []
+words_of (Events file) = file.now ∷ []
+
+-- the words that name an input
+abbrev pub inputs_of : Job → List Text
+inputs_of (Plan plan) = plan.now ∷ []
+inputs_of (Check plan script) = plan.now ∷ script.now ∷ []
+inputs_of (Run plan script answers events) = plan.now ∷ script.now ∷ answers.now ∷ []
+inputs_of (Events file) = file.now ∷ []
+
+-- the job is the subcommand with the values that these matches hold, in order
+abbrev pub IsJob : Job → Option (Text × List Row) → Type 0
+IsJob job None = ⊥
+IsJob job (Some found) = (found.0 ≡ name_of job) × (map (λ id. first_of id found.1) (ids_of job) ≡ map (λ word. Some word) (words_of job))
+
+-- how many inputs are standard input
+abbrev pub input_count_of : Job → ℕ
+input_count_of job = count_by (λ word. bytes_eq word (codes "@in")) (inputs_of job)
+
+-- no job is the subcommand with the values of these matches
+abbrev pub NamesNoJob : Option (Text × List Row) → Type 0
+NamesNoJob found = (job : Job) → IsJob job found → ⊥
+
+abbrev pub IsOfMemory : JobFault → Type 0
+IsOfMemory (Usage e) = kind_of e ≡ kind.OutOfMemory
+IsOfMemory InTwice = ⊥
+
+-- Standard input is named twice among the inputs of the job that the words name; or `clap` does not take the words, or memory ran out, or
+-- its matches name no job.
+abbrev pub IsFaultOf : List Text → JobFault → Type 0
+IsFaultOf words InTwice = (job : Job) × IsJob job (subcommand_of camac_app words) × (1 < input_count_of job)
+IsFaultOf words (Usage e) = (takes camac_app words ≡ true → kind_of e ≡ kind.OutOfMemory) ⊎ NamesNoJob (subcommand_of camac_app words)

@@ -1,0 +1,86 @@
+// The command line as `clap` is told of it.
+
+ghost use Rattle.std.specs.Prelude.{◌≡◌, IfOk, false};
+ghost use Rattle.clap.specs.Words.{app_of, new_app, rule_of};
+ghost use Rattle.clap.specs.declared.builder.command.Command.TheViews.{out-Command};
+ghost use Rattle.camac_tool_words.specs.Words.{word_rule, plan_app, check_app, run_app, events_app, camac_top, camac_app};
+
+use crate::texts;
+use clap::{Arg, Command};
+use std::alloc::{AllocError, Global};
+
+/// The program's command line: four subcommands with their words, and what help says of each.
+pub fn camac_command<'a>(alloc: Global) -> Result<Command<'a>, AllocError>
+    ensures { IfOk result (λ c. app_of c ≡ camac_app) }
+{
+    top_command(alloc)?
+        .subcommand(plan_command(alloc)?)?
+        .subcommand(check_command(alloc)?)?
+        .subcommand(run_command(alloc)?)?
+        .subcommand(events_command(alloc)?)
+}
+
+// The program itself. Its name is not among the words, and has to be told for the lines on usage.
+fn top_command<'a>(alloc: Global) -> Result<Command<'a>, AllocError>
+    ensures { IfOk result (λ c. app_of c ≡ camac_top) }
+{
+    Command::new(alloc, "camac")
+        .about(texts::PROGRAM)
+        .after_help(texts::AFTER_PROGRAM)
+        .version(texts::VERSION)
+        .no_binary_name(true)
+        .subcommand_required(true)
+        .bin_name("camac")
+}
+
+// A word that has to be given, and what help says of it.
+fn word<'a>(alloc: Global, name: &'a str, help: &'a str) -> Arg<'a>
+    ensures rule { rule_of result ≡ word_rule name.entry.now }
+    ensures local { result.global ≡ false }
+{
+    Arg::new(alloc, name).required(true).help(help)
+}
+
+// A command without words, what help says of it, and the examples behind that.
+fn subcommand<'a>(alloc: Global, name: &'a str, about: &'a str, after: &'a str) -> Command<'a>
+    ensures app { app_of result ≡ new_app name.entry.now }
+    ensures local { (out-Command result).has_globals ≡ false }
+{
+    Command::new(alloc, name).about(about).after_help(after)
+}
+
+fn plan_command<'a>(alloc: Global) -> Result<Command<'a>, AllocError>
+    ensures app { IfOk result (λ c. app_of c ≡ plan_app) }
+    ensures local { IfOk result (λ c. (out-Command c).has_globals ≡ false) }
+{
+    let plan = subcommand(alloc, "plan", texts::PLAN_COMMAND, texts::AFTER_PLAN);
+    plan.arg(word(alloc, "PLAN", texts::PLAN))
+}
+
+fn check_command<'a>(alloc: Global) -> Result<Command<'a>, AllocError>
+    ensures app { IfOk result (λ c. app_of c ≡ check_app) }
+    ensures local { IfOk result (λ c. (out-Command c).has_globals ≡ false) }
+{
+    subcommand(alloc, "check", texts::CHECK_COMMAND, texts::AFTER_CHECK)
+        .arg(word(alloc, "PLAN", texts::PLAN))?
+        .arg(word(alloc, "SCRIPT", texts::SCRIPT))
+}
+
+fn run_command<'a>(alloc: Global) -> Result<Command<'a>, AllocError>
+    ensures app { IfOk result (λ c. app_of c ≡ run_app) }
+    ensures local { IfOk result (λ c. (out-Command c).has_globals ≡ false) }
+{
+    subcommand(alloc, "run", texts::RUN_COMMAND, texts::AFTER_RUN)
+        .arg(word(alloc, "PLAN", texts::PLAN))?
+        .arg(word(alloc, "SCRIPT", texts::SCRIPT))?
+        .arg(word(alloc, "ANSWERS", texts::ANSWERS))?
+        .arg(word(alloc, "EVENTS", texts::EVENTS))
+}
+
+fn events_command<'a>(alloc: Global) -> Result<Command<'a>, AllocError>
+    ensures app { IfOk result (λ c. app_of c ≡ events_app) }
+    ensures local { IfOk result (λ c. (out-Command c).has_globals ≡ false) }
+{
+    let events = subcommand(alloc, "events", texts::EVENTS_COMMAND, texts::AFTER_EVENTS);
+    events.arg(word(alloc, "FILE", texts::FILE))
+}

@@ -1,0 +1,80 @@
+// What help says. Nothing is proved of these texts: tests/program_test.py compares the program's help with its pages.
+
+/// The version of the program, as `camac --version` tells it.
+pub const VERSION: &str = "0.2.0";
+
+pub const PROGRAM: &str = "Checks and runs CAMAC readout scripts";
+
+pub const PLAN_COMMAND: &str = "Lists what a plan says";
+
+pub const CHECK_COMMAND: &str =
+    "Accepts a script with its bounds, or refuses it with a rule and a line";
+
+pub const RUN_COMMAND: &str =
+    "Plays an accepted script against a list of answers, and writes its events";
+
+pub const EVENTS_COMMAND: &str = "Lists an event file";
+
+pub const PLAN: &str = "A plan: a TOML file, or @sample, the built-in plan, or @in, standard input";
+
+pub const SCRIPT: &str = "A script: a file, or @in, standard input";
+
+pub const ANSWERS: &str =
+    "Answers, a line for each operation (see below): a file, or @in, standard input";
+
+pub const EVENTS: &str = "The event file to write: created anew, emptied before anything is read";
+
+pub const FILE: &str = "An event file, at most 16777216 bytes: a file, or @in, standard input";
+
+pub const AFTER_PROGRAM: &str =
+    "Status: 0 accepted, or done; 1 refused; 2 usage; 3 a file or memory failed.
+
+Examples:
+  camac plan plan.toml
+  camac check plan.toml readout.script
+  camac check @sample @in < readout.script
+  camac run plan.toml readout.script answers.txt run.events
+  camac events run.events
+
+'camac help run' tells the form of answers.";
+
+pub const AFTER_PLAN: &str =
+    "Prints the buffer, the module types, the crates and their stations, or the first fault.
+
+Examples:
+  camac plan plan.toml
+  camac plan @sample
+  camac plan @in < plan.toml";
+
+pub const AFTER_CHECK: &str =
+    "Prints 'accepted' and the bounds of each service (status 0), or 'refused' with
+the rule and the line (status 1). @in stands for one of the two at most.
+
+Examples:
+  camac check plan.toml readout.script
+  camac check @sample @in < readout.script";
+
+pub const AFTER_RUN: &str = "Each answer is a line of 19 bytes, 'x q word wait gl':
+  x     X of the reply, 0 or 1
+  q     Q of the reply, 0 or 1
+  word  the word that a read gives, six hexadecimal digits
+  wait  cycles of auxiliary controllers before ours, one hexadecimal digit
+  gl    the graded-L pattern of the crates, six hexadecimal digits
+A demand uses gl alone, a lock wait alone. A cycle of a module uses all but gl;
+one of a crate's controller uses wait, and gl where it reads or tests that.
+
+The run is simulated: nothing is sent to any hardware. Status 0 at the end of
+the answers; 1 where the script or an answer is refused, or a wait is not
+permitted. @in stands for one of the three inputs at most.
+
+Examples:
+  camac run plan.toml readout.script answers.txt run.events
+  camac run @sample readout.script @in run.events < answers.txt";
+
+pub const AFTER_EVENTS: &str =
+    "Prints a line for each event with its words in hexadecimal, and their number;
+or the first wrong field and its byte (status 1).
+
+Examples:
+  camac events run.events
+  camac events @in < run.events";

@@ -1,0 +1,155 @@
+// What the words after the program's name ask for.
+
+ghost use Rattle.std.specs.Prelude.{◌≡◌, ◌≤◌, ◌↔◌, IsTrue, option_map, map, string_bytes, codes, Some, IfOk, IfErr, IfSome, IfNone};
+ghost use Rattle.std.specs.Str.{bytes_eq};
+ghost use Rattle.clap.specs.Words.{first_of, found_of, rows_of, subcommand_of, subcommand_rows_of};
+ghost use Rattle.camac_tool_words.specs.declared.words.JobFault.TheVariants.{Usage};
+ghost use Rattle.camac_tool_words.specs.Words.{camac_app, IsJob, IsFaultOf, IsOfMemory, NamesNoJob, input_count_of};
+
+use crate::command::camac_command;
+use clap::error::ErrorKind;
+use clap::{ArgMatches, Error};
+use std::alloc::{AllocError, Global};
+
+/// What the program is asked to do, with its words.
+#[derive(Clone, Copy, Debug)]
+pub enum Job<'a> {
+    Plan(&'a str),
+    Check(&'a str, &'a str),
+    Run(&'a str, &'a str, &'a str, &'a str),
+    Events(&'a str),
+}
+
+/// Why the words name no job.
+#[derive(Drop)]
+pub enum JobFault {
+    /// `clap` refused them, or asks for its help to be shown.
+    Usage(Error),
+    /// Standard input is named for two inputs.
+    InTwice,
+}
+
+impl From<Error> for JobFault {
+    ghost from_gives = { λ error fault. fault ≡ Usage error };
+
+    fn from(error: Error) -> JobFault {
+        JobFault::Usage(error)
+    }
+}
+
+impl From<AllocError> for JobFault {
+    ghost from_gives = { λ _ fault. IsOfMemory fault };
+
+    fn from(error: AllocError) -> JobFault {
+        JobFault::Usage(Error::from(error))
+    }
+}
+
+/// The job that the words after the program's name ask for.
+pub fn read_words<'a>(alloc: Global, words: &'a [String]) -> Result<Job<'a>, JobFault>
+    // The subcommand and, in order, the values that the matches of the words hold.
+    ensures job { IfOk result (λ job. IsJob job (subcommand_of camac_app (map string_bytes words.now))) }
+    ensures inputs { IfOk result (λ job. input_count_of job ≤ 1) }
+    ensures fault { IfErr result (IsFaultOf (map string_bytes words.now)) }
+{
+    let mut command = camac_command(alloc)?;
+    let matches = command.try_get_matches_from_mut(words)?;
+    let Some(job) = job_of(&matches) else {
+        // Never, since each word is required.
+        let error = command.error(ErrorKind::MissingRequiredArgument, "a word is missing")?;
+        return Err(JobFault::Usage(error));
+    };
+    if input_count(&job) > 1 {
+        return Err(JobFault::InTwice);
+    }
+    Ok(job)
+}
+
+// The value of a word.
+fn value_of<'a>(found: &ArgMatches<'a>, id: &str) -> Option<&'a str>
+    ensures { option_map (λ s. s.now) result ≡ first_of id.now (rows_of (found_of found.now)) }
+{
+    found.get_str(id)
+}
+
+fn plan_job<'a>(found: &ArgMatches<'a>) -> Option<Job<'a>>
+    ensures some { IfSome result (λ job. IsJob job (Some (codes "plan", rows_of (found_of found.now)))) }
+    ensures none { IfNone result (NamesNoJob (Some (codes "plan", rows_of (found_of found.now)))) }
+{
+    Some(Job::Plan(value_of(found, "PLAN")?))
+}
+
+fn check_job<'a>(found: &ArgMatches<'a>) -> Option<Job<'a>>
+    ensures some { IfSome result (λ job. IsJob job (Some (codes "check", rows_of (found_of found.now)))) }
+    ensures none { IfNone result (NamesNoJob (Some (codes "check", rows_of (found_of found.now)))) }
+{
+    Some(Job::Check(value_of(found, "PLAN")?, value_of(found, "SCRIPT")?))
+}
+
+fn run_job<'a>(found: &ArgMatches<'a>) -> Option<Job<'a>>
+    ensures some { IfSome result (λ job. IsJob job (Some (codes "run", rows_of (found_of found.now)))) }
+    ensures none { IfNone result (NamesNoJob (Some (codes "run", rows_of (found_of found.now)))) }
+{
+    let plan = value_of(found, "PLAN")?;
+    let script = value_of(found, "SCRIPT")?;
+    let answers = value_of(found, "ANSWERS")?;
+    Some(Job::Run(plan, script, answers, value_of(found, "EVENTS")?))
+}
+
+fn events_job<'a>(found: &ArgMatches<'a>) -> Option<Job<'a>>
+    ensures some { IfSome result (λ job. IsJob job (Some (codes "events", rows_of (found_of found.now)))) }
+    ensures none { IfNone result (NamesNoJob (Some (codes "events", rows_of (found_of found.now)))) }
+{
+    Some(Job::Events(value_of(found, "FILE")?))
+}
+
+fn is_word(word: &str, text: &str) -> bool
+    ensures { IsTrue result ↔ (word.now ≡ text.now) }
+{
+    word == text
+}
+
+// The job of a subcommand with its matches.
+fn job_in<'a>(name: &str, found: &ArgMatches<'a>) -> Option<Job<'a>>
+    ensures some { IfSome result (λ job. IsJob job (Some (name.now, rows_of (found_of found.now)))) }
+    ensures none { IfNone result (NamesNoJob (Some (name.now, rows_of (found_of found.now)))) }
+{
+    if is_word(name, "plan") {
+        plan_job(found)
+    } else if is_word(name, "check") {
+        check_job(found)
+    } else if is_word(name, "run") {
+        run_job(found)
+    } else if is_word(name, "events") {
+        events_job(found)
+    } else {
+        None
+    }
+}
+
+fn job_of<'a>(matches: &ArgMatches<'a>) -> Option<Job<'a>>
+    ensures some { IfSome result (λ job. IsJob job (subcommand_rows_of matches.now)) }
+    ensures none { IfNone result (NamesNoJob (subcommand_rows_of matches.now)) }
+{
+    let (name, found) = matches.subcommand()?;
+    job_in(name, found)
+}
+
+fn is_standard_input(word: &str) -> bool
+    ensures { result ≡ bytes_eq word.now (codes "@in") }
+{
+    word == "@in"
+}
+
+// How many inputs are standard input.
+fn input_count(job: &Job<'_>) -> usize
+    ensures { result ≡ input_count_of job.now }
+{
+    let is_in = |word: &str| usize::from(is_standard_input(word));
+    match *job {
+        Job::Plan(plan) => is_in(plan),
+        Job::Check(plan, script) => is_in(plan) + is_in(script),
+        Job::Run(plan, script, answers, _) => is_in(plan) + is_in(script) + is_in(answers),
+        Job::Events(file) => is_in(file),
+    }
+}

@@ -1,0 +1,2 @@
+" Scripts of camac.
+autocmd BufRead,BufNewFile *.script,*.camac setfiletype camac

@@ -1,0 +1,371 @@
+#!/usr/bin/env python3
+"""Tries the launcher ./camac and ./install as a new user does, in a copy of the repository.
+
+usage: tests/launcher_test.py [-v] [TEST ..]     from any folder
+
+It needs the kit's command rt. It builds the program once and tries to build a broken one, and takes two to three minutes on four cores.
+"""
+import hashlib
+import os
+import pathlib
+import select
+import shutil
+import signal
+import subprocess
+import tempfile
+import time
+import unittest
+
+TOP = pathlib.Path(__file__).resolve().parent.parent
+TAKEN = ("camac", "install", "crates.txt", "crates", "tools", "man", "completions", "editors", "include", "python", "examples", "docs", "tests", "CHANGELOG.md")
+VERDICT = "accepted\nservice adc gl 3 cycles 3 of 3 words 1 of 1 steps 3\n"
+NOT_PROVED = "It is not proved; to prove it (about an hour) and keep that: cd crates/camac && rt run\n"
+NEEDED = "bash env readlink find sort stat xargs sha256sum mkdir mv rm cat".split()
+ROOM = None
+COPY = None
+
+
+def setUpModule():
+    """Copies the repository, and builds its program by two calls at once."""
+    global ROOM, COPY
+    ROOM = tempfile.TemporaryDirectory(prefix="camac-launcher-")
+    COPY = pathlib.Path(ROOM.name) / "a copy"
+    COPY.mkdir()
+    for name in TAKEN:
+        if (TOP / name).is_dir():
+            shutil.copytree(TOP / name, COPY / name, ignore=shutil.ignore_patterns("out", "__pycache__"))
+        elif (TOP / name).exists():
+            shutil.copy2(TOP / name, COPY / name)
+
+
+def tearDownModule():
+    ROOM.cleanup()
+
+
+def start(*words, **how):
+    how = {"stdin": subprocess.PIPE, "stdout": subprocess.PIPE, "stderr": subprocess.PIPE, "text": True, "cwd": "/", **how}
+    return subprocess.Popen([str(it) for it in words], **how)
+
+
+def call(*words, given="", **how):
+    """Status, standard output and standard error."""
+    ran = start(*words, **how)
+    out, err = ran.communicate(given)
+    return ran.returncode, out, err
+
+
+def kept():
+    """The programs that are kept."""
+    return sorted((COPY / "out").glob("camac.*"))
+
+
+class Launcher(unittest.TestCase):
+    """In the order of the names of the tests: the first ones build."""
+
+    launcher = property(lambda self: COPY / "camac")
+    script = property(lambda self: (COPY / "examples/straight_line.script").read_text())
+
+    def folder(self):
+        made = tempfile.TemporaryDirectory(prefix="camac-launcher-")
+        self.addCleanup(made.cleanup)
+        return pathlib.Path(made.name)
+
+    def without_toolchain(self):
+        """An environment in whose PATH is what the launcher uses, but not rt."""
+        folder = self.folder()
+        for name in NEEDED:
+            (folder / name).symlink_to(shutil.which(name))
+        return {**os.environ, "PATH": str(folder)}
+
+    def test_1_stopped_build_leaves_nothing(self):
+        room = self.folder()
+        ran = start(self.launcher, "--version", start_new_session=True, env={**os.environ, "TMPDIR": str(room)})
+        said = ""
+        while "reading the sources" not in said and ran.poll() is None:
+            said = ran.stderr.readline()
+        time.sleep(3)
+        os.killpg(ran.pid, signal.SIGINT)
+        self.assertEqual(ran.communicate()[0], "")
+        self.assertEqual(ran.returncode, 130)
+        self.assertEqual(kept(), [])
+        self.assertEqual([*room.iterdir()], [])
+        self.assertEqual([it.name for it in (COPY / "out").iterdir()], ["lock"])
+
+    def test_2_two_first_calls_at_once(self):
+        began = time.monotonic()
+        both = [start(self.launcher, "check", "@sample", "@in") for _ in range(2)]
+        for it in both:
+            it.stdin.write(self.script)
+            it.stdin.close()
+        said = []
+        for it in both:
+            with it:
+                said.append((it.stdout.read(), it.stderr.read(), it.wait()))
+        print(f"\nthe first call took {time.monotonic() - began:.0f} s", flush=True)
+        self.assertEqual([(out, status) for out, _, status in said], [(VERDICT, 0)] * 2)
+        texts = sorted((err for _, err, _ in said), key=len)
+        self.assertEqual(texts[0], "camac: another call builds the program: waiting for it\n")
+        self.assertTrue(texts[1].startswith("camac: the program is built now, once, in about a minute\n"), texts[1])
+        self.assertTrue(texts[1].endswith(NOT_PROVED), texts[1])
+        self.assertEqual(len(kept()), 1)
+
+    def test_3_later_calls_are_fast_and_silent(self):
+        times = []
+        for _ in range(10):
+            began = time.monotonic()
+            self.assertEqual(call(self.launcher, "check", "@sample", "@in", given=self.script), (0, VERDICT, ""))
+            times.append(time.monotonic() - began)
+        print(f"\na later call took {min(times):.3f} to {max(times):.3f} s", flush=True)
+        self.assertLess(min(times), 0.1)
+
+    def test_4_links_folders_and_statuses(self):
+        folder = self.folder()
+        (folder / "bin").mkdir()
+        (folder / "bin/camac").symlink_to(os.path.relpath(self.launcher, folder / "bin"))
+        shutil.copy(COPY / "examples/straight_line.script", folder / "a script")
+        path = {**os.environ, "PATH": f"{folder}/bin:{os.environ['PATH']}"}
+        self.assertEqual(call("bash", "-c", "camac check @sample 'a script'", cwd=folder, env=path), (0, VERDICT, ""))
+        line = "camac check <(cat '{0}/examples/sample_plan.toml') <(cat 'a script')".format(COPY)
+        self.assertEqual(call("bash", "-c", line, cwd=folder, env=path), (0, VERDICT, ""))
+        self.assertEqual(call("camac", "check", "@sample", "@in", given="!", cwd=folder, env=path), (1, "refused S1 line 1: bad byte\n", ""))
+        self.assertEqual(call("camac", "check", "@in", "@in", cwd=folder, env=path), (2, "", "fault @in twice\n"))
+        self.assertEqual(call("camac", "plan", "none", cwd=folder, env=path), (3, "", "fault read\n"))
+
+    def test_5_program_by_the_launcher(self):
+        """All that is tried of the program holds of the launcher: closed streams, pipes, full devices, statuses."""
+        status, _, err = call(COPY / "tests/program_test.py", env={**os.environ, "CAMAC_PROGRAM": str(self.launcher)})
+        self.assertEqual(status, 0, err)
+
+    def test_5_live_input(self):
+        folder = self.folder()
+        ran = start(self.launcher, "run", "@sample", COPY / "examples/straight_line.script", "@in", folder / "e")
+        for answer, line in (("0 0 000000 0 000004", "demand 000004 adc"), ("1 1 123fff 2 000000", "cycle 1 5 0 0 in 123fff x1 q1 wait 2")):
+            ran.stdin.write(f"{answer}\n")
+            ran.stdin.flush()
+            self.assertTrue(select.select([ran.stdout], [], [], 10)[0], "no line before the next answer")
+            self.assertEqual(os.read(ran.stdout.fileno(), 1000).decode(), f"{line}\n")
+        self.assertEqual((*ran.communicate(), ran.returncode), ("ended events 1\n", "", 0))
+
+    def test_5_a_million_answers(self):
+        folder = self.folder()
+        line = f"yes '0 0 000000 0 000000' | head -n 1000000 | '{self.launcher}' run @sample '{COPY}/examples/straight_line.script' @in e"
+        status, out, err = call("bash", "-c", line, cwd=folder)
+        self.assertEqual((status, out.count("\n"), out.splitlines()[-1], err), (0, 1_000_001, "ended events 0", ""))
+
+    def test_6_texts_count_and_not_times(self):
+        for file in (COPY / "crates").glob("*/src/*.rt"):
+            os.utime(file)
+        self.assertEqual(call(self.launcher, "--version"), (0, "camac 0.2.0\n", ""))
+        (COPY / "crates/camac/src/.main.rt.swp").write_text("of an editor")
+        self.assertEqual(call(self.launcher, "--version"), (0, "camac 0.2.0\n", ""))
+        (COPY / "crates/camac/src/.main.rt.swp").unlink()
+        self.assertEqual(len(kept()), 1)
+
+    def test_6_without_the_toolchain(self):
+        bare = self.without_toolchain()
+        self.assertEqual(call(self.launcher, "--version", env=bare), (0, "camac 0.2.0\n", ""))
+        main = COPY / "crates/camac/src/main.rt"
+        text = main.read_text()
+        main.write_text(text + "// changed\n")
+        said = "camac: the toolchain's command rt is not here: README.md says what is needed\n"
+        self.assertEqual(call(self.launcher, "--version", env=bare), (3, "", said))
+        main.write_text(text)
+        self.assertEqual(call(self.launcher, "--version", env=bare), (0, "camac 0.2.0\n", ""))
+
+    def test_7_build_that_fails(self):
+        main = COPY / "crates/camac/src/main.rt"
+        text = main.read_text()
+        main.write_text(text + "fn broken(")
+        status, out, err = call(self.launcher, "--version")
+        main.write_text(text)
+        self.assertEqual((status, out), (3, ""))
+        self.assertIn("camac: there is no program: the sources could not be read:\n", err)
+        self.assertIn("main.rt", err)
+        self.assertEqual(len(kept()), 1)
+        self.assertEqual(call(self.launcher, "--version"), (0, "camac 0.2.0\n", ""))
+
+
+    def test_7_kit_that_is_otherwise(self):
+        folder = self.folder()
+        toolchain(folder, f"echo '{folder}/START-HERE.md'")
+        path = {**os.environ, "PATH": f"{folder}:{os.environ['PATH']}"}
+        said = f"camac: there is no program: this kit is another than the one that tools/quick_build knows: {folder}/bin/rt is not there\n"
+        status, out, err = call(self.launcher, "--version", env=path)
+        self.assertEqual((status, out, err.splitlines(True)[-1]), (3, "", said))
+
+
+def toolchain(folder, line):
+    """Makes a stand-in for the command rt, which does this line of sh."""
+    (folder / "rt").write_text(f"#!/bin/sh\n{line}\n")
+    (folder / "rt").chmod(0o755)
+
+
+class Proved(unittest.TestCase):
+    """When the launcher takes crates/camac/out/camac. The program and the stamp of its proof are stand-ins."""
+
+    launcher = property(lambda self: COPY / "camac")
+    program = property(lambda self: COPY / "crates/camac/out/camac")
+    stamp = property(lambda self: COPY / "crates/camac/out/camac.stamp")
+    source = property(lambda self: min((COPY / "crates").glob("*/src/lib.rt")))
+
+    def setUp(self):
+        self.program.parent.mkdir(exist_ok=True)
+        self.program.write_text("#!/bin/sh\necho proved\n")
+        self.program.chmod(0o755)
+        self.addCleanup(shutil.rmtree, self.program.parent)
+        (COPY / ".git").mkdir()
+        self.addCleanup(shutil.rmtree, COPY / ".git")
+        self.addCleanup(self.forget)
+        self.addCleanup(self.source.write_text, self.source.read_text())
+        # the sources are older than the second in which a stand-in is made
+        time.sleep(1.1)
+
+    def forget(self):
+        (COPY / "out/proved").unlink(missing_ok=True)
+
+    def write_stamp(self):
+        self.stamp.write_text("0" * 64 + hashlib.sha256(self.program.read_bytes()).hexdigest())
+
+    def taken(self):
+        """Whether the stand-in runs. Nothing is built in its place, since rt is not in PATH."""
+        return call(self.launcher, "--version", env=Launcher.without_toolchain(self))[:2] == (0, "proved\n")
+
+    folder = Launcher.folder
+
+    def test_stamp_of_run(self):
+        self.assertFalse(self.taken(), "no stamp")
+        self.write_stamp()
+        self.assertTrue(self.taken())
+        self.assertTrue(self.taken())
+
+    def test_stamp_of_another_program(self):
+        self.stamp.write_text("0" * 128)
+        self.assertFalse(self.taken())
+
+    def test_source_that_is_younger(self):
+        self.write_stamp()
+        self.source.touch()
+        self.assertFalse(self.taken(), "nobody knows what stood there before")
+
+    def test_texts_count_once_the_program_was_taken(self):
+        self.write_stamp()
+        self.assertTrue(self.taken())
+        text = self.source.read_text()
+        self.source.write_text(text + "// changed\n")
+        self.assertFalse(self.taken())
+        self.source.write_text(text)
+        self.assertTrue(self.taken())
+
+    def test_proof_that_changed(self):
+        self.write_stamp()
+        self.assertTrue(self.taken())
+        proof = min((COPY / "crates").glob("*/proofs/**/*.antt"))
+        text = proof.read_text()
+        self.addCleanup(proof.write_text, text)
+        proof.write_text(text + "-- changed\n")
+        self.assertFalse(self.taken())
+
+    def test_gate(self):
+        (COPY / ".git/rt-ci.lock").touch()
+        time.sleep(0.05)
+        self.program.touch()
+        self.assertTrue(self.taken())
+
+    def test_source_that_was_changed_while_the_gate_ran(self):
+        (COPY / ".git/rt-ci.lock").touch()
+        time.sleep(0.05)
+        self.source.touch()
+        time.sleep(0.05)
+        self.program.touch()
+        self.assertFalse(self.taken())
+
+
+class Install(unittest.TestCase):
+    folder = Launcher.folder
+
+    def test_install_call_and_remove(self):
+        place, elsewhere = self.folder() / "of a user", self.folder()
+        status, out, err = call(COPY / "install", place)
+        self.assertEqual((status, err), (0, ""))
+        lines = out.splitlines()
+        self.assertEqual(lines[-2:], ["install: camac 0.2.0, not proved: ./install --prove proves it", f"install: {place}/bin is not in PATH"])
+        wanted = "bin/camac share/man/man1/camac.1 share/bash-completion/completions/camac share/zsh/site-functions/_camac"
+        wanted += " share/fish/vendor_completions.d/camac.fish share/nvim/site/syntax/camac.vim share/vim/vimfiles/syntax/camac.vim"
+        wanted += " share/emacs/site-lisp/camac-mode.el share/camac/vscode/package.json"
+        for name in wanted.split():
+            self.assertTrue((place / name).is_file(), name)
+            self.assertIn(f"{place}/{name}", lines)
+        path = {"PATH": f"{place}/bin:/usr/bin:/bin"}
+        script = COPY / "examples/straight_line.script"
+        self.assertEqual(call("camac", "check", "@sample", script, cwd=elsewhere, env=path), (0, VERDICT, ""))
+        status, out, err = call(COPY / "install", place, env={**os.environ, "PATH": f"{place}/bin:{os.environ['PATH']}"})
+        self.assertEqual((status, out.splitlines()[-1].startswith("install: camac 0.2.0"), err), (0, True, ""))
+        self.assertEqual(call(COPY / "install", "--remove", place)[0], 0)
+        self.assertEqual([it for it in place.rglob("*") if it.is_file()], [])
+        self.assertEqual(call(COPY / "install", "--remove", place)[0], 1)
+
+    def test_prove(self):
+        folder, place = self.folder(), self.folder()
+        path = {**os.environ, "PATH": f"{folder}:{os.environ['PATH']}"}
+        toolchain(folder, "exit 1")
+        status, out, err = call(COPY / "install", "--prove", place, env=path)
+        self.assertEqual((status, out), (1, ""))
+        self.assertTrue(err.startswith("install: proves all that the program stands on: from nothing about an hour"), err)
+        self.assertTrue(err.endswith("install: the program is not proved\n"), err)
+        self.assertEqual([*place.iterdir()], [])
+        self.addCleanup(shutil.rmtree, COPY / "crates/camac/out")
+        self.addCleanup((COPY / "out/proved").unlink)
+        toolchain(folder, "mkdir -p out && printf '#!/bin/sh\\necho camac proved\\n' >out/camac && chmod 755 out/camac")
+        status, out, err = call(COPY / "install", "--prove", place, env=path)
+        self.assertEqual(status, 0, err)
+        self.assertIn("install: camac proved, proved\n", out)
+        self.assertEqual(call(place / "bin/camac")[1], "camac proved\n")
+
+    def test_home(self):
+        home = self.folder()
+        self.assertEqual(call(COPY / "install", env={**os.environ, "HOME": str(home)})[0], 0)
+        self.assertTrue(os.access(home / ".local/bin/camac", os.X_OK))
+
+    def test_what_an_earlier_version_put_there_goes(self):
+        place = self.folder()
+        call(COPY / "install", place)
+        (place / "share/old").write_text("")
+        with open(place / "share/camac/installed", "a", encoding="utf-8") as it:
+            it.write("share/old\n")
+        self.assertEqual(call(COPY / "install", place)[0], 0)
+        self.assertFalse((place / "share/old").exists())
+
+    def test_folders_of_headers_and_python(self):
+        (COPY / "include").mkdir(exist_ok=True)
+        (COPY / "include/a_header.h").write_text("")
+        self.addCleanup((COPY / "include/a_header.h").unlink)
+        (COPY / "python/camac").mkdir(parents=True, exist_ok=True)
+        (COPY / "python/camac/a_module.py").write_text("NUMBER = 7\n")
+        self.addCleanup((COPY / "python/camac/a_module.py").unlink)
+        place = self.folder()
+        out = call(COPY / "install", place)[1]
+        self.assertIn(f"{place}/include/a_header.h\n", out)
+        self.assertEqual(len([*place.glob("lib/python3*/site-packages/camac/a_module.py")]), 1, out)
+
+    def test_words(self):
+        self.assertEqual(call(COPY / "install", "--help")[::2], (0, ""))
+        self.assertEqual(call(COPY / "install", "--frob")[:2], (2, ""))
+        self.assertEqual(call(COPY / "install", "a", "b")[:2], (2, ""))
+
+    def test_folder_that_cannot_be_written(self):
+        place = self.folder() / "file"
+        place.write_text("")
+        status, _, err = call(COPY / "install", place)
+        self.assertEqual(status, 1)
+        self.assertIn(f"install: {place}/bin/camac could not be written\n", err)
+
+
+def load_tests(loader, _tests, _pattern):
+    """The tests that build come first."""
+    return unittest.TestSuite(loader.loadTestsFromTestCase(it) for it in (Launcher, Proved, Install))
+
+
+if __name__ == "__main__":
+    if not shutil.which("rt"):
+        raise SystemExit("the toolchain's command rt is not here: README.md says what is needed")
+    unittest.main()

@@ -1,0 +1,383 @@
+#!/usr/bin/env python3
+"""Tries the built program as a user does: from folders, through pipes, with files that lack, and compares it with its pages.
+
+usage: tests/program_test.py [-v] [TEST ..]     from any folder; takes a few seconds
+
+The program is crates/camac/out/camac (cd crates/camac && rt run makes it), or what the environment variable CAMAC_PROGRAM names.
+"""
+import glob
+import json
+import os
+import pathlib
+import re
+import subprocess
+import sys
+import tempfile
+import time
+import unittest
+
+TOP = pathlib.Path(__file__).resolve().parent.parent
+PROGRAM = os.path.abspath(os.environ.get("CAMAC_PROGRAM") or TOP / "crates/camac/out/camac")
+STRAIGHT_LINE = b"""cdlam adc 1 1 5 12
+var v
+service adc within 3 cycles event 1 words {
+  cdreg r 1 1 5 0
+  cfsa 0 r -> v
+  put v
+}
+"""
+VERDICT = b"accepted\nservice adc gl 3 cycles 3 of 3 words 1 of 1 steps 3\n"
+DEMAND = b"0 0 000000 0 000004\n"
+ANSWERS = DEMAND + b"1 1 123fff 2 000000\n"
+LISTING = b"demand 000004 adc\ncycle 1 5 0 0 in 123fff x1 q1 wait 2\nended events 1\n"
+EVENT_FILE = bytes.fromhex("43414d4143455632 ca4d 0003 00000001 00000003 0000 0001 00000fff")
+EVENT_FILE_ONE = bytes.fromhex("43414d4143455631 ca4d 0003 00000001 0001 00000fff")
+WORDS = {"plan": ["PLAN"], "check": ["PLAN", "SCRIPT"], "run": ["PLAN", "SCRIPT", "ANSWERS", "EVENTS"], "events": ["FILE"]}
+READ, WRITE, TOO_LONG, TWICE = (f"fault {it}\n".encode() for it in ("read", "write", "input too long", "@in twice"))
+
+
+class Case(unittest.TestCase):
+    """A test in a folder of its own, which has the straight-line script, its answers and a plan."""
+
+    def setUp(self):
+        room = tempfile.TemporaryDirectory(prefix="camac-test-")
+        self.addCleanup(room.cleanup)
+        self.room = pathlib.Path(room.name)
+        (self.room / "straight.script").write_bytes(STRAIGHT_LINE)
+        (self.room / "answers").write_bytes(ANSWERS)
+        (self.room / "plan.toml").write_bytes((TOP / "examples/sample_plan.toml").read_bytes())
+
+    def call(self, *words, given=b"", **how):
+        """Status, standard output and standard error of the program on these words."""
+        how = {"stdout": subprocess.PIPE, "stderr": subprocess.PIPE, "cwd": self.room, "timeout": 60, **how}
+        ran = subprocess.run([PROGRAM, *words], input=given, **how)
+        return ran.returncode, ran.stdout, ran.stderr
+
+    def shell(self, line):
+        """The same of a line of bash, in which $camac is the program."""
+        how = {"stdin": subprocess.DEVNULL, "capture_output": True, "cwd": self.room, "timeout": 60}
+        ran = subprocess.run(["bash", "-c", line], env={**os.environ, "camac": PROGRAM}, **how)
+        return ran.returncode, ran.stdout, ran.stderr
+
+    def file(self, name):
+        return (self.room / name).read_bytes()
+
+
+class WorkedRow(Case):
+    """The straight-line script, byte for byte."""
+
+    def test_check(self):
+        self.assertEqual(self.call("check", "@sample", "@in", given=STRAIGHT_LINE), (0, VERDICT, b""))
+        self.assertEqual(self.call("check", "plan.toml", "straight.script"), (0, VERDICT, b""))
+        self.assertEqual(self.call("check", "--", "@sample", "straight.script"), (0, VERDICT, b""))
+
+    def test_run(self):
+        self.assertEqual(self.call("run", "@sample", "straight.script", "answers", "run.events"), (0, LISTING, b""))
+        self.assertEqual(self.file("run.events"), EVENT_FILE)
+        self.assertEqual(self.call("run", "plan.toml", "straight.script", "@in", "run.events", given=ANSWERS), (0, LISTING, b""))
+        self.assertEqual(self.file("run.events"), EVENT_FILE)
+
+    def test_events(self):
+        listed = b"event 1 gl 3 cycles 3 missed 0 words 1 000fff\nevents 1\n"
+        self.assertEqual(self.call("events", "@in", given=EVENT_FILE), (0, listed, b""))
+        listed = b"event 1 gl 3 words 1 000fff\nevents 1\n"
+        self.assertEqual(self.call("events", "@in", given=EVENT_FILE_ONE), (0, listed, b""))
+
+    def test_plan(self):
+        listed = b"buffer 4096\ntype ADC commands 20 probes 4\ntype REG commands 4 probes 0\n"
+        listed += b"crate 1 waits 2\nstation 5 ADC gl 3\nstation 6 REG gl -\n"
+        for words, given in ((["@sample"], b""), (["plan.toml"], b""), (["@in"], self.file("plan.toml"))):
+            self.assertEqual(self.call("plan", *words, given=given), (0, listed, b""), words)
+
+    def test_refusals(self):
+        script = STRAIGHT_LINE.replace(b"within 3", b"within 2")
+        refusal = b"refused E12 line 3: more cycles than annotated\n"
+        self.assertEqual(self.call("check", "@sample", "@in", given=script), (1, refusal, b""))
+        self.assertEqual(self.call("plan", "@in", given=b"=\n"), (1, b"refused P1: not TOML\n", b""))
+        self.assertEqual(self.call("events", "@in", given=EVENT_FILE[:7]), (1, b"refused V1 byte 0: header\n", b""))
+        given = DEMAND + b"1 1 fffffff 0 000000\n"
+        listed = b"demand 000004 adc\nrefused A1 line 2: line shape\n"
+        self.assertEqual(self.call("run", "@sample", "straight.script", "@in", "e", given=given), (1, listed, b""))
+        given = DEMAND + b"1 1 123fff 3 000000\n"
+        listed = b"demand 000004 adc\noverrun 1 wait 3 events 0\n"
+        self.assertEqual(self.call("run", "@sample", "straight.script", "@in", "e", given=given), (1, listed, b""))
+
+    def test_answers_run_out(self):
+        self.assertEqual(self.call("run", "@sample", "straight.script", "@in", "e"), (0, b"ended events 0\n", b""))
+        listed = b"demand 000004 adc\nshort events 0\n"
+        self.assertEqual(self.call("run", "@sample", "straight.script", "@in", "e", given=DEMAND), (0, listed, b""))
+        self.assertEqual(self.file("e"), b"CAMACEV2")
+
+
+class Usage(Case):
+    """Words that are not understood: status 2, a text on standard error, nothing on standard output."""
+
+    def test_words_that_clap_refuses(self):
+        tried = [[], ["chekc"], ["--frob"], ["plan"], ["check", "@sample"], ["run", "a", "b", "c"], ["events"]]
+        tried += [["plan", "a", "b"], ["events", "a", "b"], ["check", "a", "b", "c"], ["plan", "--frob"], ["plan", "--version"]]
+        for words in tried:
+            status, out, err = self.call(*words)
+            self.assertEqual((status, out), (2, b""), words)
+            self.assertIn(b"error: ", err, words)
+            self.assertIn(b"Usage: camac", err, words)
+
+    def test_standard_input_twice(self):
+        for line in ("check @in @in", "run @in @in a e", "run @in s @in e", "run @sample @in @in e"):
+            self.assertEqual(self.call(*line.split()), (2, b"", TWICE), line)
+            self.assertFalse((self.room / "e").exists())
+
+    def test_words_of_outputs_are_file_names(self):
+        self.assertEqual(self.call("run", "@sample", "straight.script", "@in", "@in", given=ANSWERS), (0, LISTING, b""))
+        self.assertEqual(self.file("@in"), EVENT_FILE)
+        self.assertEqual(self.call("check", "@sample", "@sample"), (3, b"", READ))
+        self.assertEqual(self.call("events", "@sample"), (3, b"", READ))
+
+    def test_arguments_that_are_no_text(self):
+        status, out, err = self.call(b"plan", b"\xff\xfe")
+        self.assertEqual((status, out), (2, b""))
+        self.assertEqual(err.count(b"\n"), 1)
+
+
+class Help(Case):
+    def help(self, *words):
+        status, out, err = self.call(*words)
+        self.assertEqual((status, err), (0, b""), words)
+        return out.decode()
+
+    def test_each_subcommand_and_its_words(self):
+        for name, words in WORDS.items():
+            text = self.help(name, "--help")
+            self.assertIn(f"Usage: camac {name} {' '.join(f'<{it}>' for it in words)}\n", text)
+            self.assertEqual(text, self.help("help", name))
+            self.assertEqual(text, self.help(name, "-h"))
+            for word in words:
+                self.assertRegex(text, rf"(?m)^  <{word}> +[A-Z][^\n]{{10}}", "a word without a text")
+            self.assertEqual("@sample" in text, "PLAN" in words)
+            self.assertIn("@in", text)
+            self.assertIn("Examples:\n", text)
+            self.assertIn(f"  camac {name} ", text.partition("Examples:")[2])
+
+    def test_what_help_says_of_answers_and_events(self):
+        text = self.help("run", "--help")
+        self.assertIn("'x q word wait gl'", text)
+        self.assertIn("one hexadecimal digit", text)
+        self.assertIn("six hexadecimal digits", text)
+        self.assertIn("emptied before anything is read", text)
+        self.assertIn("nothing is sent to any hardware", text)
+
+    def test_the_program(self):
+        text = self.help("--help")
+        self.assertEqual(text, self.help("-h"))
+        self.assertEqual(text, self.help("help"))
+        self.assertEqual([*subcommands(text)], [*WORDS, "help"])
+
+    def test_the_lines_are_not_long(self):
+        for words in ([], *[[it] for it in WORDS]):
+            for line in self.help(*words, "--help").splitlines():
+                self.assertLessEqual(len(line), 100, line)
+
+
+class Version(Case):
+    def test_the_version_is_one(self):
+        for word in ("--version", "-V"):
+            self.assertEqual(self.call(word), (0, b"camac 0.2.0\n", b""))
+
+    def test_pages_have_that_version(self):
+        version = self.call("--version")[1].decode().split()[1]
+        self.assertEqual(re.search(r"(?m)^## (\S+)", (TOP / "CHANGELOG.md").read_text())[1], version)
+        self.assertIn(f"\n.Os camac {version}\n", (TOP / "man/camac.1").read_text())
+        self.assertEqual(json.loads((TOP / "editors/vscode/package.json").read_text())["version"], version)
+        self.assertIn(f"\n;; Version: {version}\n", (TOP / "editors/emacs/camac-mode.el").read_text())
+
+
+class Files(Case):
+    """Files that lack, folders in their place, inputs that are too long."""
+
+    def test_inputs_that_lack(self):
+        for words in (["plan", "none"], ["check", "none", "straight.script"], ["check", "@sample", "none"], ["events", "none"]):
+            self.assertEqual(self.call(*words), (3, b"", READ), words)
+        for words in (["none", "straight.script", "answers"], ["@sample", "none", "answers"], ["@sample", "straight.script", "none"]):
+            self.assertEqual(self.call("run", *words, "e"), (3, b"", READ), words)
+            self.assertFalse((self.room / "e").exists(), words)
+
+    def test_events_that_cannot_be_made(self):
+        for name in ("none/e", ".", "straight.script/e"):
+            self.assertEqual(self.call("run", "@sample", "straight.script", "answers", name), (3, b"", WRITE), name)
+
+    def test_folders_as_inputs(self):
+        self.assertEqual(self.call("plan", "."), (3, b"", READ))
+        self.assertEqual(self.call("check", "@sample", "."), (3, b"", READ))
+        self.assertEqual(self.call("events", "."), (3, b"", READ))
+        self.assertEqual(self.call("run", "@sample", "straight.script", ".", "e"), (3, b"", READ))
+        self.assertEqual(self.file("e"), b"CAMACEV2")
+
+    def test_events_is_emptied_first(self):
+        (self.room / "e").write_bytes(b"of an earlier run")
+        self.assertEqual(self.call("run", "@sample", "@in", "answers", "e", given=b"!")[:2], (1, b"refused S1 line 1: bad byte\n"))
+        self.assertEqual(self.file("e"), b"")
+
+    def test_inputs_that_are_too_long(self):
+        text = b" " * 1_048_577
+        self.assertEqual(self.call("plan", "@in", given=text), (3, b"", TOO_LONG))
+        self.assertEqual(self.call("check", "@sample", "@in", given=text), (3, b"", TOO_LONG))
+        self.assertEqual(self.call("check", "@sample", "@in", given=text[1:]), (0, b"accepted\n", b""))
+        self.assertEqual(self.call("events", "@in", given=EVENT_FILE + bytes(16_777_217 - 28)), (3, b"", TOO_LONG))
+
+    def test_files_of_the_shell(self):
+        line = '"$camac" check <(cat plan.toml) <(cat straight.script)'
+        self.assertEqual(self.shell(line), (0, VERDICT, b""))
+        line = '"$camac" run <(cat plan.toml) <(cat straight.script) <(cat answers) e'
+        self.assertEqual(self.shell(line), (0, LISTING, b""))
+
+
+class Streams(Case):
+    """Streams that are closed or full, and pipes."""
+
+    def test_closed_streams(self):
+        self.assertEqual(self.shell('"$camac" check @sample @in <&-'), (3, b"", READ))
+        self.assertEqual(self.shell('"$camac" plan @sample >&-'), (3, b"", WRITE))
+        self.assertEqual(self.shell('"$camac" plan @in 2>&- <&-'), (3, b"", b""))
+        self.assertEqual(self.shell('"$camac" 2>&-'), (2, b"", b""))
+        self.assertEqual(self.shell('"$camac" plan @sample <&- >&- 2>&-'), (3, b"", b""))
+        self.assertEqual(self.shell('"$camac" check @sample straight.script <&-'), (0, VERDICT, b""))
+
+    def test_full_device(self):
+        for words in ("plan @sample", "check @sample straight.script", "events @in <<<x", "run @sample straight.script answers e"):
+            self.assertEqual(self.shell(f'"$camac" {words} >/dev/full'), (3, b"", WRITE), words)
+        self.assertEqual(self.file("e"), b"CAMACEV2")
+        self.assertEqual(self.call("run", "@sample", "straight.script", "answers", "/dev/full"), (3, b"", WRITE))
+
+    def test_reader_of_the_listing_is_gone(self):
+        run = '{ "$camac" run @sample straight.script @in e; echo $? >status; }'
+        line = f'yes "1 1 000001 0 000004" | head -n 100000 | {run} | head -n 1'
+        self.assertEqual(self.shell(line)[1:], (b"demand 000004 adc\n", WRITE))
+        self.assertEqual(self.file("status"), b"3\n")
+
+    def test_lines_come_before_the_next_answer(self):
+        words = [PROGRAM, "run", "@sample", "straight.script", "@in", "e"]
+        with subprocess.Popen(words, stdin=subprocess.PIPE, stdout=subprocess.PIPE, cwd=self.room) as ran:
+            for answer, line in zip(ANSWERS.splitlines(True), LISTING.splitlines(True)):
+                ran.stdin.write(answer)
+                ran.stdin.flush()
+                self.assertEqual(ran.stdout.readline(), line)
+            limit = time.monotonic() + 10
+            while self.file("e") != EVENT_FILE and time.monotonic() < limit:
+                time.sleep(0.01)
+            self.assertEqual(self.file("e"), EVENT_FILE)
+            ran.stdin.close()
+            self.assertEqual(ran.stdout.read(), b"ended events 1\n")
+        self.assertEqual(ran.returncode, 0)
+
+
+def subcommands(help_text):
+    """What help says of each command, by its name."""
+    part = help_text.partition("\nCommands:\n")[2].partition("\n\n")[0]
+    return dict(re.findall(r"(?m)^  (\w+) +(.*)$", part))
+
+
+def options(help_text):
+    """What help says of each option, by its names."""
+    part = help_text.partition("\nOptions:\n")[2].partition("\n\n")[0]
+    return {(short, long): said for short, long, said in re.findall(r"(?m)^  -(\w), --([\w-]+) +(.*)$", part)}
+
+
+def keywords():
+    """The words of the language, from the one table that has them."""
+    found = []
+    for file in glob.glob(str(TOP / "crates/*/src/words.rt")):
+        found += re.findall(r'b"(\w+)" => [A-Z]', pathlib.Path(file).read_text())
+    return found
+
+
+class Pages(Case):
+    """The manual page, the completions and the editors' files, compared with the program and with the language."""
+
+    def setUp(self):
+        super().setUp()
+        self.help = self.call("--help")[1].decode()
+
+    def test_manual_page(self):
+        page = (TOP / "man/camac.1").read_text()
+        plain = " ".join(page.split())
+        for name, said in subcommands(self.help).items():
+            if name != "help":
+                self.assertIn(f"\n.It Cm {name} " + " ".join(f"Ar {it}" for it in WORDS[name]) + "\n", page)
+                self.assertIn(f"\n.Cm {name}\n" + "".join(f".Ar {it}\n" for it in WORDS[name]), page)
+                self.assertIn(said, plain)
+        for short, long in options(self.help):
+            self.assertIn(f"\n.It Fl {short} , Fl -{long}\n", page)
+
+    def test_bash(self):
+        text = (TOP / "completions/camac.bash").read_text()
+        offered = [set(it.split()) for it in re.findall(r"offered='([^']*)'", text)]
+        names = {f"-{short}" for short, _ in options(self.help)} | {f"--{long}" for _, long in options(self.help)}
+        self.assertIn({*subcommands(self.help), *names}, offered)
+        self.assertIn({*subcommands(self.help)}, offered)
+        self.assertIn({"-h", "--help"}, offered)
+
+    def test_zsh(self):
+        text = (TOP / "completions/_camac").read_text()
+        self.assertEqual(dict(re.findall(r"(?m)^    '(\w+):(.*)'$", text)), subcommands(self.help))
+        said = dict(re.findall(r'(-[\w-]+)\\:"([^"]*)"', text))
+        self.assertEqual(said, {name: it for (short, long), it in options(self.help).items() for name in (f"-{short}", f"--{long}")})
+        for name, words in WORDS.items():
+            line = re.search(rf"(?m)^    {name}\) _arguments (.*);;$", text)[1]
+            self.assertEqual(re.findall(r"':([A-Z]+):", line), words)
+
+    def test_fish(self):
+        text = (TOP / "completions/camac.fish").read_text()
+        self.assertEqual(dict(re.findall(r"(?m)^complete -c camac -n __fish_use_subcommand -a (\w+) -d '(.*)'$", text)), subcommands(self.help))
+        found = {(short, long): said for short, long, said in re.findall(r"-s (\w) -l ([\w-]+) -d '(.*)'$", text, re.M)}
+        self.assertEqual(found, options(self.help))
+        self.assertIn("@sample", text)
+        self.assertIn("@in", text)
+
+    def test_words_of_the_language(self):
+        words = keywords()
+        self.assertEqual(len(words), 47)
+        vim = re.findall(r"(?m)^syntax keyword camac(?!Todo)\w+ (.*)$", (TOP / "editors/vim/syntax/camac.vim").read_text())
+        grammar = json.loads((TOP / "editors/vscode/syntaxes/camac.tmLanguage.json").read_text())
+        code = re.findall(r"\\b\(\?:([\w|]+)\)\\b", " ".join(it["match"] for it in grammar["patterns"]))
+        emacs = (TOP / "editors/emacs/camac-mode.el").read_text().partition("(defvar")[0]
+        page = re.search(r"as its name:\n\n((?:    .*\n)+)", (TOP / "docs/LANGUAGE.md").read_text())[1]
+        self.assertEqual(sorted(" ".join(vim).split()), sorted(words))
+        self.assertEqual(sorted("|".join(code).split("|")), sorted(words))
+        self.assertEqual(sorted(re.findall(r'"(\w+)"', "".join(re.findall(r"'\(([^)]*)\)", emacs)))), sorted(words))
+        self.assertEqual(page.split(), words)
+
+
+class RunningPage(Case):
+    """What docs/RUNNING.md shows."""
+
+    page = (TOP / "docs/RUNNING.md").read_text()
+
+    def test_reader_of_event_files(self):
+        (self.room / "reader.py").write_text(re.search(r"```python\n(.*?)```", self.page, re.S)[1])
+        self.call("run", "@sample", "straight.script", "answers", "two.events")
+        (self.room / "one.events").write_bytes(EVENT_FILE_ONE)
+        (self.room / "none.events").write_bytes(b"CAMACEV2")
+        for name, wanted in (("two", "1 3 [3, 0] 000fff\n"), ("one", "1 3 [] 000fff\n"), ("none", "")):
+            ran = subprocess.run([sys.executable, "reader.py", f"{name}.events"], cwd=self.room, capture_output=True, text=True)
+            self.assertEqual((ran.returncode, ran.stdout), (0, wanted), ran.stderr)
+
+    def test_one_answer_for_every_operation(self):
+        answer = re.search(r"`(\d \d [0-9a-f]{6} \d [0-9a-f]{6})` calls the service", self.page)[1]
+        given = f"{answer}\n".encode() * 20
+        status, out, _ = self.call("run", "@sample", "straight.script", "@in", "e", given=given)
+        self.assertEqual((status, out.splitlines()[-1]), (0, b"ended events 10"))
+
+    def test_initialise(self):
+        first, second = re.findall(r"```camac accepted\n(.*?)```", self.page, re.S)
+        listed = re.search(r"((?:    (?:demand|cycle) .*\n)+)", self.page)[1].replace("    ", "")
+        given = b"1 1 000001 0 000004\n" * 4
+        (self.room / "first").write_text(first)
+        (self.room / "second").write_text(second)
+        self.assertEqual(self.call("run", "@sample", "first", "@in", "e", given=given)[1].decode(), f"{listed}ended events 1\n")
+        lines = self.call("run", "@sample", "second", "@in", "e", given=given * 2)[1].splitlines()
+        self.assertEqual(lines[4], b"demand 000004 adc")
+
+
+if __name__ == "__main__":
+    if not os.access(PROGRAM, os.X_OK):
+        sys.exit(f"{PROGRAM} is not there: cd crates/camac && rt run makes it, or CAMAC_PROGRAM names another")
+    unittest.main()
