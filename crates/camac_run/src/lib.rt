@@ -5,8 +5,7 @@ mod items;
 mod laws;
 mod log;
 
+pub use camac_run_machine::{End, Item, Progress, Runner};
 pub use items::Items;
 pub use laws::runs_by_headline;
 pub use log::{Log, run};
-
-pub use camac_run_machine::{End, Item, Progress, Runner};
