@@ -32,7 +32,7 @@ abbrev pub is_read_failure : {T : Type 0} → Result T AnswerFault → Bool
 is_read_failure (Err Read) = true
 is_read_failure r = false
 
--- want of memory, which no call but `new` answers
+-- out of memory, which no call but `new` answers
 abbrev pub is_memory_failure : {T : Type 0} → Result T AnswerFault → Bool
 is_memory_failure (Err OutOfMemory) = true
 is_memory_failure r = false

@@ -13,7 +13,7 @@ pub enum AnswerRule {
     TooMany,
 }
 
-/// The first rule that is broken, at its line from 1; or A3, a read fault; or A5, want of memory.
+/// The first rule that is broken, at its line from 1; or A3, a read fault; or A5, out of memory.
 #[derive(Clone, Copy, Debug, PartialEq, Eq, Error)]
 pub enum AnswerFault {
     #[error("memory")]

@@ -103,7 +103,7 @@ fn fall_in(measure: usize, statement: &Stmt) -> Option<u32>
     }
 }
 
-// The number that stands behind the measure and a minus, brackets aside.
+// The number that stands after the measure and a minus, brackets aside.
 fn fall_by(measure: usize, value: &Expr) -> Option<u32>
     ensures value { result ≡ fall_by measure (expression_of value.now) }
     ensures positive { IfSome result (λ k. 1 ≤ k) }

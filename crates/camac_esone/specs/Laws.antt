@@ -18,7 +18,7 @@ pub record IsDrivenSoFar (wanted : Wanted) (cycles : List Cycle) : Type 0 where
   pub driven : IsDriven wanted cycles
   pub goes_on : IsSome (wanted (replies cycles))
 
--- Driven to the end means such a list; driven so far means the front of one.
+-- Driven to the end means such a list; driven so far means a prefix of one.
 pub record GivesExactly (wanted : Wanted) (IsList : List Cycle → Type 0) : Type 0 where
   pub whole : (cycles : List Cycle) → IsList cycles ↔ IsDrivenToEnd wanted cycles
   pub cut : (cycles : List Cycle) → IsCut IsList cycles ↔ IsDrivenSoFar wanted cycles

@@ -36,7 +36,7 @@ pub record IsShortest (max : ℕ) (cycles : List Cycle) : Type 0 where
   pub reached : tally (replies cycles) ≡ max
   pub before : EachCycle (λ before c. tally (replies before) < max) cycles
 
--- a list of which no part from the front has this many replies of Q=1
+-- a list of which no prefix has this many replies of Q=1
 pub record IsTooFew (max : ℕ) (cycles : List Cycle) : Type 0 where
   pub whole : tally (replies cycles) < max
   pub before : EachCycle (λ before c. tally (replies before) < max) cycles
@@ -61,7 +61,7 @@ pub record IsScanList (first last : Address) (max : ℕ) (cycles : List Cycle) :
   -- It cannot be continued.
   pub whole : (tally (replies cycles) ≡ max) ⊎ (is_by last (next_after first cycles) ≡ false)
 
--- A transfer that is cut short: a part from the front of such a list, but not the whole.
+-- A transfer that is cut short: a prefix of such a list, but not the whole.
 pub record IsCut (IsList : List Cycle → Type 0) (cycles : List Cycle) : Type 0 where
   pub next : Cycle
   pub rest : List Cycle

@@ -30,7 +30,7 @@ AddsCycle old q new =
     (wanted : Wanted) (cycles : List Cycle) (at : Address) → old.wanted [] ≡ Some at → StandsAt wanted old cycles
     → StandsAt wanted new (with_cycle cycles at q)
 
--- These cycles are such a list, where no further one is wanted; else with the next one they are a list or the front of one.
+-- These cycles are such a list, where no further one is wanted; else with the next one they are a list or a prefix of one.
 abbrev pub LeadsOn : (List Cycle → Type 0) → List Cycle → Option Address → Type 0
 LeadsOn IsList cycles None = IsList cycles
 LeadsOn IsList cycles (Some at) = (q : Bool) → IsList (with_cycle cycles at q) ⊎ IsCut IsList (with_cycle cycles at q)

@@ -3,17 +3,17 @@
 ghost use Rattle.camac_esone.specs.Laws.{StopTestGivesQStop, RepeatTestGivesQRepeat, ScanTestGivesScan, AnyRepliesDrive};
 ghost use Rattle.camac_esone.specs.Bounds.{StopIsBounded, RepeatIsBounded, ScanIsBounded, ScanIsWithinAddresses};
 
-/// The test of Q-stop for one more cycle gives exactly the lists of Q-stop, and cut short their fronts.
+/// The test of Q-stop for one more cycle gives exactly the lists of Q-stop, and cut short their prefixes.
 pub fn stop_test_gives_q_stop()
     ensures { StopTestGivesQStop }
 {}
 
-/// The test of Q-repeat for one more cycle gives exactly the lists of Q-repeat, and cut short their fronts.
+/// The test of Q-repeat for one more cycle gives exactly the lists of Q-repeat, and cut short their prefixes.
 pub fn repeat_test_gives_q_repeat()
     ensures { RepeatTestGivesQRepeat }
 {}
 
-/// The test of the scan for one more cycle gives exactly the lists of Scan, and cut short their fronts.
+/// The test of the scan for one more cycle gives exactly the lists of Scan, and cut short their prefixes.
 pub fn scan_test_gives_scan()
     ensures { ScanTestGivesScan }
 {}

@@ -27,7 +27,7 @@ pub enum EventRule {
     MissedAboveCycles,
 }
 
-/// The first rule that is broken, with the offset in bytes of its field's first byte; or V8, want of memory.
+/// The first rule that is broken, with the offset in bytes of its field's first byte; or V8, out of memory.
 #[derive(Clone, Copy, Debug, PartialEq, Eq, Error)]
 pub enum EventFault {
     #[error("memory")]

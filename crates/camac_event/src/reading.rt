@@ -13,7 +13,7 @@ use std::alloc::Global;
 
 /// The events that the bytes of a file spell. The first field that is wrong is answered with the offset of its first byte: V1 of the
 /// header; of each record V2 marker, V3 GL number, V4 event number, V9 missed in version Two, V5 count, V6 of each word; V7 where the
-/// bytes end inside the field. V8 is want of memory.
+/// bytes end inside the field. V8 is out of memory.
 pub fn decode(alloc: Global, bytes: &[u8]) -> Result<Events, EventFault>
     // What is read is spelled so.
     ensures found { IfOk result (λ e. AreEvents e.version e.events × (bytes.now ≡ spelling e.version e.events)) }

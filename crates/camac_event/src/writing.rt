@@ -16,7 +16,7 @@ use camac_word::{GlBit, Watched, Word24, WriteFault};
 use std::alloc::{AllocError, Global};
 use std::io::Write;
 
-/// The one spelling of the events, in their own version. An `Err` is want of memory.
+/// The one spelling of the events, in their own version. An `Err` is out of memory.
 pub fn encode(alloc: Global, events: &Events) -> Result<Vec<u8>, AllocError>
     ensures { IfOk result (λ v. v.items ≡ spelling events.now.version events.now.events) }
 {
@@ -26,7 +26,7 @@ pub fn encode(alloc: Global, events: &Events) -> Result<Vec<u8>, AllocError>
     Ok(out)
 }
 
-/// Writes the header of a file of version Two. After a fault a front of it was written.
+/// Writes the header of a file of version Two. After a fault a prefix of it was written.
 pub fn write_header<W: Write>(out: &mut Watched<W>) -> Result<(), WriteFault>
     ensures text { Writes (W.contents (inner_of out.old)) (W.contents (inner_of out.new)) result (header Two) }
     ensures failed { has_failed out.new ≡ (has_failed out.old || is_err result) }
@@ -34,7 +34,7 @@ pub fn write_header<W: Write>(out: &mut Watched<W>) -> Result<(), WriteFault>
     out.write_text(header_text(Version::Two))
 }
 
-/// Writes the record of an event of version Two, at most 4,096 words, under its number (1, 2, ..). After a fault a front of it was written.
+/// Writes the record of an event of version Two, at most 4,096 words, under its number (1, 2, ..). After a fault a prefix of it was written.
 pub fn write_record<W: Write>(
     out: &mut Watched<W>,
     number: u32,

@@ -49,7 +49,7 @@ BlocksCompose =
     (c : Context) (n : ℕ) (a b : Block) (s : State)
     → block_meaning c n (append_block a b) s ≡ then_do (block_meaning c n a s) (block_meaning c n b)
 
--- the same state with more answers behind those that are left
+-- the same state with more answers after those that are left
 abbrev pub longer : List Answer → State → State
 longer bs s = record s { answers = s.answers ++ bs }
 
@@ -187,7 +187,7 @@ ServicesUnlock =
     (plan : Layout) (script : Script) (n : ℕ) (v : Service) (b : Branch) (answers : List Answer)
     → EndsWith NoneLocked (service_meaning (context plan script) n v b answers)
 
--- the later state has counted at least what the earlier one has: steps, cycles, and words behind those that were there
+-- the later state has counted at least what the earlier one has: steps, cycles, and words after those that were there
 pub record HasGrown (before after : State) : Type 0 where
   pub steps : before.steps ≤ after.steps
   pub cycles : before.cycles ≤ after.cycles

@@ -52,7 +52,7 @@ pub record Ended (plan : Layout) (table : Option (List ℕ)) (x : ℕ) (IsList :
   pub has_made : HasMade plan table before ps after
   pub tally : after.variables x ≡ tally (replies (cycles_in ps))
 
--- a transfer that stops has made a part from the front of one
+-- a transfer that stops has made a prefix of one
 pub record CutShort (plan : Layout) (table : Option (List ℕ)) (IsList : List Cycle → Type 0) (before : State) (ps : List Piece) (after : State) : Type 0 where
   pub is_cut : IsCut IsList (cycles_in ps)
   pub has_made : HasMade plan table before ps after

@@ -15,7 +15,7 @@ pub enum LinkRule {
     EventAboveBuffer,
 }
 
-/// The first rule that is broken, at the line of the declaration's first token; or L5, want of memory.
+/// The first rule that is broken, at the line of the declaration's first token; or L5, out of memory.
 #[derive(Clone, Copy, Debug, PartialEq, Eq, Error)]
 pub enum LinkFault {
     #[error("memory")]

@@ -25,7 +25,7 @@ pub enum PlanRule {
     BitTwice,
 }
 
-/// The first rule that is broken; or P10, want of memory.
+/// The first rule that is broken; or P10, out of memory.
 #[derive(Clone, Copy, Debug, PartialEq, Eq, Error)]
 pub enum PlanFault {
     #[error("memory")]

@@ -13,7 +13,7 @@ use camac_word::{Watched, WriteFault};
 use std::io::Write;
 
 /// Writes the line of a dataway cycle: its command, what it moved, the reply's X and Q, and how many auxiliary cycles came first.
-/// After a write fault a front of it was written.
+/// After a write fault a prefix of it was written.
 pub fn write_cycle<W: Write>(out: &mut Watched<W>, cycle: &CycleDone) -> Result<(), WriteFault>
     ensures text { Writes (W.contents (inner_of out.old)) (W.contents (inner_of out.new)) result
         (cycle_text (address cycle.now.command.c cycle.now.command.n cycle.now.command.a) cycle.now.command.f cycle.now.command.mv cycle.now.reply cycle.now.wait) }

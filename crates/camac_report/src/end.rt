@@ -11,7 +11,7 @@ use camac_run_machine::End;
 use camac_word::{Watched, WriteFault};
 use std::io::Write;
 
-/// Writes the last line of a run: how it ended, and how many events it left. After a write fault a front of it was written.
+/// Writes the last line of a run: how it ended, and how many events it left. After a write fault a prefix of it was written.
 pub fn write_end<W: Write>(out: &mut Watched<W>, end: End, events: u32) -> Result<(), WriteFault>
     ensures text { Writes (W.contents (inner_of out.old)) (W.contents (inner_of out.new)) result (end_text (stop_in end) events) }
     ensures failed { has_failed out.new ≡ (has_failed out.old || is_err result) }

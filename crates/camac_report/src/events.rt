@@ -14,7 +14,7 @@ use camac_word::{Watched, Word24, WriteFault};
 use std::io::Write;
 
 /// Writes a list of events: of each a line of its number from 1, its GL bit, its usage in version Two, and its words; then a line of how
-/// many there are. After a write fault a front of this was written.
+/// many there are. After a write fault a prefix of this was written.
 pub fn write_events<W: Write>(out: &mut Watched<W>, events: &Events) -> Result<(), WriteFault>
     ensures text { Writes (W.contents (inner_of out.old)) (W.contents (inner_of out.new)) result (events_text events.now.events) }
     ensures failed { has_failed out.new ≡ (has_failed out.old || is_err result) }

@@ -15,7 +15,7 @@ use camac_run_machine::Item;
 use camac_word::{CrateNo, Watched, Word24, WriteFault};
 use std::io::Write;
 
-/// Writes the line of an item. The number of a service that the script does not have tells no name. After a write fault a front of the
+/// Writes the line of an item. The number of a service that the script does not have tells no name. After a write fault a prefix of the
 /// line was written.
 pub fn write_item<W: Write>(
     out: &mut Watched<W>,
@@ -29,7 +29,7 @@ pub fn write_item<W: Write>(
 }
 
 /// Writes the line of an item, and in the same write those of the crates, at most seven, that were let in again after it. After a write
-/// fault a front of them was written.
+/// fault a prefix of them was written.
 pub fn write_items<W: Write>(
     out: &mut Watched<W>,
     checked: &Checked,

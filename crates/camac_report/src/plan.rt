@@ -12,7 +12,7 @@ use camac_word::{CrateNo, GlBit, Station, Watched, WriteFault};
 use std::io::Write;
 
 /// Writes a plan: a line of its buffer, a line for each type in order, and for each crate by number its line and a line for each of its
-/// stations by number. After a write fault a front of this was written.
+/// stations by number. After a write fault a prefix of this was written.
 pub fn write_plan<W: Write>(out: &mut Watched<W>, plan: &Plan) -> Result<(), WriteFault>
     ensures text { Writes (W.contents (inner_of out.old)) (W.contents (inner_of out.new)) result (plan_text plan.now) }
     ensures failed { has_failed out.new ≡ (has_failed out.old || is_err result) }

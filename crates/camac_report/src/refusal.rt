@@ -29,7 +29,7 @@ pub enum Refusal {
     Event { code: EventCode, byte: usize },
 }
 
-/// Writes the line of a refusal. After a write fault a front of it was written.
+/// Writes the line of a refusal. After a write fault a prefix of it was written.
 pub fn write_refusal<W: Write>(out: &mut Watched<W>, refusal: Refusal) -> Result<(), WriteFault>
     ensures text { Writes (W.contents (inner_of out.old)) (W.contents (inner_of out.new)) result (refusal_text refusal) }
     ensures failed { has_failed out.new ≡ (has_failed out.old || is_err result) }

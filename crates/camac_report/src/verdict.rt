@@ -17,7 +17,7 @@ use camac_word::{GlBit, Watched, WriteFault};
 use std::io::Write;
 
 /// Writes the verdict on a script that was accepted: a line `accepted`, and of each service in text order a line of its name, its GL
-/// bit, and its bounds beside the numbers of its heading. After a write fault a front of this was written.
+/// bit, and its bounds beside the numbers of its heading. After a write fault a prefix of this was written.
 pub fn write_verdict<W: Write>(out: &mut Watched<W>, checked: &Checked) -> Result<(), WriteFault>
     ensures text { Writes (W.contents (inner_of out.old)) (W.contents (inner_of out.new)) result
         (verdict_text checked.now.plan checked.now.script checked.now.bounds) }

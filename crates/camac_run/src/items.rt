@@ -31,7 +31,7 @@ impl Items {
         }
     }
 
-    /// Adds an item at the end. An `Err` is want of memory.
+    /// Adds an item at the end. An `Err` is out of memory.
     pub(crate) fn push(&mut self, item: Item) -> Result<(), AllocError>
         ensures { OnOk result (self.new ≡ self.old ++ item ∷ []) }
     {

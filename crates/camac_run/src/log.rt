@@ -29,7 +29,7 @@ pub struct Log {
 
 /// Runs a checked script on at most 1,000,000 answers. The log tells each item and each event, and how the run ended: at a graded-L
 /// operation (`Ended`), inside a service (`Short`), which then leaves no event, or at a wait that is not permitted (`Overrun`). An `Err`
-/// is want of memory for the log.
+/// is out of memory for the log.
 pub fn run(alloc: Global, checked: &Checked, answers: &[Answer]) -> Result<Log, AllocError>
     requires answers { length answers.now ≤ 1000000 }
     ensures log { IfOk result (λ log. IsLogOf log (the_run checked.now.plan checked.now.script answers.now)) }

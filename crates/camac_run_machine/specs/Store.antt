@@ -25,7 +25,7 @@ abbrev pub nothing_seen : Scope
 nothing_seen =
     record { variables = record { start = 0; end = 0 }; registers = record { start = 0; end = 0 }; procedures = 0 }
 
--- its parameters and registers, behind the places of its caller, and the procedures before it
+-- its parameters and registers, after the places of its caller, and the procedures before it
 abbrev pub seen_by_procedure : Scope → ℕ → Procedure → Scope
 seen_by_procedure c i p = record {
   variables = record { start = c.variables.end; end = c.variables.end + length p.parameters };

@@ -26,7 +26,7 @@ reach_of s c = record {
   procedures = callables_after [] (take c.procedures s.procedures);
 }
 
--- of v places, those of the procedures that it sees lie behind its own
+-- of v places, those of the procedures that it sees lie after its own
 pub record ScopeFits (v : ℕ) (s : Script) (c : Scope) : Type 0 where
   pub variables : c.variables.start ≤ c.variables.end
   pub registers : c.registers.start ≤ c.registers.end

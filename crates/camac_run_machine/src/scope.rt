@@ -1,4 +1,4 @@
-// The part of a machine's store that a body sees. A procedure in progress has places of its own, behind those of its caller.
+// The part of a machine's store that a body sees. A procedure in progress has places of its own, after those of its caller.
 
 ghost use Rattle.std.specs.Prelude.{◌≡◌, ◌+◌, ◌<◌, ◌^◌, vec_len};
 ghost use Rattle.camac_lang.specs.View.{procedure_of, service_of};

@@ -355,7 +355,7 @@ fn transfers(rt: HostRuntime) {
     );
 }
 
-/// Where the kinds of rows for single statements stand: behind the standard opening, on line 4.
+/// Where the kinds of rows for single statements stand: after the standard opening, on line 4.
 fn fault_of_statement(
     rt: &HostRuntime,
     statement: &[u8],

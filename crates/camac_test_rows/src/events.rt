@@ -49,7 +49,7 @@ fn with_record_twice(alloc: Global, file: &[u8]) -> Result<Vec<u8>, Fail> {
     Ok(longer)
 }
 
-// A front of the file, cut inside its record, is truncated.
+// A prefix of the file, cut inside its record, is truncated.
 fn expect_truncated(rt: &(impl Abort + AllocGlobal), file: &[u8], from: usize) -> Result<(), Fail> {
     for front in from..file.len() {
         let (outcome, written) = listed(rt.alloc(), &file[..front])?;

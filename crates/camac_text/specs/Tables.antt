@@ -8,7 +8,7 @@ use Rattle.camac_text_tokens.specs.declared.fault.TextRule.TheVariants.{NumberTo
 use Rattle.camac_text_cursor.specs.Reading.{State, Reader, ◌>>=◌, ◌>>◌, give, ask, change, advance, check, while_next}
 use Rattle.camac_text_cursor.specs.Readers.{expect_sign, number_here, new_name}
 
--- a word behind so many words
+-- a word after so many words
 unfoldable pub word_behind : ℕ → Reader ℕ
 word_behind count = do
   n ← number_here

@@ -15,7 +15,7 @@ use camac_text_statements::block;
 use camac_text_tokens::{Keyword, Sign, TextFault, TextRule};
 use std::mem;
 
-/// What stands in a procedure's heading behind its name.
+/// What stands in a procedure's heading after its name.
 #[derive(Drop)]
 pub struct Heading {
     parameters: Vec<Parameter>,
@@ -55,7 +55,7 @@ pub fn procedure_declaration(parser: &mut Parser<'_>, line: u32) -> Result<(), T
     close_procedure(parser, procedure, variables, names)
 }
 
-/// The end of a procedure, behind which the script has these variables and so many names again.
+/// The end of a procedure, after which the script has these variables and so many names again.
 fn close_procedure(
     parser: &mut Parser<'_>,
     procedure: Procedure,

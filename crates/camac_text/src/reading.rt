@@ -21,7 +21,7 @@ use std::alloc::Global;
 pub fn parse(alloc: Global, text: &[u8]) -> Result<Script, TextFault>
     // The tree of the text, or its first fault.
     ensures exact { Answers result (script_of text.now) }
-    // A fault of the tokens, or one at a token that no tokens behind it change.
+    // A fault of the tokens, or one at a token that no tokens after it change.
     ensures placed { FaultIs result (HasFault text.now) }
 {
     read(alloc, text)

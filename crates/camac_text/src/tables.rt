@@ -49,7 +49,7 @@ fn next_is_number(parser: &Parser<'_>) -> bool
     matches!(parser.peek(), Some(TokenKind::Number(_)))
 }
 
-/// A word behind so many words.
+/// A word after so many words.
 #[tactic(auto, unfolding(crate::specs::Tables::word_behind))]
 fn word_behind(parser: &mut Parser<'_>, count: usize) -> Result<Word24, TextFault>
     ensures { Gives (λ w. w) result parser.new (word_behind count (state parser.old)) }

@@ -7,7 +7,7 @@ use Rattle.camac_text_cursor.specs.Reading.{Reader, ◌>>=◌, ◌>>◌, give, p
 use Rattle.camac_text_cursor.specs.Readers.{is_sign, expect_sign}
 use Rattle.camac_text_phrases.specs.Expressions.{expression_at}
 
--- an argument behind these
+-- an argument after these
 abbrev pub argument_behind : ℕ → List Expression → Reader Expression
 argument_behind room [] = expression_at room
 argument_behind room (e ∷ es) = expect_sign sign.Comma >> expression_at room

@@ -65,7 +65,7 @@ no_part_by _ = fail UnexpectedToken
 unfoldable pub part_limit : ℕ → Reader (Unit {0})
 part_limit count = if nat_lt count 16 then give tt else (peek >>= no_part_by)
 
--- `and` and a part, behind so many parts
+-- `and` and a part, after so many parts
 unfoldable pub and_part : ℕ → ℕ → Reader Part
 and_part room count = do
   advance

@@ -53,7 +53,7 @@ is_product_sign (Some (kind.Sign sign.Over)) = true
 is_product_sign (Some (kind.Sign sign.Modulo)) = true
 is_product_sign _ = false
 
--- the sign of a product and what stands behind it
+-- the sign of a product and what stands after it
 abbrev pub product_by : (ℕ → Reader Counted) → Counted → Option TokenKind → Reader Counted
 product_by bracketed left (Some (kind.Sign sign.Over)) = do
   so_far ← operator left.operators

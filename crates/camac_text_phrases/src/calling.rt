@@ -46,7 +46,7 @@ fn argument_list(parser: &mut Parser<'_>, room: u32, count: usize) -> Result<Vec
     Ok(arguments)
 }
 
-/// An argument behind these.
+/// An argument after these.
 fn argument(parser: &mut Parser<'_>, room: u32, before: &[Expr]) -> Result<Expr, TextFault>
     ensures { Gives expression_of result parser.new (argument_behind room (map expression_of before.now) (state parser.old)) }
 {

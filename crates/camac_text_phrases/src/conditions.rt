@@ -26,7 +26,7 @@ pub fn condition(parser: &mut Parser<'_>, room: u32) -> Result<Cond, TextFault>
     Ok(Cond { parts })
 }
 
-/// `and` and a part, behind so many parts.
+/// `and` and a part, after so many parts.
 #[tactic(auto, unfolding(crate::specs::Conditions::and_part))]
 fn and_part(parser: &mut Parser<'_>, room: u32, count: usize) -> Result<Part, TextFault>
     ensures { Gives part_of result parser.new (and_part room count (state parser.old)) }

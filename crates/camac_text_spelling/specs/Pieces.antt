@@ -37,7 +37,7 @@ name x = piece (kind.Name x)
 
 -- ---- lists of phrases
 
--- each behind a separator
+-- each after a separator
 abbrev pub others : {A : Type 0} → Piece → (A → List Piece) → List A → List Piece
 others separator spell [] = []
 others separator spell (x ∷ xs) = separator ∷ (spell x ++ others separator spell xs)

@@ -18,7 +18,7 @@ abbrev pub single_word : WordSize → Keyword
 single_word size.Full = keyword.Cfsa
 single_word size.Short = keyword.Cssa
 
--- the word of a call on a crate, and what stands behind the crate
+-- the word of a call on a crate, and what stands after the crate
 abbrev pub crate_keyword : CrateCall → Keyword
 crate_keyword crate_word.Initialise = keyword.Cccz
 crate_keyword crate_word.Clear = keyword.Cccc

@@ -133,7 +133,7 @@ transfer_by room line k = crate_call_by room line k
 
 -- ---- statements that hold blocks
 
--- what stands behind a condition and its block
+-- what stands after a condition and its block
 abbrev pub else_by : Reader (List Statement) → ℕ → Condition → List Statement → Option TokenKind → Reader Statement
 else_by block line test body (Some (kind.Keyword word.Else)) = do
   advance

@@ -10,7 +10,7 @@ use Rattle.camac_text_cursor.specs.Readers.{begin, expect, function_number, used
 use Rattle.camac_text_phrases.specs.Expressions.{expression_at}
 use Rattle.camac_text_phrases.specs.Arguments.{arguments_at}
 
--- the last bound of a transfer behind its word, and the tally
+-- the last bound of a transfer after its word, and the tally
 unfoldable pub last_bound : Keyword → ℕ → Reader (Expression × ℕ)
 last_bound behind room = do
   expect behind

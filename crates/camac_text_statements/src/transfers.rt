@@ -104,7 +104,7 @@ fn table(parser: &mut Parser<'_>) -> Result<Option<usize>, TextFault>
     }
 }
 
-/// The last bound of a transfer behind its word, and the tally.
+/// The last bound of a transfer after its word, and the tally.
 #[tactic(auto, unfolding(crate::specs::Transfers::last_bound))]
 fn last_bound(
     parser: &mut Parser<'_>,

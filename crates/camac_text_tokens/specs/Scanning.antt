@@ -95,7 +95,7 @@ tokens_by (front.Gap n) line more = more (n - 1)
 tokens_by (front.Found k n) line more = with_first (record { kind = k; line = line_number line }) (more (n - 1))
 tokens_by (front.Wrong rule) line more = Err (record { rule = rule; line = line_number line })
 
--- The tokens behind so many bytes that belong to the one before, from a line on.
+-- The tokens after so many bytes that belong to the one before, from a line on.
 unfoldable pub tokens_from : ℕ → ℕ → List ℕ → Result (List Token) Fault
 tokens_from skip line [] = Ok []
 tokens_from zero line (b ∷ bs) = tokens_by (front_of b (b ∷ bs)) line (λ skip. tokens_from skip (line_after line b) bs)

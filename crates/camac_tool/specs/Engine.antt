@@ -26,7 +26,7 @@ abbrev pub Tells : Report → (Outcome → List ℕ → Type 0) → Type 0
 Tells None P = ⊥
 Tells (Some r) P = P r.0 r.1
 
--- a report was written: all of it at its outcome, or after a write fault a front of it
+-- a report was written: all of it at its outcome, or after a write fault a prefix of it
 abbrev pub Shows : Report → Option (List ℕ) → Option (List ℕ) → Result Outcome ToolFault → Type 0
 Shows r old new (Ok outcome) = Tells r (λ told text. (outcome ≡ told) × Appends old new text)
 Shows r old new (Err fault.Write) = Tells r (λ told text. AppendsFront old new text)

@@ -44,7 +44,7 @@ Refuses r a b (Ok outcome) = (outcome ≡ Refused) × Sends a b (to_listing (ref
 Refuses r a b (Err fault.Write) = SendsFront a b (to_listing (refusal_text r))
 Refuses r a b (Err _) = ⊥
 
--- A checked script is run on answers of which this is left: all that it writes, after a write fault a front of that, and after a fault
+-- A checked script is run on answers of which this is left: all that it writes, after a write fault a prefix of that, and after a fault
 -- of the reader what it tells on the answers before it.
 abbrev pub RunsScript : Layout → Script → Option Reading → Held → Held → Result Outcome ToolFault → Type 0
 RunsScript plan script left a b (Ok outcome) =

@@ -21,7 +21,7 @@ use std::alloc::Global;
 use std::io::{Read, Write};
 
 /// Lists a plan: its lines, or the line of its refusal, are written to `out`. Nothing is written before a fault but one of the writer,
-/// which leaves a front of the text.
+/// which leaves a prefix of the text.
 pub fn engine_plan<P: Read, W: Write>(
     alloc: Global,
     plan: &mut PlanSource<P>,
@@ -41,7 +41,7 @@ pub fn engine_plan<P: Read, W: Write>(
 }
 
 /// Checks a script against a plan: the verdict, or the line of the first refusal, is written to `out`. The plan is read and judged
-/// first, then the script. Nothing is written before a fault but one of the writer, which leaves a front of the text.
+/// first, then the script. Nothing is written before a fault but one of the writer, which leaves a prefix of the text.
 pub fn engine_check<P: Read, S: Read, W: Write>(
     alloc: Global,
     plan: &mut PlanSource<P>,
@@ -97,7 +97,7 @@ pub fn refuse<W: Write>(out: &mut Watched<W>, refusal: Refusal) -> Result<Outcom
 }
 
 /// Lists an event file of either version: its lines, or the line of its refusal, are written to `out`. Nothing is written before a fault
-/// but one of the writer, which leaves a front of the text.
+/// but one of the writer, which leaves a prefix of the text.
 pub fn engine_events<R: Read, W: Write>(
     alloc: Global,
     input: &mut Watched<R>,

@@ -23,7 +23,7 @@ Gives left r = (whole : Reading) → left ≡ Some whole → whole ≡ r
 abbrev pub GivesFirst : Option Reading → List Answer → Type 0
 GivesFirst left taken = (whole : Reading) → left ≡ Some whole → (more : List Answer) × (whole.answers ≡ taken ++ more)
 
--- All was written at an ending; a front of it after a write fault; after a read fault what the run on the answers before it tells.
+-- All was written at an ending; a prefix of it after a write fault; after a read fault what the run on the answers before it tells.
 abbrev pub Plays : Layout → Script → Option Reading → Held → Held → Result Ending PlayFault → Type 0
 Plays plan script left old new (Ok e) =
     (r : Reading) × Gives left r × (e ≡ ending plan script r) × Sends old new (played plan script r)

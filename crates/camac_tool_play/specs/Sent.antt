@@ -42,11 +42,11 @@ pub record Sends (old new : Held) (sent : List Sent) : Type 0 where
   pub listing : Appends old.listing new.listing (listing_of sent)
   pub events : Appends old.events new.events (events_of sent)
 
--- They have got a front of it, which lacks at least its last byte: what comes after a byte that one writer did not take
+-- They have got a prefix of it, which lacks at least its last byte: what comes after a byte that one writer did not take
 -- has gone to neither.
 abbrev pub SendsFront : Held → Held → List Sent → Type 0
 SendsFront old new sent = (front rest : List Sent) × (sent ≡ front ++ rest) × (0 < length rest) × Sends old new front
 
--- all of it at `Ok`, and else a front
+-- all of it at `Ok`, and else a prefix
 abbrev pub SendsBy : {T E : Type 0} → Held → Held → Result T E → List Sent → Type 0
 SendsBy old new r sent = MatchResult r (λ _. Sends old new sent) (λ _. SendsFront old new sent)

@@ -30,7 +30,7 @@ pub record Does (old : RunHeld) (answer : Answer) (new : RunHeld) (ps : List Pie
 abbrev pub Overruns : RunHeld → Answer → Overrun → Type 0
 Overruns old answer o = (answers : List Answer) → (s : State) × (rest old (answer ∷ answers) ≡ stops (overrun o.c o.wait) s)
 
--- the pieces of the answer were written, or a front of them, or the run stopped
+-- the pieces of the answer were written, or a prefix of them, or the run stopped
 abbrev pub StepsBy : Script → RunHeld → Answer → ℕ → Held → Held → Result Step WriteFault → RunHeld → Type 0
 StepsBy script old answer count a b (Ok (step.Went n)) new =
     (ps : List Piece) × Does old answer new ps × (n ≡ count + count_of ps) × (new.events ≡ n) × Sends a b (pieces_sent script (count + 1) ps)
