@@ -1,6 +1,7 @@
 // Texts that are cut into tokens or refused.
 
-use camac_text_tokens::*;
+use camac_text::{Keyword, Sign, TextFault, TextRule, Token, TokenKind, tokens};
+use camac_text_tokens::last_line;
 use std::test::*;
 
 /// The rule and the line of a text's fault.

@@ -3,7 +3,7 @@
 use camac_branch::Answer;
 use camac_check::{Checked, check};
 use camac_names::resolve;
-use camac_run_machine::{Item, Progress, Runner};
+use camac_run::{Item, Progress, Runner};
 use camac_test_fixtures::scripts::STRAIGHT_LINE;
 use camac_text::parse;
 use camac_tool::sample_plan;

@@ -1,0 +1,63 @@
+// What a checked script says of itself, and a log of its run.
+
+use camac_branch::Answer;
+use camac_check::{Checked, check};
+use camac_names::resolve;
+use camac_run::{End, Item, Log, Runner, run};
+use camac_test_fixtures::scripts::STRAIGHT_LINE;
+use camac_text::parse;
+use camac_tool::sample_plan;
+use camac_word::Word24;
+use std::alloc::Global;
+use std::process::Abort;
+use std::test::Fail;
+
+pub fn straight_line(alloc: Global) -> Result<Checked, Fail> {
+    let plan = sample_plan(alloc)?;
+    let script = parse(alloc, STRAIGHT_LINE)?;
+    let linked = resolve(alloc, script, &plan)?;
+    Ok(check(alloc, linked)?)
+}
+
+fn word(value: u32) -> Result<Word24, Fail> {
+    Ok(Word24::new(value).ok_or("a word of 24 bits")?)
+}
+
+// A demand of the service, and its one cycle.
+pub fn straight_line_log(alloc: Global, checked: &Checked) -> Result<Log, Fail> {
+    let demand = Answer::new(false, false, word(0)?, 0, word(4)?).ok_or("a wait below 16")?;
+    let read = Answer::new(true, true, word(0x12_3fff)?, 2, word(0)?).ok_or("a wait below 16")?;
+    let answers = [demand, read];
+    Ok(run(alloc, checked, &answers)?)
+}
+
+#[test]
+fn checked_script(rt: HostRuntime) -> Result<(), Fail> {
+    let checked = straight_line(rt.alloc())?;
+    assert_eq!(rt; checked.services(), 1);
+    assert!(rt; checked.services() > 0);
+    assert_eq!(rt; checked.gl(0).get(), 3);
+    assert!(rt; checked.services() > 0);
+    let bounds = checked.bounds(0);
+    assert_eq!(rt; (bounds.cycles, bounds.words, bounds.steps), (3, 1, 3));
+    assert_eq!(rt; checked.script().services().len(), 1);
+    assert!(rt; checked.script().try_clone(rt.alloc()).is_ok());
+    assert_eq!(rt; checked.plan().buffer(), 4096);
+    assert!(rt; checked.fits(1, 1, 1));
+    let runner = Runner::<1, 1, 1>::start(&checked);
+    assert_eq!(rt; runner.fed(), 0);
+    assert_eq!(rt; runner.last_words().len(), 0);
+    Ok(())
+}
+
+#[test]
+fn log_of_a_run(rt: HostRuntime) -> Result<(), Fail> {
+    let checked = straight_line(rt.alloc())?;
+    let log = straight_line_log(rt.alloc(), &checked)?;
+    assert_eq!(rt; log.end, End::Ended);
+    assert_eq!(rt; log.events.len(), 1);
+    let items = log.items.as_slice();
+    assert_eq!(rt; items.len(), 2);
+    assert!(rt; matches!(&items[0], Item::Demand(_, Some(0))));
+    Ok(())
+}

@@ -1,0 +1,55 @@
+// Each line of the program, as the library writes it.
+
+use crate::judged::{straight_line, straight_line_log};
+use camac_report::{
+    write_cycle, write_end, write_events, write_item, write_items, write_plan, write_verdict,
+};
+use camac_run::{End, Item};
+use camac_word::Watched;
+use std::process::Abort;
+use std::test::Fail;
+
+#[test]
+fn lines_of_a_verdict(rt: HostRuntime) -> Result<(), Fail> {
+    let checked = straight_line(rt.alloc())?;
+    let mut out = Watched::new(Vec::new(rt.alloc()));
+    write_verdict(&mut out, &checked)?;
+    let want = b"accepted\nservice adc gl 3 cycles 3 of 3 words 1 of 1 steps 3\n";
+    assert_eq!(rt; out.into_inner().as_slice(), want.as_slice());
+    let mut out = Watched::new(Vec::new(rt.alloc()));
+    write_plan(&mut out, checked.plan())?;
+    assert!(rt; out.into_inner().as_slice().starts_with(b"buffer 4096\n"));
+    Ok(())
+}
+
+#[test]
+fn lines_of_a_run(rt: HostRuntime) -> Result<(), Fail> {
+    let checked = straight_line(rt.alloc())?;
+    let log = straight_line_log(rt.alloc(), &checked)?;
+    let items = log.items.as_slice();
+    assert_eq!(rt; items.len(), 2);
+    let mut out = Watched::new(Vec::new(rt.alloc()));
+    write_item(&mut out, &checked, &items[0])?;
+    write_items(&mut out, &checked, &items[1], &[])?;
+    write_end(&mut out, End::Ended, 1)?;
+    let want = b"demand 000004 adc\ncycle 1 5 0 0 in 123fff x1 q1 wait 2\nended events 1\n";
+    assert_eq!(rt; out.into_inner().as_slice(), want.as_slice());
+    let mut out = Watched::new(Vec::new(rt.alloc()));
+    if let Item::Cycle(done) = &items[1] {
+        write_cycle(&mut out, done)?;
+    }
+    let want = b"cycle 1 5 0 0 in 123fff x1 q1 wait 2\n";
+    assert_eq!(rt; out.into_inner().as_slice(), want.as_slice());
+    Ok(())
+}
+
+#[test]
+fn lines_of_an_event_file(rt: HostRuntime) -> Result<(), Fail> {
+    let checked = straight_line(rt.alloc())?;
+    let log = straight_line_log(rt.alloc(), &checked)?;
+    let mut out = Watched::new(Vec::new(rt.alloc()));
+    write_events(&mut out, &log.events)?;
+    let want = b"event 1 gl 3 cycles 3 missed 0 words 1 000fff\nevents 1\n";
+    assert_eq!(rt; out.into_inner().as_slice(), want.as_slice());
+    Ok(())
+}
