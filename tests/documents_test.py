@@ -1,23 +1,27 @@
 #!/usr/bin/env python3
-"""Runs what README.md and docs/*.md show, and compares it with what they say comes of it.
+"""Runs what README.md, docs/*.md and the examples of man/camac.1 show, and compares it with what they say comes of it.
 
 usage: tests/documents_test.py [-v] [TEST ..]     from any folder; takes a few seconds
 
-The pages mark their blocks:
+Each fenced block of a page is of one of these kinds, and is tried:
 
-  ```console                  lines '$ COMMAND', each with the output that follows it
-  ```camac VERDICT [FILE]     a script, and the verdict on the plan @sample: 'accepted', or a code and line as 'E2 line 7'
-  ```output                   after a script: all that `check` prints
-  ```python FILE, ```toml FILE    a file for the commands that follow on the page
+  ```console                  lines '$ COMMAND', each with the output that follows it; '> ' before a line goes on with the command
+  ```camac VERDICT [FILE]     a whole script, and the verdict on the plan @sample: 'accepted', or a code and line as 'E2 line 7'
+  ```output                   right after a script: all that `check` prints
+  ```python FILE, ```toml FILE    a file that a later command of the page uses
+
+A block that is not tried (a form, a picture) is indented instead. A command of camac or a statement of a script in one is a failure, unless
+its words are in capitals (camac run PLAN ..): then it is a form. The manual page has console blocks alone, between .Bd and .Ed.
 
 Commands run in a folder with the examples, where ./camac is the program: crates/camac/out/camac (cd crates/camac && rt run makes it), or
-what the environment variable CAMAC_PROGRAM names. A command of camac that stands in no console block is a failure.
+what the environment variable CAMAC_PROGRAM names.
 """
 import os
 import pathlib
 import re
 import shutil
 import subprocess
+import sys
 import tempfile
 import unittest
 
@@ -25,9 +29,12 @@ TOP = pathlib.Path(__file__).resolve().parent.parent
 PROGRAM = os.path.abspath(os.environ.get("CAMAC_PROGRAM") or TOP / "crates/camac/out/camac")
 PAGES = [TOP / "README.md", *sorted((TOP / "docs").glob("*.md"))]
 BLOCK = re.compile(r"^```([^\n]*)\n(.*?)^```$", re.M | re.S)
-# A call with words of its own, alone or in a pipe; `camac run PLAN SCRIPT ..` only tells the form.
-CALL = r"(?:\$ )?(?:[^#\n`]*\| *)?(?:\./)?camac (?:plan|check|run|events) +(?![A-Z]+\b(?!-))\S[^\n]*"
+INDENTED = re.compile(r"^    .*$", re.M)
+COMMAND = re.compile(r"^\$ |(?:^|[|;&(] *)(?:\./)?camac\b(?! [a-z]+ [A-Z]+\b)(?= \S)")
+STATEMENT = re.compile(r"^(?:cdlam|cdreg|cfsa|cssa|service|proc) (?!.*\b[A-Z]{2,}\b).*\d")
+FILE = re.compile(r"(?:python|toml|camac (?:accepted|\w+ line \d+)) (\S+)")
 WAIT = 60
+SCRIPT = "cdlam adc 1 1 5 12\nservice adc within 3 cycles event 0 words { }\n"
 
 
 class Wrong(Exception):
@@ -46,15 +53,20 @@ def compare(what, wanted, found):
         raise Wrong(f"{what}\nthe page says:\n{wanted}\nbut it is:\n{found}")
 
 
-def try_console(text, room):
-    """Runs each command of a console block."""
-    calls = re.split(r"^\$ ", text, flags=re.M)
-    if calls[0].strip() or len(calls) < 2:
+def calls(text):
+    """The commands of a console block, each with the output that follows it."""
+    before, *found = re.split(r"^\$ ", text, flags=re.M)
+    if before.strip() or not found:
         raise Wrong(f"a console block begins with a line '$ COMMAND':\n{text}")
-    for call in calls[1:]:
-        command, _, wanted = call.partition("\n")
-        compare(command, wanted, run(command, room))
-    return len(calls) - 1
+    return [re.fullmatch(r"(.*(?:\n> .*)*)\n?((?:.*\n?)*)", it).groups() for it in found]
+
+
+def try_console(text, room):
+    """Runs each command of a console block, and returns how many there are."""
+    found = calls(text)
+    for command, wanted in found:
+        compare(command, wanted, run(command.replace("\n> ", "\n"), room))
+    return len(found)
 
 
 def try_script(words, text, room):
@@ -70,26 +82,40 @@ def try_script(words, text, room):
     return printed
 
 
+def refuse_untried(text):
+    """Refuses a command or a statement that stands in an indented block."""
+    for line in INDENTED.findall(BLOCK.sub("", text)):
+        if COMMAND.search(line.strip()) or STATEMENT.search(line.strip()):
+            raise Wrong(f"this line stands in no block that is tried: {line.strip()}")
+
+
+def refuse_unused(blocks):
+    """Refuses a file that no later command of the page names."""
+    for place, (words, _) in enumerate(blocks):
+        file = FILE.fullmatch(words)
+        if file and not any(kind == "console" and file[1] in body for kind, body in blocks[place + 1 :]):
+            raise Wrong(f"no command uses {file[1]}")
+
+
 def try_page(text, room):
     """Tries all blocks of a page in their order, and returns how many commands and scripts it ran."""
-    plain = [body for words, body in BLOCK.findall(text) if words in ("", "text", "sh")]
-    stray = re.findall(rf"^    {CALL}", BLOCK.sub("", text), re.M) + re.findall(rf"^{CALL}", "".join(plain), re.M)
-    if stray:
-        raise Wrong(f"a command stands in no console block: {stray[0].strip()}")
+    blocks = BLOCK.findall(text)
+    refuse_untried(text)
+    refuse_unused(blocks)
     tried, printed = 0, None
-    for words, body in BLOCK.findall(text):
+    for words, body in blocks:
         kind, _, rest = words.partition(" ")
-        if kind == "output":
-            if printed is None:
-                raise Wrong(f"no script stands before this output:\n{body}")
-            compare("the script before", body, printed)
-        printed = None
+        before, printed = printed, None
         if kind == "console":
             tried += try_console(body, room)
         elif kind == "camac":
             tried, printed = tried + 1, try_script(rest, body, room)
+        elif kind == "output" and before is not None:
+            compare("the script before", body, before)
         elif kind in ("python", "toml") and rest:
             (room / rest).write_text(body)
+        else:
+            raise Wrong(f"a block of no kind that is tried: ```{words}\n{body}")
     return tried
 
 
@@ -111,24 +137,51 @@ class Documents(unittest.TestCase):
                     self.fail(f"{page.name}: {why}")
         self.assertGreater(tried, 50)
 
+    def test_manual_page(self):
+        shutil.copy(self.room / "examples/straight_line.script", self.room / "readout.script")
+        examples = (TOP / "man/camac.1").read_text().partition(".Sh EXAMPLES\n")[2].partition("\n.Sh ")[0]
+        self.assertNotIn(".Dl", examples)
+        blocks = re.findall(r"^\.Bd [^\n]*\n(.*?)^\.Ed$", examples, re.M | re.S)
+        tried = sum(try_console(it.replace("\\e", "\\"), self.room) for it in blocks)
+        self.assertEqual(tried, examples.count("camac "))
+
+    def refuse(self, text):
+        with self.subTest(text=text), self.assertRaises(Wrong):
+            try_page(text, self.room)
+
     def test_changed_pages(self):
-        script = "cdlam adc 1 1 5 12\nservice adc within 3 cycles event 0 words { }\n"
-        good = f"```camac accepted\n{script}```\n\n```console\n$ ./camac plan @sample | head -n 1\nbuffer 4096\n```\n"
+        console = "```console\n$ ./camac plan @sample | head -n 1\nbuffer 4096\n```\n"
+        good = f"```camac accepted\n{SCRIPT}```\n\n```output\naccepted\nservice adc gl 3 cycles 0 of 3 words 0 of 0 steps 0\n```\n\n{console}"
         self.assertEqual(try_page(good, self.room), 2)
         for old, new in [
-            ("accepted", "E2 line 2"),
-            ("accepted", "refused"),
+            ("camac accepted", "camac E2 line 2"),
+            ("camac accepted", "camac refused"),
+            ("camac accepted", "camac"),
+            ("camac accepted", ""),
+            ("camac accepted", "camac accepted unused.script"),
+            ("cycles 0 of 3", "cycles 1 of 3"),
             ("buffer 4096", "buffer 4095"),
             ("buffer 4096\n", ""),
             ("$ ./camac", "./camac"),
-            ("```console", "```text"),
-            ("```console", "```"),
-            ("```console", "```output"),
-            ("```console\n$ ./camac plan @sample | head -n 1\nbuffer 4096\n```", "    ./camac plan @sample"),
+            ("console", "text"),
+            ("console", ""),
+            ("console", "output"),
         ]:
-            with self.subTest(new=new), self.assertRaises(Wrong):
-                try_page(good.replace(old, new), self.room)
+            self.assertIn(old, good)
+            self.refuse(good.replace(old, new))
+
+    def test_lines_that_are_not_tried(self):
+        for line in ("./camac plan @sample", "$ ls", "yes | camac run @sample s @in e", "camac --version", *SCRIPT.splitlines()):
+            self.refuse(f"A page.\n\n    {line}\n")
+        self.refuse("```python a.py\nprint(1)\n```\n\n```console\n$ echo\n\n```\n")
+        self.assertEqual(try_page("A form.\n\n    camac run PLAN SCRIPT ANSWERS EVENTS\n    cdreg NAME 1 CRATE\n", self.room), 0)
+
+    def test_commands_of_more_lines(self):
+        self.assertEqual(try_page("```console\n$ ./camac plan @sample |\n>   head -n 1\nbuffer 4096\n$ true\n```\n", self.room), 2)
+        self.refuse("```console\n$ ./camac plan @sample |\n>   head -n 1\nbuffer 4095\n```\n")
 
 
 if __name__ == "__main__":
+    if not os.access(PROGRAM, os.X_OK):
+        sys.exit(f"{PROGRAM} is not there: cd crates/camac && rt run makes it, or CAMAC_PROGRAM names another")
     unittest.main()
