@@ -150,7 +150,7 @@ class Documents(unittest.TestCase):
             try_page(text, self.room)
 
     def test_changed_pages(self):
-        console = "```console\n$ ./camac plan @sample | head -n 1\nbuffer 4096\n```\n"
+        console = "```console\n$ ./camac plan @sample | grep buffer\nbuffer 4096\n```\n"
         good = f"```camac accepted\n{SCRIPT}```\n\n```output\naccepted\nservice adc gl 3 cycles 0 of 3 words 0 of 0 steps 0\n```\n\n{console}"
         self.assertEqual(try_page(good, self.room), 2)
         for old, new in [
@@ -177,8 +177,8 @@ class Documents(unittest.TestCase):
         self.assertEqual(try_page("A form.\n\n    camac run PLAN SCRIPT ANSWERS EVENTS\n    cdreg NAME 1 CRATE\n", self.room), 0)
 
     def test_commands_of_more_lines(self):
-        self.assertEqual(try_page("```console\n$ ./camac plan @sample |\n>   head -n 1\nbuffer 4096\n$ true\n```\n", self.room), 2)
-        self.refuse("```console\n$ ./camac plan @sample |\n>   head -n 1\nbuffer 4095\n```\n")
+        self.assertEqual(try_page("```console\n$ ./camac plan @sample |\n>   grep buffer\nbuffer 4096\n$ true\n```\n", self.room), 2)
+        self.refuse("```console\n$ ./camac plan @sample |\n>   grep buffer\nbuffer 4095\n```\n")
 
 
 if __name__ == "__main__":
