@@ -346,18 +346,25 @@ class Pages(Case):
         self.assertEqual(page.split(), words)
 
 
-class EventReader(Case):
-    """The Python program of docs/RUNNING.md that reads event files."""
+class RunningPage(Case):
+    """What docs/RUNNING.md shows."""
+
+    page = (TOP / "docs/RUNNING.md").read_text()
 
     def test_reader_of_event_files(self):
-        page = (TOP / "docs/RUNNING.md").read_text()
-        (self.room / "reader.py").write_text(re.search(r"```python \S+\n(.*?)```", page, re.S)[1])
+        (self.room / "reader.py").write_text(re.search(r"```python[^\n]*\n(.*?)```", self.page, re.S)[1])
         self.call("run", "@sample", "straight.script", "answers", "two.events")
         (self.room / "one.events").write_bytes(EVENT_FILE_ONE)
         (self.room / "none.events").write_bytes(b"CAMACEV2")
         for name, wanted in (("two", "1 3 [3, 0] 000fff\n"), ("one", "1 3 [] 000fff\n"), ("none", "")):
             ran = subprocess.run([sys.executable, "reader.py", f"{name}.events"], cwd=self.room, capture_output=True, text=True)
             self.assertEqual((ran.returncode, ran.stdout), (0, wanted), ran.stderr)
+
+    def test_one_answer_for_every_operation(self):
+        answer = re.search(r"`(\d \d [0-9a-f]{6} \d [0-9a-f]{6})` calls the service", self.page)[1]
+        given = f"{answer}\n".encode() * 20
+        status, out, _ = self.call("run", "@sample", "straight.script", "@in", "e", given=given)
+        self.assertEqual((status, out.splitlines()[-1]), (0, b"ended events 10"))
 
 
 if __name__ == "__main__":
