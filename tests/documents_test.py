@@ -145,6 +145,12 @@ class Documents(unittest.TestCase):
         tried = sum(try_console(it.replace("\\e", "\\"), self.room) for it in blocks)
         self.assertEqual(tried, examples.count("camac "))
 
+    def test_each_rule_has_a_script(self):
+        page = (TOP / "docs/CHECKER.md").read_text()
+        rules = re.findall(r"^\| (E\d+) \|", page, re.M)
+        self.assertEqual({*re.findall(r"^```camac (E\d+) ", page, re.M)}, {*rules})
+        self.assertEqual(sorted(rules), sorted(re.findall(r"`refused (E\d+) line N", (TOP / "docs/LANGUAGE.md").read_text())))
+
     def refuse(self, text):
         with self.subTest(text=text), self.assertRaises(Wrong):
             try_page(text, self.room)
