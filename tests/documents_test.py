@@ -10,11 +10,12 @@ Each fenced block of a page is of one of these kinds, and is tried:
   ```output                   right after a script: all that `check` prints
   ```python FILE, ```toml FILE    a file that a later command of the page uses
 
-A block that is not tried (a form, a picture) is indented instead. A command of camac or a statement of a script in one is a failure, unless
-its words are in capitals (camac run PLAN ..): then it is a form. The manual page has console blocks alone, between .Bd and .Ed.
+A block that is not tried (a form, a picture, a command that builds or proves) is indented instead. A command of camac or a statement of a
+script in one is a failure, unless its words are in capitals (camac run PLAN ..): then it is a form. The manual page has console blocks
+alone, between .Bd and .Ed.
 
-Commands run in a folder with the examples, where ./camac is the program: crates/camac/out/camac (cd crates/camac && rt run makes it), or
-what the environment variable CAMAC_PROGRAM names.
+The commands of a page run in a folder of its own with the examples, where ./camac is the program: crates/camac/out/camac (cd crates/camac &&
+rt run makes it), or what the environment variable CAMAC_PROGRAM names.
 """
 import os
 import pathlib
@@ -121,6 +122,10 @@ def try_page(text, room):
 
 class Documents(unittest.TestCase):
     def setUp(self):
+        self.enter_room()
+
+    def enter_room(self):
+        """Makes a new folder with the program and the examples."""
         room = tempfile.TemporaryDirectory(prefix="camac-pages-")
         self.addCleanup(room.cleanup)
         self.room = pathlib.Path(room.name)
@@ -130,6 +135,7 @@ class Documents(unittest.TestCase):
     def test_pages(self):
         tried = 0
         for page in PAGES:
+            self.enter_room()
             with self.subTest(page=page.name):
                 try:
                     tried += try_page(page.read_text(), self.room)
