@@ -1,5 +1,5 @@
 #!/usr/bin/env python3
-"""Runs what README.md, docs/*.md and the examples of man/camac.1 show, and compares it with what they say comes of it.
+"""Runs what README.md, docs/*.md and the examples of man/camac.1 show, and compares it with what they say comes of it; follows their links.
 
 usage: tests/documents_test.py [-v] [TEST ..]     from any folder; takes a few seconds
 
@@ -120,6 +120,23 @@ def try_page(text, room):
     return tried
 
 
+def anchors(text):
+    """The names by which links lead to the headings of a page."""
+    headings = re.findall(r"^#+ (.*)$", BLOCK.sub("", text), re.M)
+    return {re.sub(r"[^\w -]", "", it).lower().replace(" ", "-") for it in headings}
+
+
+def lost_links(page):
+    """The links of a page that lead to no file, or to no heading of the page they name."""
+    lost = []
+    for link in re.findall(r"\]\(([^)\s]+)\)", BLOCK.sub("", page.read_text())):
+        name, _, heading = link.partition("#")
+        file = page.parent / name if name else page
+        if "://" not in link and not (file.exists() and (not heading or heading in anchors(file.read_text()))):
+            lost.append(link)
+    return lost
+
+
 class Documents(unittest.TestCase):
     def setUp(self):
         self.enter_room()
@@ -142,6 +159,13 @@ class Documents(unittest.TestCase):
                 except Wrong as why:
                     self.fail(f"{page.name}: {why}")
         self.assertGreater(tried, 50)
+
+    def test_links(self):
+        for page in [*PAGES, TOP / "CHANGELOG.md", *sorted((TOP / "editors").glob("*.md"))]:
+            self.assertEqual(lost_links(page), [], page.name)
+        page = self.room / "page.md"
+        page.write_text("# A page\n\n[a](#a-page) [b](page.md#a-page) [c](examples) [d](#b-page) [e](none.md) [f](page.md#none)\n")
+        self.assertEqual(lost_links(page), ["#b-page", "none.md", "page.md#none"])
 
     def test_manual_page(self):
         shutil.copy(self.room / "examples/straight_line.script", self.room / "readout.script")
