@@ -1,6 +1,8 @@
 // A plan that is built by hand, and cycles, locks and demands on its branch.
 
-use camac_branch::{Answer, Branch, Command, Plan, TypeName, cycle, demand, lock, locked, unlock};
+use camac_branch::{
+    Answer, Branch, Command, CycleDone, Plan, TypeName, cycle, demand, lock, locked, unlock,
+};
 use camac_func::DataMove;
 use camac_module::{Decl, ModuleType};
 use camac_word::{CrateNo, Function, GlBit, Station, SubAddress, Word24};
@@ -72,21 +74,30 @@ fn readers_of_a_plan(rt: HostRuntime) -> Result<(), Fail> {
     Ok(())
 }
 
+// One read after so many cycles of auxiliary controllers, or none where they are not permitted.
+fn read(
+    rt: &impl Abort,
+    branch: &mut Branch,
+    plan: &Plan,
+    wait: u8,
+) -> Result<Option<CycleDone>, Fail> {
+    let command = read_command()?;
+    let answer = answer(wait, 0)?;
+    assert!(rt; plan.waits(command.c).is_some());
+    Ok(cycle(branch, plan, command, answer).ok())
+}
+
 #[test]
 fn cycle_on_a_branch(rt: HostRuntime) -> Result<(), Fail> {
     let plan = plan(rt.alloc())?;
     let mut branch = Branch::start();
-    assert_eq!(rt; demand(&branch, &plan, answer(0, 6)?).get(), 4);
-    let command = read_command()?;
-    assert!(rt; plan.waits(command.c).is_some());
-    let done = cycle(&mut branch, &plan, command, answer(2, 0)?)
-        .ok()
-        .ok_or("a wait that is permitted")?;
+    let pattern = answer(0, 6)?;
+    assert_eq!(rt; demand(&branch, &plan, pattern).get(), 4);
+    let done = read(&rt, &mut branch, &plan, 2)?.ok_or("a wait that is permitted")?;
     assert_eq!(rt; done.wait, 2);
     assert_eq!(rt; done.reply.word.get(), 7);
     assert!(rt; done.reply.x && done.reply.q);
-    assert!(rt; plan.waits(command.c).is_some());
-    assert!(rt; cycle(&mut branch, &plan, command, answer(3, 0)?).is_err());
+    assert!(rt; read(&rt, &mut branch, &plan, 3)?.is_none());
     Ok(())
 }
 
@@ -95,9 +106,10 @@ fn lock_on_a_branch(rt: HostRuntime) -> Result<(), Fail> {
     let plan = plan(rt.alloc())?;
     let mut branch = Branch::start();
     let c = one()?;
+    let permitted = answer(1, 0)?;
     assert!(rt; plan.waits(c).is_some());
     assert!(rt; !locked(&branch, c));
-    let wait = lock(&mut branch, &plan, c, answer(1, 0)?)
+    let wait = lock(&mut branch, &plan, c, permitted)
         .ok()
         .ok_or("a wait that is permitted")?;
     assert_eq!(rt; wait, 1);
