@@ -2,6 +2,7 @@
 
 ghost use Rattle.std.specs.Prelude.{◌≡◌};
 ghost use Rattle.camac_tool.specs.Engine.{status_of};
+ghost use Rattle.camac_tool.specs.declared.launch.ArgumentsFault.TheVariants.{Memory, NotText};
 
 use crate::engine::{engine_check, engine_events, engine_plan};
 use crate::fault::ToolFault;
@@ -40,7 +41,10 @@ pub fn exit_status<R: Runtime + AllocGlobal>(rt: &R, words: &[String]) -> u8 {
 
 /// What the program exits with where its arguments cannot be read, after one line on standard error: 2 where they are no text, 3 for want
 /// of memory.
-pub fn unread_status<R: Runtime>(rt: &R, fault: ArgumentsFault) -> u8 {
+pub fn unread_status<R: Runtime>(rt: &R, fault: ArgumentsFault) -> u8
+    ensures not_text { fault ≡ NotText → result ≡ 2 }
+    ensures memory { fault ≡ Memory → result ≡ 3 }
+{
     let _ = eprintln!(rt; "{fault}");
     match fault {
         ArgumentsFault::NotText => USAGE,

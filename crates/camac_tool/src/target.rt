@@ -1,5 +1,8 @@
 // The event file of a run: made so that nothing is lost but an earlier event file, and told as written once it is on its disk.
 
+ghost use Rattle.std.specs.Prelude.{◌≡◌, IfErr};
+ghost use Rattle.camac_tool.specs.declared.fault.ToolFault.TheVariants.{Write};
+
 use crate::fault::ToolFault;
 use crate::input::Input;
 use std::fs::{Files, Metadata, OpenFile};
@@ -19,7 +22,9 @@ pub fn create_events<R: Files, S: Drop>(
     plan: Option<&Input<S, R::File>>,
     script: &Input<S, R::File>,
     answers: &Input<S, R::File>,
-) -> Result<R::File, ToolFault> {
+) -> Result<R::File, ToolFault>
+    ensures { IfErr result (λ fault. fault ≡ Write) }
+{
     if let Some(there) = file_at(rt, name)? {
         if is_same(&there, fs::metadata(rt, STANDARD_OUTPUT))? {
             return Err(ToolFault::Write);
@@ -37,7 +42,9 @@ pub fn create_events<R: Files, S: Drop>(
 }
 
 /// Waits until a regular file is on its disk.
-pub fn settle<F: OpenFile>(file: &F) -> Result<(), ToolFault> {
+pub fn settle<F: OpenFile>(file: &F) -> Result<(), ToolFault>
+    ensures { IfErr result (λ fault. fault ≡ Write) }
+{
     let Ok(about) = file.metadata() else {
         return Err(ToolFault::Write);
     };
@@ -48,7 +55,9 @@ pub fn settle<F: OpenFile>(file: &F) -> Result<(), ToolFault> {
 }
 
 // The regular file of this name, if there is one.
-fn file_at<R: Files>(rt: &R, name: &str) -> Result<Option<Metadata>, ToolFault> {
+fn file_at<R: Files>(rt: &R, name: &str) -> Result<Option<Metadata>, ToolFault>
+    ensures { IfErr result (λ fault. fault ≡ Write) }
+{
     match fs::metadata(rt, name) {
         Ok(about) if about.is_file() => Ok(Some(about)),
         Ok(_) => Ok(None),
@@ -65,7 +74,9 @@ fn behind<R: Files, S: Drop>(rt: &R, input: &Input<S, R::File>) -> io::Result<Me
 }
 
 // A file of which nothing can be told may be any file.
-fn is_same(file: &Metadata, other: io::Result<Metadata>) -> Result<bool, ToolFault> {
+fn is_same(file: &Metadata, other: io::Result<Metadata>) -> Result<bool, ToolFault>
+    ensures { IfErr result (λ fault. fault ≡ Write) }
+{
     match other {
         Ok(other) => Ok(file.dev() == other.dev() && file.ino() == other.ino()),
         Err(_) => Err(ToolFault::Write),
