@@ -10,6 +10,7 @@ import json
 import os
 import pathlib
 import re
+import shutil
 import subprocess
 import sys
 import tempfile
@@ -33,6 +34,29 @@ LISTING = b"demand 000004 adc\ncycle 1 5 0 0 in 123fff x1 q1 wait 2\nended event
 EVENT_FILE = bytes.fromhex("43414d4143455632 ca4d 0003 00000001 00000003 0000 0001 00000fff")
 EVENT_FILE_ONE = bytes.fromhex("43414d4143455631 ca4d 0003 00000001 0001 00000fff")
 WORDS = {"plan": ["PLAN"], "check": ["PLAN", "SCRIPT"], "run": ["PLAN", "SCRIPT", "ANSWERS", "EVENTS"], "events": ["FILE"]}
+# Stands in front of the C library's calls: one fails as the environment says, as '2 write 4': the second write, with errno 4. Standard
+# error is left alone. The numbers of the system's calls are those of x86-64, for which programs are built.
+FAILING_CALLS = r"""
+extern int *__errno_location(void);
+extern char *getenv(const char *);
+extern int sscanf(const char *, const char *, ...);
+extern int strcmp(const char *, const char *);
+extern long syscall(long, ...);
+static int seen;
+static long call(const char *name, long number, int fd, const void *bytes, unsigned long size) {
+  char wanted[16];
+  int turn, error;
+  if (fd != 2 && sscanf(getenv("FAILING_CALL"), "%d %15s %d", &turn, wanted, &error) == 3 && !strcmp(name, wanted) && ++seen == turn) {
+    *__errno_location() = error;
+    return -1;
+  }
+  return syscall(number, fd, bytes, size);
+}
+long read(int fd, void *bytes, unsigned long size) { return call("read", 0, fd, bytes, size); }
+long write(int fd, const void *bytes, unsigned long size) { return call("write", 1, fd, bytes, size); }
+int fsync(int fd) { return call("fsync", 74, fd, 0, 0); }
+"""
+EINTR, EIO = 4, 5
 READ, WRITE, TOO_LONG, TWICE = (f"fault {it}\n".encode() for it in ("read", "write", "input too long", "@in twice"))
 
 
@@ -221,7 +245,13 @@ class Files(Case):
         self.assertEqual(self.call("plan", "@in", given=text), (3, b"", TOO_LONG))
         self.assertEqual(self.call("check", "@sample", "@in", given=text), (3, b"", TOO_LONG))
         self.assertEqual(self.call("check", "@sample", "@in", given=text[1:]), (0, b"accepted\n", b""))
+        self.assertEqual(self.call("plan", "@in", given=text[1:]), self.call("plan", "@in"))
+        for words in (["@in", "straight.script", "answers"], ["@sample", "@in", "answers"]):
+            self.assertEqual(self.call("run", *words, "e", given=text), (3, b"", TOO_LONG))
+            self.assertEqual(self.file("e"), b"")
         self.assertEqual(self.call("events", "@in", given=EVENT_FILE + bytes(16_777_217 - 28)), (3, b"", TOO_LONG))
+        given = EVENT_FILE + bytes(16_777_216 - 28)
+        self.assertEqual(self.call("events", "@in", given=given), (1, b"refused V2 byte 28: marker\n", b""))
 
     def test_files_of_the_shell(self):
         line = '"$camac" check <(cat plan.toml) <(cat straight.script)'
@@ -241,8 +271,30 @@ class Streams(Case):
         self.assertEqual(self.shell('"$camac" plan @sample <&- >&- 2>&-'), (3, b"", b""))
         self.assertEqual(self.shell('"$camac" check @sample straight.script <&-'), (0, VERDICT, b""))
 
+    def test_no_file_takes_the_place_of_a_closed_stream(self):
+        self.assertEqual(self.shell('"$camac" check plan.toml @in <&-'), (3, b"", READ))
+        self.assertEqual(self.shell('"$camac" run plan.toml @in answers e <&-'), (3, b"", READ))
+        self.assertEqual(self.file("e"), b"")
+        self.assertEqual(self.shell('"$camac" run plan.toml straight.script @in e <&-'), (3, b"", READ))
+        self.assertEqual(self.file("e"), b"CAMACEV2")
+        self.assertEqual(self.shell('"$camac" run plan.toml straight.script answers e >&-'), (3, b"", WRITE))
+        self.assertEqual(self.file("e"), b"CAMACEV2")
+        for streams in ("2>&-", "<&- 2>&-", ">&- 2>&-", "<&- >&- 2>&-"):
+            self.assertEqual(self.shell(f'"$camac" run plan.toml straight.script . e {streams}')[0], 3)
+            self.assertEqual(self.file("e"), b"CAMACEV2")
+            self.assertEqual(self.file("answers"), ANSWERS)
+        self.assertEqual(self.shell('"$camac" run plan.toml straight.script answers e <&- 2>&-'), (0, LISTING, b""))
+        self.assertEqual(self.file("e"), EVENT_FILE)
+
+    def test_help_that_cannot_be_written(self):
+        for words in ("--help", "-h", "help", "plan --help", "check --help", "run --help", "events --help", "--version"):
+            self.assertEqual(self.shell(f'"$camac" {words} >/dev/full'), (3, b"", WRITE), words)
+            self.assertEqual(self.shell(f'"$camac" {words} >&-'), (3, b"", WRITE), words)
+        self.assertEqual(self.shell('"$camac" --frob 2>/dev/full'), (2, b"", b""))
+
     def test_full_device(self):
-        for words in ("plan @sample", "check @sample straight.script", "events @in <<<x", "run @sample straight.script answers e"):
+        (self.room / "one.events").write_bytes(EVENT_FILE)
+        for words in ("plan @sample", "check @sample straight.script", "events @in <<<x", "events @in <one.events", "run @sample straight.script answers e"):
             self.assertEqual(self.shell(f'"$camac" {words} >/dev/full'), (3, b"", WRITE), words)
         self.assertEqual(self.file("e"), b"CAMACEV2")
         self.assertEqual(self.call("run", "@sample", "straight.script", "answers", "/dev/full"), (3, b"", WRITE))
@@ -267,6 +319,111 @@ class Streams(Case):
             ran.stdin.close()
             self.assertEqual(ran.stdout.read(), b"ended events 1\n")
         self.assertEqual(ran.returncode, 0)
+
+
+class Kept(Case):
+    """What a run must not destroy: its inputs, and what standard output goes to."""
+
+    def refused(self, words, **how):
+        """Where EVENTS is one of these, nothing is written anywhere."""
+        before = {it.name: it.read_bytes() for it in self.room.iterdir()}
+        self.assertEqual(self.call("run", *words, **how), (3, b"", WRITE), words)
+        self.assertEqual({it.name: it.read_bytes() for it in self.room.iterdir()}, before, words)
+
+    def test_events_is_an_input(self):
+        for name in ("plan.toml", "straight.script", "answers"):
+            (self.room / f"hard.{name}").hardlink_to(self.room / name)
+            (self.room / f"soft.{name}").symlink_to(self.room / name)
+            for events in (name, f"./{name}", str(self.room / name), f"hard.{name}", f"soft.{name}"):
+                self.refused(["plan.toml", "straight.script", "answers", events])
+        self.refused(["@sample", "straight.script", "answers", "straight.script"])
+
+    def test_events_is_behind_standard_input(self):
+        for words in (["@in", "straight.script", "answers"], ["plan.toml", "@in", "answers"], ["plan.toml", "straight.script", "@in"]):
+            name = ("plan.toml", "straight.script", "answers")[words.index("@in")]
+            with open(self.room / name, "rb") as file:
+                self.refused([*words, f"./{name}"], given=None, stdin=file)
+
+    def test_events_is_standard_output(self):
+        (self.room / "soft").symlink_to(self.room / "e")
+        for name in ("e", "soft", "/dev/stdout", "/proc/self/fd/1"):
+            line = f'"$camac" run plan.toml straight.script answers {name} >>e'
+            (self.room / "e").write_bytes(b"of an earlier run")
+            self.assertEqual(self.shell(line), (3, b"", WRITE), name)
+            self.assertEqual(self.file("e"), b"of an earlier run", name)
+
+    def test_events_that_is_no_file(self):
+        self.assertEqual(self.call("run", "@sample", "straight.script", "answers", "/dev/null"), (0, LISTING, b""))
+        line = '"$camac" run plan.toml straight.script answers /dev/stdout | wc -c'
+        self.assertEqual(self.shell(line), (0, f"{len(LISTING) + len(EVENT_FILE)}\n".encode(), b""))
+
+    def test_events_was_there_and_longer(self):
+        (self.room / "e").write_bytes(EVENT_FILE * 1000)
+        self.assertEqual(self.call("run", "@sample", "straight.script", "answers", "e"), (0, LISTING, b""))
+        self.assertEqual(self.file("e"), EVENT_FILE)
+
+
+class FailingCalls(Case):
+    """Calls of the system that fail or are interrupted: each is a fault, and is not made again."""
+
+    @classmethod
+    def setUpClass(cls):
+        room = tempfile.TemporaryDirectory(prefix="camac-test-")
+        cls.addClassCleanup(room.cleanup)
+        cls.library = f"{room.name}/failing.so"
+        compiler = shutil.which("cc") or shutil.which("clang")
+        subprocess.run([compiler, "-shared", "-fPIC", "-w", "-xc", "-o", cls.library, "-"], input=FAILING_CALLS.encode(), check=True)
+
+    def failing(self, turn, name, error, *words, **how):
+        env = {**os.environ, "LD_PRELOAD": self.library, "FAILING_CALL": f"{turn} {name} {error}"}
+        return self.call(*words, env=env, **how)
+
+    def each(self, name, error, fault, *words, **how):
+        """Has each call fail in turn; what was written before it is a front of what the program writes. Says how many calls there are."""
+        whole = self.failing(0, name, error, *words, **how)
+        for turn in range(1, 1000):
+            status, out, err = self.failing(turn, name, error, *words, **how)
+            if (status, out, err) == whole:
+                return turn - 1
+            self.assertEqual((status, err), (3, fault), (turn, words))
+            self.assertTrue(whole[1].startswith(out) and out != whole[1], (turn, words))
+        self.fail("the calls do not end")
+
+    def test_writes(self):
+        (self.room / "one.events").write_bytes(EVENT_FILE)
+        many = b"CAMACEV2" + b"".join(EVENT_FILE[8:12] + bytes([0, 0, n >> 8, n & 255]) + EVENT_FILE[16:] for n in range(1, 501))
+        (self.room / "many.events").write_bytes(many)
+        for error in (EINTR, EIO):
+            self.assertGreater(self.each("write", error, WRITE, "plan", "@sample"), 0)
+            self.assertGreater(self.each("write", error, WRITE, "check", "plan.toml", "straight.script"), 0)
+            self.assertGreater(self.each("write", error, WRITE, "events", "one.events"), 0)
+            self.assertGreater(self.each("write", error, WRITE, "events", "many.events"), 1)
+
+    def test_writes_of_a_run(self):
+        for error in (EINTR, EIO):
+            for turn in range(1, 100):
+                status, out, err = self.failing(turn, "write", error, "run", "plan.toml", "straight.script", "answers", "e")
+                self.assertTrue(LISTING.startswith(out) and EVENT_FILE.startswith(self.file("e")), turn)
+                if status == 0:
+                    break
+                self.assertEqual((status, err), (3, WRITE), turn)
+            self.assertEqual((out, self.file("e")), (LISTING, EVENT_FILE))
+            self.assertGreater(turn, 4)
+
+    def test_reads(self):
+        (self.room / "one.events").write_bytes(EVENT_FILE)
+        for error in (EINTR, EIO):
+            for words in (["plan", "plan.toml"], ["check", "plan.toml", "straight.script"], ["events", "one.events"]):
+                self.assertGreater(self.each("read", error, READ, *words), 1)
+                self.assertGreater(self.each("read", error, READ, *words[:-1], "@in", given=self.file(words[-1])), 1)
+            self.assertGreater(self.each("read", error, READ, "run", "plan.toml", "straight.script", "answers", "e"), 4)
+
+    def test_sync(self):
+        words = ["run", "plan.toml", "straight.script", "answers"]
+        self.assertEqual(self.failing(1, "fsync", EIO, *words, "e"), (3, LISTING, WRITE))
+        self.assertEqual(self.file("e"), EVENT_FILE)
+        self.assertEqual(self.failing(1, "fsync", EIO, *words, "/dev/null"), (0, LISTING, b""))
+        self.assertEqual(self.failing(2, "fsync", EIO, *words, "e"), (0, LISTING, b""))
 
 
 def subcommands(help_text):
@@ -359,6 +516,33 @@ class RunningPage(Case):
         for name, wanted in (("two", "1 3 [3, 0] 000fff\n"), ("one", "1 3 [] 000fff\n"), ("none", "")):
             ran = subprocess.run([sys.executable, "reader.py", f"{name}.events"], cwd=self.room, capture_output=True, text=True)
             self.assertEqual((ran.returncode, ran.stdout), (0, wanted), ran.stderr)
+
+    def test_whole_events_of_a_cut_file(self):
+        """A run into 64 KiB, and then the way of the page from what it left to the events that are whole."""
+        (self.room / "whole.py").write_text(re.findall(r"```python[^\n]*\n(.*?)```", self.page, re.S)[1])
+        line = """trap '' XFSZ; ulimit -f 64; yes '1 1 000001 0 000004' | head -n 20000 | "$camac" run @sample straight.script @in run.events | tail -n 1
+          exit "${PIPESTATUS[2]}" """
+        status, out, err = self.shell(line)
+        self.assertEqual((status, err), (3, WRITE))
+        self.assertNotIn(b"ended", out)
+        self.assertEqual(len(self.file("run.events")), 65_536)
+        status, out, err = self.call("events", "run.events")
+        self.assertEqual((status, err), (1, b""))
+        self.assertRegex(out, rb"^refused V7 byte 655\d\d: truncated\n$")
+        commands = "\n".join(re.findall(r"(?m)^\$ (.*whole\.events.*)$", self.page))
+        events = (65_536 - 8) // 20
+        status, out, err = self.shell(f'camac() {{ "$camac" "$@"; }}; python3() {{ "{sys.executable}" "$@"; }}; {commands}')
+        self.assertEqual((status, err), (0, b""))
+        listed = "".join(f"event {n} gl 3 cycles 1 missed 0 words 1 000001\n" for n in range(1, events + 1))
+        self.assertEqual(out.decode(), f"{listed}events {events}\n")
+
+    def test_whole_events_of_each_front(self):
+        (self.room / "whole.py").write_text(re.findall(r"```python[^\n]*\n(.*?)```", self.page, re.S)[1])
+        for file, record in ((EVENT_FILE, 20), (EVENT_FILE_ONE, 14)):
+            for size in range(8, len(file) + 1):
+                (self.room / "cut").write_bytes(file[:size])
+                ran = subprocess.run([sys.executable, "whole.py", "cut"], cwd=self.room, capture_output=True)
+                self.assertEqual((ran.returncode, ran.stdout), (0, file if size == len(file) else file[:8]), ran.stderr)
 
     def test_one_answer_for_every_operation(self):
         answer = re.search(r"`(\d \d [0-9a-f]{6} \d [0-9a-f]{6})` calls the service", self.page)[1]

@@ -1,9 +1,12 @@
 //! The program `camac`, which checks CAMAC readout scripts against the plan of a branch.
 #![tactic(auto)]
 
-use camac_tool::exit_status;
+use camac_tool::{arguments, exit_status, unread_status};
 use std::process::ExitCode;
 
 fn main(rt: HostRuntime) -> ExitCode {
-    ExitCode::from(exit_status(&rt))
+    ExitCode::from(match arguments(&rt) {
+        Ok(words) => exit_status(&rt, words.as_slice()),
+        Err(fault) => unread_status(&rt, fault),
+    })
 }

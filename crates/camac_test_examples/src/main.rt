@@ -1,66 +1,36 @@
-//! Lists the plans among the examples, one after the other, as `camac plan` lists them; then plays the run among them, as `camac run`
-//! and `camac events` list it.
+//! Plays command lines of the program one after the other, in a folder that has the files of the examples. It prints each line, what
+//! the program writes to standard output, and the status.
 #![tactic(auto)]
 
-use camac_tool::{Outcome, PlanSource, ToolFault, engine_events, engine_plan, engine_run};
-use camac_word::Watched;
-use std::fs::Files;
+mod files;
+mod lines;
+
+use camac_tool::exit_status;
+use std::io;
 use std::process::ExitCode;
 use std::rt::Runtime;
-use std::{fs, io};
-
-/// The files of the plans.
-const PLANS: [&str; 4] = [
-    "beam_line.toml",
-    "sample_plan.toml",
-    "test_bench.toml",
-    "three_crates.toml",
-];
 
 fn main(rt: HostRuntime) -> ExitCode {
-    for name in PLANS {
-        if list(&rt, name) != Ok(Outcome::Good) {
-            return ExitCode::from(1);
-        }
-    }
-    if play(&rt) != Ok(Outcome::Good) {
-        return ExitCode::from(1);
-    }
-    ExitCode::from(0)
-}
-
-fn open<R: Files>(rt: &R, name: &str) -> Result<Watched<R::File>, ToolFault> {
-    match fs::open(rt, name) {
-        Ok(file) => Ok(Watched::new(file)),
-        Err(_) => Err(ToolFault::Read),
+    match play(&rt) {
+        Ok(()) => ExitCode::from(0),
+        Err(_) => ExitCode::from(1),
     }
 }
 
-fn list<R: Runtime + AllocGlobal>(rt: &R, name: &str) -> Result<Outcome, ToolFault> {
-    let mut plan = PlanSource::Text(open(rt, name)?);
-    let mut out = Watched::new(io::writer(rt));
-    engine_plan(rt.alloc(), &mut plan, &mut out)
+fn play<R: Runtime + AllocGlobal>(rt: &R) -> io::Result<()> {
+    files::write(rt)?;
+    for line in lines::LINES {
+        println!(rt; "$ camac {line}")?;
+        let status = exit_status(rt, words(rt, line)?.as_slice());
+        println!(rt; "status {status}")?;
+    }
+    Ok(())
 }
 
-// The run of the three modules, and then its event file.
-fn play<R: Runtime + AllocGlobal>(rt: &R) -> Result<Outcome, ToolFault> {
-    let mut plan = PlanSource::Text(open(rt, "three_crates.toml")?);
-    let mut script = open(rt, "three_modules.script")?;
-    let mut answers = open(rt, "three_modules.answers")?;
-    let mut out = Watched::new(io::writer(rt));
-    let mut events = Watched::new(Vec::new(rt.alloc()));
-    let outcome = engine_run(
-        rt.alloc(),
-        &mut plan,
-        &mut script,
-        &mut answers,
-        &mut out,
-        &mut events,
-    )?;
-    if outcome == Outcome::Refused {
-        return Ok(Outcome::Refused);
+fn words<R: Runtime + AllocGlobal>(rt: &R, line: &str) -> io::Result<Vec<String>> {
+    let mut words = Vec::new(rt.alloc());
+    for word in line.split_whitespace() {
+        words.push(String::from_str(rt.alloc(), word)?)?;
     }
-    let events = events.into_inner();
-    let mut file = Watched::new(events.as_slice());
-    engine_events(rt.alloc(), &mut file, &mut out)
+    Ok(words)
 }

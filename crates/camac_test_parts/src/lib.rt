@@ -17,3 +17,5 @@ mod script_texts;
 mod tokens;
 #[cfg(test)]
 mod tree;
+#[cfg(test)]
+mod words;

@@ -169,6 +169,12 @@ fn link_faults_of_stations(rt: HostRuntime) -> Result<(), Fail> {
         b"cdlam adc 1 1 4 12\n",
         b"refused L1 line 1: LAM at no installed station\n",
     )?;
+    // the text may name a crate 8, and no plan has one
+    expect_refused(
+        &rt,
+        b"cdlam adc 1 8 5 12\n",
+        b"refused L1 line 1: LAM at no installed station\n",
+    )?;
     expect_refused(
         &rt,
         b"cdlam reg 1 1 6 0

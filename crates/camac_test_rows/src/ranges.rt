@@ -109,6 +109,24 @@ cfsa 0 s -> k
 }
 
 #[test]
+fn computed_sub_address_with_a_cycle_less(rt: HostRuntime) -> Result<(), Fail> {
+    expect_refused(
+        &rt,
+        b"cdlam adc 1 1 5 12
+var v k i t
+service adc within 5 cycles event 0 words {
+cdreg r 1 1 5 0
+cfsa 0 r -> v
+v = v % 16
+cdreg s 1 1 5 v
+cfsa 0 s -> k
+}
+",
+        b"refused E12 line 3: more cycles than annotated\n",
+    )
+}
+
+#[test]
 fn guarded_write(rt: HostRuntime) -> Result<(), Fail> {
     expect_accepted(
         &rt,

@@ -8,3 +8,4 @@ pub mod Accepted
 pub mod Run
 pub mod Headline
 pub mod Input
+pub mod OneTry

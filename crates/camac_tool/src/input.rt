@@ -1,8 +1,10 @@
 // What the program reads: a file, or standard input.
 
+ghost use Rattle.std.specs.Prelude.{◌≡◌, IfErr};
 ghost use Rattle.std.specs.Io.{ReadsAtMost};
 ghost use Rattle.std.specs.Io.KnownBytes.{ReadConsumes};
 ghost use Rattle.camac_tool.specs.Input.{left_in};
+ghost use Rattle.camac_tool.specs.declared.fault.ToolFault.TheVariants.{Read as read-fault};
 
 use crate::fault::ToolFault;
 use std::fs::Files;
@@ -20,7 +22,9 @@ pub enum Input<S: Drop, F: Drop> {
 pub fn open<R: Files + StandardInput>(
     rt: &R,
     word: &str,
-) -> Result<Input<R::Reader, R::File>, ToolFault> {
+) -> Result<Input<R::Reader, R::File>, ToolFault>
+    ensures { IfErr result (λ fault. fault ≡ read-fault) }
+{
     if word == "@in" {
         return Ok(Input::Standard(rt.reader()));
     }

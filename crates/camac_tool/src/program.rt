@@ -1,56 +1,54 @@
-// The program, from its arguments to its exit status.
+// The program, from its words to its exit status.
+
+ghost use Rattle.std.specs.Prelude.{◌≡◌};
+ghost use Rattle.camac_tool.specs.Engine.{status_of};
+ghost use Rattle.camac_tool.specs.declared.launch.ArgumentsFault.TheVariants.{Memory, NotText};
 
 use crate::engine::{engine_check, engine_events, engine_plan};
 use crate::fault::ToolFault;
 use crate::input::{Input, open};
+use crate::launch::ArgumentsFault;
+use crate::one_try::OneTry;
 use crate::outcome::{Outcome, status};
 use crate::plan::PlanSource;
 use crate::running::engine_run;
+use crate::streams::hold_places;
+use crate::target::{create_events, settle};
 use camac_tool_words::{Job, JobFault, read_words};
 use camac_word::Watched;
 use clap::Error;
 use clap::error::ErrorKind;
-use std::alloc::AllocError;
-use std::io::{BufReader, BufWriter, Write};
+use std::fs::Files;
+use std::io;
+use std::io::{BufReader, BufWriter, Input as StandardInput, Write};
 use std::rt::Runtime;
-use std::{env, fs, io};
 
 /// The status of a usage fault.
 const USAGE: u8 = 2;
 
-/// Does what the arguments ask for, and tells what the program exits with: 0 or 1 by the outcome, 2 where the arguments ask for
-/// nothing that is there, and 3 for a fault. Help and version print and end with 0. A fault is one line on standard error.
-pub fn exit_status<R: Runtime + AllocGlobal>(rt: &R) -> u8 {
-    let words = match arguments(rt) {
-        Ok(words) => words,
-        Err(Unread::Memory) => return stopped(rt, ToolFault::Memory),
-        Err(Unread::NotText) => return misused(rt, "fault arguments are no text"),
+/// Does what the words after the program's name ask for, and tells what the program exits with: 0 or 1 by the outcome, 2 where the words
+/// ask for nothing that is there, and 3 for a fault. Help and version print and end with 0. A fault is one line on standard error.
+pub fn exit_status<R: Runtime + AllocGlobal>(rt: &R, words: &[String]) -> u8 {
+    let Ok(_places) = hold_places(rt) else {
+        return stopped(rt, ToolFault::Read);
     };
-    match read_words(rt.alloc(), words.as_slice()) {
+    match read_words(rt.alloc(), words) {
         Ok(job) => serve(rt, job),
         Err(JobFault::InTwice) => misused(rt, "fault @in twice"),
         Err(JobFault::Usage(error)) => explain(rt, error),
     }
 }
 
-/// Why the arguments could not be read.
-enum Unread {
-    NotText,
-    Memory,
-}
-
-impl From<AllocError> for Unread {
-    fn from(_error: AllocError) -> Unread {
-        Unread::Memory
-    }
-}
-
-// The arguments without the program's name.
-fn arguments<R: Runtime + AllocGlobal>(rt: &R) -> Result<Vec<String>, Unread> {
-    match env::args(rt) {
-        Ok(args) => Ok(args.skip(1).collect(rt.alloc())?),
-        Err(error) if error.kind() == io::ErrorKind::OutOfMemory => Err(Unread::Memory),
-        Err(_) => Err(Unread::NotText),
+/// What the program exits with where its arguments cannot be read, after one line on standard error: 2 where they are no text, 3 for want
+/// of memory.
+pub fn unread_status<R: Runtime>(rt: &R, fault: ArgumentsFault) -> u8
+    ensures not_text { fault ≡ NotText → result ≡ 2 }
+    ensures memory { fault ≡ Memory → result ≡ 3 }
+{
+    let _ = eprintln!(rt; "{fault}");
+    match fault {
+        ArgumentsFault::NotText => USAGE,
+        ArgumentsFault::Memory => status(&Err(ToolFault::Memory)),
     }
 }
 
@@ -66,13 +64,13 @@ fn serve<R: Runtime + AllocGlobal>(rt: &R, job: Job<'_>) -> u8 {
 }
 
 fn show_plan<R: Runtime + AllocGlobal>(rt: &R, plan: &str) -> Result<Outcome, ToolFault> {
-    let mut plan = plan_source(rt, plan)?;
+    let mut plan = source_of(plan_input(rt, plan)?);
     let mut out = Watched::new(io::writer(rt));
     engine_plan(rt.alloc(), &mut plan, &mut out)
 }
 
 fn check<R: Runtime + AllocGlobal>(rt: &R, plan: &str, script: &str) -> Result<Outcome, ToolFault> {
-    let mut plan = plan_source(rt, plan)?;
+    let mut plan = source_of(plan_input(rt, plan)?);
     let mut script = Watched::new(open(rt, script)?);
     let mut out = Watched::new(io::writer(rt));
     engine_check(rt.alloc(), &mut plan, &mut script, &mut out)
@@ -86,31 +84,29 @@ fn run<R: Runtime + AllocGlobal>(
     answers: &str,
     events: &str,
 ) -> Result<Outcome, ToolFault> {
-    let mut plan = plan_source(rt, plan)?;
-    let mut script = Watched::new(open(rt, script)?);
+    let plan = plan_input(rt, plan)?;
+    let script = open(rt, script)?;
     let Ok(ahead) = BufReader::new(rt.alloc(), open(rt, answers)?) else {
         return Err(ToolFault::Memory);
     };
-    let Ok(file) = fs::create(rt, events) else {
-        return Err(ToolFault::Write);
-    };
-    let mut answers = Watched::new(ahead);
+    let file = create_events(rt, events, plan.as_ref(), &script, ahead.get_ref())?;
     let mut events = Watched::new(file);
-    let mut out = Watched::new(io::writer(rt));
-    engine_run(
+    let outcome = engine_run(
         rt.alloc(),
-        &mut plan,
-        &mut script,
-        &mut answers,
-        &mut out,
+        &mut source_of(plan),
+        &mut Watched::new(script),
+        &mut Watched::new(ahead),
+        &mut Watched::new(io::writer(rt)),
         &mut events,
-    )
+    )?;
+    settle(&events.into_inner())?;
+    Ok(outcome)
 }
 
-// The lines are many, so they are gathered before they go out.
+// The lines are many, so they are gathered before they go out. The writer that gathers them tries an interrupted call again.
 fn show_events<R: Runtime + AllocGlobal>(rt: &R, file: &str) -> Result<Outcome, ToolFault> {
     let mut input = Watched::new(open(rt, file)?);
-    let Ok(gathered) = BufWriter::new(rt.alloc(), io::writer(rt)) else {
+    let Ok(gathered) = BufWriter::new(rt.alloc(), OneTry::new(io::writer(rt))) else {
         return Err(ToolFault::Memory);
     };
     let mut out = Watched::new(gathered);
@@ -121,30 +117,44 @@ fn show_events<R: Runtime + AllocGlobal>(rt: &R, file: &str) -> Result<Outcome, 
     }
 }
 
-fn plan_source<R: Runtime + AllocGlobal>(
+// The input that a plan is read from; the sample plan is read from none.
+fn plan_input<R: Files + StandardInput>(
     rt: &R,
     word: &str,
-) -> Result<PlanSource<Input<R::Reader, R::File>>, ToolFault> {
+) -> Result<Option<Input<R::Reader, R::File>>, ToolFault> {
     if word == "@sample" {
-        return Ok(PlanSource::Sample);
+        return Ok(None);
     }
-    Ok(PlanSource::Text(Watched::new(open(rt, word)?)))
+    Ok(Some(open(rt, word)?))
 }
 
-// What standard output and standard error do not take is lost: there is no other place to tell it.
+fn source_of<I: Drop>(input: Option<I>) -> PlanSource<I> {
+    match input {
+        None => PlanSource::Sample,
+        Some(input) => PlanSource::Text(Watched::new(input)),
+    }
+}
 
-fn finished<R: Runtime>(rt: &R, answer: Result<Outcome, ToolFault>) -> u8 {
+// What standard error does not take is lost: there is no other place to tell it.
+
+fn finished<R: Runtime>(rt: &R, answer: Result<Outcome, ToolFault>) -> u8
+    ensures { result ≡ status_of answer }
+{
     if let Err(fault) = &answer {
         let _ = eprintln!(rt; "{fault}");
     }
     status(&answer)
 }
 
-fn stopped<R: Runtime>(rt: &R, fault: ToolFault) -> u8 {
+fn stopped<R: Runtime>(rt: &R, fault: ToolFault) -> u8
+    ensures { result ≡ 3 }
+{
     finished(rt, Err(fault))
 }
 
-fn misused<R: Runtime>(rt: &R, why: &str) -> u8 {
+fn misused<R: Runtime>(rt: &R, why: &str) -> u8
+    ensures { result ≡ 2 }
+{
     let _ = eprintln!(rt; "{why}");
     USAGE
 }
@@ -154,6 +164,12 @@ fn explain<R: Runtime>(rt: &R, error: Error) -> u8 {
     if error.kind() == ErrorKind::OutOfMemory {
         return stopped(rt, ToolFault::Memory);
     }
-    let _ = error.print(rt);
-    if error.use_stderr() { USAGE } else { 0 }
+    let printed = error.print(rt);
+    if error.use_stderr() {
+        return USAGE;
+    }
+    match printed {
+        Ok(()) => 0,
+        Err(_) => stopped(rt, ToolFault::Write),
+    }
 }

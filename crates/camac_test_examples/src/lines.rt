@@ -1,0 +1,57 @@
+// The command lines.
+
+pub const LINES: [&str; 47] = [
+    // the examples
+    "plan beam_line.toml",
+    "plan sample_plan.toml",
+    "plan test_bench.toml",
+    "plan three_crates.toml",
+    "run three_crates.toml three_modules.script three_modules.answers events",
+    "events events",
+    // each subcommand, accepted and refused
+    "plan @sample",
+    "plan straight.script",
+    "check @sample @in",
+    "check sample_plan.toml straight.script",
+    "check @sample greedy.script",
+    "run @sample greedy.script answers events",
+    "run sample_plan.toml straight.script answers events",
+    "events events",
+    "run @sample straight.script late.answers events",
+    "run @sample straight.script bad.answers events",
+    "events events",
+    "events straight.script",
+    // an event file that is an input
+    "run @sample straight.script answers answers",
+    "run @sample straight.script answers link",
+    "run @sample straight.script answers straight.script",
+    "run sample_plan.toml straight.script answers sample_plan.toml",
+    "run sample_plan.toml straight.script answers events",
+    // words that name no job
+    "",
+    "chekc",
+    "plan",
+    "check @sample",
+    "events a b",
+    "check @in @in",
+    "run @sample @in @in events",
+    // files that lack or cannot be made, inputs at their limits and above
+    "plan none",
+    "check @sample none",
+    "run @sample straight.script none events",
+    "run @sample straight.script answers none/events",
+    "events none",
+    "events @sample",
+    "plan long.text",
+    "check @sample whole.text",
+    "check @sample long.text",
+    "events whole.events",
+    "events long.events",
+    // help and version
+    "--version",
+    "--help",
+    "plan --help",
+    "check --help",
+    "run --help",
+    "events --help",
+];
