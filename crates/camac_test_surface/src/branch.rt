@@ -1,8 +1,6 @@
 // A plan that is built by hand, and cycles, locks and demands on its branch.
 
-use camac_branch::{
-    Answer, Branch, Command, CycleDone, Plan, TypeName, cycle, demand, lock, locked, unlock,
-};
+use camac_branch::{Answer, Branch, Command, Plan, TypeName, cycle, demand, lock, locked, unlock};
 use camac_func::DataMove;
 use camac_module::{Decl, ModuleType};
 use camac_word::{CrateNo, Function, GlBit, Station, SubAddress, Word24};
@@ -56,16 +54,22 @@ fn read_command() -> Result<Command, Fail> {
 #[test]
 fn readers_of_a_plan(rt: HostRuntime) -> Result<(), Fail> {
     let plan = plan(rt.alloc())?;
-    let command = read_command()?;
+    let c = one()?;
+    let n = Station::new(5).ok_or("a station")?;
+    let a = SubAddress::new(0).ok_or("a sub-address")?;
+    let f = Function::new(0).ok_or("a function")?;
     assert_eq!(rt; plan.buffer(), 64);
-    assert_eq!(rt; plan.waits(one()?), Some(2));
-    assert_eq!(rt; plan.station(command.c, command.n), Some(0));
-    assert_eq!(rt; plan.gl(command.c, command.n).map(|bit| bit.get()), Some(3));
-    assert_eq!(rt;
-        plan.allowed(command.c, command.n, command.a, command.f),
-        Some(12)
-    );
-    assert_eq!(rt; plan.crate_bits(one()?).get(), 4);
+    assert_eq!(rt; plan.waits(c), Some(2));
+    assert_eq!(rt; plan.station(c, n), Some(0));
+    assert_eq!(rt; plan.gl(c, n), GlBit::new(3));
+    assert_eq!(rt; plan.allowed(c, n, a, f), Some(12));
+    assert_eq!(rt; plan.crate_bits(c).get(), 4);
+    Ok(())
+}
+
+#[test]
+fn types_of_a_plan(rt: HostRuntime) -> Result<(), Fail> {
+    let plan = plan(rt.alloc())?;
     assert_eq!(rt; plan.types(), 1);
     assert!(rt; plan.types() > 0);
     assert_eq!(rt; plan.type_counts(0), (1, 0));
@@ -74,17 +78,15 @@ fn readers_of_a_plan(rt: HostRuntime) -> Result<(), Fail> {
     Ok(())
 }
 
-// One read after so many cycles of auxiliary controllers, or none where they are not permitted.
-fn read(
-    rt: &impl Abort,
-    branch: &mut Branch,
-    plan: &Plan,
-    wait: u8,
-) -> Result<Option<CycleDone>, Fail> {
+// Whether a read is permitted after so many cycles of auxiliary controllers, and gives the word, Q and X of its answer.
+fn is_read(rt: &impl Abort, branch: &mut Branch, plan: &Plan, wait: u8) -> Result<bool, Fail> {
     let command = read_command()?;
     let answer = answer(wait, 0)?;
     assert!(rt; plan.waits(command.c).is_some());
-    Ok(cycle(branch, plan, command, answer).ok())
+    let found = cycle(branch, plan, command, answer);
+    Ok(
+        matches!(&found, Ok(done) if done.wait == wait && done.reply.word.get() == 7 && done.reply.x && done.reply.q),
+    )
 }
 
 #[test]
@@ -93,11 +95,8 @@ fn cycle_on_a_branch(rt: HostRuntime) -> Result<(), Fail> {
     let mut branch = Branch::start();
     let pattern = answer(0, 6)?;
     assert_eq!(rt; demand(&branch, &plan, pattern).get(), 4);
-    let done = read(&rt, &mut branch, &plan, 2)?.ok_or("a wait that is permitted")?;
-    assert_eq!(rt; done.wait, 2);
-    assert_eq!(rt; done.reply.word.get(), 7);
-    assert!(rt; done.reply.x && done.reply.q);
-    assert!(rt; read(&rt, &mut branch, &plan, 3)?.is_none());
+    assert!(rt; is_read(&rt, &mut branch, &plan, 2)?);
+    assert!(rt; !is_read(&rt, &mut branch, &plan, 3)?);
     Ok(())
 }
 
