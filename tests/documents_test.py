@@ -45,8 +45,8 @@ class Wrong(Exception):
 def run(command, room, given=b""):
     """Returns what the command prints, standard error too."""
     words = {"cwd": room, "input": given, "stdout": subprocess.PIPE, "stderr": subprocess.STDOUT, "timeout": WAIT}
-    path = f"{room}{os.pathsep}{os.environ['PATH']}"
-    return subprocess.run(["bash", "-c", command], env={**os.environ, "PATH": path}, **words).stdout.decode()
+    places = {"PATH": f"{room}{os.pathsep}{os.environ['PATH']}", "PYTHONPATH": str(TOP / "python"), "PYTHONDONTWRITEBYTECODE": "1"}
+    return subprocess.run(["bash", "-c", command], env={**os.environ, **places}, **words).stdout.decode()
 
 
 def compare(what, wanted, found):
