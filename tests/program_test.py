@@ -509,7 +509,7 @@ class RunningPage(Case):
     page = (TOP / "docs/RUNNING.md").read_text()
 
     def test_reader_of_event_files(self):
-        (self.room / "reader.py").write_text(re.search(r"```python[^\n]*\n(.*?)```", self.page, re.S)[1])
+        (self.room / "reader.py").write_text(re.search(r"```python events\.py\n(.*?)```", self.page, re.S)[1])
         self.call("run", "@sample", "straight.script", "answers", "two.events")
         (self.room / "one.events").write_bytes(EVENT_FILE_ONE)
         (self.room / "none.events").write_bytes(b"CAMACEV2")
@@ -519,7 +519,7 @@ class RunningPage(Case):
 
     def test_whole_events_of_a_cut_file(self):
         """A run into 64 KiB, and then the way of the page from what it left to the events that are whole."""
-        (self.room / "whole.py").write_text(re.findall(r"```python[^\n]*\n(.*?)```", self.page, re.S)[1])
+        (self.room / "whole.py").write_text(re.search(r"```python whole\.py\n(.*?)```", self.page, re.S)[1])
         line = """trap '' XFSZ; ulimit -f 64; yes '1 1 000001 0 000004' | head -n 20000 | "$camac" run @sample straight.script @in run.events | tail -n 1
           exit "${PIPESTATUS[2]}" """
         status, out, err = self.shell(line)
@@ -536,8 +536,8 @@ class RunningPage(Case):
         listed = "".join(f"event {n} gl 3 cycles 1 missed 0 words 1 000001\n" for n in range(1, events + 1))
         self.assertEqual(out.decode(), f"{listed}events {events}\n")
 
-    def test_whole_events_of_each_front(self):
-        (self.room / "whole.py").write_text(re.findall(r"```python[^\n]*\n(.*?)```", self.page, re.S)[1])
+    def test_whole_events_of_each_prefix(self):
+        (self.room / "whole.py").write_text(re.search(r"```python whole\.py\n(.*?)```", self.page, re.S)[1])
         for file, record in ((EVENT_FILE, 20), (EVENT_FILE_ONE, 14)):
             for size in range(8, len(file) + 1):
                 (self.room / "cut").write_bytes(file[:size])
