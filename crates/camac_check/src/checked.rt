@@ -10,8 +10,7 @@ use camac_names::Linked;
 use camac_word::GlBit;
 use std::marker::Model;
 
-/// The most that a service can cost in dataway cycles (those of auxiliary controllers before them with them), the most words of its event,
-/// and the most steps that it takes.
+/// The most that a service can need: dataway cycles (those of auxiliary controllers before them included), words of its event, steps.
 #[derive(Clone, Copy, Debug, PartialEq, Eq)]
 pub struct Bounds {
     pub cycles: u32,
@@ -29,8 +28,8 @@ impl Model for Bounds {
     ghost inverse = { λ n. record { cycles = n.cycles; words = n.words; steps = n.steps } };
 }
 
-/// A linked script that is accepted, and the bounds of each of its services. Whatever the branch answers, each cycle of its runs is safe,
-/// each number that an expression takes is from 0 to `u32::MAX`, its loops end, and each service stays within its bounds, and these within
+/// A linked script that is accepted, and the bounds of each of its services. Whatever the branch answers: each cycle of its runs is safe,
+/// each number that an expression takes is 0 to `u32::MAX`, and its loops end. Each service stays within its bounds, and these are within
 /// its heading.
 #[derive(Drop)]
 pub struct Checked {

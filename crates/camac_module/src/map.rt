@@ -17,7 +17,7 @@ pub struct Decl {
     pub a: SubAddress,
     /// The bits that it moves, 1 to 24.
     pub width: u8,
-    /// Whether it stands for a sub-address without a register that a scan may reach. Its width is then 24.
+    /// Whether it is a probe: a command at a sub-address without a register, which a scan may reach. Its width is 24.
     pub probe: bool,
 }
 
@@ -73,8 +73,8 @@ impl<const A: usize> CommandMap<A> {
         Ok(CommandMap { rows: self.rows })
     }
 
-    /// Declares a command. Refused are a width out of range, then a sub-address that the map lacks, then a command that is
-    /// declared already; the map stays then.
+    /// Declares a command. Refused in this order: a width out of range (M2), a sub-address that the map does not have (M4), a command that
+    /// is declared already (M1). A refusal leaves the map as it was.
     pub fn declare(&mut self, d: Decl) -> Result<(), ModuleFault>
         ensures refused { result_err result ≡ declare_fault A self.old d }
         ensures ok { OnOk result (self.new ≡ with_declared self.old d) }
@@ -94,7 +94,7 @@ impl<const A: usize> CommandMap<A> {
         Ok(())
     }
 
-    /// The width of a declared command, 1 to 24 bits.
+    /// The width of a command, 1 to 24 bits. None: it is not declared.
     pub fn width(&self, f: Function, a: SubAddress) -> Option<u8>
         ensures value { result ≡ width self.now f a }
         ensures in_range { IfSome result (λ w. (1 ≤ w) × (w ≤ 24)) }
@@ -122,7 +122,7 @@ impl<const A: usize> CommandMap<A> {
         (commands, probes)
     }
 
-    /// The least and the greatest width of a function from one sub-address to another, unless one of them lacks it.
+    /// The least and the greatest width of a function from one sub-address to another, in bits. None: it is not declared at one of them.
     pub fn widths(&self, f: Function, first: SubAddress, last: SubAddress) -> Option<(u8, u8)>
         requires { first ≤ last }
         ensures { result ≡ widths self.now f first last }

@@ -13,8 +13,8 @@ use camac_lang::{Lam, Script, Service};
 use camac_word::{CrateNo, GlBit, Station};
 use std::alloc::Global;
 
-/// Links a script to a plan, of which it keeps a copy. The first broken rule is answered, with the line of the declaration's first token:
-/// L1 of each LAM in text order, then L2, L3 and L4 of each service in text order; or L5, out of memory.
+/// Links a script to a plan, of which it keeps a copy. The error is the first rule that is broken, with the line of the declaration's first
+/// token: L1 of each LAM in text order, then L2, L3 and L4 of each service in text order. It is L5 where memory ran out.
 pub fn resolve(alloc: Global, script: Script, plan: &Plan) -> Result<Linked, LinkFault>
     ensures ok { IfOk result (λ l. (link_fault plan.now script ≡ None) × (l ≡ record { plan = plan.now; script = script })) }
     ensures refused { IfErr result (λ e. e ≢ LinkFault.OutOfMemory → link_fault plan.now script ≡ Some e) }

@@ -8,7 +8,7 @@ use camac_lang::Script;
 use camac_word::GlBit;
 use std::marker::Model;
 
-/// A script and the plan that it is linked to, of which no rule of linking is broken.
+/// A script and the plan that it is linked to: each LAM is at an installed station, and each service has a graded-L bit of its own.
 #[derive(Drop)]
 pub struct Linked {
     pub(crate) script: Script,

@@ -1,4 +1,4 @@
-// The lines of what a run tells.
+// The lines of the items of a run.
 
 ghost use Rattle.std.specs.Prelude.{◌≡◌, ◌≤◌, ◌+◌, ◌||◌, ◌++◌, length, is_err};
 ghost use Rattle.camac_report.specs.Items.{service_name, called_text, demand_text, lock_text, unlock_text, unlock_texts, item_text};
@@ -15,8 +15,8 @@ use camac_run_machine::Item;
 use camac_word::{CrateNo, Watched, Word24, WriteFault};
 use std::io::Write;
 
-/// Writes the line of an item. The number of a service that the script does not have tells no name. After a write fault a prefix of the
-/// line was written.
+/// Writes the line of an item. A number of a service that the script does not have gives no name. After a write fault a prefix of the line
+/// was written.
 pub fn write_item<W: Write>(
     out: &mut Watched<W>,
     checked: &Checked,
@@ -28,8 +28,8 @@ pub fn write_item<W: Write>(
     out.write_text(item_line(checked, item).as_bytes())
 }
 
-/// Writes the line of an item, and in the same write those of the crates, at most seven, that were let in again after it. After a write
-/// fault a prefix of them was written.
+/// Writes the line of an item, and in the same write a line for each crate, at most seven, whose lockout was released after it. After a
+/// write fault a prefix of them was written.
 pub fn write_items<W: Write>(
     out: &mut Watched<W>,
     checked: &Checked,

@@ -6,7 +6,7 @@ use camac_run_machine::Item;
 use std::alloc::{AllocError, Global};
 use std::marker::Model;
 
-/// What a run told, in its order.
+/// The items of a run, in their order.
 #[derive(Drop)]
 pub struct Items {
     list: Vec<Item>,

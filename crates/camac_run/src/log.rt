@@ -19,7 +19,7 @@ use camac_run_machine::{End, Item, Progress, Runner};
 use camac_word::{CrateNo, GlBit, Word24};
 use std::alloc::{AllocError, Global};
 
-/// What a run told: its items in their order, its events as a list of version Two, and how it ended.
+/// What a run did: its items in their order, its events as a list of version Two, and how it ended.
 #[derive(Drop)]
 pub struct Log {
     pub items: Items,
@@ -27,9 +27,9 @@ pub struct Log {
     pub end: End,
 }
 
-/// Runs a checked script on at most 1,000,000 answers. The log tells each item and each event, and how the run ended: at a graded-L
-/// operation (`Ended`), inside a service (`Short`), which then leaves no event, or at a wait that is not permitted (`Overrun`). An `Err`
-/// is out of memory for the log.
+/// Runs a checked script on at most 1,000,000 answers. The log has each item and each event, and how the run ended: at a graded-L
+/// operation (`Ended`), inside a service (`Short`), which then leaves no event, or at a wait that is not permitted (`Overrun`). The error
+/// is out of memory.
 pub fn run(alloc: Global, checked: &Checked, answers: &[Answer]) -> Result<Log, AllocError>
     requires answers { length answers.now ≤ 1000000 }
     ensures log { IfOk result (λ log. IsLogOf log (the_run checked.now.plan checked.now.script answers.now)) }

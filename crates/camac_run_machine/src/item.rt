@@ -1,18 +1,18 @@
-// What a run tells: its items, its end, and how far each answer brings it.
+// The items of a run, its end, and what an answer was used for.
 
 use arrayvec::ArrayVec;
 use camac_branch::{CycleDone, Overrun};
 use camac_event::Usage;
 use camac_word::{CrateNo, GlBit, Word24};
 
-/// One thing that a listing tells.
+/// One line of a listing.
 #[derive(Clone, Copy, Debug, PartialEq, Eq)]
 pub enum Item {
     /// A dataway cycle (EUR 4100, IEEE 583).
     Cycle(CycleDone),
-    /// Auxiliary controllers were locked out of a crate (own, after IEEE 675), after so many of their cycles.
+    /// The lockout of auxiliary controllers was taken in a crate, after this many of their cycles (own, after IEEE 675).
     Lock(CrateNo, u8),
-    /// They were let in again.
+    /// The lockout of a crate was released.
     Unlock(CrateNo),
     /// A graded-L operation (IEEE 596): its pattern, and the number of the service that it called.
     Demand(Word24, Option<usize>),
@@ -29,16 +29,16 @@ pub enum End {
     Overrun(Overrun),
 }
 
-/// How far an answer brought a run (own).
+/// What an answer was used for (own).
 #[derive(Debug, PartialEq, Eq, Drop)]
 pub enum Progress {
-    /// It was used: for what, the crates into which auxiliary controllers were let again after it, and the event that a service left
-    /// then, with the number of the event, its bit and its usage.
+    /// It was used for this item. After it the lockout of these crates was released. Where a service ended then, its event has this number
+    /// from 1, this bit of the graded-L pattern and this usage.
     Went {
         item: Item,
         unlocks: ArrayVec<CrateNo, 7>,
         event: Option<(u32, GlBit, Usage)>,
     },
-    /// Its wait is not permitted, or an earlier one was not, and the run stays where it was.
+    /// Its wait is not permitted, or an earlier one was not. The run stays where it was.
     Overrun(Overrun),
 }

@@ -19,7 +19,7 @@ use camac_word::{GlBit, Word24};
 use std::marker::Model;
 
 /// A run of a script over the answers so far, with room for `V` variables, `V` registers, `DEPTH` open blocks and `CAP` words of an
-/// event. At every moment what it told is the beginning of each run on more answers.
+/// event. What it has answered so far is a prefix of the run on any longer list of answers.
 #[derive(Drop)]
 pub struct Runner<'a, const V: usize, const DEPTH: usize, const CAP: usize> {
     machine: Machine<'a, V, DEPTH, CAP>,
@@ -50,7 +50,7 @@ impl<'a, const V: usize, const DEPTH: usize, const CAP: usize> Model for Runner<
 }
 
 impl<'a, const V: usize, const DEPTH: usize, const CAP: usize> Runner<'a, V, DEPTH, CAP> {
-    /// Stands before the first graded-L operation. It takes no memory. The script fits the sizes.
+    /// A run before its first graded-L operation. It takes no memory. The script has to fit the sizes.
     pub fn start(checked: &'a Checked) -> Self
         requires { fits checked.now.script V DEPTH CAP ≡ true }
         ensures rest { (answers : List Answer) → rest result answers ≡ the_run checked.now.plan checked.now.script answers }
@@ -72,7 +72,8 @@ impl<'a, const V: usize, const DEPTH: usize, const CAP: usize> Runner<'a, V, DEP
         }
     }
 
-    /// Feeds an answer. It takes no memory. From the first wait on that is not permitted, it answers that wait and nothing else changes.
+    /// Takes an answer, and returns what it was used for. It takes no memory. From the first wait on that is not permitted, it returns that
+    /// wait, and nothing else changes.
     pub fn next(&mut self, answer: Answer) -> Progress
         requires { self.old.fed < 1000000 }
         ensures { Progresses self.old answer result self.new }

@@ -26,7 +26,7 @@ use std::rt::Runtime;
 /// The status of a usage fault.
 const USAGE: u8 = 2;
 
-/// Does what the words after the program's name ask for, and tells what the program exits with: 0 or 1 by the outcome, 2 where the words
+/// Does what the words after the program's name ask for, and returns the exit status: 0 or 1 by the outcome, 2 where the words
 /// ask for nothing that is there, and 3 for a fault. Help and version print and end with 0. A fault is one line on standard error.
 pub fn exit_status<R: Runtime + AllocGlobal>(rt: &R, words: &[String]) -> u8 {
     let Ok(_places) = hold_places(rt) else {
@@ -39,8 +39,7 @@ pub fn exit_status<R: Runtime + AllocGlobal>(rt: &R, words: &[String]) -> u8 {
     }
 }
 
-/// What the program exits with where its arguments cannot be read, after one line on standard error: 2 where they are no text, 3 for want
-/// of memory.
+/// The exit status where the arguments cannot be read, after one line on standard error: 2 where they are no text, 3 where memory ran out.
 pub fn unread_status<R: Runtime>(rt: &R, fault: ArgumentsFault) -> u8
     ensures not_text { fault ≡ NotText → result ≡ 2 }
     ensures memory { fault ≡ Memory → result ≡ 3 }

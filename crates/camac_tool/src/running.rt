@@ -27,10 +27,10 @@ use camac_word::Watched;
 use std::alloc::Global;
 use std::io::{Read, Write};
 
-/// Runs a script on a plan and the text of its answers: the listing, or the line of the first refusal, is written to `out`, the event
-/// file to `events`. The plan is read and judged first, then the script; then the run begins, and what an answer did is written before
-/// the next answer is asked for. Nothing is written before a fault but one of a writer, which leaves a prefix of what is sent to both in
-/// one order, or of the reader of the answers, which leaves what the run tells on the answers before it.
+/// Runs a script on a plan and the text of its answers. The listing, or the line of the first refusal, is written to `out`, the event file
+/// to `events`. The plan is read and judged first, then the script. Then the run begins, and what an answer did is written before the next
+/// answer is read. A fault leaves nothing written, but for two. A fault of a writer leaves a prefix of what is sent to both, in one order.
+/// A fault of the reader of the answers leaves what belongs to the answers before it.
 pub fn engine_run<P: Read, S: Read, A: Read, W: Write, E: Write>(
     alloc: Global,
     plan: &mut PlanSource<P>,

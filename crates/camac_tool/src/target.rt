@@ -1,4 +1,4 @@
-// The event file of a run: made so that nothing is lost but an earlier event file, and told as written once it is on its disk.
+// The event file of a run. Nothing is lost but an earlier event file, and no run ends well before it is on the disk.
 
 ghost use Rattle.std.specs.Prelude.{◌≡◌, IfErr};
 ghost use Rattle.camac_tool.specs.declared.fault.ToolFault.TheVariants.{Write};
@@ -9,7 +9,7 @@ use std::fs::{Files, Metadata, OpenFile};
 use std::os::unix::fs::MetadataExt;
 use std::{fs, io};
 
-/// Where the system tells of the file behind standard input, and of that behind standard output.
+/// The names under which the system has the files behind standard input and standard output.
 const STANDARD_INPUT: &str = "/proc/self/fd/0";
 
 const STANDARD_OUTPUT: &str = "/proc/self/fd/1";
@@ -73,7 +73,7 @@ fn behind<R: Files, S: Drop>(rt: &R, input: &Input<S, R::File>) -> io::Result<Me
     }
 }
 
-// A file of which nothing can be told may be any file.
+// A file of which the system says nothing may be any file.
 fn is_same(file: &Metadata, other: io::Result<Metadata>) -> Result<bool, ToolFault>
     ensures { IfErr result (λ fault. fault ≡ Write) }
 {

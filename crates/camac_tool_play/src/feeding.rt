@@ -20,7 +20,7 @@ use camac_run_machine::{End, Runner};
 use camac_word::Watched;
 use std::io::{Read, Write};
 
-/// Feeds the run all answers that it takes, and writes what each did before it asks for the next. Tells how the run ends, and how many
+/// Gives the run all answers that it takes, and writes what each did before it reads the next. Returns how the run ends, and how many
 /// events it left.
 pub fn feed<R: Read, W: Write, E: Write>(
     checked: &Checked,
