@@ -1,0 +1,172 @@
+#!/usr/bin/env python3
+"""Refuses each allocation of the built program in turn, one alone and all from one on. The program has to end as 'fault memory', status 3,
+with nothing written; or, where it does without that allocation (a list that is made in smaller steps), as it does with ample memory.
+
+usage: tests/refused_memory_test.py [-v] [TEST ..]     from any folder; takes some seconds
+
+The program is crates/camac/out/camac (cd crates/camac && rt run makes it), or what the environment variable CAMAC_PROGRAM names. A small
+library in front of the C library's allocator answers null; it is compiled here by cc or clang.
+"""
+import os
+import pathlib
+import shutil
+import subprocess
+import tempfile
+import unittest
+
+TOP = pathlib.Path(__file__).resolve().parent.parent
+PROGRAM = os.path.abspath(os.environ.get("CAMAC_PROGRAM") or TOP / "crates/camac/out/camac")
+
+SHIM = r"""
+#define _GNU_SOURCE
+#include <dlfcn.h>
+#include <errno.h>
+#include <stdio.h>
+#include <stdlib.h>
+
+static long seen, refused = -1;
+static int all_later;
+
+static int refuse(void) {
+    if (refused < 0) {
+        const char *number = getenv("REFUSED_CALL");
+        refused = number ? atol(number) : 0;
+        all_later = getenv("REFUSED_LATER") != 0;
+    }
+    seen++;
+    return refused > 0 && (all_later ? seen >= refused : seen == refused);
+}
+
+__attribute__((destructor)) static void tell(void) {
+    const char *name = getenv("TELL_CALLS");
+    long calls = seen;
+    FILE *file = name ? fopen(name, "w") : 0;
+    if (file) { fprintf(file, "%ld", calls); fclose(file); }
+}
+
+static void *next(const char *name) { return dlsym(RTLD_NEXT, name); }
+
+void *malloc(size_t size) {
+    static void *(*real)(size_t);
+    if (!real) real = next("malloc");
+    if (refuse()) { errno = ENOMEM; return 0; }
+    return real(size);
+}
+
+void *realloc(void *old, size_t size) {
+    static void *(*real)(void *, size_t);
+    if (!real) real = next("realloc");
+    if (refuse()) { errno = ENOMEM; return 0; }
+    return real(old, size);
+}
+
+/* (dlsym itself takes memory by calloc: that comes from here) */
+void *calloc(size_t count, size_t size) {
+    static void *(*real)(size_t, size_t);
+    static char early[4096];
+    static size_t used;
+    static int is_asking;
+    if (!real && is_asking) {
+        size_t place = used;
+        used += (count * size + 15) / 16 * 16;
+        return used <= sizeof early ? early + place : 0;
+    }
+    if (!real) { is_asking = 1; real = next("calloc"); is_asking = 0; }
+    if (refuse()) { errno = ENOMEM; return 0; }
+    return real(count, size);
+}
+
+int posix_memalign(void **out, size_t align, size_t size) {
+    static int (*real)(void **, size_t, size_t);
+    if (!real) real = next("posix_memalign");
+    if (refuse()) return ENOMEM;
+    return real(out, align, size);
+}
+
+void *aligned_alloc(size_t align, size_t size) {
+    static void *(*real)(size_t, size_t);
+    if (!real) real = next("aligned_alloc");
+    if (refuse()) { errno = ENOMEM; return 0; }
+    return real(align, size);
+}
+"""
+
+STRAIGHT_LINE = (TOP / "examples/straight_line.script").read_bytes()
+REFUSED = (TOP / "examples/too_few_cycles.script").read_bytes()
+UNREAD = b"cdlam adc 1 1 5 12\nput\n"
+LOCKED = (TOP / "examples/lockout.script").read_bytes()
+SAMPLE_PLAN = (TOP / "examples/sample_plan.toml").read_bytes()
+
+# The event files of one event, of both versions.
+EVENTS_ONE = bytes.fromhex("43414d4143455631 ca4d 0003 00000001 0001 00000fff")
+EVENTS_TWO = bytes.fromhex("43414d4143455632 ca4d 0003 00000001 00000003 0000 0001 00000fff")
+
+ANSWERS = b"0 0 000000 0 000004\n1 1 123fff 2 000000\n"
+MANY = b"1 1 000001 0 000004\n" * 40
+
+MEMORY = (3, b"", b"fault memory\n")
+
+
+class RefusedMemory(unittest.TestCase):
+    @classmethod
+    def setUpClass(cls):
+        room = tempfile.TemporaryDirectory(prefix="camac-memory-")
+        cls.addClassCleanup(room.cleanup)
+        cls.room = pathlib.Path(room.name)
+        (cls.room / "refuse.c").write_text(SHIM)
+        cls.library = str(cls.room / "refuse.so")
+        compiler = shutil.which("cc") or shutil.which("clang")
+        subprocess.run([compiler, "-shared", "-fPIC", "-O1", "-o", cls.library, str(cls.room / "refuse.c"), "-ldl"], check=True)
+
+    def ended(self, words, given, **environment):
+        """Returns the status, what was written to both outputs, and the event file, or None where there is none."""
+        events = self.room / "run.events"
+        events.unlink(missing_ok=True)
+        environment = {"PATH": "/usr/bin:/bin", "LD_PRELOAD": self.library, **environment}
+        run = subprocess.run([PROGRAM, *words], input=given, env=environment, cwd=self.room, stdout=subprocess.PIPE, stderr=subprocess.PIPE, timeout=60)
+        return (run.returncode, run.stdout, run.stderr), events.read_bytes() if events.exists() else None
+
+    def refuse_each(self, words, given=b"", script=STRAIGHT_LINE):
+        """Counts the allocations of a run with ample memory, and then refuses each of them, alone and with all later ones."""
+        (self.room / "script").write_bytes(script)
+        told = self.room / "calls"
+        ample = self.ended(words.split(), given, TELL_CALLS=str(told))
+        self.assertNotEqual(ample[0], MEMORY)
+        calls, made = int(told.read_text()), ample[1] is not None
+        refused = 0
+        for number in range(1, calls + 1):
+            for more in ({}, {"REFUSED_LATER": "1"}):
+                with self.subTest(words=words, number=number, **more):
+                    ended, events = self.ended(words.split(), given, REFUSED_CALL=str(number), **more)
+                    if (ended, events) != ample:
+                        refused += 1
+                        self.assertEqual(ended, MEMORY)
+                        # EVENTS is made before anything is judged, and stays empty.
+                        self.assertIn(events, (None, b"") if made else (None,))
+        self.assertGreater(refused, 0)
+
+    def test_plan(self):
+        self.refuse_each("plan @sample")
+        self.refuse_each("plan @in", SAMPLE_PLAN)
+
+    def test_check(self):
+        for script in (STRAIGHT_LINE, REFUSED, UNREAD, LOCKED):
+            self.refuse_each("check @sample @in", script)
+
+    def test_run(self):
+        self.refuse_each("run @sample script @in run.events", ANSWERS)
+
+    def test_run_with_a_lock(self):
+        self.refuse_each("run @sample script @in run.events", MANY, LOCKED)
+
+    def test_run_that_is_refused(self):
+        self.refuse_each("run @sample script @in run.events", ANSWERS, REFUSED)
+        self.refuse_each("run @sample script @in run.events", b"0 0\n")
+
+    def test_events(self):
+        for file in (EVENTS_ONE, EVENTS_TWO, EVENTS_TWO[:-1]):
+            self.refuse_each("events @in", file)
+
+
+if __name__ == "__main__":
+    unittest.main()
