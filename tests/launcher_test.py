@@ -79,7 +79,9 @@ class Launcher(unittest.TestCase):
 
     def test_1_stopped_build_leaves_nothing(self):
         room = self.folder()
-        ran = start(self.launcher, "--version", start_new_session=True, env={**os.environ, "TMPDIR": str(room)})
+        # (what runs in the background of a shell ignores the signal)
+        heed = {"preexec_fn": lambda: signal.signal(signal.SIGINT, signal.SIG_DFL)}
+        ran = start(self.launcher, "--version", start_new_session=True, env={**os.environ, "TMPDIR": str(room)}, **heed)
         said = ""
         while "reading the sources" not in said and ran.poll() is None:
             said = ran.stderr.readline()
