@@ -1,5 +1,6 @@
 // A writer whose failed call is the last one.
 
+ghost use Rattle.std.specs.Prelude.{◌≡◌, false};
 ghost use Rattle.std.specs.Io.{WritesAtMost};
 ghost use Rattle.std.specs.Io.KnownBytes.{Keeps, WriteAppends};
 ghost use Rattle.camac_tool.specs.OneTry.{held_by};
@@ -15,7 +16,10 @@ pub struct OneTry<W: Drop> {
 }
 
 impl<W: Drop> OneTry<W> {
-    pub fn new(inner: W) -> OneTry<W> {
+    pub fn new(inner: W) -> OneTry<W>
+        ensures inner { held_by result ≡ inner }
+        ensures unfailed { result.failed ≡ false }
+    {
         OneTry {
             inner,
             failed: false,
