@@ -1,9 +1,14 @@
 -- The bits of the crates whose demand output is enabled, one crate after another.
-use Rattle.std.proofs.Common.{◌≡◌, ℕ, suc, ◌+◌, ◌-◌, ◌<◌, ◌≤◌, ◌∷◌, None, length, get_or, drop, bit_or, if◌then◌else◌, refl, arith, add-one}
+use Rattle.std.proofs.Common.{◌≡◌, ℕ, zero, suc, ◌+◌, ◌-◌, ◌<◌, ◌≤◌, Bool, true, false, List, [], ◌∷◌, Option, Some, None, length, get_or, drop, bit_and, bit_or, if◌then◌else◌, refl, subst, arith, add-one, inl, inr}
+use Rattle.std.specs.Int.{bit_at}
 use Rattle.std.proofs.Math.Seq.{drop-cons}
-use Rattle.camac_branch.specs.Branch.{Branch, enabled_bits}
-use Rattle.camac_branch.specs.Plan.{Layout, crate_bits}
-use Rattle.camac_branch.proofs.Numbered.{numbered-from}
+use Rattle.std.proofs.lemmas.Bool.{false≢true}
+use Rattle.std.proofs.lemmas.Nat.Bits.{bit_at_and, bit_at-lt}
+use Rattle.camac_branch.specs.declared.plan.Crate.{Crate}
+use Rattle.camac_branch.specs.Branch.{Branch, enabled_bits, IsSet, IsEnabled, PatternsAreOfStations}
+use Rattle.camac_branch.specs.Plan.{Layout, IsPlan, gl, bits_of_crate, crate_bits}
+use Rattle.camac_branch.proofs.Numbered.{numbered-from, none_is_some}
+use Rattle.camac_branch.proofs.Patterns.{not_one, either, or_left, or_right, has_bits_of_stations}
 
 pub enabled-next : (b : Branch) (plan : Layout) (n : ℕ) → 1 ≤ n → n - 1 < length plan.crates
     → enabled_bits b n (drop (n - 1) plan.crates)
@@ -12,3 +17,72 @@ enabled-next b plan n from below =
     let next : suc (n - 1) ≡ n + 1 - 1 = omega (arith, from) in
     let first : drop (n - 1) plan.crates ≡ get_or plan.crates (n - 1) None ∷ drop (n + 1 - 1) plan.crates = rw (← next) (drop-cons plan.crates (n - 1) None below) in
     rw (first, numbered-from plan.crates n from, add-one n) refl
+
+-- a bit of these crates, numbered from c, is that of one whose demand output is enabled
+gated : (d : Bool) (bits j : ℕ) → bit_at (if d then bits else 0) j ≡ 1 → (d ≡ true) × (bit_at bits j ≡ 1)
+gated true bits j h = (refl, h)
+gated false bits j h = absurd (not_one j h)
+
+open_gate : (d : Bool) (bits j : ℕ) → d ≡ true → bit_at bits j ≡ 1 → bit_at (if d then bits else 0) j ≡ 1
+open_gate true bits j e h = h
+open_gate false bits j e h = absurd (false≢true e)
+
+record IsOfCrate (b : Branch) (c : ℕ) (ks : List (Option Crate)) (k : ℕ) : Type 0 where
+  pub index : ℕ
+  pub has_bit : IsSet (bits_of_crate (get_or ks index None)) k
+  pub enabled : (b (c + index)).bits.demand ≡ true
+
+of_crate : (b : Branch) (c : ℕ) (ks : List (Option Crate)) (k : ℕ) → IsSet (enabled_bits b c ks) k → IsOfCrate b c ks k
+of_crate b c [] k h = absurd (not_one (k - 1) h)
+of_crate b c (x ∷ ks) k h =
+    elim (either (if (b c).bits.demand then bits_of_crate x else 0) (enabled_bits b (suc c) ks) (k - 1) h) [
+      | inl first ↦
+          let (on, set) = gated (b c).bits.demand (bits_of_crate x) (k - 1) first in
+          let here : c ≡ c + 0 = omega arith in
+          record { index = 0; has_bit = set; enabled = subst (λ d. (b d).bits.demand ≡ true) here on }
+      | inr later ↦
+          let rest = of_crate b (suc c) ks k later in
+          let there : suc c + rest.index ≡ c + suc rest.index = omega arith in
+          record { index = suc rest.index; has_bit = rest.has_bit; enabled = subst (λ d. (b d).bits.demand ≡ true) there rest.enabled }
+    ]
+
+in_crates : (b : Branch) (c : ℕ) (ks : List (Option Crate)) (k i : ℕ) → IsSet (bits_of_crate (get_or ks i None)) k → (b (c + i)).bits.demand ≡ true
+    → IsSet (enabled_bits b c ks) k
+in_crates b c [] k i h on = absurd (not_one (k - 1) h)
+in_crates b c (x ∷ ks) k zero h on =
+    let here : c + 0 ≡ c = omega arith in
+    or_left (if (b c).bits.demand then bits_of_crate x else 0) (enabled_bits b (suc c) ks) (k - 1) (open_gate (b c).bits.demand (bits_of_crate x) (k - 1) (subst (λ d. (b d).bits.demand ≡ true) here on) h)
+in_crates b c (x ∷ ks) k (suc i) h on =
+    let there : c + suc i ≡ suc c + i = omega arith in
+    or_right (if (b c).bits.demand then bits_of_crate x else 0) (enabled_bits b (suc c) ks) (k - 1) (in_crates b (suc c) ks k i h (subst (λ d. (b d).bits.demand ≡ true) there on))
+
+-- a station of a crate whose demand output is enabled, and the bits of the enabled crates
+station_enabled : (plan : Layout) → IsPlan plan → (b : Branch) (k : ℕ) → 1 ≤ k → IsSet (enabled_bits b 1 plan.crates) k → IsEnabled plan b k
+station_enabled plan is b k from h =
+    let at = of_crate b 1 plan.crates k h in
+    let number : 1 + at.index ≡ suc at.index = omega arith in
+    let (n, has) = (has_bits_of_stations plan is (suc at.index) k from).0 at.has_bit in
+    record { crate_no = suc at.index; station = n; has_bit = has; enabled = subst (λ d. (b d).bits.demand ≡ true) number at.enabled }
+
+enabled_station : (plan : Layout) → IsPlan plan → (b : Branch) (c n k : ℕ) → 1 ≤ k → gl plan c n ≡ Some k → (b c).bits.demand ≡ true → IsSet (enabled_bits b 1 plan.crates) k
+enabled_station plan is b zero n k from h on = absurd (none_is_some k h)
+enabled_station plan is b (suc i) n k from h on =
+    let number : suc i ≡ 1 + i = omega arith in
+    in_crates b 1 plan.crates k i ((has_bits_of_stations plan is (suc i) k from).1 (n, h)) (subst (λ d. (b d).bits.demand ≡ true) number on)
+
+-- a bit of an AND is one of both
+both_set : (m n j : ℕ) → bit_at (bit_and m n) j ≡ 1 → (bit_at m j ≡ 1) × (bit_at n j ≡ 1)
+both_set m n j h =
+    let common = bit_at_and m n j in
+    let few = bit_at-lt m j in
+    let few' = bit_at-lt n j in
+    (omega (arith, common, few, few', h), omega (arith, common, few, few', h))
+
+set_both : (m n j : ℕ) → bit_at m j ≡ 1 → bit_at n j ≡ 1 → bit_at (bit_and m n) j ≡ 1
+set_both m n j one other = let common = bit_at_and m n j in omega (arith, common, one, other)
+
+pub patterns_are_of_stations : PatternsAreOfStations
+patterns_are_of_stations plan is b answered k from = (
+  λ h. let (one, other) = both_set answered (enabled_bits b 1 plan.crates) (k - 1) h in (one, station_enabled plan is b k from other),
+  λ p. set_both answered (enabled_bits b 1 plan.crates) (k - 1) p.0 (enabled_station plan is b p.1.crate_no p.1.station k from p.1.has_bit p.1.enabled),
+)

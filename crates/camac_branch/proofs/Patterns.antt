@@ -11,7 +11,7 @@ use Rattle.camac_branch.specs.declared.plan.Installed.{Installed}
 use Rattle.camac_branch.specs.Plan.{Layout, IsPlan, numbered, crate_at, bit_value, bit_of, bits_of, bits_of_crate, crate_bits, HasBitsOfStations}
 use Rattle.camac_branch.proofs.Numbered.{none_is_some}
 
-not_one : (k : ℕ) → bit_at 0 k ≡ 1 → ⊥
+pub not_one : (k : ℕ) → bit_at 0 k ≡ 1 → ⊥
 not_one k h = let none = bit_at-zero k in absurd (omega (arith, none, h))
 
 -- the GL bit at a number in a list of stations
@@ -46,7 +46,7 @@ unfolding FromOne bit_in
 first_of_list None rest b from all h = absurd (not_one (b - 1) h)
 first_of_list (Some s) rest b from all h = value_of s.gl b from (λ k e. (all 1 k e).0) h
 
-either : (m n k : ℕ) → bit_at (bit_or m n) k ≡ 1 → (bit_at m k ≡ 1) ⊎ (bit_at n k ≡ 1)
+pub either : (m n k : ℕ) → bit_at (bit_or m n) k ≡ 1 → (bit_at m k ≡ 1) ⊎ (bit_at n k ≡ 1)
 either m n k h =
     let both = bit_at_or m n k in
     elim (bit_cases m k) [
@@ -63,10 +63,10 @@ station_of (s ∷ rest) b from all h =
       | inr later ↦ let (n, is) = station_of rest b from (rest_from_one s rest all) later in (suc n, in_rest s rest n b is)
     ]
 
-or_left : (m n k : ℕ) → bit_at m k ≡ 1 → bit_at (bit_or m n) k ≡ 1
+pub or_left : (m n k : ℕ) → bit_at m k ≡ 1 → bit_at (bit_or m n) k ≡ 1
 or_left m n k h = let both = bit_at_or m n k in let few = bit_at-lt n k in omega (arith, both, h, few)
 
-or_right : (m n k : ℕ) → bit_at n k ≡ 1 → bit_at (bit_or m n) k ≡ 1
+pub or_right : (m n k : ℕ) → bit_at n k ≡ 1 → bit_at (bit_or m n) k ≡ 1
 or_right m n k h = let both = bit_at_or m n k in let few = bit_at-lt m k in omega (arith, both, h, few)
 
 first_sets : (s : Option Installed) (b : ℕ) → option_and_then (λ x. x.gl) s ≡ Some b → bit_at (bit_of s) (b - 1) ≡ 1

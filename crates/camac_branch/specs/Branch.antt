@@ -1,11 +1,12 @@
 -- The branch: the state of its crates, what a command replies, and the pattern of a graded-L operation.
-use Rattle.std.specs.Prelude.{ℕ, suc, List, [], ◌∷◌, Option, Some, None, Bool, true, false, nat_eq, bit_and, bit_or, if◌then◌else◌}
+use Rattle.std.specs.Prelude.{◌≡◌, ◌↔◌, ◌-◌, ◌≤◌, ℕ, suc, List, [], ◌∷◌, Option, Some, None, Bool, true, false, nat_eq, bit_and, bit_or, if◌then◌else◌}
+use Rattle.std.specs.Int.{bit_at}
 use Rattle.camac_crate.specs.declared.command.ControllerOp.{ControllerOp}
 use Rattle.camac_crate.specs.Controller.{controller}
 use Rattle.camac_crate.specs.State.{CrateBits, start_bits, reply_word, reply_q, effect}
 use Rattle.camac_branch.specs.Address.{Address}
 use Rattle.camac_branch.specs.declared.plan.Crate.{Crate}
-use Rattle.camac_branch.specs.Plan.{Layout, bits_of_crate, crate_bits}
+use Rattle.camac_branch.specs.Plan.{Layout, IsPlan, gl, bits_of_crate, crate_bits}
 
 -- what a module or a controller answers to one cycle (EUR 4100, IEEE 583)
 pub record Reply : Type 0 where
@@ -68,3 +69,20 @@ enabled_bits b c (k ∷ ks) = bit_or (if (b c).bits.demand then bits_of_crate k 
 -- the pattern of a graded-L operation (IEEE 596)
 abbrev pub pattern_of : Layout → Branch → ℕ → ℕ
 pattern_of plan b gl = bit_and gl (enabled_bits b 1 plan.crates)
+
+-- bit k of a pattern, whose value is 2^(k-1), is 1
+abbrev pub IsSet : (pattern k : ℕ) → Type 0
+IsSet pattern k = bit_at pattern (k - 1) ≡ 1
+
+-- a station that has bit k in the plan, in a crate whose demand output is enabled
+pub record IsEnabled (plan : Layout) (b : Branch) (k : ℕ) : Type 0 where
+  pub crate_no : ℕ
+  pub station : ℕ
+  pub has_bit : gl plan crate_no station ≡ Some k
+  pub enabled : (b crate_no).bits.demand ≡ true
+
+-- bit k is in the pattern exactly where the answer has it, and a station of a crate whose demand output is enabled
+abbrev pub PatternsAreOfStations : Type 0
+PatternsAreOfStations =
+    (plan : Layout) → IsPlan plan → (b : Branch) (answered k : ℕ) → 1 ≤ k
+    → IsSet (pattern_of plan b answered) k ↔ (IsSet answered k × IsEnabled plan b k)

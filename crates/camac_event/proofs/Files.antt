@@ -23,7 +23,7 @@ chosen : {A : Type 0} (b : Bool) (x y z : A) → cond b x y ≡ z → ((b ≡ tr
 chosen true x y z e = inl (refl, e)
 chosen false x y z e = inr (refl, e)
 
-header_takes : (total : ℕ) (bytes : List ℕ) (x : Version × List ℕ) → IsBytes bytes → header_at total bytes ≡ Ok x → Takes bytes (header x.0) x.1
+pub header_takes : (total : ℕ) (bytes : List ℕ) (x : Version × List ℕ) → IsBytes bytes → header_at total bytes ≡ Ok x → Takes bytes (header x.0) x.1
 unfolding header_at
 header_takes total bytes x fits e =
     let last : Result (Version × List ℕ) Flaw = Err (flaw_at total bytes WrongHeader) in
@@ -36,7 +36,7 @@ header_takes total bytes x fits e =
       ]
     ]
 
-header_again : (version : Version) (total : ℕ) (rest : List ℕ) → header_at total (header version ++ rest) ≡ Ok (version, rest)
+pub header_again : (version : Version) (total : ℕ) (rest : List ℕ) → header_at total (header version ++ rest) ≡ Ok (version, rest)
 unfolding header_at
 header_again One total rest = refl
 header_again Two total rest = refl

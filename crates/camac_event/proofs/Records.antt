@@ -14,70 +14,70 @@ use Rattle.camac_event.proofs.Fields.{IsBytes, bind_ok, ok_is, Takes, Takes-then
 
 -- ---- single fields
 
-marker_takes : (total : ℕ) (bytes : List ℕ) (x : ℕ × List ℕ) → IsBytes bytes → marker_at total bytes ≡ Ok x → Takes bytes (big_bytes 2 0xCA4D) x.1
+pub marker_takes : (total : ℕ) (bytes : List ℕ) (x : ℕ × List ℕ) → IsBytes bytes → marker_at total bytes ≡ Ok x → Takes bytes (big_bytes 2 0xCA4D) x.1
 unfolding marker_at
 marker_takes total bytes x fits e =
     let t = tested_takes WrongMarker (λ n. eqb n 0xCA4D) 2 two_wide total bytes x.0 x.1 fits e in
     subst (λ (n : ℕ). Takes bytes (big_bytes 2 n) x.1) (eqb-true _ _ t.passes) t.takes
 
-marker_again : (total : ℕ) (rest : List ℕ) → marker_at total (big_bytes 2 0xCA4D ++ rest) ≡ Ok (0xCA4D, rest)
+pub marker_again : (total : ℕ) (rest : List ℕ) → marker_at total (big_bytes 2 0xCA4D ++ rest) ≡ Ok (0xCA4D, rest)
 unfolding marker_at
 marker_again total rest = tested_again WrongMarker (λ n. eqb n 0xCA4D) 2 total 0xCA4D rest (omega arith) refl
 
-gl_takes : (total : ℕ) (bytes : List ℕ) (x : ℕ × List ℕ) → IsBytes bytes → gl_at total bytes ≡ Ok x → Takes bytes (big_bytes 2 x.0) x.1 × (1 ≤ x.0) × (x.0 ≤ 24)
+pub gl_takes : (total : ℕ) (bytes : List ℕ) (x : ℕ × List ℕ) → IsBytes bytes → gl_at total bytes ≡ Ok x → Takes bytes (big_bytes 2 x.0) x.1 × (1 ≤ x.0) × (x.0 ≤ 24)
 unfolding gl_at
 gl_takes total bytes x fits e =
     let t = tested_takes GlOutOfRange (λ n. leb 1 n && leb n 24) 2 two_wide total bytes x.0 x.1 fits e in
     let p = and_parts (leb 1 x.0) (leb x.0 24) t.passes in
     (t.takes, leb-true _ _ p.0, leb-true _ _ p.1)
 
-gl_again : (total n : ℕ) (rest : List ℕ) → 1 ≤ n → n ≤ 24 → gl_at total (big_bytes 2 n ++ rest) ≡ Ok (n, rest)
+pub gl_again : (total n : ℕ) (rest : List ℕ) → 1 ≤ n → n ≤ 24 → gl_at total (big_bytes 2 n ++ rest) ≡ Ok (n, rest)
 unfolding gl_at
 gl_again total n rest low high = tested_again GlOutOfRange (λ n. leb 1 n && leb n 24) 2 total n rest (omega arith) (and_from _ _ (le-leb _ _ low) (le-leb _ _ high))
 
-event_number_takes : (number total : ℕ) (bytes : List ℕ) (x : ℕ × List ℕ) → IsBytes bytes → event_number_at number total bytes ≡ Ok x → Takes bytes (big_bytes 4 number) x.1 × (number < 2 ^ 32)
+pub event_number_takes : (number total : ℕ) (bytes : List ℕ) (x : ℕ × List ℕ) → IsBytes bytes → event_number_at number total bytes ≡ Ok x → Takes bytes (big_bytes 4 number) x.1 × (number < 2 ^ 32)
 unfolding event_number_at
 event_number_takes number total bytes x fits e =
     let t = tested_takes NumberOutOfOrder (λ n. eqb n number) 4 four_wide total bytes x.0 x.1 fits e in
     subst (λ (n : ℕ). Takes bytes (big_bytes 4 n) x.1 × (n < 2 ^ 32)) (eqb-true _ _ t.passes) (t.takes, omega (arith, t.fits))
 
-event_number_again : (number total : ℕ) (rest : List ℕ) → number < 2 ^ 32 → event_number_at number total (big_bytes 4 number ++ rest) ≡ Ok (number, rest)
+pub event_number_again : (number total : ℕ) (rest : List ℕ) → number < 2 ^ 32 → event_number_at number total (big_bytes 4 number ++ rest) ≡ Ok (number, rest)
 unfolding event_number_at
 event_number_again number total rest lt = tested_again NumberOutOfOrder (λ n. eqb n number) 4 total number rest (omega arith) (eq-eqb _ _ refl)
 
-count_takes : (total : ℕ) (bytes : List ℕ) (x : ℕ × List ℕ) → IsBytes bytes → count_at total bytes ≡ Ok x → Takes bytes (big_bytes 2 x.0) x.1 × (x.0 ≤ 4096)
+pub count_takes : (total : ℕ) (bytes : List ℕ) (x : ℕ × List ℕ) → IsBytes bytes → count_at total bytes ≡ Ok x → Takes bytes (big_bytes 2 x.0) x.1 × (x.0 ≤ 4096)
 unfolding count_at
 count_takes total bytes x fits e =
     let t = tested_takes CountAboveLimit (λ n. leb n 4096) 2 two_wide total bytes x.0 x.1 fits e in
     (t.takes, leb-true _ _ t.passes)
 
-count_again : (total n : ℕ) (rest : List ℕ) → n ≤ 4096 → count_at total (big_bytes 2 n ++ rest) ≡ Ok (n, rest)
+pub count_again : (total n : ℕ) (rest : List ℕ) → n ≤ 4096 → count_at total (big_bytes 2 n ++ rest) ≡ Ok (n, rest)
 unfolding count_at
 count_again total n rest le = tested_again CountAboveLimit (λ n. leb n 4096) 2 total n rest (omega arith) (le-leb _ _ le)
 
-word_takes : (total : ℕ) (bytes : List ℕ) (x : ℕ × List ℕ) → IsBytes bytes → word_at total bytes ≡ Ok x → Takes bytes (big_bytes 4 x.0) x.1 × (x.0 < 2 ^ 24)
+pub word_takes : (total : ℕ) (bytes : List ℕ) (x : ℕ × List ℕ) → IsBytes bytes → word_at total bytes ≡ Ok x → Takes bytes (big_bytes 4 x.0) x.1 × (x.0 < 2 ^ 24)
 unfolding word_at
 word_takes total bytes x fits e =
     let t = tested_takes WordTooWide (λ n. ltb n (2 ^ 24)) 4 four_wide total bytes x.0 x.1 fits e in
     (t.takes, ltb-true _ _ t.passes)
 
-word_again : (total n : ℕ) (rest : List ℕ) → n < 2 ^ 24 → word_at total (big_bytes 4 n ++ rest) ≡ Ok (n, rest)
+pub word_again : (total n : ℕ) (rest : List ℕ) → n < 2 ^ 24 → word_at total (big_bytes 4 n ++ rest) ≡ Ok (n, rest)
 unfolding word_at
 word_again total n rest lt = tested_again WordTooWide (λ n. ltb n (2 ^ 24)) 4 total n rest (omega arith) (lt-ltb _ _ lt)
 
 -- ---- usage
 
-missed_takes : (cycles total : ℕ) (bytes : List ℕ) (x : ℕ × List ℕ) → IsBytes bytes → missed_at cycles total bytes ≡ Ok x → Takes bytes (big_bytes 2 x.0) x.1 × (x.0 ≤ cycles) × (x.0 < 2 ^ 16)
+pub missed_takes : (cycles total : ℕ) (bytes : List ℕ) (x : ℕ × List ℕ) → IsBytes bytes → missed_at cycles total bytes ≡ Ok x → Takes bytes (big_bytes 2 x.0) x.1 × (x.0 ≤ cycles) × (x.0 < 2 ^ 16)
 unfolding missed_at
 missed_takes cycles total bytes x fits e =
     let t = tested_takes MissedAboveCycles (λ n. leb n cycles) 2 two_wide total bytes x.0 x.1 fits e in
     (t.takes, leb-true _ _ t.passes, omega (arith, t.fits))
 
-missed_again : (cycles total n : ℕ) (rest : List ℕ) → n ≤ cycles → n < 2 ^ 16 → missed_at cycles total (big_bytes 2 n ++ rest) ≡ Ok (n, rest)
+pub missed_again : (cycles total n : ℕ) (rest : List ℕ) → n ≤ cycles → n < 2 ^ 16 → missed_at cycles total (big_bytes 2 n ++ rest) ≡ Ok (n, rest)
 unfolding missed_at
 missed_again cycles total n rest le lt = tested_again MissedAboveCycles (λ n. leb n cycles) 2 total n rest (omega arith) (le-leb _ _ le)
 
-usage_takes : (version : Version) (total : ℕ) (bytes : List ℕ) (x : Option Usage × List ℕ) → IsBytes bytes → usage_at version total bytes ≡ Ok x → Takes bytes (usage_fields x.0) x.1 × HasUsage version x.0 × UsageFits x.0
+pub usage_takes : (version : Version) (total : ℕ) (bytes : List ℕ) (x : Option Usage × List ℕ) → IsBytes bytes → usage_at version total bytes ≡ Ok x → Takes bytes (usage_fields x.0) x.1 × HasUsage version x.0 × UsageFits x.0
 unfolding usage_at
 usage_takes One total bytes x fits e =
     subst (λ (y : Option Usage × List ℕ). Takes bytes (usage_fields y.0) y.1 × HasUsage One y.0 × UsageFits y.0) (ok_is (None, bytes) x e) (record { parts = refl; rest_fits = fits }, refl, tt)

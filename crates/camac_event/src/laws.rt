@@ -3,6 +3,7 @@
 ghost use Rattle.std.specs.Prelude.{◌≡◌, Ok, List};
 ghost use Rattle.camac_event.specs.Spelling.{Entry, spelling, AreEvents};
 ghost use Rattle.camac_event.specs.Reading.{file_at};
+ghost use Rattle.camac_event.specs.Broken.{FieldsSpell, FileFaultsStand};
 ghost use Rattle.camac_event.specs.declared.event.Version.{Version};
 
 /// What a list of events is spelled as reads back as that list: decoding what was encoded gives what was encoded.
@@ -14,4 +15,15 @@ pub fn spelling_reads_back()
 pub fn spelling_is_one()
     ensures { (version other : Version) (events others : List Entry) → AreEvents version events → AreEvents other others
         → spelling version events ≡ spelling other others → (version ≡ other) × (events ≡ others) }
+{}
+
+/// The fields of a file, one after the other, are its spelling.
+pub fn fields_spell()
+    ensures { FieldsSpell }
+{}
+
+/// Where a file is refused: up to the offset its bytes are whole fields of right events, and no right file has whole fields in common with it
+/// beyond. The rule is that of the field that would stand there, or that the file ends inside it.
+pub fn file_faults_stand()
+    ensures { FileFaultsStand }
 {}

@@ -26,3 +26,4 @@ pub mod Rounds
 pub mod Services
 pub mod Headline
 pub mod Transferred
+pub mod Demands

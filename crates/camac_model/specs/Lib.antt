@@ -5,6 +5,7 @@ pub mod Cycle
 pub mod Transfer
 pub mod Meaning
 pub mod Run
+pub mod Demands
 pub mod Safe
 pub mod Moments
 pub mod Fine

@@ -52,7 +52,7 @@ entry_here m d f =
       | inr row ↦ inr (rw row refl)
     ]
 
-entry_elsewhere : (m : Commands) (d : Decl) (f a : ℕ) → a ≢ d.a → entry (with_declared m d) f a ≡ entry m f a
+pub entry_elsewhere : (m : Commands) (d : Decl) (f a : ℕ) → a ≢ d.a → entry (with_declared m d) f a ≡ entry m f a
 entry_elsewhere m d f a other = rw (get_or-set_other m d.a a _ [] other) refl
 
 and_left : (a b : Bool) → (a && b) ≡ true → a ≡ true

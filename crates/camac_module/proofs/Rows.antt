@@ -1,6 +1,6 @@
 -- The entries of a row, by function.
 use Rattle.std.proofs.Common.{◌≡◌, ◌≢◌, ℕ, ◌<◌, ◌≤◌, ◌%◌, ◌^◌, is_some, bit_and, Bool, true, length, get_or, set, Some, None, List, [], map, replicate, ap, arith, refl, sym, ◌∙◌, length-set, get_or-set_same, get_or-set_other, inl, inr}
-use Rattle.std.proofs.lemmas.Bool.{cases_eq}
+use Rattle.std.proofs.lemmas.Bool.{cases_eq, cases_lt}
 use Rattle.std.proofs.lemmas.Nat.{and_le_l}
 use Rattle.std.proofs.Math.Nat.{mod-eq_of_lt}
 use Rattle.std.proofs.lemmas.List.Sums.{count_by-le-length}
@@ -9,8 +9,9 @@ use Rattle.camac_module.proofs.Bits.{one_if, bit_cases, bit-and, ones-counted}
 use Rattle.std.proofs.lemmas.List.FromFn.{length-map-range_with_len, get_or-map-range_with_len, fill_by_all}
 use Rattle.camac_module.specs.Entry.{Entries, no_entries, is_probe_entry, count_commands, count_probes}
 use Rattle.camac_module.specs.Row.{bit, entry_of, entries_of}
-use Rattle.std.proofs.lemmas.List.{get_or-map, map-set, length-map, length-replicate, get_or-replicate}
-use Rattle.camac_module.specs.Commands.{none_declared, with_declared}
+use Rattle.std.proofs.lemmas.List.{get_or_past, get_or-map, map-set, length-map, length-replicate, get_or-replicate}
+use Rattle.camac_module.specs.Commands.{Commands, entry, declared, none_declared, with_declared, DeclaresOne}
+use Rattle.camac_module.proofs.Entries.{entry_elsewhere}
 use Rattle.camac_module.specs.declared.map.Decl.{Decl}
 use Rattle.camac_module.specs.declared.row.Row.{Row}
 
@@ -96,3 +97,31 @@ map-new row n is =
     (λ k below.
     let inside : k < length (replicate n row) = rw (length-replicate n row) below in
     get_or-map entries_of (replicate n row) k row [] inside ∙ ap entries_of (get_or-replicate n k row row below) ∙ is)
+
+-- one more declaration in rows of 32 functions changes its command alone
+declares_here : (rows : List Row) (d : Decl) (blank : Row) → d.f < 32 → d.a < length rows → entry (with_declared (map entries_of rows) d) d.f d.a ≡ Some (declared d)
+declares_here rows d blank function place =
+    let there : d.a < length (map entries_of rows) = rw (length-map rows entries_of) place in
+    let old : get_or (map entries_of rows) d.a [] ≡ entries_of (get_or rows d.a blank) = get_or-map entries_of rows d.a blank [] place in
+    let inside : d.f < length (get_or (map entries_of rows) d.a []) = rw (old, length-entries_of (get_or rows d.a blank)) function in
+    rw (get_or-set_same (map entries_of rows) d.a (set (get_or (map entries_of rows) d.a []) d.f (Some (declared d))) [] there)
+    (get_or-set_same (get_or (map entries_of rows) d.a []) d.f (Some (declared d)) None inside)
+
+declares_elsewhere : (m : Commands) (d : Decl) (f : ℕ) → f ≢ d.f → entry (with_declared m d) f d.a ≡ entry m f d.a
+declares_elsewhere m d f other =
+    elim (cases_lt d.a (length m)) [
+      | inl below ↦
+          rw (get_or-set_same m d.a (set (get_or m d.a []) d.f (Some (declared d))) [] below)
+          (get_or-set_other (get_or m d.a []) d.f f (Some (declared d)) None other)
+      | inr past ↦ rw (get_or_past (set m d.a (set (get_or m d.a []) d.f (Some (declared d)))) d.a [] (rw (length-set m d.a _) past), get_or_past m d.a [] past) refl
+    ]
+
+pub declares_one : (rows : List Row) (d : Decl) (blank : Row) → d.f < 32 → d.a < length rows → DeclaresOne (map entries_of rows) (with_declared (map entries_of rows) d) d
+declares_one rows d blank function place = record {
+  here = declares_here rows d blank function place;
+  others = λ f a other.
+      elim (cases_eq a d.a) [
+        | inl same ↦ rw same (declares_elsewhere (map entries_of rows) d f (λ e. other (e, same)))
+        | inr apart ↦ entry_elsewhere (map entries_of rows) d f a apart
+      ];
+}

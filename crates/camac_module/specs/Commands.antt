@@ -46,6 +46,11 @@ abbrev pub with_declared : Commands → Decl → Commands
 with_declared commands d =
     slice_set commands d.a (slice_set (slice_index_or commands d.a []) d.f (Some (declared d)))
 
+-- the command is declared now as it was asked, and each other one is as it was
+pub record DeclaresOne (old new : Commands) (d : Decl) : Type 0 where
+  pub here : entry new d.f d.a ≡ Some (declared d)
+  pub others : (f a : ℕ) → ((f ≡ d.f) × (a ≡ d.a) → ⊥) → entry new f a ≡ entry old f a
+
 -- 1 to 24 bits, and 24 at a probe
 abbrev pub fits_width : Decl → Bool
 fits_width d = nat_le 1 d.width && nat_le d.width 24 && (not d.probe || nat_eq d.width 24)

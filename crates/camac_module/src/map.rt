@@ -2,7 +2,7 @@
 
 ghost use Rattle.std.specs.Prelude.{◌≡◌, ◌≤◌, IfSome, OnOk, OnErr};
 ghost use Rattle.std.specs.Result.{result_err};
-ghost use Rattle.camac_module.specs.Commands.{width, counts, widths, none_declared, with_declared, declare_fault, fits_width, IsCommandMap};
+ghost use Rattle.camac_module.specs.Commands.{width, counts, widths, none_declared, with_declared, DeclaresOne, declare_fault, fits_width, IsCommandMap};
 
 use crate::row::Row;
 use camac_word::{Function, SubAddress};
@@ -74,10 +74,11 @@ impl<const A: usize> CommandMap<A> {
     }
 
     /// Declares a command. Refused in this order: a width out of range (M2), a sub-address that the map does not have (M4), a command that
-    /// is declared already (M1). A refusal leaves the map as it was.
+    /// is declared already (M1). A refusal leaves the map as it was. Else this command is declared now, and each other is as it was.
     pub fn declare(&mut self, d: Decl) -> Result<(), ModuleFault>
         ensures refused { result_err result ≡ declare_fault A self.old d }
         ensures ok { OnOk result (self.new ≡ with_declared self.old d) }
+        ensures one { OnOk result (DeclaresOne self.old self.new d) }
         ensures err { OnErr result (self.new ≡ self.old) }
     {
         if !fits_width(&d) {

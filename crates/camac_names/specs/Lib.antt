@@ -1,2 +1,3 @@
 pub mod Link
 pub mod Linked
+pub mod OwnBits

@@ -43,7 +43,7 @@ run_begins : (first each : ℕ → Bool) (b : ℕ) (bs : List ℕ) → first b �
 run_begins first each b bs is passes = subst (λ (w : List ℕ). begins first w ≡ true) (sym (take_while-cons each b bs ∙ ap (λ (t : Bool). cond t (b ∷ take_while each bs) []) passes)) is
 
 -- the longest run at the front of bytes
-run_is : (first each : ℕ → Bool) (b : ℕ) (bs : List ℕ) → first b ≡ true → each b ≡ true → IsRun first each (take_while each (b ∷ bs)) (drop (length (take_while each (b ∷ bs))) (b ∷ bs))
+pub run_is : (first each : ℕ → Bool) (b : ℕ) (bs : List ℕ) → first b ≡ true → each b ≡ true → IsRun first each (take_while each (b ∷ bs)) (drop (length (take_while each (b ∷ bs))) (b ∷ bs))
 run_is first each b bs is passes = record {
   front = run_begins first each b bs is passes;
   all = run_all each (b ∷ bs);
@@ -52,13 +52,13 @@ run_is first each b bs is passes = record {
 
 -- ---- what stands at the front
 
-kind_at : Front → Option TokenKind
+pub kind_at : Front → Option TokenKind
 kind_at (front.Gap n) = None
 kind_at (front.Found k n) = Some k
 kind_at (front.Wrong rule) = None
 
 -- it is a piece, unless something is wrong with it
-abbrev Stands : Front → List ℕ → Type 0
+abbrev pub Stands : Front → List ℕ → Type 0
 Stands (front.Wrong rule) text = Unit {0}
 Stands (front.Gap n) text = IsPiece None (take n text) (drop n text)
 Stands (front.Found k n) text = IsPiece (Some k) (take n text) (drop n text)
@@ -94,7 +94,7 @@ sign_stands None None b bs at other = tt
 hash_is : (b : ℕ) → eqb b 35 ≡ true → is_no_line_feed b ≡ true
 hash_is b e = subst (λ (c : ℕ). is_no_line_feed c ≡ true) (sym (eqb-true b 35 e)) refl
 
-front_stands : (b : ℕ) (bs : List ℕ) → Stands (front_of b (b ∷ bs)) (b ∷ bs)
+pub front_stands : (b : ℕ) (bs : List ℕ) → Stands (front_of b (b ∷ bs)) (b ∷ bs)
 unfolding front_of
 front_stands b bs =
     let text : List ℕ = b ∷ bs in
@@ -120,7 +120,7 @@ all_ok : (us : List Token) (r : Result (List Token) Fault) (ts : List Token) →
 all_ok us (Ok vs) ts e = (vs, refl, sym (list_is (us ++ vs) ts e))
 all_ok us (Err d) ts e = absurd cc
 
-piece_of : (f : Front) (text : List ℕ) → wrong f ≡ None → Stands f text → IsPiece (kind_at f) (take (size f) text) (drop (size f) text)
+pub piece_of : (f : Front) (text : List ℕ) → wrong f ≡ None → Stands f text → IsPiece (kind_at f) (take (size f) text) (drop (size f) text)
 unfolding kind_at
 piece_of (front.Gap n) text good h = h
 piece_of (front.Found k n) text good h = h

@@ -1,3 +1,4 @@
 pub mod Scans
 pub mod Cuts
 pub mod Uncut
+pub mod Broken

@@ -98,7 +98,7 @@ sized_front b bs =
 abbrev pub line_feeds : List ℕ → ℕ
 line_feeds bytes = count_by (λ b. eqb b 10) bytes
 
-feeds-cons : (b : ℕ) (bs : List ℕ) → line_feeds (b ∷ bs) ≡ cond (eqb b 10) 1 0 + line_feeds bs
+pub feeds-cons : (b : ℕ) (bs : List ℕ) → line_feeds (b ∷ bs) ≡ cond (eqb b 10) 1 0 + line_feeds bs
 feeds-cons b bs = sum_by-cons (λ y. cond (eqb y 10) 1 0) b bs
 
 lines_step : (t : Bool) (line c : ℕ) → cond t (line + 1) line + c ≡ line + (cond t 1 0 + c)
@@ -147,7 +147,7 @@ goes xs line (b ∷ bs) total some good so_far =
     let f = front_of b (b ∷ bs) in
     sym (all_join xs (added f (line_number line)) _) ∙ ap (with_all xs) (sym (front_step f b line bs good (sized_front b bs good).0)) ∙ so_far
 
-wrong_is : (f : Front) (rule : TextRule) → wrong f ≡ Some rule → f ≡ front.Wrong rule
+pub wrong_is : (f : Front) (rule : TextRule) → wrong f ≡ Some rule → f ≡ front.Wrong rule
 wrong_is (front.Wrong c) rule e = ap front.Wrong cc
 wrong_is (front.Gap n) rule e = absurd cc
 wrong_is (front.Found k n) rule e = absurd cc

@@ -33,7 +33,7 @@ letter_low b e = grind (arith, nat_tests)
 digit_low : (b : ℕ) → is_ascii_digit b ≡ true → 48 ≤ b
 digit_low b e = grind (arith, nat_tests)
 
-digit_high : (b : ℕ) → is_ascii_digit b ≡ true → b ≤ 57
+pub digit_high : (b : ℕ) → is_ascii_digit b ≡ true → b ≤ 57
 digit_high b e = grind (arith, nat_tests)
 
 no_blank : (b : ℕ) → 36 ≤ b → is_blank b ≡ false
@@ -42,7 +42,7 @@ no_blank b h = grind (arith, nat_tests)
 no_hash : (b : ℕ) → 36 ≤ b → eqb b 35 ≡ false
 no_hash b h = grind (arith, nat_tests)
 
-no_letter : (b : ℕ) → b ≤ 57 → is_ascii_alphabetic b ≡ false
+pub no_letter : (b : ℕ) → b ≤ 57 → is_ascii_alphabetic b ≡ false
 no_letter b h = grind (arith, nat_tests)
 
 -- ---- runs
@@ -64,11 +64,11 @@ run_of each (b ∷ bs) rest all ends =
 
 -- ---- what stands at the front of a piece and what follows it
 
-abbrev front_at : List ℕ → Front
+abbrev pub front_at : List ℕ → Front
 front_at [] = front.Gap 0
 front_at (b ∷ bs) = front_of b (b ∷ bs)
 
-abbrev front_for : Option TokenKind → ℕ → Front
+abbrev pub front_for : Option TokenKind → ℕ → Front
 front_for None n = front.Gap n
 front_for (Some k) n = front.Found k n
 
@@ -178,9 +178,9 @@ single_fronts = (
 -- ---- what stands at the front of a text of pieces
 
 -- the front of a piece takes its bytes
-record Fronts (k : Option TokenKind) (bytes rest : List ℕ) : Type 0 where
-  front : front_at (bytes ++ rest) ≡ front_for k (length bytes)
-  some : 0 < length bytes
+pub record Fronts (k : Option TokenKind) (bytes rest : List ℕ) : Type 0 where
+  pub front : front_at (bytes ++ rest) ≡ front_for k (length bytes)
+  pub some : 0 < length bytes
 
 word_some : (first each : ℕ → Bool) (bytes rest : List ℕ) → IsRun first each bytes rest → (b : ℕ) × (bs : List ℕ) × (bytes ≡ b ∷ bs)
 word_some first each [] rest w = absurd (let none : false ≡ true = w.front in cc)
@@ -227,7 +227,7 @@ gap_fronts (b ∷ c ∷ cs) rest (inl blank) = absurd (omega (arith, blank.1))
 gap_fronts [] rest (inr comment) = absurd (let none : false ≡ true = comment.front in cc)
 gap_fronts (b ∷ bs) rest (inr comment) = record { front = comment_front b bs rest comment; some = omega arith }
 
-piece_fronts : (k : Option TokenKind) (bytes rest : List ℕ) → IsPiece k bytes rest → Fronts k bytes rest
+pub piece_fronts : (k : Option TokenKind) (bytes rest : List ℕ) → IsPiece k bytes rest → Fronts k bytes rest
 piece_fronts None bytes rest is = gap_fronts bytes rest is
 piece_fronts (Some (kind.Name x)) bytes rest is = name_fronts x bytes rest is
 piece_fronts (Some (kind.Number n)) bytes rest is = number_fronts n bytes rest is
@@ -236,7 +236,7 @@ piece_fronts (Some (kind.Sign s)) bytes rest is = sign_fronts s bytes rest is
 
 -- ---- a whole text
 
-good_for : (k : Option TokenKind) (n : ℕ) → wrong (front_for k n) ≡ None
+pub good_for : (k : Option TokenKind) (n : ℕ) → wrong (front_for k n) ≡ None
 good_for None n = refl
 good_for (Some k) n = refl
 
@@ -249,7 +249,7 @@ added_for None n line = refl
 added_for (Some k) n line = refl
 
 -- one step over a piece
-piece_step : (k : Option TokenKind) (line : ℕ) (bytes rest : List ℕ) → Fronts k bytes rest → tokens_from 0 line (bytes ++ rest) ≡ with_all (token_at k line) (tokens_from 0 (line + line_feeds bytes) rest)
+pub piece_step : (k : Option TokenKind) (line : ℕ) (bytes rest : List ℕ) → Fronts k bytes rest → tokens_from 0 line (bytes ++ rest) ≡ with_all (token_at k line) (tokens_from 0 (line + line_feeds bytes) rest)
 unfolding tokens_from
 piece_step k line [] rest f = absurd (omega (arith, f.some))
 piece_step k line (b ∷ bs) rest f =
