@@ -7,7 +7,6 @@ The program is crates/camac/out/camac (cd crates/camac && rt run makes it), or w
 of the class Client need none: tests/fake_camac stands in its place.
 """
 import contextlib
-import io
 import json
 import os
 import pathlib
@@ -278,5 +277,384 @@ class Client(Case):
         self.assertEqual(len(os.listdir("/proc/self/fd")), len(before))
 
 
+class Pipes:
+    """The program at work, with a pipe at its input and one at its output."""
+
+    def __init__(self, room, *words):
+        how = {"stdin": subprocess.PIPE, "stdout": subprocess.PIPE, "stderr": subprocess.PIPE}
+        self.process = subprocess.Popen([PROGRAM, "drive", *words], bufsize=0, cwd=room, **how)
+
+    def __enter__(self):
+        return self
+
+    def __exit__(self, *_raised):
+        self.process.kill()
+        self.process.communicate()
+
+    def read(self):
+        """What stands on the pipe as soon as something does; nothing at the end of the output."""
+        if not select.select([self.process.stdout], [], [], PATIENCE)[0]:
+            raise TimeoutError("the program wrote nothing")
+        return self.process.stdout.read(65_536)
+
+    def is_quiet(self):
+        """Whether the program writes nothing for a moment."""
+        return not select.select([self.process.stdout], [], [], 0.02)[0]
+
+    def requests(self):
+        """Reads up to a request or the last line: whole lines alone."""
+        text = b""
+        while not text.endswith(b"\n") or not text.splitlines()[-1].split(b" ")[0] in REQUESTS:
+            piece = self.read()
+            if not piece:
+                break
+            text += piece
+        return text
+
+    def answer(self, line):
+        self.process.stdin.write(f"{line}\n".encode())
+
+    def end(self):
+        """Ends the input. Returns what the program still wrote, its status and its standard error."""
+        output, errors = self.process.communicate(timeout=PATIENCE)
+        return output, self.process.returncode, errors
+
+
+class Rows(Case):
+    """The protocol, byte for byte: each answer is given when its request was read, and then again all answers at once."""
+
+    def talk(self, text, answers, plan="@sample", events="run.events"):
+        """All that the program wrote, and its status, where each answer was given to its request."""
+        path = self.write("script", text)
+        with Pipes(self.room, plan, path, events) as pipes:
+            output = pipes.requests()
+            for answer in answers:
+                pipes.answer(answer)
+                output += pipes.requests()
+            more, status, errors = pipes.end()
+        self.assertEqual(errors, b"")
+        return output + more, status
+
+    def drive(self, text, answers, wanted, status=0, events=HEADER):
+        wanted = "".join(f"{line}\n" for line in wanted).encode()
+        self.assertEqual(self.talk(text, answers), (wanted, status))
+        self.assertEqual(self.file("run.events"), events)
+        given = "".join(f"{line}\n" for line in answers).encode()
+        for given in (given, given[:-1]):
+            done = subprocess.run([PROGRAM, "drive", "@sample", "script", "at.once"], input=given, capture_output=True, cwd=self.room)
+            self.assertEqual((done.stdout, done.returncode, done.stderr), (wanted, status, b""))
+            self.assertEqual(self.file("at.once"), events)
+
+    def test_straight_line(self):
+        demand, cycle = "demand", "cycle 1 5 0 0 in"
+        self.drive(STRAIGHT_LINE, [DEMAND, CYCLE], [demand, cycle, demand, "ended events 1"], events=EVENT_FILE)
+        self.drive(STRAIGHT_LINE, [], [demand, "ended events 0"])
+        self.drive(STRAIGHT_LINE, [DEMAND], [demand, cycle, "short events 0"])
+        self.drive(STRAIGHT_LINE, [DEMAND, "1 1 123fff 3 000000"], [demand, cycle, "overrun 1 wait 3 events 0"], 1)
+        self.drive(STRAIGHT_LINE, [DEMAND, "1 1 fffffff 0 000000"], [demand, cycle, "refused A1 line 2: line shape"], 1)
+        self.drive(STRAIGHT_LINE, [DEMAND, "1 2 000000 0 000000"], [demand, cycle, "refused A2 line 2: bad digit"], 1)
+
+    def test_lockout(self):
+        opening, cycle = ["demand", "lock 1"], "cycle 1 5 0 0 in"
+        event = bytes.fromhex("ca4d 0003 00000001 00000006 0004 0000")
+        ended = [*opening, *[cycle] * 4, "unlock 1", "demand", "ended events 1"]
+        self.drive(LOCKOUT, [DEMAND, WAIT_2, *[WAIT_0] * 4], ended, events=HEADER + event)
+        self.drive(LOCKOUT, [DEMAND, WAIT_2, WAIT_0, WAIT_1], [*opening, cycle, cycle, "overrun 1 wait 1 events 0"], 1)
+        self.drive(LOCKOUT, [DEMAND, "0 0 000000 3 000000"], [*opening, "overrun 1 wait 3 events 0"], 1)
+        self.drive(LOCKOUT, [DEMAND, WAIT_2, WAIT_0], [*opening, cycle, cycle, "short events 0"])
+        bare = script(["lock 1 { }", "lock 1 { }"], 4, 0)
+        event = bytes.fromhex("ca4d 0003 00000001 00000000 0000 0000")
+        wanted = ["demand", "lock 1", "unlock 1", "lock 1", "unlock 1", "demand", "ended events 1"]
+        self.drive(bare, [DEMAND, WAIT_0, WAIT_0], wanted, events=HEADER + event)
+
+    def test_commands(self):
+        text = script(["ctgl 1"])
+        self.talk(text, [DEMAND, DEMAND])
+        self.assertEqual(self.talk(text, [DEMAND, DEMAND])[0].splitlines()[1], b"cycle 1 30 11 27 none")
+        self.write("answers", f"{DEMAND}\n{DEMAND}\n")
+        words = [PROGRAM, "run", "@sample", "script", "answers", "e"]
+        listed = subprocess.run(words, stdout=subprocess.PIPE, cwd=self.room).stdout.splitlines()
+        self.assertEqual(listed[1], b"cycle 1 30 11 27 none x1 q1 wait 0")
+        text = script(["cdreg r 1 1 6 0", "cfsa 16 r <- 255"])
+        self.assertEqual(self.talk(text, [DEMAND])[0].splitlines()[1], b"cycle 1 6 0 16 out 0000ff")
+        text = script(["cdreg r 1 1 30 0", "cfsa 0 r -> v", "cccz 1", "cccc 1", "ccci 1 on", "cccd 1 on", "cclc adc"])
+        wanted = ["30 0 0 in", "28 8 26 none", "28 9 26 none", "30 9 26 none", "30 10 26 none", "5 12 10 none"]
+        output, status = self.talk(text, [DEMAND, *[WAIT_0] * 6])
+        self.assertEqual((output.decode().splitlines()[1:-2], status), ([f"cycle 1 {it}" for it in wanted], 0))
+
+    def test_refused(self):
+        refusal = ["refused E12 line 3: more cycles than annotated"]
+        self.drive(STRAIGHT_LINE.replace("within 3", "within 2"), [], refusal, 1, b"")
+        self.write("plan.toml", "buffer = 0\n")
+        self.assertEqual(self.talk(STRAIGHT_LINE, [], "plan.toml"), (b"refused P4: value out of range\n", 1))
+        self.assertEqual(self.file("run.events"), b"")
+
+    def test_words(self):
+        self.write("script", STRAIGHT_LINE)
+        for words in (["@in", "script", "e"], ["@sample", "@in", "e"]):
+            done = subprocess.run([PROGRAM, "drive", *words], input=b"", capture_output=True, cwd=self.room)
+            self.assertEqual((done.returncode, done.stdout, done.stderr), (2, b"", b"fault @in twice\n"))
+        self.assertEqual(self.talk(STRAIGHT_LINE, [DEMAND, CYCLE], events="@in")[1], 0)
+        self.assertEqual(self.file("@in"), EVENT_FILE)
+
+    def test_faults(self):
+        self.write("script", STRAIGHT_LINE)
+        how = {"stdout": subprocess.PIPE, "stderr": subprocess.PIPE, "cwd": self.room}
+        done = subprocess.run([PROGRAM, "drive", "none.toml", "script", "e"], input=b"", **how)
+        self.assertEqual((done.returncode, done.stdout, done.stderr), (3, b"", b"fault read\n"))
+        done = subprocess.run([PROGRAM, "drive", "@sample", "script", "script"], input=b"", **how)
+        self.assertEqual((done.returncode, done.stdout, done.stderr), (3, b"", b"fault write\n"))
+        self.assertEqual(self.file("script"), STRAIGHT_LINE.encode())
+        folder = os.open(self.room, os.O_RDONLY)
+        self.addCleanup(os.close, folder)
+        done = subprocess.run([PROGRAM, "drive", "@sample", "script", "e"], stdin=folder, **how)
+        self.assertEqual((done.returncode, done.stdout, done.stderr), (3, b"demand\n", b"fault read\n"))
+        self.assertEqual(self.file("e"), HEADER)
+
+    def test_requests_that_nobody_reads(self):
+        self.write("script", STRAIGHT_LINE)
+        with Pipes(self.room, "@sample", "script", "e") as pipes:
+            self.assertEqual(pipes.requests(), b"demand\n")
+            pipes.process.stdout.close()
+            pipes.answer(DEMAND)
+            self.assertEqual((pipes.process.wait(PATIENCE), pipes.process.stderr.read()), (3, b"fault write\n"))
+        self.assertEqual(self.file("e"), HEADER)
+
+    def test_each_request_comes_alone(self):
+        """No request comes before the answer to the last one; half a line is no answer; the event is in the file before the next request."""
+        path = self.write("script", STRAIGHT_LINE)
+        with Pipes(self.room, "@sample", path, "e") as pipes:
+            self.assertEqual(pipes.requests(), b"demand\n")
+            self.assertTrue(pipes.is_quiet())
+            pipes.process.stdin.write(DEMAND.encode())
+            self.assertTrue(pipes.is_quiet())
+            pipes.process.stdin.write(b"\n")
+            self.assertEqual(pipes.requests(), b"cycle 1 5 0 0 in\n")
+            self.assertTrue(pipes.is_quiet())
+            self.assertEqual(self.file("e"), HEADER)
+            pipes.answer(CYCLE)
+            self.assertEqual(pipes.requests(), b"demand\n")
+            self.assertEqual(self.file("e"), EVENT_FILE)
+            self.assertEqual(pipes.end(), (b"ended events 1\n", 0, b""))
+
+    def test_ten_thousand_operations(self):
+        """A driver that gives each answer when its request has come: the program never waits for an answer before it has asked."""
+        path = self.write("script", LONG)
+        with Pipes(self.room, "@sample", path, "e") as pipes:
+            for count in range(10_000):
+                self.assertEqual(pipes.requests(), b"cycle 1 5 12 10 none\n" if count else b"demand\n")
+                pipes.answer(WAIT_2 if count else DEMAND)
+            self.assertEqual(pipes.requests(), b"demand\n")
+            self.assertEqual(pipes.end(), (b"ended events 1\n", 0, b""))
+        self.assertEqual(list(camac.read_events(self.room / "e")), [camac.Event(1, 3, 29_997, 9_999, ())])
+
+    def test_the_limit_of_answers(self):
+        self.write("script", STRAIGHT_LINE)
+        quiet = f"{WAIT_0}\n".encode()
+        words = [PROGRAM, "drive", "@sample", "script", "e"]
+        for count, last in [(1_000_000, b"ended events 0\n"), (1_000_001, b"refused A4 line 1000001: too many answers\n")]:
+            done = subprocess.run(words, input=quiet * count, capture_output=True, cwd=self.room)
+            self.assertEqual((done.stdout == b"demand\n" * 1_000_001 + last, done.stderr), (True, b""))
+
+
+class Driver(Case):
+    """`camac.drive` with the program."""
+
+    def drive(self, text, branch, plan="@sample"):
+        path = self.write("script", text)
+        return camac.drive(plan, path, branch, self.room / "run.events", program=PROGRAM, timeout=PATIENCE)
+
+    def events(self):
+        return list(camac.read_events(self.room / "run.events"))
+
+    def test_straight_line(self):
+        branch = Listed(Answer(gl=4), Answer(1, 1, 0x123FFF, 2))
+        self.assertEqual(self.drive(STRAIGHT_LINE, branch), RunEnd(Ending.ENDED, "ended events 1", 1))
+        self.assertEqual(branch.asked, [("demand",), ("cycle", 1, 5, 0, 0, None), ("demand",)])
+        self.assertEqual(self.file("run.events"), EVENT_FILE)
+
+    def test_ends(self):
+        end = self.drive(STRAIGHT_LINE, Listed(Answer(gl=4), Answer(wait=3)))
+        self.assertEqual(end, RunEnd(Ending.OVERRUN, "overrun 1 wait 3 events 0", 0, 1, 3))
+        with self.assertRaises(camac.Refused) as raised:
+            self.drive(STRAIGHT_LINE.replace("within 3", "within 2"), Listed())
+        self.assertEqual((raised.exception.code, raised.exception.line), ("E12", 3))
+        with self.assertRaises(camac.Refused) as raised:
+            self.drive(STRAIGHT_LINE, Listed(), self.write("plan.toml", "="))
+        self.assertEqual((raised.exception.code, raised.exception.line), ("P1", None))
+        with self.assertRaises(camac.ProgramFault) as raised:
+            self.drive(STRAIGHT_LINE, Listed(), self.room / "none.toml")
+        self.assertEqual((raised.exception.text, raised.exception.status), ("fault read", 3))
+        with self.assertRaises(camac.UsageFault) as raised:
+            self.drive(STRAIGHT_LINE, Listed(), "@in")
+        self.assertEqual((raised.exception.text, raised.exception.status), ("fault @in twice", 2))
+
+    def test_a_branch_that_fails_in_the_middle(self):
+        branch = Listed(*[Answer(gl=4), Answer(word=7)] * 2, Answer(gl=4), Broken("no power"))
+        with self.assertRaises(Broken):
+            self.drive(STRAIGHT_LINE, branch)
+        self.assertEqual([event.words for event in self.events()], [(7,), (7,)])
+
+    def test_a_stop_inside_a_lock(self):
+        for answer, raised in [(Broken(), self.assertRaises(Broken)), (Answer(wait=1), contextlib.nullcontext())]:
+            branch = Listed(Answer(gl=4), Answer(wait=2), Answer(), answer)
+            with raised:
+                self.assertEqual(self.drive(LOCKOUT, branch).how, Ending.OVERRUN)
+            self.assertEqual(branch.asked[-2:], [("cycle", 1, 5, 0, 0, None), ("unlock", 1)])
+        branch = Listed(Answer(gl=4), Answer(wait=3))
+        self.assertEqual(self.drive(LOCKOUT, branch).line, "overrun 1 wait 3 events 0")
+        self.assertEqual(branch.asked, [("demand",), ("lock", 1), ("unlock", 1)])
+
+    def test_a_disk_that_is_full(self):
+        path = self.write("script", STRAIGHT_LINE)
+        with self.assertRaises(camac.ProgramFault) as raised:
+            camac.drive("@sample", path, Listed(), "/dev/full", program=PROGRAM, timeout=PATIENCE)
+        self.assertEqual((raised.exception.text, raised.exception.end), ("fault write", None))
+
+
+class Modules(unittest.TestCase):
+    """The models of modules."""
+
+    def test_look_at_me(self):
+        module = Module(lam_at=12)
+        self.assertEqual(module.cycle(12, 8, None), Reply(q=0))
+        module.trigger()
+        self.assertEqual(module.cycle(12, 8, None), Reply())
+        module.cycle(12, 24, None)
+        self.assertFalse(module.calls())
+        module.cycle(12, 26, None)
+        self.assertTrue(module.calls())
+        module.cycle(12, 10, None)
+        self.assertFalse(module.calls())
+        self.assertEqual(module.cycle(11, 8, None), Reply(0, 0))
+        module = Module()
+        module.trigger()
+        self.assertFalse(module.calls())
+
+    def test_adc(self):
+        adc = Adc(channels=4, width=8, pedestal=100, peak=1000, spread=1, hits=0.5, seed=3, lam_at=0)
+        words = set()
+        for _ in range(50):
+            adc.trigger()
+            words |= set(adc.words)
+        self.assertIn(255, words)
+        self.assertTrue({it for it in words if it < 255} <= set(range(90, 111)))
+        self.assertEqual(adc.cycle(3, 0, None), Reply(word=adc.words[3]))
+        self.assertEqual(adc.cycle(4, 0, None), Reply(q=0))
+        last = adc.words[3]
+        self.assertEqual((adc.cycle(3, 2, None).word, adc.words, adc.calls()), (last, [0] * 4, False))
+        one, other = Adc(seed=5), Adc(seed=5)
+        one.trigger()
+        other.trigger()
+        self.assertEqual(one.words, other.words)
+
+    def test_scaler(self):
+        scaler = Scaler(channels=2, rate=10)
+        scaler.trigger()
+        before = list(scaler.counts)
+        scaler.cycle(0, 25, None)
+        self.assertEqual(scaler.cycle(1, 2, None).word, before[1] + 1)
+        self.assertEqual((scaler.cycle(1, 0, None).word, scaler.cycle(0, 0, None).word), (0, before[0] + 1))
+        self.assertEqual(scaler.cycle(2, 0, None), Reply(q=0))
+        scaler.counts[0] = 0xFFFFFF
+        scaler.cycle(0, 25, None)
+        self.assertEqual(scaler.counts[0], 0)
+
+    def test_register(self):
+        register = Register(width=8)
+        self.assertEqual(register.cycle(0, 27, None), Reply(q=0))
+        register.cycle(0, 16, 0x1F0)
+        register.cycle(0, 18, 0x00F)
+        register.cycle(0, 21, 0x081)
+        self.assertEqual(register.cycle(0, 0, None), Reply(word=0x7E))
+        self.assertEqual((register.cycle(0, 27, None), register.cycle(1, 0, None)), (Reply(), Reply(0, 0)))
+
+    def test_memory(self):
+        memory = Memory(size=2)
+        self.assertEqual([memory.cycle(0, 16, word).q for word in (5, 6, 7)], [1, 1, 0])
+        memory.cycle(1, 16, 0)
+        self.assertEqual([memory.cycle(0, 0, None) for _ in range(3)], [Reply(word=5), Reply(word=6), Reply(q=0)])
+
+    def test_auxiliary(self):
+        auxiliary = Auxiliary(2)
+        self.assertEqual({auxiliary.wait(False) for _ in range(100)}, {0, 1, 2})
+        self.assertEqual({auxiliary.wait(True) for _ in range(100)}, {0})
+        self.assertEqual({Auxiliary(1, seed, ignores_lockout=True).wait(True) for seed in range(100)}, {0, 1})
+
+    def test_branch(self):
+        branch = MockBranch({(1, 5): Adc(), (2, 1): Scaler()}, {(1, 5): 3, (2, 1): 24}, [[(1, 5)], (), [(2, 1)]])
+        self.assertEqual([branch.demand() for _ in range(4)], [Answer(gl=4), Answer(gl=4), Answer(gl=0x800004), None])
+        self.assertEqual(branch.cycle(1, 30, 0, 0, None).gl, 0x800004)
+        branch.cycle(1, 28, 9, 26, None)
+        self.assertEqual(branch.cycle(1, 30, 11, 27, None).gl, 0x800000)
+        branch.cycle(2, 28, 8, 26, None)
+        self.assertEqual((branch.pattern(), branch.modules[2, 1].lam_enabled), (0, False))
+        self.assertEqual(branch.cycle(1, 6, 0, 0, None), Answer())
+
+
+class EndToEnd(Case):
+    """Example scripts on the branch without hardware. The event file holds what the modules gave, and a run of the recorded answers makes the
+    same file."""
+
+    def drive(self, plan, name, branch):
+        recorder = Recorder(branch)
+        path, file = TOP / "examples" / name, self.room / "run.events"
+        end = camac.drive(plan, path, recorder, file, program=PROGRAM, timeout=PATIENCE)
+        answers = self.write("answers", recorder.answer_lines())
+        words = [PROGRAM, "run", plan, path, answers, self.room / "again.events"]
+        done = subprocess.run(words, capture_output=True, timeout=PATIENCE)
+        self.assertEqual(done.stdout.decode().splitlines()[-1], end.line)
+        self.assertEqual(self.file("run.events"), self.file("again.events"))
+        return end, recorder.operations, list(camac.read_events(file))
+
+    def sample(self, triggers=20, waits=2, **more):
+        modules = {(1, 5): Adc(seed=7), (1, 6): Register(width=8)}
+        return MockBranch(modules, {(1, 5): 3}, [[(1, 5)]] * triggers, {1: Auxiliary(waits, **more)})
+
+    def test_straight_line(self):
+        end, made, events = self.drive("@sample", "straight_line.script", self.sample())
+        self.assertEqual(end, RunEnd(Ending.ENDED, "ended events 20", 20))
+        reads = [it.answer for it in made if it.request == "cycle 1 5 0 0 in"]
+        self.assertEqual(events, [camac.Event(at, 3, 1 + it.wait, 0, (it.word,)) for at, it in enumerate(reads, 1)])
+        self.assertTrue({it.wait for it in reads} == {0, 1, 2} and len({it.word for it in reads}) > 10)
+        self.assertEqual(made[-1].answer, None)
+
+    def test_each_example(self):
+        """Each example script for the sample plan that is accepted, and what its cycles cost."""
+        played = 0
+        for path in sorted((TOP / "examples").glob("*.script")):
+            if subprocess.run([PROGRAM, "check", "@sample", path], stdout=subprocess.DEVNULL, timeout=PATIENCE).returncode == 0:
+                with self.subTest(path.name):
+                    end, made, events = self.drive("@sample", path.name, self.sample())
+                    self.assertIs(end.how, Ending.ENDED)
+                    cost = sum(it.answer.wait + it.request.startswith("cycle") for it in made if it.answer)
+                    self.assertEqual(sum(event.cycles for event in events), cost)
+                    played += 1
+        self.assertGreater(played, 7)
+
+    def test_lockout(self):
+        end, made, events = self.drive("@sample", "lockout.script", self.sample())
+        self.assertEqual((end.how, end.events), (Ending.ENDED, 20))
+        words = [it.answer.word for it in made if it.request == "cycle 1 5 0 0 in"]
+        self.assertEqual([word for event in events for word in event.words], words)
+        end, made, _ = self.drive("@sample", "lockout.script", self.sample(ignores_lockout=True))
+        self.assertEqual((end.how, made[-1].request), (Ending.OVERRUN, "unlock 1"))
+        end, made, _ = self.drive("@sample", "straight_line.script", self.sample(waits=3))
+        self.assertEqual((end.how, end.crate, end.wait), (Ending.OVERRUN, 1, 3))
+
+    def test_three_modules(self):
+        modules = {(1, n): Adc(channels=12, width=10, peak=700, seed=n, lam_at=0) for n in (1, 2, 3)}
+        branch = MockBranch(modules, {(1, 1): 1}, [[(1, 1), (1, 2), (1, 3)]] * 5)
+        end, made, events = self.drive(TOP / "examples/three_crates.toml", "three_modules.script", branch)
+        self.assertEqual((end.how, end.events), (Ending.ENDED, 5))
+        read = [it.answer.word for it in made if it.request.endswith(" 0 in")]
+        self.assertEqual(len(read), 5 * 3 * 12)
+        station = 14
+        kept = [word for event in events for start in (0, station, 2 * station) for word in event.words[start + 1 : start + 13]]
+        self.assertEqual(kept, read)
+
+
 if __name__ == "__main__":
+    if not os.access(PROGRAM, os.X_OK):
+        sys.exit(f"{PROGRAM} is not there: cd crates/camac && rt run makes it, or CAMAC_PROGRAM names another")
     unittest.main()
