@@ -317,10 +317,7 @@ class _Program:
             pass
 
     def end_input(self) -> None:
-        try:
-            self.process.stdin.close()
-        except BrokenPipeError:
-            pass
+        self.process.stdin.close()
 
     def end(self, end: Optional[RunEnd]) -> RunEnd:
         """Waits for the program's end. Returns the end of the run where the status and standard error agree, or raises the fault."""
