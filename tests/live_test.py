@@ -37,6 +37,30 @@ WAIT_0, WAIT_1, WAIT_2 = (f"0 0 000000 {wait} 000000" for wait in range(3))
 HEADER = b"CAMACEV2"
 EVENT_FILE = bytes.fromhex("43414d4143455632 ca4d 0003 00000001 00000003 0000 0001 00000fff")
 REQUESTS = (b"demand", b"cycle", b"lock")
+# A driver that waits for ever in a cycle of its second service.
+INTERRUPTED = """import sys, time
+sys.path.insert(0, sys.argv[1])
+sys.dont_write_bytecode = True
+import camac
+class Branch:
+    cycles = 0
+    def demand(self):
+        return camac.Answer(gl=4)
+    def cycle(self, c, n, a, f, data):
+        self.cycles += 1
+        if self.cycles == 6:
+            print("waiting", flush=True)
+            time.sleep(600)
+        return camac.Answer(1, 1)
+    def lock(self, c):
+        return camac.Answer()
+    def unlock(self, c):
+        print("unlock", c, flush=True)
+try:
+    camac.drive("@sample", sys.argv[3], Branch(), "run.events", program=sys.argv[2])
+except KeyboardInterrupt:
+    print("interrupted")
+"""
 PATIENCE = 60
 
 
@@ -504,6 +528,17 @@ class Driver(Case):
         branch = Listed(Answer(gl=4), Answer(wait=3))
         self.assertEqual(self.drive(LOCKOUT, branch).line, "overrun 1 wait 3 events 0")
         self.assertEqual(branch.asked, [("demand",), ("lock", 1), ("unlock", 1)])
+
+    def test_ctrl_c(self):
+        """A signal of the terminal, which each program of the foreground gets: the driver alone does, and ends the run."""
+        path = self.write("script", LOCKOUT)
+        words = [sys.executable, "-c", INTERRUPTED, TOP / "python", PROGRAM, path]
+        with subprocess.Popen(words, cwd=self.room, start_new_session=True, stdout=subprocess.PIPE, stderr=subprocess.PIPE) as driver:
+            self.assertEqual([driver.stdout.readline() for _ in range(2)], [b"unlock 1\n", b"waiting\n"])
+            os.killpg(driver.pid, signal.SIGINT)
+            output, errors = driver.communicate(timeout=PATIENCE)
+        self.assertEqual((output, errors), (b"unlock 1\ninterrupted\n", b""))
+        self.assertEqual([event.words for event in self.events()], [()])
 
     def test_a_disk_that_is_full(self):
         path = self.write("script", STRAIGHT_LINE)
