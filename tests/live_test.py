@@ -69,6 +69,16 @@ def script(body, cycles=100, words=100):
     return OPENING.format(cycles, words) + "".join(f"{line}\n" for line in body) + "}\n"
 
 
+def requested(line):
+    """The request for the operation of a line of a listing."""
+    kind, *words = line.split(" ")
+    if kind == "demand":
+        return kind
+    if kind == "cycle":
+        return " ".join([kind, *words[: 6 if words[4] == "out" else 5]])
+    return f"{kind} {words[0]}"
+
+
 class Case(unittest.TestCase):
     """A test in a folder of its own."""
 
@@ -435,6 +445,21 @@ class Rows(Case):
         self.assertEqual((done.returncode, done.stdout, done.stderr), (3, b"demand\n", b"fault read\n"))
         self.assertEqual(self.file("e"), HEADER)
 
+    def test_streams_that_are_closed_or_full(self):
+        self.write("script", STRAIGHT_LINE)
+        for ending, output, errors, events in [
+            (f"echo '{DEMAND}' | $camac drive @sample script e >/dev/full", b"", b"fault write\n", HEADER),
+            ("$camac drive @sample script e <&-", b"demand\n", b"fault read\n", HEADER),
+            ("$camac drive @sample script e >&- </dev/null", b"", b"fault write\n", HEADER),
+            ("$camac drive @sample script /dev/full </dev/null", b"", b"fault write\n", None),
+        ]:
+            with self.subTest(ending):
+                how = {"stdin": subprocess.DEVNULL, "capture_output": True, "cwd": self.room, "env": {**os.environ, "camac": PROGRAM}}
+                done = subprocess.run(["bash", "-c", ending], timeout=PATIENCE, **how)
+                self.assertEqual((done.returncode, done.stdout, done.stderr), (3, output, errors))
+                if events is not None:
+                    self.assertEqual(self.file("e"), events)
+
     def test_requests_that_nobody_reads(self):
         self.write("script", STRAIGHT_LINE)
         with Pipes(self.room, "@sample", "script", "e") as pipes:
@@ -637,9 +662,12 @@ class EndToEnd(Case):
         end = camac.drive(plan, path, recorder, file, program=PROGRAM, timeout=PATIENCE)
         answers = self.write("answers", recorder.answer_lines())
         words = [PROGRAM, "run", plan, path, answers, self.room / "again.events"]
-        done = subprocess.run(words, capture_output=True, timeout=PATIENCE)
-        self.assertEqual(done.stdout.decode().splitlines()[-1], end.line)
+        *listed, last = subprocess.run(words, capture_output=True, timeout=PATIENCE).stdout.decode().splitlines()
+        self.assertEqual(last, end.line)
         self.assertEqual(self.file("run.events"), self.file("again.events"))
+        made = [it.request for it in recorder.operations if it.answer or it.request.startswith("unlock")]
+        if end.how is Ending.ENDED:
+            self.assertEqual(made, [requested(line) for line in listed])
         return end, recorder.operations, list(camac.read_events(file))
 
     def sample(self, triggers=20, waits=2, **more):
