@@ -218,6 +218,13 @@ class Client(Case):
         with self.assertRaises(camac.ProtocolFault):
             camac.drive("@sample", "s", Listed(), "e", program=program, timeout=PATIENCE)
 
+    def test_a_program_that_takes_no_answer(self):
+        program = self.write("program", "#!/bin/sh\nexec 0<&-\necho demand\nsleep 0.1\necho fault write >&2\nexit 3\n")
+        program.chmod(0o755)
+        with self.assertRaises(camac.ProgramFault) as raised:
+            camac.drive("@sample", "s", Listed(Answer(gl=4)), "e", program=program, timeout=PATIENCE)
+        self.assertEqual((raised.exception.text, raised.exception.status), ("fault write", 3))
+
     def test_long_standard_error(self):
         with self.assertRaises(camac.ProgramFault) as raised:
             self.drive(Listed(), "demand", status=3, stderr="x" * 1_000_000)
