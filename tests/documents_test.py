@@ -8,7 +8,7 @@ Each fenced block of a page is of one of these kinds, and is tried:
   ```console                  lines '$ COMMAND', each with the output that follows it; '> ' before a line goes on with the command
   ```camac VERDICT [FILE]     a whole script, and the verdict on the plan @sample: 'accepted', or a code and line as 'E2 line 7'
   ```output                   right after a script: all that `check` prints
-  ```python FILE, ```toml FILE    a file that a later command of the page uses
+  ```python FILE, ```toml FILE, ```sh FILE    a file that a later command of the page uses
 
 A block that is not tried (a form, a picture, a command that builds or proves) is indented instead. A command of camac or a statement of a
 script in one is a failure, unless its words are in capitals (camac run PLAN ..): then it is a form. The manual page has console blocks
@@ -33,7 +33,7 @@ BLOCK = re.compile(r"^```([^\n]*)\n(.*?)^```$", re.M | re.S)
 INDENTED = re.compile(r"^    .*$", re.M)
 COMMAND = re.compile(r"^\$ |(?:^|[|;&(] *)(?:\./)?camac\b(?! [a-z]+ [A-Z]+\b)(?= \S)")
 STATEMENT = re.compile(r"^(?:cdlam|cdreg|cfsa|cssa|service|proc) (?!.*\b[A-Z]{2,}\b).*\d")
-FILE = re.compile(r"(?:python|toml|camac (?:accepted|\w+ line \d+)) (\S+)")
+FILE = re.compile(r"(?:python|toml|sh|camac (?:accepted|\w+ line \d+)) (\S+)")
 WAIT = 60
 SCRIPT = "cdlam adc 1 1 5 12\nservice adc within 3 cycles event 0 words { }\n"
 
@@ -113,7 +113,7 @@ def try_page(text, room):
             tried, printed = tried + 1, try_script(rest, body, room)
         elif kind == "output" and before is not None:
             compare("the script before", body, before)
-        elif kind in ("python", "toml") and rest:
+        elif kind in ("python", "toml", "sh") and rest:
             (room / rest).write_text(body)
         else:
             raise Wrong(f"a block of no kind that is tried: ```{words}\n{body}")

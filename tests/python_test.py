@@ -6,11 +6,14 @@ usage: tests/python_test.py [-v] [TEST ..]     from any folder; takes a few seco
 The program is crates/camac/out/camac (cd crates/camac && rt run makes it), or what the environment variable CAMAC_PROGRAM names.
 """
 import io
+import itertools
 import os
 import pathlib
+import struct
 import subprocess
 import sys
 import tempfile
+import tracemalloc
 import unittest
 
 TOP = pathlib.Path(__file__).resolve().parent.parent
@@ -67,6 +70,27 @@ class EventFiles(unittest.TestCase):
                 return self.data.read(min(size, 1))
 
         self.assertEqual(list(read_events(Slow(TWO))), list(read_events(io.BytesIO(TWO))))
+
+    def test_a_file_without_end(self):
+        """Events are given as they come: of a file that never ends too, in little memory."""
+
+        class Endless(io.RawIOBase):
+            def __init__(self):
+                self.left, self.events = b"CAMACEV2", 0
+
+            def read(self, size=-1):
+                if not self.left:
+                    self.events += 1
+                    self.left = struct.pack(">HHIIHH4096I", 0xCA4D, 1, self.events, 0, 0, 4096, *[7] * 4096)
+                piece, self.left = self.left[:size], self.left[size:]
+                return piece
+
+        tracemalloc.start()
+        self.addCleanup(tracemalloc.stop)
+        file = Endless()
+        for event in itertools.islice(read_events(file), 500):
+            self.assertEqual((event.number, len(event.words)), (file.events, 4096))
+        self.assertLess(tracemalloc.get_traced_memory()[1], 1_000_000)
 
     def test_as_the_program(self):
         """Each cut and many changed bytes of both files, and what the program says of them."""

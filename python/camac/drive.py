@@ -1,0 +1,373 @@
+"""Live runs: a branch driver in Python makes the operations that a checked script asks for.
+
+`drive` starts the program as `camac drive PLAN SCRIPT EVENTS`, reads its requests, has the branch make each of them, and hands on the
+answer. docs/LIVE.md describes the requests, and what a driver has to keep."""
+import dataclasses
+import enum
+import operator
+import os
+import pathlib
+import re
+import select
+import shutil
+import subprocess
+import tempfile
+from typing import List, NoReturn, Optional, Protocol, Union
+
+File = Union[str, bytes, "os.PathLike[str]", "os.PathLike[bytes]"]
+MOST_ANSWERS = 1_000_000
+GREATEST_LINE = 4096
+GREATEST = {"x": 1, "q": 1, "word": 0xFF_FFFF, "wait": 15, "gl": 0xFF_FFFF}
+# After a failure the program has this many seconds for its end, before it is killed.
+PATIENCE = 60.0
+DEMAND = re.compile(rb"demand")
+CYCLE = re.compile(rb"cycle ([1-7]) (\d\d?) (\d\d?) (\d\d?) (?:in|none|out ([0-9a-f]{6}))")
+LOCK = re.compile(rb"lock ([1-7])")
+UNLOCK = re.compile(rb"unlock ([1-7])")
+END = re.compile(r"(ended|short|overrun ([1-7]) wait (\d\d?)) events (\d+)")
+REFUSAL = re.compile(r"refused ([A-Z]\d\d?)(?: line (\d+))?: (.+)")
+
+
+@dataclasses.dataclass(frozen=True)
+class Answer:
+    """What an operation of the branch gave. A field that the operation does not need stays 0.
+
+    x, q    of the reply to a dataway cycle, each 0 or 1 (False and True serve as well)
+    word    the 24 read lines, of a cycle that reads
+    wait    how many cycles of auxiliary controllers came before this cycle or lockout: 0 to 15
+    gl      the graded-L pattern of all crates; bit k of the plan has the value 2^(k-1)
+
+    Raises ValueError for a number out of its range, and TypeError for what is no whole number."""
+
+    x: int = 0
+    q: int = 0
+    word: int = 0
+    wait: int = 0
+    gl: int = 0
+
+    def __post_init__(self) -> None:
+        for name, greatest in GREATEST.items():
+            number = operator.index(getattr(self, name))
+            if not 0 <= number <= greatest:
+                raise ValueError(f"{name} of an answer is 0 to {greatest}, not {number}")
+
+    def line(self) -> str:
+        """The answer as a line of an answer file, without its LF."""
+        return f"{self.x:d} {self.q:d} {self.word:06x} {self.wait:x} {self.gl:06x}"
+
+
+class Branch(Protocol):
+    """What `drive` calls: a class of yours that makes the operations on your branch. It needs no base class."""
+
+    def demand(self) -> Optional[Answer]:
+        """Makes a graded-L operation, and answers `gl`. It may wait for the branch demand first: the script does nothing meanwhile. None
+        says that no more demands are served, which ends the run."""
+
+    def cycle(self, c: int, n: int, a: int, f: int, data: Optional[int]) -> Answer:
+        """Makes one dataway cycle in crate c, and answers x, q and wait, and the word where it reads. `data` is the word to write where f
+        is 16 to 23. It is None where f is 0 to 7, which reads, and where no data moves. Of the controller's commands (n is 28 or 30)
+        the wait counts, and for 30 0 0 and 30 11 27 also `gl`."""
+
+    def lock(self, c: int) -> Answer:
+        """Takes the lockout of crate c, and answers the wait. Where it raises an exception, the crate is not locked."""
+
+    def unlock(self, c: int) -> None:
+        """Releases the lockout of crate c."""
+
+
+class Ending(enum.Enum):
+    """How a run came to its end."""
+
+    ENDED = "ended"
+    SHORT = "short"
+    OVERRUN = "overrun"
+    REFUSED = "refused"
+
+
+@dataclasses.dataclass(frozen=True)
+class RunEnd:
+    """The end of a run.
+
+    how           ENDED at a demand; SHORT inside a service, which left no event; OVERRUN at a wait that is not permitted; REFUSED at an
+                  answer that the program could not take
+    line          the program's last line
+    events        how many events were written; None where the program does not say it (REFUSED)
+    crate, wait   of an OVERRUN, else None"""
+
+    how: Ending
+    line: str
+    events: Optional[int] = None
+    crate: Optional[int] = None
+    wait: Optional[int] = None
+
+
+STATUS = {Ending.ENDED: 0, Ending.SHORT: 0, Ending.OVERRUN: 1, Ending.REFUSED: 1}
+
+
+class DriveFault(Exception):
+    """A run that failed for another cause than an exception of the branch."""
+
+
+class Refused(DriveFault):
+    """Plan or script was refused before the first request: the code of the rule, the line (None for a plan), and the program's text."""
+
+    def __init__(self, line: str) -> None:
+        super().__init__(line)
+        found = REFUSAL.fullmatch(line)
+        self.code = found[1] if found else ""
+        self.line = int(found[2]) if found and found[2] else None
+
+
+class ProgramFault(DriveFault):
+    """The program failed: its text on standard error, its status, and the end of the run where the last line came before the fault."""
+
+    def __init__(self, text: str, status: int, end: Optional[RunEnd] = None) -> None:
+        super().__init__(text or f"camac ended with status {status}")
+        self.text, self.status, self.end = text, status, end
+
+
+class UsageFault(ProgramFault):
+    """The program did not understand its words (status 2): @in as plan or script, or a program without `drive`."""
+
+
+class ProtocolFault(DriveFault):
+    """The program wrote what is no request, or ended without a last line."""
+
+
+class TimeFault(DriveFault):
+    """The program wrote no line in the time that it was given. It was killed."""
+
+
+def find_program(program: Optional[File] = None) -> File:
+    """The program camac: what is named, else what the environment variable CAMAC_PROGRAM names, else `camac` in PATH, else `camac` at the
+    top of the clone that this package stands in. Raises FileNotFoundError where there is none."""
+    found = program or os.environ.get("CAMAC_PROGRAM") or shutil.which("camac")
+    if found:
+        return found
+    launcher = pathlib.Path(__file__).resolve().parents[2] / "camac"
+    if launcher.is_file():
+        return launcher
+    raise FileNotFoundError("the program camac is not in PATH, and CAMAC_PROGRAM is not set")
+
+
+def drive(
+    plan: File, script: File, branch: Branch, events: File, *, program: Optional[File] = None, timeout: Optional[float] = None
+) -> RunEnd:
+    """Plays a script against a branch, and returns how the run ended. `plan` may be "@sample". The event file is created anew.
+
+    `program` is found by `find_program` unless given. `timeout` is how many seconds the program may take for its next line, and for its
+    end; the time that the branch takes does not count. The limit of answers of a run (1,000,000) ends the input: no operation is made
+    whose answer the program would not take.
+
+    The lockouts that are held when the requests end are released by `branch.unlock`, however the run ends.
+
+    Raises what the branch raises. The run ends first: the events of all services that ended are in the file. Raises Refused,
+    UsageFault, ProgramFault, ProtocolFault or TimeFault, all of them DriveFault, and OSError where the program cannot be started."""
+    with _Program([find_program(program), "drive", "--", plan, script, events], timeout) as started:
+        run = _Run(started, branch)
+        try:
+            end = run.serve()
+            run.release()
+        except BaseException as error:
+            run.abandon(error)
+        return started.end(end)
+
+
+class _Run:
+    """A run in progress: the program, the branch, and the crates whose lockout is held."""
+
+    def __init__(self, program: "_Program", branch: Branch) -> None:
+        self.program, self.branch = program, branch
+        self.held: List[int] = []
+        self.answers = 0
+        self.is_open = True
+
+    def serve(self) -> Optional[RunEnd]:
+        """Has the branch make all that is requested, and returns the end that the last line tells, or None where there is no last line."""
+        while (line := self.program.read_line()) is not None:
+            if requested := CYCLE.fullmatch(line) or DEMAND.fullmatch(line) or LOCK.fullmatch(line):
+                self.answer(requested)
+            elif found := UNLOCK.fullmatch(line):
+                self.unlock(int(found[1]))
+            elif end := _read_end(line):
+                return end
+            else:
+                raise ProtocolFault(f"camac wrote what is no request: {line!r}")
+        return None
+
+    def answer(self, requested: "re.Match[bytes]") -> None:
+        """Has the branch answer a request. With no more answers to give, the input is ended."""
+        if not self.is_open:
+            raise ProtocolFault(f"camac wrote a request after the end of its input: {requested[0]!r}")
+        answer = self.make(requested) if self.answers < MOST_ANSWERS else None
+        if answer is None:
+            self.is_open = False
+            self.program.end_input()
+        elif isinstance(answer, Answer):
+            self.answers += 1
+            self.program.write(answer.line().encode() + b"\n")
+        else:
+            raise TypeError(f"the branch has to answer {requested[0].decode()!r} with an Answer, not {answer!r}")
+
+    def make(self, requested: "re.Match[bytes]") -> Optional[Answer]:
+        """Has the branch make an operation. Only a demand may be without an answer."""
+        if requested.re is CYCLE:
+            c, n, a, f = map(int, requested.group(1, 2, 3, 4))
+            answer = self.branch.cycle(c, n, a, f, int(requested[5], 16) if requested[5] else None)
+        elif requested.re is DEMAND:
+            return self.branch.demand()
+        else:
+            answer = self.branch.lock(int(requested[1]))
+            self.held.append(int(requested[1]))
+        if answer is None:
+            raise TypeError(f"the branch has to answer {requested[0].decode()!r}: only a demand may be without an answer")
+        return answer
+
+    def unlock(self, crate: int) -> None:
+        """Releases a lockout. Where that fails, it is still held."""
+        self.branch.unlock(crate)
+        if crate in self.held:
+            self.held.remove(crate)
+
+    def release(self) -> None:
+        """Releases all that is held, the last first. Each is tried; the first failure is raised."""
+        failure = None
+        for crate in reversed(self.held):
+            try:
+                self.branch.unlock(crate)
+            except Exception as error:
+                failure = failure or error
+        self.held = []
+        if failure:
+            raise failure
+
+    def abandon(self, error: BaseException) -> NoReturn:
+        """Ends a run that failed: lockouts are released, the program comes to its end, and what failed is raised."""
+        try:
+            self.release()
+        except Exception as other:
+            _add_note(error, f"a lockout could not be released either: {other!r}")
+        if isinstance(error, (ProtocolFault, TimeFault)):
+            self.program.kill()
+        else:
+            try:
+                self.program.end(self.program.skip_to_end())
+            except DriveFault as fault:
+                _add_note(error, f"and camac: {fault}")
+        raise error
+
+
+class _Program:
+    """The program at work, with its standard streams. Its standard error is kept in a file, so that it can be of any length."""
+
+    def __init__(self, words: List[File], timeout: Optional[float]) -> None:
+        self.timeout = timeout
+        self.errors = tempfile.TemporaryFile()
+        try:
+            # A session of its own: Ctrl-C reaches Python alone, which then ends the run.
+            self.process = subprocess.Popen(
+                words, bufsize=0, stdin=subprocess.PIPE, stdout=subprocess.PIPE, stderr=self.errors, start_new_session=True
+            )
+        except BaseException:
+            self.errors.close()
+            raise
+        self.unread = b""
+        self.poll = select.poll()
+        self.poll.register(self.process.stdout, select.POLLIN)
+
+    def __enter__(self) -> "_Program":
+        return self
+
+    def __exit__(self, *_raised: object) -> None:
+        self.kill()
+        self.end_input()
+        self.process.stdout.close()
+        self.errors.close()
+
+    def read_line(self) -> Optional[bytes]:
+        """Returns the next line without its LF, or None at the end of the output. A line that was cut is none."""
+        line, found, rest = self.unread.partition(b"\n")
+        while not found:
+            if self.timeout is not None and not self.poll.poll(self.timeout * 1000):
+                raise TimeFault(f"camac wrote no line in {self.timeout} seconds")
+            piece = self.process.stdout.read(65_536)
+            if not piece:
+                self.unread = b""
+                return None
+            line, found, rest = (line + piece).partition(b"\n")
+            if len(line) > GREATEST_LINE:
+                raise ProtocolFault(f"camac wrote a line of more than {GREATEST_LINE} bytes")
+        self.unread = rest
+        return line
+
+    def skip_to_end(self) -> Optional[RunEnd]:
+        """Ends the input, reads all output, and returns the end that its last line tells. The program has some time for that."""
+        self.end_input()
+        self.timeout = PATIENCE if self.timeout is None else self.timeout
+        end = None
+        while (line := self.read_line()) is not None:
+            end = _read_end(line)
+        return end
+
+    def write(self, line: bytes) -> None:
+        """Hands on an answer. A program that takes it no more says why at its end."""
+        try:
+            self.process.stdin.write(line)
+        except BrokenPipeError:
+            pass
+
+    def end_input(self) -> None:
+        self.process.stdin.close()
+
+    def end(self, end: Optional[RunEnd]) -> RunEnd:
+        """Waits for the program's end. Returns the end of the run where the status and standard error agree, or raises the fault."""
+        self.end_input()
+        more = self.read_line()
+        if more is not None:
+            raise ProtocolFault(f"camac wrote a line after its last one: {more!r}")
+        try:
+            status = self.process.wait(self.timeout)
+        except subprocess.TimeoutExpired:
+            raise TimeFault(f"camac did not end in {self.timeout} seconds") from None
+        self.errors.seek(0)
+        return _judge(end, status, self.errors.read().decode(errors="replace").rstrip("\n"))
+
+    def kill(self) -> None:
+        if self.process.poll() is None:
+            self.process.kill()
+        self.process.wait()
+
+
+def _judge(end: Optional[RunEnd], status: int, errors: str) -> RunEnd:
+    """Returns the end of a run where the program's status agrees with it, or raises the fault."""
+    if status == 2:
+        raise UsageFault(errors, status)
+    if status not in (0, 1):
+        raise ProgramFault(errors, status, end)
+    if end is None:
+        raise ProtocolFault("camac ended without a last line")
+    if status != STATUS[end.how]:
+        raise ProtocolFault(f"camac ended with status {status} after {end.line!r}")
+    if end.how is Ending.REFUSED and not end.line.startswith("refused A"):
+        raise Refused(end.line)
+    return end
+
+
+def _read_end(last: bytes) -> Optional[RunEnd]:
+    """Reads the last line of a run; None where it is none."""
+    line = last.decode(errors="replace")
+    if REFUSAL.fullmatch(line):
+        return RunEnd(Ending.REFUSED, line)
+    found = END.fullmatch(line)
+    if not found:
+        return None
+    how = Ending(found[1].partition(" ")[0])
+    if how is Ending.OVERRUN:
+        return RunEnd(how, line, int(found[4]), int(found[2]), int(found[3]))
+    return RunEnd(how, line, int(found[4]))
+
+
+def _add_note(error: BaseException, note: str) -> None:
+    """Adds a line to what an exception says, where Python can (from 3.11 on)."""
+    if hasattr(error, "add_note"):
+        error.add_note(note)

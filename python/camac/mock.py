@@ -1,0 +1,321 @@
+"""A branch without hardware: modules that answer by rules, auxiliary controllers that wait, and demands in an order that you give.
+
+A module is a class with one method. This one holds a word: F16 writes it, F0 reads it, F9 clears it.
+
+    class Latch(Module):
+        word = 0
+
+        def cycle(self, a, f, data):
+            if f == 0:
+                return Reply(word=self.word)
+            if f in (9, 16):
+                self.word = data or 0
+                return Reply()
+            return super().cycle(a, f, data)     # the commands of the look-at-me, and X = 0 for all others
+
+`MockBranch` is a branch for `camac.drive`; `Recorder` keeps what any branch was asked and what it answered. All that is random comes
+from a seed, so that two runs are alike."""
+import dataclasses
+import random
+from typing import Dict, Iterable, List, Mapping, NamedTuple, Optional, Tuple
+
+from camac.drive import Answer, Branch
+
+Place = Tuple[int, int]
+GREATEST_WORD = 0xFF_FFFF
+CONTROLLER = (28, 30)
+INITIALISE, CLEAR = (28, 8, 26), (28, 9, 26)
+
+
+class Reply(NamedTuple):
+    """A module's reply to a dataway cycle: X, Q and the word on the read lines. A reply without more is that of an accepted command."""
+
+    x: int = 1
+    q: int = 1
+    word: int = 0
+
+
+NOT_ACCEPTED = Reply(0, 0)
+
+
+class Module:
+    """A module that has at most a look-at-me, whose commands are at sub-address `lam_at`: F8 tests it, F10 clears it, F24 and F26 disable
+    and enable it. Models of modules are made from it."""
+
+    def __init__(self, lam_at: Optional[int] = None) -> None:
+        self.lam_at = lam_at
+        self.lam = False
+        self.lam_enabled = True
+
+    def cycle(self, a: int, f: int, data: Optional[int]) -> Reply:
+        """Replies to a dataway cycle; `data` is the word to write, of F16 to F23."""
+        if a != self.lam_at or f not in (8, 10, 24, 26):
+            return NOT_ACCEPTED
+        if f == 8:
+            return Reply(q=int(self.calls()))
+        if f == 10:
+            self.lam = False
+        else:
+            self.lam_enabled = f == 26
+        return Reply()
+
+    def calls(self) -> bool:
+        """Whether the module raises its L line."""
+        return self.lam and self.lam_enabled
+
+    def trigger(self) -> None:
+        """What the experiment does to the module: it raises its look-at-me."""
+        self.lam = self.lam_at is not None
+
+    def clear(self) -> None:
+        """C of the dataway: the look-at-me is cleared."""
+        self.lam = False
+
+    def initialise(self) -> None:
+        """Z of the dataway: the module is cleared, and its look-at-me disabled."""
+        self.clear()
+        self.lam_enabled = False
+
+
+class Adc(Module):
+    """A converter. A trigger converts all channels anew: a channel that was hit has a word about its peak, any other one about its
+    pedestal. F0 reads a channel; F2 reads the last one and clears the module, as F9 does. Sub-addresses that have no channel answer
+    Q = 0, which ends a scan.
+
+    `hits` is the share of channels that are hit, from 0 to 1; `spread` is the standard deviation of pedestal and peak."""
+
+    def __init__(self, channels=12, width=12, pedestal=100.0, peak=1800.0, spread=20.0, hits=0.3, seed=1, lam_at=12) -> None:
+        super().__init__(lam_at)
+        self.greatest = 2**width - 1
+        self.pedestal, self.peak, self.spread, self.hits = pedestal, peak, spread, hits
+        self.random = random.Random(seed)
+        self.words = [0] * channels
+
+    def convert(self) -> int:
+        middle = self.peak if self.random.random() < self.hits else self.pedestal
+        return min(max(round(self.random.gauss(middle, self.spread)), 0), self.greatest)
+
+    def trigger(self) -> None:
+        super().trigger()
+        self.words = [self.convert() for _ in self.words]
+
+    def clear(self) -> None:
+        super().clear()
+        self.words = [0] * len(self.words)
+
+    def cycle(self, a: int, f: int, data: Optional[int]) -> Reply:
+        if f in (0, 2):
+            if a >= len(self.words):
+                return Reply(q=0)
+            reply = Reply(word=self.words[a])
+            if f == 2 and a == len(self.words) - 1:
+                self.clear()
+            return reply
+        if f == 9:
+            self.clear()
+            return Reply()
+        return super().cycle(a, f, data)
+
+
+class Scaler(Module):
+    """A scaler. A trigger adds up to `rate` counts to each channel of 24 bits. F0 reads a channel, F2 reads and clears it, F9 clears all,
+    F25 counts all up by one."""
+
+    def __init__(self, channels=12, rate=1000, seed=1, lam_at=0) -> None:
+        super().__init__(lam_at)
+        self.random = random.Random(seed)
+        self.rate = rate
+        self.counts = [0] * channels
+
+    def count(self, channel: int, more: int) -> None:
+        self.counts[channel] = (self.counts[channel] + more) & GREATEST_WORD
+
+    def trigger(self) -> None:
+        super().trigger()
+        for channel in range(len(self.counts)):
+            self.count(channel, self.random.randint(0, self.rate))
+
+    def clear(self) -> None:
+        super().clear()
+        self.counts = [0] * len(self.counts)
+
+    def cycle(self, a: int, f: int, data: Optional[int]) -> Reply:
+        if f in (0, 2):
+            if a >= len(self.counts):
+                return Reply(q=0)
+            reply = Reply(word=self.counts[a])
+            if f == 2:
+                self.counts[a] = 0
+            return reply
+        if f == 9:
+            self.clear()
+            return Reply()
+        if f == 25:
+            for channel in range(len(self.counts)):
+                self.count(channel, 1)
+            return Reply()
+        return super().cycle(a, f, data)
+
+
+class Register(Module):
+    """An output register at sub-address 0. F0 reads it, F16 writes it whole, F18 and F21 set and clear the bits that are 1 in the data,
+    F27 answers Q = 1 where it is not 0. It keeps as many bits as it is wide."""
+
+    def __init__(self, width=24, lam_at=None) -> None:
+        super().__init__(lam_at)
+        self.greatest = 2**width - 1
+        self.word = 0
+
+    def cycle(self, a: int, f: int, data: Optional[int]) -> Reply:
+        if a != 0 or f not in (0, 16, 18, 21, 27):
+            return super().cycle(a, f, data)
+        if data is not None:
+            after = {16: data, 18: self.word | data, 21: self.word & ~data}[f]
+            self.word = after & self.greatest
+        return Reply(q=int(self.word != 0) if f == 27 else 1, word=self.word if f == 0 else 0)
+
+
+class Memory(Module):
+    """A memory with an address counter. F16 at sub-address 1 sets the counter. F16 at sub-address 0 writes a word, and F0 there reads one;
+    each counts up. Past the last word the answer is Q = 0, which ends a block."""
+
+    def __init__(self, size=1024, lam_at=None) -> None:
+        super().__init__(lam_at)
+        self.words = [0] * size
+        self.at = 0
+
+    def cycle(self, a: int, f: int, data: Optional[int]) -> Reply:
+        if (a, f) == (1, 16):
+            self.at = data
+            return Reply()
+        if a != 0 or f not in (0, 16):
+            return super().cycle(a, f, data)
+        if self.at >= len(self.words):
+            return Reply(q=0)
+        if f == 16:
+            self.words[self.at] = data
+        self.at += 1
+        return Reply(word=self.words[self.at - 1] if f == 0 else 0)
+
+
+class Auxiliary:
+    """The auxiliary controllers of a crate: before each of our cycles they take up to `greatest` (0 to 15) of their own. They keep the
+    lockout, unless `ignores_lockout`."""
+
+    def __init__(self, greatest: int, seed=1, ignores_lockout=False) -> None:
+        self.greatest, self.ignores_lockout = greatest, ignores_lockout
+        self.random = random.Random(seed)
+
+    def wait(self, is_locked: bool) -> int:
+        """How many cycles of theirs come before our next one."""
+        return 0 if is_locked and not self.ignores_lockout else self.random.randint(0, self.greatest)
+
+
+class MockBranch:
+    """A branch for `camac.drive`.
+
+    modules      the module at each (crate, station)
+    gl           the bit of the graded-L pattern, 1 to 24, of each (crate, station) that has one, as in the plan
+    triggers     before each graded-L operation, the next element triggers the modules at these places; () triggers none. When all are
+                 used up, `demand` answers None, and the run ends. A look-at-me stays raised until the script clears it
+    auxiliaries  the auxiliary controllers of each crate that has some
+
+    Where no module stands, X is 0. Z and C (the commands at station 28) initialise and clear all modules of the crate."""
+
+    def __init__(
+        self,
+        modules: Mapping[Place, Module],
+        gl: Mapping[Place, int],
+        triggers: Iterable[Iterable[Place]] = (),
+        auxiliaries: Optional[Mapping[int, Auxiliary]] = None,
+    ) -> None:
+        self.modules, self.gl = dict(modules), dict(gl)
+        self.triggers = iter(triggers)
+        self.auxiliaries: Dict[int, Auxiliary] = dict(auxiliaries or {})
+        self.locked: set = set()
+
+    def pattern(self) -> int:
+        """The graded-L pattern of all modules whose look-at-me is raised."""
+        bits = {bit for place, bit in self.gl.items() if self.modules[place].calls()}
+        return sum(1 << (bit - 1) for bit in bits)
+
+    def wait(self, crate: int) -> int:
+        auxiliary = self.auxiliaries.get(crate)
+        return auxiliary.wait(crate in self.locked) if auxiliary else 0
+
+    def demand(self) -> Optional[Answer]:
+        places = next(self.triggers, None)
+        if places is None:
+            return None
+        for place in places:
+            self.modules[place].trigger()
+        return Answer(gl=self.pattern())
+
+    def cycle(self, c: int, n: int, a: int, f: int, data: Optional[int]) -> Answer:
+        wait = self.wait(c)
+        if n in CONTROLLER:
+            return self.control(c, (n, a, f), wait)
+        module = self.modules.get((c, n))
+        reply = module.cycle(a, f, data) if module else NOT_ACCEPTED
+        return Answer(reply.x, reply.q, reply.word, wait)
+
+    def control(self, c: int, command: Tuple[int, int, int], wait: int) -> Answer:
+        """A command of the crate's controller, of whose reply only the wait and the pattern count."""
+        for (crate, _), module in self.modules.items():
+            if crate == c and command == INITIALISE:
+                module.initialise()
+            elif crate == c and command == CLEAR:
+                module.clear()
+        return Answer(wait=wait, gl=self.pattern())
+
+    def lock(self, c: int) -> Answer:
+        wait = self.wait(c)
+        self.locked.add(c)
+        return Answer(wait=wait)
+
+    def unlock(self, c: int) -> None:
+        self.locked.remove(c)
+
+
+@dataclasses.dataclass(frozen=True)
+class Operation:
+    """What a branch was asked, as the program's line says it, and its answer: None of an unlock, and of a demand that ended the run."""
+
+    request: str
+    answer: Optional[Answer]
+
+
+class Recorder:
+    """A branch that hands all on to another branch, and keeps it. `answer_lines` is an answer file: `camac run` plays it without the
+    branch, and makes the same event file."""
+
+    def __init__(self, branch: Branch) -> None:
+        self.branch = branch
+        self.operations: List[Operation] = []
+
+    def keep(self, request: str, answer: Optional[Answer]) -> None:
+        self.operations.append(Operation(request, answer))
+
+    def demand(self) -> Optional[Answer]:
+        answer = self.branch.demand()
+        self.keep("demand", answer)
+        return answer
+
+    def cycle(self, c: int, n: int, a: int, f: int, data: Optional[int]) -> Answer:
+        answer = self.branch.cycle(c, n, a, f, data)
+        move = "in" if f < 8 else "none" if data is None else f"out {data:06x}"
+        self.keep(f"cycle {c} {n} {a} {f} {move}", answer)
+        return answer
+
+    def lock(self, c: int) -> Answer:
+        answer = self.branch.lock(c)
+        self.keep(f"lock {c}", answer)
+        return answer
+
+    def unlock(self, c: int) -> None:
+        self.branch.unlock(c)
+        self.keep(f"unlock {c}", None)
+
+    def answer_lines(self) -> str:
+        """The answers, one in a line, as `camac run` reads them."""
+        return "".join(f"{made.answer.line()}\n" for made in self.operations if made.answer)

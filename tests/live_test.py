@@ -1,0 +1,730 @@
+#!/usr/bin/env python3
+"""Tests of live runs: `camac drive` over pipes, `camac.drive` of the Python package, and its branch without hardware.
+
+usage: tests/live_test.py [-v] [TEST ..]     from any folder; takes about half a minute
+
+The program is crates/camac/out/camac (cd crates/camac && rt run makes it), or what the environment variable CAMAC_PROGRAM names. The tests
+of the class Client need none: tests/fake_camac stands in its place.
+"""
+import contextlib
+import json
+import os
+import pathlib
+import select
+import signal
+import subprocess
+import sys
+import tempfile
+import unittest
+from unittest import mock
+
+TOP = pathlib.Path(__file__).resolve().parent.parent
+PROGRAM = os.path.abspath(os.environ.get("CAMAC_PROGRAM") or TOP / "crates/camac/out/camac")
+FAKE = TOP / "tests/fake_camac"
+sys.path.insert(0, str(TOP / "python"))
+sys.dont_write_bytecode = True
+import camac  # noqa: E402
+from camac import Answer, Ending, RunEnd  # noqa: E402
+from camac.mock import Adc, Auxiliary, Memory, MockBranch, Module, Recorder, Register, Reply, Scaler  # noqa: E402
+
+OPENING = "cdlam adc 1 1 5 12\nvar v k i t\nservice adc within {} cycles event {} words {{\n"
+STRAIGHT_LINE = "cdlam adc 1 1 5 12\nvar v\nservice adc within 3 cycles event 1 words {\n  cdreg r 1 1 5 0\n  cfsa 0 r -> v\n  put v\n}\n"
+LOCKOUT = OPENING.format(6, 100) + "cdreg r 1 1 5 0\nlock 1 {\n" + "  cfsa 0 r -> v\n" * 4 + "}\n}\n"
+LONG = OPENING.format(30_000, 0) + "for i = 1 to 9999 { cclc adc }\n}\n"
+DEMAND = "0 0 000000 0 000004"
+CYCLE = "1 1 123fff 2 000000"
+WAIT_0, WAIT_1, WAIT_2 = (f"0 0 000000 {wait} 000000" for wait in range(3))
+HEADER = b"CAMACEV2"
+EVENT_FILE = bytes.fromhex("43414d4143455632 ca4d 0003 00000001 00000003 0000 0001 00000fff")
+REQUESTS = (b"demand", b"cycle", b"lock")
+# A driver that waits for ever in a cycle of its second service.
+INTERRUPTED = """import sys, time
+sys.path.insert(0, sys.argv[1])
+sys.dont_write_bytecode = True
+import camac
+class Branch:
+    cycles = 0
+    def demand(self):
+        return camac.Answer(gl=4)
+    def cycle(self, c, n, a, f, data):
+        self.cycles += 1
+        if self.cycles == 6:
+            print("waiting", flush=True)
+            time.sleep(600)
+        return camac.Answer(1, 1)
+    def lock(self, c):
+        return camac.Answer()
+    def unlock(self, c):
+        print("unlock", c, flush=True)
+try:
+    camac.drive("@sample", sys.argv[3], Branch(), "run.events", program=sys.argv[2])
+except KeyboardInterrupt:
+    print("interrupted")
+"""
+PATIENCE = 60
+
+
+def script(body, cycles=100, words=100):
+    """A script of the standard opening with this body, each statement on a line."""
+    return OPENING.format(cycles, words) + "".join(f"{line}\n" for line in body) + "}\n"
+
+
+def requested(line):
+    """The request for the operation of a line of a listing."""
+    kind, *words = line.split(" ")
+    if kind == "demand":
+        return kind
+    if kind == "cycle":
+        return " ".join([kind, *words[: 6 if words[4] == "out" else 5]])
+    return f"{kind} {words[0]}"
+
+
+class Case(unittest.TestCase):
+    """A test in a folder of its own."""
+
+    def setUp(self):
+        room = tempfile.TemporaryDirectory(prefix="camac-live-")
+        self.addCleanup(room.cleanup)
+        self.room = pathlib.Path(room.name)
+
+    def write(self, name, text):
+        (self.room / name).write_text(text)
+        return self.room / name
+
+    def file(self, name):
+        return (self.room / name).read_bytes()
+
+
+class Listed:
+    """A branch that gives the answers of a list, and keeps what it was asked. An exception in the list is raised; after the list a demand
+    has no answer."""
+
+    def __init__(self, *answers):
+        self.answers, self.asked = iter(answers), []
+
+    def next(self, *asked):
+        self.asked.append(asked)
+        answer = next(self.answers, None)
+        if isinstance(answer, BaseException):
+            raise answer
+        return answer
+
+    def demand(self):
+        return self.next("demand")
+
+    def cycle(self, c, n, a, f, data):
+        return self.next("cycle", c, n, a, f, data)
+
+    def lock(self, c):
+        return self.next("lock", c)
+
+    def unlock(self, c):
+        self.asked.append(("unlock", c))
+
+
+class Broken(Exception):
+    """The branch is out of order."""
+
+
+class Client(Case):
+    """`camac.drive` against tests/fake_camac, which writes a fixed list of lines."""
+
+    def drive(self, branch, *lines, timeout=PATIENCE, **scenario):
+        path = self.write("scenario", json.dumps({"lines": lines, **scenario}))
+        return camac.drive("@sample", path, branch, self.room / "answers", program=FAKE, timeout=timeout)
+
+    def answers(self):
+        return self.file("answers").decode().splitlines()
+
+    def test_each_request(self):
+        given = [Answer(gl=4), Answer(wait=2), Answer(1, 1, 0x123FFF), Answer(x=True, q=False), Answer(gl=5, wait=15), Answer(0xF // 15)]
+        branch = Listed(*given)
+        lines = ["demand", "lock 1", "cycle 1 5 0 0 in", "cycle 1 6 0 16 out 0000ff", "cycle 7 30 11 27 none", "cycle 1 23 15 31 none"]
+        end = self.drive(branch, *lines, "unlock 1", "demand", at_end="ended events 1")
+        self.assertEqual(end, RunEnd(Ending.ENDED, "ended events 1", 1))
+        asked = [("cycle", 1, 5, 0, 0, None), ("cycle", 1, 6, 0, 16, 255), ("cycle", 7, 30, 11, 27, None), ("cycle", 1, 23, 15, 31, None)]
+        self.assertEqual(branch.asked, [("demand",), ("lock", 1), *asked, ("unlock", 1), ("demand",)])
+        wanted = ["0 0 000000 0 000004", "0 0 000000 2 000000", "1 1 123fff 0 000000", "1 0 000000 0 000000", "0 0 000000 f 000005"]
+        self.assertEqual(self.answers(), [*wanted, "1 0 000000 0 000000"])
+
+    def test_ends(self):
+        for last, status, wanted in [
+            ("ended events 12", 0, RunEnd(Ending.ENDED, "ended events 12", 12)),
+            ("short events 0", 0, RunEnd(Ending.SHORT, "short events 0", 0)),
+            ("overrun 1 wait 15 events 3", 1, RunEnd(Ending.OVERRUN, "overrun 1 wait 15 events 3", 3, 1, 15)),
+            ("refused A4 line 1000001: too many answers", 1, RunEnd(Ending.REFUSED, "refused A4 line 1000001: too many answers")),
+        ]:
+            with self.subTest(last):
+                self.assertEqual(self.drive(Listed(Answer(gl=4)), "demand", last, status=status), wanted)
+                self.assertEqual(self.drive(Listed(), "demand", at_end=last, status=status), wanted)
+
+    def test_refused_plan_and_script(self):
+        for line, code, place in [
+            ("refused P4: value out of range", "P4", None),
+            ("refused E12 line 3: more cycles than annotated", "E12", 3),
+        ]:
+            branch = Listed()
+            with self.assertRaises(camac.Refused) as raised:
+                self.drive(branch, line, status=1)
+            found = raised.exception
+            self.assertEqual((str(found), found.code, found.line, branch.asked), (line, code, place, []))
+
+    def test_faults_of_the_program(self):
+        with self.assertRaises(camac.UsageFault) as raised:
+            self.drive(Listed(), status=2, stderr="fault @in twice\n")
+        self.assertEqual((str(raised.exception), raised.exception.status), ("fault @in twice", 2))
+        with self.assertRaises(camac.ProgramFault) as raised:
+            self.drive(Listed(Answer()), "demand", status=3, stderr="fault read\n")
+        self.assertEqual((raised.exception.text, raised.exception.status, raised.exception.end), ("fault read", 3, None))
+        with self.assertRaises(camac.ProgramFault) as raised:
+            self.drive(Listed(), "demand", at_end="ended events 2", status=3, stderr="fault write\n")
+        self.assertEqual((raised.exception.text, raised.exception.end), ("fault write", RunEnd(Ending.ENDED, "ended events 2", 2)))
+        with self.assertRaises(camac.ProgramFault) as raised:
+            self.drive(Listed(), "demand", signal=signal.SIGKILL)
+        self.assertEqual((str(raised.exception), raised.exception.status), ("camac ended with status -9", -9))
+
+    def test_a_program_that_is_none(self):
+        with self.assertRaises(FileNotFoundError):
+            camac.drive("@sample", "s", Listed(), "e", program=self.room / "none")
+        with mock.patch.dict(os.environ, {"PATH": str(self.room), "CAMAC_PROGRAM": ""}):
+            found = camac.find_program()
+            self.assertEqual(found, TOP / "camac")
+        with mock.patch.dict(os.environ, {"CAMAC_PROGRAM": "/a/program"}):
+            self.assertEqual(camac.find_program(), "/a/program")
+        self.assertEqual(camac.find_program("given"), "given")
+
+    def test_what_is_no_request(self):
+        for lines in [
+            ["hello"],
+            ["cycle 8 1 0 0 in"],
+            ["cycle 1 1 0 0"],
+            ["cycle 1 1 0 16 out ff"],
+            ["demand "],
+            ["lock 0"],
+            [""],
+            ["ended"],
+            ["x" * 5000],
+            ["ended events 1", "ended events 1"],
+        ]:
+            with self.subTest(lines), self.assertRaises(camac.ProtocolFault):
+                self.drive(Listed(), *lines, "demand")
+        for scenario in [{"at_end": "ended events 0", "status": 1}, {"at_end": "overrun 1 wait 3 events 0"}, {}]:
+            with self.subTest(scenario), self.assertRaises(camac.ProtocolFault):
+                self.drive(Listed(), "demand", **scenario)
+
+    def test_a_request_after_the_end_of_the_input(self):
+        program = self.write("program", "#!/bin/sh\necho demand; cat >/dev/null; echo demand; echo ended events 0\n")
+        program.chmod(0o755)
+        with self.assertRaises(camac.ProtocolFault):
+            camac.drive("@sample", "s", Listed(), "e", program=program, timeout=PATIENCE)
+
+    def test_a_program_that_takes_no_answer(self):
+        program = self.write("program", "#!/bin/sh\nexec 0<&-\necho demand\nsleep 0.1\necho fault write >&2\nexit 3\n")
+        program.chmod(0o755)
+        with self.assertRaises(camac.ProgramFault) as raised:
+            camac.drive("@sample", "s", Listed(Answer(gl=4)), "e", program=program, timeout=PATIENCE)
+        self.assertEqual((raised.exception.text, raised.exception.status), ("fault write", 3))
+
+    def test_long_standard_error(self):
+        with self.assertRaises(camac.ProgramFault) as raised:
+            self.drive(Listed(), "demand", status=3, stderr="x" * 1_000_000)
+        self.assertEqual(len(raised.exception.text), 1_000_000)
+
+    def test_time(self):
+        with self.assertRaises(camac.TimeFault):
+            self.drive(Listed(), sleep=PATIENCE, timeout=0.2)
+        with self.assertRaises(camac.TimeFault):
+            self.drive(Listed(), "ended events 0", sleep=PATIENCE, timeout=0.2)
+
+    def test_a_branch_that_fails(self):
+        for error in (Broken("no power"), KeyboardInterrupt()):
+            branch = Listed(Answer(gl=4), Answer(wait=1), error)
+            with self.assertRaises(type(error)) as raised:
+                self.drive(branch, "demand", "lock 3", "cycle 3 5 0 0 in", "unlock 3", at_end="short events 0")
+            self.assertIs(raised.exception, error)
+            self.assertEqual(branch.asked[-2:], [("cycle", 3, 5, 0, 0, None), ("unlock", 3)])
+            self.assertEqual(len(self.answers()), 2)
+
+    def test_a_branch_that_fails_with_the_program(self):
+        error = Broken("no power")
+        with self.assertRaises(Broken) as raised:
+            self.drive(Listed(error), "demand", at_end="ended events 0", status=3, stderr="fault write\n")
+        self.assertIs(raised.exception, error)
+        if hasattr(error, "__notes__"):
+            self.assertEqual(error.__notes__, ["and camac: fault write"])
+
+    def test_answers_that_are_none(self):
+        for given in (None, 4, (1, 1, 0, 0, 0), "1 1 000000 0 000000"):
+            branch = Listed(Answer(gl=4), given)
+            with self.subTest(given), self.assertRaises(TypeError):
+                self.drive(branch, "demand", "lock 1", at_end="short events 0")
+            self.assertEqual(branch.asked, [("demand",), ("lock", 1), ("unlock", 1)])
+
+    def test_ranges(self):
+        for name, greatest in [("x", 1), ("q", 1), ("word", 0xFFFFFF), ("wait", 15), ("gl", 0xFFFFFF)]:
+            self.assertEqual(getattr(Answer(**{name: greatest}), name), greatest)
+            for number in (-1, greatest + 1):
+                with self.assertRaises(ValueError):
+                    Answer(**{name: number})
+            for what in (1.0, "1", None):
+                with self.assertRaises(TypeError):
+                    Answer(**{name: what})
+
+    def test_locks_that_are_held(self):
+        branch = Listed(*[Answer()] * 4)
+        self.drive(branch, "demand", "lock 1", "lock 2", "cycle 2 1 0 0 in", "overrun 2 wait 1 events 0", status=1)
+        self.assertEqual(branch.asked[4:], [("unlock", 2), ("unlock", 1)])
+        branch = Listed(*[Answer()] * 2)
+        with self.assertRaises(camac.ProgramFault):
+            self.drive(branch, "demand", "lock 1", status=3, stderr="fault read\n")
+        self.assertEqual(branch.asked[2:], [("unlock", 1)])
+        branch = Listed(*[Answer()] * 2)
+        with self.assertRaises(camac.ProtocolFault):
+            self.drive(branch, "demand", "lock 1", "what")
+        self.assertEqual(branch.asked[2:], [("unlock", 1)])
+        branch = Listed(Answer(), Broken())
+        with self.assertRaises(Broken):
+            self.drive(branch, "demand", "lock 1")
+        self.assertEqual(branch.asked, [("demand",), ("lock", 1)])
+
+    def test_unlock_that_fails(self):
+        class Stuck(Listed):
+            def unlock(self, c):
+                super().unlock(c)
+                raise Broken(c)
+
+        branch = Stuck(*[Answer()] * 3)
+        with self.assertRaises(Broken) as raised:
+            self.drive(branch, "demand", "lock 1", "lock 2", "unlock 2", "demand", at_end="ended events 1")
+        self.assertEqual(raised.exception.args, (2,))
+        self.assertEqual(branch.asked[3:], [("unlock", 2), ("unlock", 2), ("unlock", 1)])
+        branch = Stuck(*[Answer()] * 3)
+        with self.assertRaises(Broken) as raised:
+            self.drive(branch, "demand", "lock 1", "lock 2", "short events 0")
+        self.assertEqual(raised.exception.args, (2,))
+        self.assertEqual(branch.asked[3:], [("unlock", 2), ("unlock", 1)])
+
+    def test_the_limit_of_answers(self):
+        with mock.patch.object(sys.modules["camac.drive"], "MOST_ANSWERS", 2):
+            branch = Listed(*[Answer()] * 5)
+            self.assertEqual(self.drive(branch, *["demand"] * 5, at_end="ended events 0").how, Ending.ENDED)
+        self.assertEqual((branch.asked, len(self.answers())), ([("demand",)] * 2, 2))
+
+    def test_nothing_is_left_open(self):
+        before = os.listdir("/proc/self/fd")
+        self.drive(Listed(), "demand", at_end="ended events 0")
+        with self.assertRaises(camac.ProtocolFault):
+            self.drive(Listed(), "what")
+        self.assertEqual(len(os.listdir("/proc/self/fd")), len(before))
+
+
+class Pipes:
+    """The program at work, with a pipe at its input and one at its output."""
+
+    def __init__(self, room, *words):
+        how = {"stdin": subprocess.PIPE, "stdout": subprocess.PIPE, "stderr": subprocess.PIPE}
+        self.process = subprocess.Popen([PROGRAM, "drive", *words], bufsize=0, cwd=room, **how)
+
+    def __enter__(self):
+        return self
+
+    def __exit__(self, *_raised):
+        self.process.kill()
+        self.process.communicate()
+
+    def read(self):
+        """What stands on the pipe as soon as something does; nothing at the end of the output."""
+        if not select.select([self.process.stdout], [], [], PATIENCE)[0]:
+            raise TimeoutError("the program wrote nothing")
+        return self.process.stdout.read(65_536)
+
+    def is_quiet(self):
+        """Whether the program writes nothing for a moment."""
+        return not select.select([self.process.stdout], [], [], 0.02)[0]
+
+    def requests(self):
+        """Reads up to a request or the last line: whole lines alone."""
+        text = b""
+        while not text.endswith(b"\n") or not text.splitlines()[-1].split(b" ")[0] in REQUESTS:
+            piece = self.read()
+            if not piece:
+                break
+            text += piece
+        return text
+
+    def answer(self, line):
+        self.process.stdin.write(f"{line}\n".encode())
+
+    def end(self):
+        """Ends the input. Returns what the program still wrote, its status and its standard error."""
+        output, errors = self.process.communicate(timeout=PATIENCE)
+        return output, self.process.returncode, errors
+
+
+class Rows(Case):
+    """The protocol, byte for byte: each answer is given when its request was read, and then again all answers at once."""
+
+    def talk(self, text, answers, plan="@sample", events="run.events"):
+        """All that the program wrote, and its status, where each answer was given to its request."""
+        path = self.write("script", text)
+        with Pipes(self.room, plan, path, events) as pipes:
+            output = pipes.requests()
+            for answer in answers:
+                pipes.answer(answer)
+                output += pipes.requests()
+            more, status, errors = pipes.end()
+        self.assertEqual(errors, b"")
+        return output + more, status
+
+    def drive(self, text, answers, wanted, status=0, events=HEADER):
+        wanted = "".join(f"{line}\n" for line in wanted).encode()
+        self.assertEqual(self.talk(text, answers), (wanted, status))
+        self.assertEqual(self.file("run.events"), events)
+        given = "".join(f"{line}\n" for line in answers).encode()
+        for given in (given, given[:-1]):
+            done = subprocess.run([PROGRAM, "drive", "@sample", "script", "at.once"], input=given, capture_output=True, cwd=self.room)
+            self.assertEqual((done.stdout, done.returncode, done.stderr), (wanted, status, b""))
+            self.assertEqual(self.file("at.once"), events)
+
+    def test_straight_line(self):
+        demand, cycle = "demand", "cycle 1 5 0 0 in"
+        self.drive(STRAIGHT_LINE, [DEMAND, CYCLE], [demand, cycle, demand, "ended events 1"], events=EVENT_FILE)
+        self.drive(STRAIGHT_LINE, [], [demand, "ended events 0"])
+        self.drive(STRAIGHT_LINE, [DEMAND], [demand, cycle, "short events 0"])
+        self.drive(STRAIGHT_LINE, [DEMAND, "1 1 123fff 3 000000"], [demand, cycle, "overrun 1 wait 3 events 0"], 1)
+        self.drive(STRAIGHT_LINE, [DEMAND, "1 1 fffffff 0 000000"], [demand, cycle, "refused A1 line 2: line shape"], 1)
+        self.drive(STRAIGHT_LINE, [DEMAND, "1 2 000000 0 000000"], [demand, cycle, "refused A2 line 2: bad digit"], 1)
+
+    def test_lockout(self):
+        opening, cycle = ["demand", "lock 1"], "cycle 1 5 0 0 in"
+        event = bytes.fromhex("ca4d 0003 00000001 00000006 0004 0000")
+        ended = [*opening, *[cycle] * 4, "unlock 1", "demand", "ended events 1"]
+        self.drive(LOCKOUT, [DEMAND, WAIT_2, *[WAIT_0] * 4], ended, events=HEADER + event)
+        self.drive(LOCKOUT, [DEMAND, WAIT_2, WAIT_0, WAIT_1], [*opening, cycle, cycle, "overrun 1 wait 1 events 0"], 1)
+        self.drive(LOCKOUT, [DEMAND, "0 0 000000 3 000000"], [*opening, "overrun 1 wait 3 events 0"], 1)
+        self.drive(LOCKOUT, [DEMAND, WAIT_2, WAIT_0], [*opening, cycle, cycle, "short events 0"])
+        bare = script(["lock 1 { }", "lock 1 { }"], 4, 0)
+        event = bytes.fromhex("ca4d 0003 00000001 00000000 0000 0000")
+        wanted = ["demand", "lock 1", "unlock 1", "lock 1", "unlock 1", "demand", "ended events 1"]
+        self.drive(bare, [DEMAND, WAIT_0, WAIT_0], wanted, events=HEADER + event)
+
+    def test_commands(self):
+        text = script(["ctgl 1"])
+        self.talk(text, [DEMAND, DEMAND])
+        self.assertEqual(self.talk(text, [DEMAND, DEMAND])[0].splitlines()[1], b"cycle 1 30 11 27 none")
+        self.write("answers", f"{DEMAND}\n{DEMAND}\n")
+        words = [PROGRAM, "run", "@sample", "script", "answers", "e"]
+        listed = subprocess.run(words, stdout=subprocess.PIPE, cwd=self.room).stdout.splitlines()
+        self.assertEqual(listed[1], b"cycle 1 30 11 27 none x1 q1 wait 0")
+        text = script(["cdreg r 1 1 6 0", "cfsa 16 r <- 255"])
+        self.assertEqual(self.talk(text, [DEMAND])[0].splitlines()[1], b"cycle 1 6 0 16 out 0000ff")
+        text = script(["cdreg r 1 1 30 0", "cfsa 0 r -> v", "cccz 1", "cccc 1", "ccci 1 on", "cccd 1 on", "cclc adc"])
+        wanted = ["30 0 0 in", "28 8 26 none", "28 9 26 none", "30 9 26 none", "30 10 26 none", "5 12 10 none"]
+        output, status = self.talk(text, [DEMAND, *[WAIT_0] * 6])
+        self.assertEqual((output.decode().splitlines()[1:-2], status), ([f"cycle 1 {it}" for it in wanted], 0))
+
+    def test_refused(self):
+        refusal = ["refused E12 line 3: more cycles than annotated"]
+        self.drive(STRAIGHT_LINE.replace("within 3", "within 2"), [], refusal, 1, b"")
+        self.write("plan.toml", "buffer = 0\n")
+        self.assertEqual(self.talk(STRAIGHT_LINE, [], "plan.toml"), (b"refused P4: value out of range\n", 1))
+        self.assertEqual(self.file("run.events"), b"")
+
+    def test_words(self):
+        self.write("script", STRAIGHT_LINE)
+        for words in (["@in", "script", "e"], ["@sample", "@in", "e"]):
+            done = subprocess.run([PROGRAM, "drive", *words], input=b"", capture_output=True, cwd=self.room)
+            self.assertEqual((done.returncode, done.stdout, done.stderr), (2, b"", b"fault @in twice\n"))
+        self.assertEqual(self.talk(STRAIGHT_LINE, [DEMAND, CYCLE], events="@in")[1], 0)
+        self.assertEqual(self.file("@in"), EVENT_FILE)
+
+    def test_faults(self):
+        self.write("script", STRAIGHT_LINE)
+        how = {"stdout": subprocess.PIPE, "stderr": subprocess.PIPE, "cwd": self.room}
+        done = subprocess.run([PROGRAM, "drive", "none.toml", "script", "e"], input=b"", **how)
+        self.assertEqual((done.returncode, done.stdout, done.stderr), (3, b"", b"fault read\n"))
+        done = subprocess.run([PROGRAM, "drive", "@sample", "script", "script"], input=b"", **how)
+        self.assertEqual((done.returncode, done.stdout, done.stderr), (3, b"", b"fault write\n"))
+        self.assertEqual(self.file("script"), STRAIGHT_LINE.encode())
+        folder = os.open(self.room, os.O_RDONLY)
+        self.addCleanup(os.close, folder)
+        done = subprocess.run([PROGRAM, "drive", "@sample", "script", "e"], stdin=folder, **how)
+        self.assertEqual((done.returncode, done.stdout, done.stderr), (3, b"demand\n", b"fault read\n"))
+        self.assertEqual(self.file("e"), HEADER)
+
+    def test_streams_that_are_closed_or_full(self):
+        self.write("script", STRAIGHT_LINE)
+        for ending, output, errors, events in [
+            (f"echo '{DEMAND}' | $camac drive @sample script e >/dev/full", b"", b"fault write\n", HEADER),
+            ("$camac drive @sample script e <&-", b"demand\n", b"fault read\n", HEADER),
+            ("$camac drive @sample script e >&- </dev/null", b"", b"fault write\n", HEADER),
+            ("$camac drive @sample script /dev/full </dev/null", b"", b"fault write\n", None),
+        ]:
+            with self.subTest(ending):
+                how = {"stdin": subprocess.DEVNULL, "capture_output": True, "cwd": self.room, "env": {**os.environ, "camac": PROGRAM}}
+                done = subprocess.run(["bash", "-c", ending], timeout=PATIENCE, **how)
+                self.assertEqual((done.returncode, done.stdout, done.stderr), (3, output, errors))
+                if events is not None:
+                    self.assertEqual(self.file("e"), events)
+
+    def test_requests_that_nobody_reads(self):
+        self.write("script", STRAIGHT_LINE)
+        with Pipes(self.room, "@sample", "script", "e") as pipes:
+            self.assertEqual(pipes.requests(), b"demand\n")
+            pipes.process.stdout.close()
+            pipes.answer(DEMAND)
+            self.assertEqual((pipes.process.wait(PATIENCE), pipes.process.stderr.read()), (3, b"fault write\n"))
+        self.assertEqual(self.file("e"), HEADER)
+
+    def test_each_request_comes_alone(self):
+        """No request comes before the answer to the last one; half a line is no answer; the event is in the file before the next request."""
+        path = self.write("script", STRAIGHT_LINE)
+        with Pipes(self.room, "@sample", path, "e") as pipes:
+            self.assertEqual(pipes.requests(), b"demand\n")
+            self.assertTrue(pipes.is_quiet())
+            pipes.process.stdin.write(DEMAND.encode())
+            self.assertTrue(pipes.is_quiet())
+            pipes.process.stdin.write(b"\n")
+            self.assertEqual(pipes.requests(), b"cycle 1 5 0 0 in\n")
+            self.assertTrue(pipes.is_quiet())
+            self.assertEqual(self.file("e"), HEADER)
+            pipes.answer(CYCLE)
+            self.assertEqual(pipes.requests(), b"demand\n")
+            self.assertEqual(self.file("e"), EVENT_FILE)
+            self.assertEqual(pipes.end(), (b"ended events 1\n", 0, b""))
+
+    def test_ten_thousand_operations(self):
+        """A driver that gives each answer when its request has come: the program never waits for an answer before it has asked."""
+        path = self.write("script", LONG)
+        with Pipes(self.room, "@sample", path, "e") as pipes:
+            for count in range(10_000):
+                self.assertEqual(pipes.requests(), b"cycle 1 5 12 10 none\n" if count else b"demand\n")
+                pipes.answer(WAIT_2 if count else DEMAND)
+            self.assertEqual(pipes.requests(), b"demand\n")
+            self.assertEqual(pipes.end(), (b"ended events 1\n", 0, b""))
+        self.assertEqual(list(camac.read_events(self.room / "e")), [camac.Event(1, 3, 29_997, 9_999, ())])
+
+    def test_the_limit_of_answers(self):
+        self.write("script", STRAIGHT_LINE)
+        quiet = f"{WAIT_0}\n".encode()
+        words = [PROGRAM, "drive", "@sample", "script", "e"]
+        for count, last in [(1_000_000, b"ended events 0\n"), (1_000_001, b"refused A4 line 1000001: too many answers\n")]:
+            done = subprocess.run(words, input=quiet * count, capture_output=True, cwd=self.room)
+            self.assertEqual((done.stdout == b"demand\n" * 1_000_001 + last, done.stderr), (True, b""))
+
+
+class Driver(Case):
+    """`camac.drive` with the program."""
+
+    def drive(self, text, branch, plan="@sample"):
+        path = self.write("script", text)
+        return camac.drive(plan, path, branch, self.room / "run.events", program=PROGRAM, timeout=PATIENCE)
+
+    def events(self):
+        return list(camac.read_events(self.room / "run.events"))
+
+    def test_straight_line(self):
+        branch = Listed(Answer(gl=4), Answer(1, 1, 0x123FFF, 2))
+        self.assertEqual(self.drive(STRAIGHT_LINE, branch), RunEnd(Ending.ENDED, "ended events 1", 1))
+        self.assertEqual(branch.asked, [("demand",), ("cycle", 1, 5, 0, 0, None), ("demand",)])
+        self.assertEqual(self.file("run.events"), EVENT_FILE)
+
+    def test_ends(self):
+        end = self.drive(STRAIGHT_LINE, Listed(Answer(gl=4), Answer(wait=3)))
+        self.assertEqual(end, RunEnd(Ending.OVERRUN, "overrun 1 wait 3 events 0", 0, 1, 3))
+        with self.assertRaises(camac.Refused) as raised:
+            self.drive(STRAIGHT_LINE.replace("within 3", "within 2"), Listed())
+        self.assertEqual((raised.exception.code, raised.exception.line), ("E12", 3))
+        with self.assertRaises(camac.Refused) as raised:
+            self.drive(STRAIGHT_LINE, Listed(), self.write("plan.toml", "="))
+        self.assertEqual((raised.exception.code, raised.exception.line), ("P1", None))
+        with self.assertRaises(camac.ProgramFault) as raised:
+            self.drive(STRAIGHT_LINE, Listed(), self.room / "none.toml")
+        self.assertEqual((raised.exception.text, raised.exception.status), ("fault read", 3))
+        with self.assertRaises(camac.UsageFault) as raised:
+            self.drive(STRAIGHT_LINE, Listed(), "@in")
+        self.assertEqual((raised.exception.text, raised.exception.status), ("fault @in twice", 2))
+
+    def test_a_branch_that_fails_in_the_middle(self):
+        branch = Listed(*[Answer(gl=4), Answer(word=7)] * 2, Answer(gl=4), Broken("no power"))
+        with self.assertRaises(Broken):
+            self.drive(STRAIGHT_LINE, branch)
+        self.assertEqual([event.words for event in self.events()], [(7,), (7,)])
+
+    def test_a_stop_inside_a_lock(self):
+        for answer, raised in [(Broken(), self.assertRaises(Broken)), (Answer(wait=1), contextlib.nullcontext())]:
+            branch = Listed(Answer(gl=4), Answer(wait=2), Answer(), answer)
+            with raised:
+                self.assertEqual(self.drive(LOCKOUT, branch).how, Ending.OVERRUN)
+            self.assertEqual(branch.asked[-2:], [("cycle", 1, 5, 0, 0, None), ("unlock", 1)])
+        branch = Listed(Answer(gl=4), Answer(wait=3))
+        self.assertEqual(self.drive(LOCKOUT, branch).line, "overrun 1 wait 3 events 0")
+        self.assertEqual(branch.asked, [("demand",), ("lock", 1), ("unlock", 1)])
+
+    def test_ctrl_c(self):
+        """A signal of the terminal, which each program of the foreground gets: the driver alone does, and ends the run."""
+        path = self.write("script", LOCKOUT)
+        words = [sys.executable, "-c", INTERRUPTED, TOP / "python", PROGRAM, path]
+        with subprocess.Popen(words, cwd=self.room, start_new_session=True, stdout=subprocess.PIPE, stderr=subprocess.PIPE) as driver:
+            self.assertEqual([driver.stdout.readline() for _ in range(2)], [b"unlock 1\n", b"waiting\n"])
+            os.killpg(driver.pid, signal.SIGINT)
+            output, errors = driver.communicate(timeout=PATIENCE)
+        self.assertEqual((output, errors), (b"unlock 1\ninterrupted\n", b""))
+        self.assertEqual([event.words for event in self.events()], [()])
+
+    def test_a_disk_that_is_full(self):
+        path = self.write("script", STRAIGHT_LINE)
+        with self.assertRaises(camac.ProgramFault) as raised:
+            camac.drive("@sample", path, Listed(), "/dev/full", program=PROGRAM, timeout=PATIENCE)
+        self.assertEqual((raised.exception.text, raised.exception.end), ("fault write", None))
+
+
+class Modules(unittest.TestCase):
+    """The models of modules."""
+
+    def test_look_at_me(self):
+        module = Module(lam_at=12)
+        self.assertEqual(module.cycle(12, 8, None), Reply(q=0))
+        module.trigger()
+        self.assertEqual(module.cycle(12, 8, None), Reply())
+        module.cycle(12, 24, None)
+        self.assertFalse(module.calls())
+        module.cycle(12, 26, None)
+        self.assertTrue(module.calls())
+        module.cycle(12, 10, None)
+        self.assertFalse(module.calls())
+        self.assertEqual(module.cycle(11, 8, None), Reply(0, 0))
+        module = Module()
+        module.trigger()
+        self.assertFalse(module.calls())
+
+    def test_adc(self):
+        adc = Adc(channels=4, width=8, pedestal=100, peak=1000, spread=1, hits=0.5, seed=3, lam_at=0)
+        words = set()
+        for _ in range(50):
+            adc.trigger()
+            words |= set(adc.words)
+        self.assertIn(255, words)
+        self.assertTrue({it for it in words if it < 255} <= set(range(90, 111)))
+        self.assertEqual(adc.cycle(3, 0, None), Reply(word=adc.words[3]))
+        self.assertEqual(adc.cycle(4, 0, None), Reply(q=0))
+        last = adc.words[3]
+        self.assertEqual((adc.cycle(3, 2, None).word, adc.words, adc.calls()), (last, [0] * 4, False))
+        one, other = Adc(seed=5), Adc(seed=5)
+        one.trigger()
+        other.trigger()
+        self.assertEqual(one.words, other.words)
+
+    def test_scaler(self):
+        scaler = Scaler(channels=2, rate=10)
+        scaler.trigger()
+        before = list(scaler.counts)
+        scaler.cycle(0, 25, None)
+        self.assertEqual(scaler.cycle(1, 2, None).word, before[1] + 1)
+        self.assertEqual((scaler.cycle(1, 0, None).word, scaler.cycle(0, 0, None).word), (0, before[0] + 1))
+        self.assertEqual(scaler.cycle(2, 0, None), Reply(q=0))
+        scaler.counts[0] = 0xFFFFFF
+        scaler.cycle(0, 25, None)
+        self.assertEqual(scaler.counts[0], 0)
+
+    def test_register(self):
+        register = Register(width=8)
+        self.assertEqual(register.cycle(0, 27, None), Reply(q=0))
+        register.cycle(0, 16, 0x1F0)
+        register.cycle(0, 18, 0x00F)
+        register.cycle(0, 21, 0x081)
+        self.assertEqual(register.cycle(0, 0, None), Reply(word=0x7E))
+        self.assertEqual((register.cycle(0, 27, None), register.cycle(1, 0, None)), (Reply(), Reply(0, 0)))
+
+    def test_memory(self):
+        memory = Memory(size=2)
+        self.assertEqual([memory.cycle(0, 16, word).q for word in (5, 6, 7)], [1, 1, 0])
+        memory.cycle(1, 16, 0)
+        self.assertEqual([memory.cycle(0, 0, None) for _ in range(3)], [Reply(word=5), Reply(word=6), Reply(q=0)])
+
+    def test_auxiliary(self):
+        auxiliary = Auxiliary(2)
+        self.assertEqual({auxiliary.wait(False) for _ in range(100)}, {0, 1, 2})
+        self.assertEqual({auxiliary.wait(True) for _ in range(100)}, {0})
+        self.assertEqual({Auxiliary(1, seed, ignores_lockout=True).wait(True) for seed in range(100)}, {0, 1})
+
+    def test_branch(self):
+        branch = MockBranch({(1, 5): Adc(), (2, 1): Scaler()}, {(1, 5): 3, (2, 1): 24}, [[(1, 5)], (), [(2, 1)]])
+        self.assertEqual([branch.demand() for _ in range(4)], [Answer(gl=4), Answer(gl=4), Answer(gl=0x800004), None])
+        self.assertEqual(branch.cycle(1, 30, 0, 0, None).gl, 0x800004)
+        branch.cycle(1, 28, 9, 26, None)
+        self.assertEqual(branch.cycle(1, 30, 11, 27, None).gl, 0x800000)
+        branch.cycle(2, 28, 8, 26, None)
+        self.assertEqual((branch.pattern(), branch.modules[2, 1].lam_enabled), (0, False))
+        self.assertEqual(branch.cycle(1, 6, 0, 0, None), Answer())
+
+
+class EndToEnd(Case):
+    """Example scripts on the branch without hardware. The event file holds what the modules gave, and a run of the recorded answers makes the
+    same file."""
+
+    def drive(self, plan, name, branch):
+        recorder = Recorder(branch)
+        path, file = TOP / "examples" / name, self.room / "run.events"
+        end = camac.drive(plan, path, recorder, file, program=PROGRAM, timeout=PATIENCE)
+        answers = self.write("answers", recorder.answer_lines())
+        words = [PROGRAM, "run", plan, path, answers, self.room / "again.events"]
+        *listed, last = subprocess.run(words, capture_output=True, timeout=PATIENCE).stdout.decode().splitlines()
+        self.assertEqual(last, end.line)
+        self.assertEqual(self.file("run.events"), self.file("again.events"))
+        made = [it.request for it in recorder.operations if it.answer or it.request.startswith("unlock")]
+        if end.how is Ending.ENDED:
+            self.assertEqual(made, [requested(line) for line in listed])
+        return end, recorder.operations, list(camac.read_events(file))
+
+    def sample(self, triggers=20, waits=2, **more):
+        modules = {(1, 5): Adc(seed=7), (1, 6): Register(width=8)}
+        return MockBranch(modules, {(1, 5): 3}, [[(1, 5)]] * triggers, {1: Auxiliary(waits, **more)})
+
+    def test_straight_line(self):
+        end, made, events = self.drive("@sample", "straight_line.script", self.sample())
+        self.assertEqual(end, RunEnd(Ending.ENDED, "ended events 20", 20))
+        reads = [it.answer for it in made if it.request == "cycle 1 5 0 0 in"]
+        self.assertEqual(events, [camac.Event(at, 3, 1 + it.wait, 0, (it.word,)) for at, it in enumerate(reads, 1)])
+        self.assertTrue({it.wait for it in reads} == {0, 1, 2} and len({it.word for it in reads}) > 10)
+        self.assertEqual(made[-1].answer, None)
+
+    def test_each_example(self):
+        """Each example script for the sample plan that is accepted, and what its cycles cost."""
+        played = 0
+        for path in sorted((TOP / "examples").glob("*.script")):
+            if subprocess.run([PROGRAM, "check", "@sample", path], stdout=subprocess.DEVNULL, timeout=PATIENCE).returncode == 0:
+                with self.subTest(path.name):
+                    end, made, events = self.drive("@sample", path.name, self.sample())
+                    self.assertIs(end.how, Ending.ENDED)
+                    cost = sum(it.answer.wait + it.request.startswith("cycle") for it in made if it.answer)
+                    self.assertEqual(sum(event.cycles for event in events), cost)
+                    played += 1
+        self.assertGreater(played, 7)
+
+    def test_lockout(self):
+        end, made, events = self.drive("@sample", "lockout.script", self.sample())
+        self.assertEqual((end.how, end.events), (Ending.ENDED, 20))
+        words = [it.answer.word for it in made if it.request == "cycle 1 5 0 0 in"]
+        self.assertEqual([word for event in events for word in event.words], words)
+        end, made, _ = self.drive("@sample", "lockout.script", self.sample(ignores_lockout=True))
+        self.assertEqual((end.how, made[-1].request), (Ending.OVERRUN, "unlock 1"))
+        end, made, _ = self.drive("@sample", "straight_line.script", self.sample(waits=3))
+        self.assertEqual((end.how, end.crate, end.wait), (Ending.OVERRUN, 1, 3))
+
+    def test_three_modules(self):
+        modules = {(1, n): Adc(channels=12, width=10, peak=700, seed=n, lam_at=0) for n in (1, 2, 3)}
+        branch = MockBranch(modules, {(1, 1): 1}, [[(1, 1), (1, 2), (1, 3)]] * 5)
+        end, made, events = self.drive(TOP / "examples/three_crates.toml", "three_modules.script", branch)
+        self.assertEqual((end.how, end.events), (Ending.ENDED, 5))
+        read = [it.answer.word for it in made if it.request.endswith(" 0 in")]
+        self.assertEqual(len(read), 5 * 3 * 12)
+        station = 14
+        kept = [word for event in events for start in (0, station, 2 * station) for word in event.words[start + 1 : start + 13]]
+        self.assertEqual(kept, read)
+
+
+if __name__ == "__main__":
+    if not os.access(PROGRAM, os.X_OK):
+        sys.exit(f"{PROGRAM} is not there: cd crates/camac && rt run makes it, or CAMAC_PROGRAM names another")
+    unittest.main()
