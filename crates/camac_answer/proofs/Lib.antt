@@ -1,3 +1,5 @@
 pub mod Texts
 pub mod Readings
 pub mod Standing
+pub mod Words
+pub mod Filled

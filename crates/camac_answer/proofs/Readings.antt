@@ -1,5 +1,5 @@
 -- What one call reads of a text.
-use Rattle.std.proofs.Common.{◌≡◌, ℕ, ◌+◌, ◌≤◌, ◌<◌, Bool, true, false, ◌==◌, cond, nat_le, nat_lt, List, [], ◌∷◌, ◌++◌, length, drop, Option, Some, None, Result, Ok, Err, refl, sym, ap, ◌∙◌, append-nil, length-append, drop_of_length-le, arith, inl, inr}
+use Rattle.std.proofs.Common.{◌≡◌, ℕ, ◌+◌, ◌≤◌, ◌<◌, Bool, true, false, ◌==◌, cond, nat_le, nat_lt, List, [], ◌∷◌, ◌++◌, length, drop, Option, Some, None, Result, Ok, Err, refl, sym, ap, ◌∙◌, append-nil, length-append, drop_of_length-le, length-take-le, take, arith, inl, inr}
 use Rattle.std.proofs.lemmas.Bool.{cases_lt, ne_eqb, eqb-true, and_parts, le-leb, lt-ltb}
 use Rattle.std.proofs.lemmas.List.{drop_at}
 use Rattle.std.specs.Io.KnownBytes.{Consumes, IsAtEnd}
@@ -129,7 +129,7 @@ fault_left n (b ∷ text) f e =
     ∙ fault_after (nat_le 1000000 n) n (line_answer (first_line (b ∷ text))) (reading_from (n + 1) (lines (after_line (b ∷ text)))) f e
 
 -- one call that gave an answer
-pub steps-answer : (n : ℕ) (old new : Option (List ℕ)) (w : List ℕ) (a : Answer) → n < 1000000 → Consumes old new w → length w ≤ window n
+steps-answer : (n : ℕ) (old new : Option (List ℕ)) (w : List ℕ) (a : Answer) → n < 1000000 → Consumes old new w → length w ≤ window n
     → (length w < window n → length w ≤ length (first_line w) → IsAtEnd new) → Ok (Some a) ≡ next_answer n w → Steps (left_in Running n old) (Ok (Some a)) (left_in Running (n + 1) new)
 steps-answer n None new w a few given most short e = tt
 steps-answer n (Some text) None w a few given most short e = absurd given
@@ -141,7 +141,7 @@ steps-answer n (Some text) (Some rest) w a few given most short e =
     )
 
 -- one call that gave a fault
-pub steps-fault : (n : ℕ) (old new : Option (List ℕ)) (w : List ℕ) (f : AnswerFault) → Consumes old new w → length w ≤ window n
+steps-fault : (n : ℕ) (old new : Option (List ℕ)) (w : List ℕ) (f : AnswerFault) → Consumes old new w → length w ≤ window n
     → (length w < window n → length w ≤ length (first_line w) → IsAtEnd new) → Err f ≡ next_answer n w → Steps (left_in Running n old) (Err f) (left_in (Faulted f) n new)
 steps-fault n None new w f given most short e = tt
 steps-fault n (Some text) None w f given most short e = absurd given
@@ -152,3 +152,20 @@ steps-fault n (Some text) (Some rest) w fault.OutOfMemory given most short e =
 steps-fault n (Some text) (Some rest) w (fault.Broken rule line) given most short e =
     let same : Err (fault.Broken rule line) ≡ next_answer n text = e ∙ sym (bytes_decide n w rest most short) ∙ ap (next_answer n) (sym given) in
     (same ∙ sym (first_result n text), ap (λ (r : Reading). Some (after 1 r)) (sym (fault_left n text (fault.Broken rule line) (sym same))))
+
+-- the same of the first bytes of a line with room for all that judge it
+pub read-answer : (n : ℕ) (old new : Option (List ℕ)) (line : List ℕ) (len : ℕ) (a : Answer) → n < 1000000 → Consumes old new (take len line) → length line ≡ window n → len ≤ length line
+    → (len < length line → len ≤ length (first_line (take len line)) → IsAtEnd new) → Ok (Some a) ≡ next_answer n (take len line) → Steps (left_in Running n old) (Ok (Some a)) (left_in Running (n + 1) new)
+read-answer n old new line len a few given room within short e =
+    let long = length-take-le len line within in
+    steps-answer n old new (take len line) a few given (omega (arith, long, room, within)) (λ less on. short (omega (arith, long, room, less)) (omega (arith, long, on))) e
+
+pub read-fault : (n : ℕ) (old new : Option (List ℕ)) (line : List ℕ) (len : ℕ) (f : AnswerFault) → Consumes old new (take len line) → length line ≡ window n → len ≤ length line
+    → (len < length line → len ≤ length (first_line (take len line)) → IsAtEnd new) → Err f ≡ next_answer n (take len line) → Steps (left_in Running n old) (Err f) (left_in (Faulted f) n new)
+read-fault n old new line len f given room within short e =
+    let long = length-take-le len line within in
+    steps-fault n old new (take len line) f given (omega (arith, long, room, within)) (λ less on. short (omega (arith, long, room, less)) (omega (arith, long, on))) e
+
+-- a line with as much room as judges it
+pub room_for : (n w : ℕ) (room : List ℕ) → length room ≡ 20 → w ≡ window n → length (take w room) ≡ window n
+room_for n w room size same = length-take-le w room (omega (arith, size, same, window_to (nat_lt n 1000000))) ∙ same

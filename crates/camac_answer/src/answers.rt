@@ -127,11 +127,13 @@ impl<'a, R: Read> Answers<'a, R> {
         ensures failed { reader_failed self.new ≡ (reader_failed self.old || is_read_failure result) }
         ensures memory { is_memory_failure result ≡ false }
     {
-        let Ok(line) = fill(self.reader, judged_by(self.given)) else {
+        let mut room = [0; LINE];
+        let line = &mut room[..judged_by(self.given)];
+        let Ok(len) = fill(self.reader, line) else {
             self.stage = Stage::Faulted(AnswerFault::Read);
             return Err(AnswerFault::Read);
         };
-        match judge(self.given, &line) {
+        match judge(self.given, &line[..len]) {
             Ok(None) => {
                 self.stage = Stage::Ended;
                 Ok(None)

@@ -48,15 +48,34 @@ pub fn write_record<W: Write>(
         (record_of number (record { gl = gl; usage = Some usage; words = words.now })) }
     ensures failed { has_failed out.new ≡ (has_failed out.old || is_err result) }
 {
-    let mut layout = RecordBytes::new();
+    let mut layout = PieceBytes::new();
     lay_u16(&mut layout, 0xCA4D);
     lay_u16(&mut layout, gl.get() as u16);
     lay_u32(&mut layout, number);
     lay_u32(&mut layout, usage.cycles);
     lay_u16(&mut layout, usage.missed);
     lay_u16(&mut layout, words.len() as u16);
-    lay_words(&mut layout, words);
-    out.write_text(&layout)
+    write_words(out, &mut layout, words)
+}
+
+// Writes what is laid out and the words after it, piece by piece.
+fn write_words<W: Write>(
+    out: &mut Watched<W>,
+    layout: &mut PieceBytes,
+    words: &[Word24],
+) -> Result<(), WriteFault>
+    ensures text { Writes (W.contents (inner_of out.old)) (W.contents (inner_of out.new)) result
+        (layout.old.items ++ flat_map (big_bytes 4) words.now) }
+    ensures failed { has_failed out.new ≡ (has_failed out.old || is_err result) }
+{
+    'words: for word in words {
+        if layout.remaining_capacity() < 4 {
+            out.write_text(layout)?;
+            layout.clear();
+        }
+        lay_u32(layout, word.get());
+    }
+    out.write_text(layout)
 }
 
 fn put_u16(out: &mut Vec<u8>, n: u16) -> Result<(), AllocError>
@@ -130,14 +149,14 @@ fn header_text(version: Version) -> &'static [u8; 8]
     }
 }
 
-/// The greatest length of a record of version Two, in bytes.
-const RECORD: usize = 18 + 4 * 4096;
+/// The greatest length of a piece, in bytes: what stands before the words of a record of version Two, and 56 words.
+const PIECE: usize = 18 + 4 * 56;
 
-/// A record while it is laid out.
-type RecordBytes = ArrayVec<u8, RECORD>;
+/// A piece of a record while it is laid out.
+type PieceBytes = ArrayVec<u8, PIECE>;
 
-fn lay_u16(out: &mut RecordBytes, n: u16)
-    requires { array_vec_len out.old + 2 ≤ RECORD }
+fn lay_u16(out: &mut PieceBytes, n: u16)
+    requires { array_vec_len out.old + 2 ≤ PIECE }
     ensures items { out.new.items ≡ out.old.items ++ big_bytes 2 n }
     ensures len { array_vec_len out.new ≡ array_vec_len out.old + 2 }
 {
@@ -146,21 +165,12 @@ fn lay_u16(out: &mut RecordBytes, n: u16)
     out.try_extend_from_slice(&field).unwrap();
 }
 
-fn lay_u32(out: &mut RecordBytes, n: u32)
-    requires { array_vec_len out.old + 4 ≤ RECORD }
+fn lay_u32(out: &mut PieceBytes, n: u32)
+    requires { array_vec_len out.old + 4 ≤ PIECE }
     ensures items { out.new.items ≡ out.old.items ++ big_bytes 4 n }
     ensures len { array_vec_len out.new ≡ array_vec_len out.old + 4 }
 {
     let mut field = [0; 4];
     BigEndian::write_u32(&mut field, n);
     out.try_extend_from_slice(&field).unwrap();
-}
-
-fn lay_words(out: &mut RecordBytes, words: &[Word24])
-    requires { array_vec_len out.old + 4 * length words.now ≤ RECORD }
-    ensures { out.new.items ≡ out.old.items ++ flat_map (big_bytes 4) words.now }
-{
-    for word in words {
-        lay_u32(out, word.get());
-    }
 }
