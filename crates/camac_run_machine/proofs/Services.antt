@@ -1,13 +1,14 @@
 -- The services of a script by their numbers, and their bits.
-use Rattle.std.proofs.Common.{◌≡◌, ◌≢◌, ℕ, zero, suc, ◌+◌, ◌<◌, List, [], ◌∷◌, length, drop, Option, Some, None, refl, sym, ap, subst, ◌∙◌, arith, eq-eqb}
+use Rattle.std.proofs.Common.{◌≡◌, ◌≢◌, ℕ, zero, suc, ◌+◌, ◌-◌, ◌/◌, ◌%◌, ◌^◌, ◌<◌, false, List, [], ◌∷◌, length, drop, Option, Some, None, refl, sym, ap, subst, ◌∙◌, arith, eq-eqb}
 use Rattle.std.proofs.lemmas.Bool.{ne_eqb}
+use Rattle.std.proofs.lemmas.Nat.{shr-shr}
 use Rattle.std.proofs.lemmas.Option.{slice_get-map}
 use Rattle.std.specs.Prelude.{slice_get, option_map, option_and_then, nat_eq, if◌then◌else◌}
 use Rattle.camac_lang.specs.Tree.{Lam, Service}
 use Rattle.camac_branch.specs.Plan.{Layout, gl}
 use Rattle.camac_check.specs.Checked.{CheckedScript, linked_of}
-use Rattle.camac_model.specs.Meaning.{context, lam_address}
-use Rattle.camac_model.specs.Run.{service_bit, is_bit, with_bit}
+use Rattle.camac_model.specs.Meaning.{Context, context, lam_address}
+use Rattle.camac_model.specs.Run.{service_bit, is_bit, has_bit, with_bit, or_next, first_service}
 use Rattle.camac_names.specs.Link.{lam_bit, service_bit as link_bit}
 use Rattle.camac_names.specs.Linked.{bit_of_service}
 use Rattle.camac_run_machine.specs.Called.{chosen_of}
@@ -23,6 +24,21 @@ place (x ∷ xs) zero h = (x, refl, refl)
 place (x ∷ xs) (suc i) h =
     let p = place xs i (omega arith) in
     let e : suc (i + 1) ≡ suc i + 1 = omega arith in (p.0, p.1, p.2 ∙ ap (λ n. p.0 ∷ drop n (x ∷ xs)) e)
+
+-- a pattern without a bit from k on has none from the next one on
+none_further : (pattern k : ℕ) → pattern / 2 ^ (k - 1) ≡ 0 → pattern / 2 ^ (k + 1 - 1) ≡ 0
+none_further pattern zero e = e
+none_further pattern (suc k) e =
+    let here : k ≡ suc k - 1 = omega arith in
+    let next : suc k + 1 - 1 ≡ k + 1 = omega arith in
+    ap (λ j. pattern / 2 ^ j) next ∙ sym (shr-shr pattern k 1) ∙ ap (λ j. pattern / 2 ^ j / 2 ^ 1) here ∙ ap (λ n. n / 2 ^ 1) e
+
+-- and no service for them
+pub none_left : (c : Context) (m k pattern : ℕ) (vs : List Service) → pattern / 2 ^ (k - 1) ≡ 0 → first_service c m k pattern vs ≡ None
+none_left c zero k pattern vs e = refl
+none_left c (suc m) k pattern vs e =
+    let unset : has_bit pattern k ≡ false = ap (λ n. nat_eq (n % 2) 1) e in
+    ap (λ b. or_next (if b then with_bit c k 0 vs else None) (first_service c m (k + 1) pattern vs)) unset ∙ none_left c m (k + 1) pattern vs (none_further pattern k e)
 
 module _ (c : CheckedScript) where
   bit_is : (i b : ℕ) (v : Service) → slice_get c.script.services i ≡ Some v → bit_of_service (linked_of c) i ≡ Some b → service_bit (context c.plan c.script) v ≡ Some b

@@ -1,6 +1,6 @@
 // The service that a graded-L operation calls (own; IEEE 596 has the operation alone).
 
-ghost use Rattle.std.specs.Prelude.{◌≡◌, ◌≤◌, ◌<◌, ◌-◌, length, drop, Some, IfSome, option_and_then};
+ghost use Rattle.std.specs.Prelude.{◌≡◌, ◌≤◌, ◌<◌, ◌-◌, ◌/◌, ◌^◌, nat_eq, length, drop, Some, IfSome, option_and_then};
 ghost use Rattle.camac_check.specs.Checked.{linked_of};
 ghost use Rattle.camac_model.specs.Meaning.{context};
 ghost use Rattle.camac_model.specs.Run.{has_bit, with_bit, first_service, service_for};
@@ -38,6 +38,9 @@ fn first_service(checked: &Checked, pattern: Word24, bit: u32) -> Option<Called>
     if bit >= BIT_END {
         return None;
     }
+    if ends_before(pattern, bit) {
+        return None;
+    }
     if has_bit(pattern, bit) {
         if let Some(called) = with_bit(checked, bit, 0) {
             return Some(called);
@@ -46,12 +49,20 @@ fn first_service(checked: &Checked, pattern: Word24, bit: u32) -> Option<Called>
     first_service(checked, pattern, bit + 1)
 }
 
+// Whether a pattern has no bit from this one on.
+fn ends_before(pattern: Word24, bit: u32) -> bool
+    requires { bit ≤ 24 }
+    ensures { result ≡ nat_eq (pattern / 2 ^ (bit - 1)) 0 }
+{
+    pattern.get() >> bit.saturating_sub(1) == 0
+}
+
 // Whether a pattern has a bit, where bit k has the value 2^(k-1).
 fn has_bit(pattern: Word24, bit: u32) -> bool
     requires { bit ≤ 24 }
     ensures { result ≡ has_bit pattern bit }
 {
-    pattern.get() / 2u32.pow(bit.saturating_sub(1)) % 2 == 1
+    (pattern.get() >> bit.saturating_sub(1)) % 2 == 1
 }
 
 // The first service with a bit, from this number on.

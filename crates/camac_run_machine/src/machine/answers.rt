@@ -30,7 +30,7 @@ fn keep(variables: &mut [u32], variable: usize, bits: u32, word: Word24)
     requires bits { bits ≤ 24 }
     ensures { variables.new ≡ slice_set variables.old variable (word % 2 ^ bits) }
 {
-    variables[variable] = word.get() % 2u32.pow(bits);
+    variables[variable] = word.get() % (1 << bits);
 }
 
 // The word that came in.

@@ -27,7 +27,7 @@ fn cut(word: Word24, bits: u32) -> Word24
     requires { bits ≤ 24 }
     ensures { result ≡ word % 2 ^ bits }
 {
-    match Word24::new(word.get() % 2u32.pow(bits)) {
+    match Word24::new(word.get() % (1 << bits)) {
         Some(word) => word,
         None => unreachable!(),
     }
