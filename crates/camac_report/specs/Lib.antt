@@ -5,4 +5,5 @@ pub mod Events
 pub mod Items
 pub mod Plan
 pub mod Refusal
+pub mod Requests
 pub mod Verdict

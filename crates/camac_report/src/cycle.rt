@@ -37,7 +37,7 @@ pub fn cycle_line(cycle: &CycleDone) -> Line
 }
 
 // The line's begin: the command alone.
-fn command_line(command: &Command) -> Line
+pub fn command_line(command: &Command) -> Line
     ensures text { result ≡ command_text (address command.now.c command.now.n command.now.a) command.now.f }
     ensures short { length result ≤ 50 }
 {

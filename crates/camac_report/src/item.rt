@@ -107,7 +107,7 @@ fn with_unlock(line: Line, c: CrateNo) -> Line
     line.with("unlock ").with_number(c.get()).with("\n")
 }
 
-fn with_unlocks(line: Line, unlocks: &[CrateNo]) -> Line
+pub fn with_unlocks(line: Line, unlocks: &[CrateNo]) -> Line
     requires few { length unlocks.now ≤ 7 }
     requires room { length line ≤ 80 }
     ensures { result ≡ line ++ unlock_texts unlocks.now }

@@ -10,6 +10,7 @@ mod item;
 mod line;
 mod plan;
 mod refusal;
+mod request;
 mod verdict;
 
 pub use code::{AnswerCode, CheckCode, CodeText, EventCode, LinkCode, PlanCode, TextCode};
@@ -20,4 +21,5 @@ pub use item::{write_item, write_items};
 pub use line::{LONGEST_LINE, Line};
 pub use plan::write_plan;
 pub use refusal::{Refusal, write_refusal};
+pub use request::{write_request, write_unlocks};
 pub use verdict::{lam_name, write_verdict};

@@ -3,3 +3,4 @@ pub mod Bits
 pub mod Locks
 pub mod Entries
 pub mod Headline
+pub mod Requested

@@ -1,6 +1,7 @@
 // The headline, as a law of every checked script.
 
 ghost use Rattle.camac_run.specs.Headline.{RunsAlways, RunsByHeadline, LeavesFewEvents};
+ghost use Rattle.camac_run.specs.Requested.{RequestsAreSafe};
 
 use camac_check::Checked;
 
@@ -14,4 +15,12 @@ pub fn runs_by_headline(checked: &Checked)
     checked.is_checked();
     checked.script().well_formed();
     checked.plan().is_plan();
+}
+
+/// The law that each command that a run of this script wants to send is safe, whatever was answered before, and whether or not an answer
+/// to it comes.
+pub fn requests_are_safe(checked: &Checked)
+    ensures { RequestsAreSafe checked.now.plan checked.now.script }
+{
+    checked.is_checked();
 }

@@ -26,3 +26,4 @@ pub mod Forms
 pub mod Lists
 pub mod Starts
 pub mod Sizes
+pub mod Operation

@@ -8,3 +8,4 @@ pub mod Held
 pub mod Runner
 pub mod Sound
 pub mod Ends
+pub mod Operation

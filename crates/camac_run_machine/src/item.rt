@@ -1,7 +1,7 @@
 // The items of a run, its end, and what an answer was used for.
 
 use arrayvec::ArrayVec;
-use camac_branch::{CycleDone, Overrun};
+use camac_branch::{Command, CycleDone, Overrun};
 use camac_event::Usage;
 use camac_word::{CrateNo, GlBit, Word24};
 
@@ -41,4 +41,15 @@ pub enum Progress {
     },
     /// Its wait is not permitted, or an earlier one was not. The run stays where it was.
     Overrun(Overrun),
+}
+
+/// The operation that a run wants its next answer for (own).
+#[derive(Clone, Copy, Debug, PartialEq, Eq)]
+pub enum Wanted {
+    /// A graded-L operation (IEEE 596).
+    Demand,
+    /// A dataway cycle with this command (EUR 4100, IEEE 583).
+    Cycle(Command),
+    /// The lockout of auxiliary controllers in a crate (own, after IEEE 675).
+    Lock(CrateNo),
 }

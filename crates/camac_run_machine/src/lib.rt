@@ -12,5 +12,5 @@ mod service;
 mod transfer;
 mod value;
 
-pub use item::{End, Item, Progress};
+pub use item::{End, Item, Progress, Wanted};
 pub use runner::Runner;

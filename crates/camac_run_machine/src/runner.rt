@@ -7,8 +7,9 @@ ghost use Rattle.camac_size.specs.Fits.{fits};
 ghost use Rattle.camac_model.specs.Behaviour.{stops, short, ends};
 ghost use Rattle.camac_model.specs.Run.{the_run};
 ghost use Rattle.camac_run_machine.specs.Runner.{state_in, rest, last_words_in, Progresses, steps_of, words_of};
+ghost use Rattle.camac_run_machine.specs.Operation.{Wants, operation};
 
-use crate::item::{Item, Progress};
+use crate::item::{Item, Progress, Wanted};
 use crate::machine::{Machine, Wanting};
 use crate::service::service_for;
 use arrayvec::ArrayVec;
@@ -161,6 +162,19 @@ impl<'a, const V: usize, const DEPTH: usize, const CAP: usize> Runner<'a, V, DEP
         }
     }
 
+    /// The operation that the next answer is for, whatever that answer is. None after a wait that was not permitted.
+    pub fn wants(&self) -> Option<Wanted>
+        ensures { Wants self.now result }
+    {
+        if self.overrun.is_some() {
+            return None;
+        }
+        match &self.wanting {
+            Some(wanting) => Some(operation(wanting)),
+            None => Some(Wanted::Demand),
+        }
+    }
+
     /// Whether a service is in progress.
     pub fn in_service(&self) -> bool
         ensures { rest self.now [] ≡ (if result then stops short (state_in self.now []) else ends tt) }
@@ -209,6 +223,18 @@ impl<'a, const V: usize, const DEPTH: usize, const CAP: usize> Runner<'a, V, DEP
         } else {
             &[]
         }
+    }
+}
+
+// The operation that is waited for.
+fn operation(wanting: &Wanting) -> Wanted
+    ensures { result ≡ operation wanting.now }
+{
+    match wanting {
+        Wanting::Cycle(command) => Wanted::Cycle(*command),
+        Wanting::Read { command, .. } => Wanted::Cycle(*command),
+        Wanting::Lock { crate_no, .. } => Wanted::Lock(*crate_no),
+        Wanting::Transfer { command, .. } => Wanted::Cycle(*command),
     }
 }
 

@@ -23,9 +23,9 @@ use Rattle.camac_tool_play.specs.declared.fault.PlayFault.{PlayFault}
 use Rattle.camac_tool_play.specs.declared.fault.PlayFault.TheVariants as fault
 use Rattle.camac_tool_play.proofs.Sending.{events_of-append, events_listed, events_recorded, Sends-trans}
 
-piece_records : (script : Script) (n : ℕ) (p : Piece) → events_of (piece_sent script n p) ≡ record_text n p
-piece_records script n p =
-    let line = item_text script p in
+piece_records : (line : Piece → List ℕ) (n : ℕ) (p : Piece) → events_of (piece_sent line n p) ≡ record_text n p
+piece_records line' n p =
+    let line = line' p in
     let bytes = record_text n p in
     events_of-append (to_listing line) (to_events bytes) ∙ ap (λ (l : List ℕ). l ++ events_of (to_events bytes)) (events_listed line) ∙ events_recorded bytes
 
@@ -36,21 +36,21 @@ record_first n (lock_taken c w) ps = refl
 record_first n (lock_released c) ps = refl
 record_first n (event_left e) ps = refl
 
-records_sent : (script : Script) (n : ℕ) (ps : List Piece) → events_of (pieces_sent script n ps) ≡ records_from n (map entry_of (events_in ps))
-records_sent script n [] = refl
-records_sent script n (p ∷ ps) =
-    let rest = pieces_sent script (number_after n p) ps in
-    events_of-append (piece_sent script n p) rest
-    ∙ ap (λ (l : List ℕ). l ++ events_of rest) (piece_records script n p)
-    ∙ ap (λ (l : List ℕ). record_text n p ++ l) (records_sent script (number_after n p) ps)
+pub records_sent : (line : Piece → List ℕ) (n : ℕ) (ps : List Piece) → events_of (pieces_sent line n ps) ≡ records_from n (map entry_of (events_in ps))
+records_sent line n [] = refl
+records_sent line n (p ∷ ps) =
+    let rest = pieces_sent line (number_after n p) ps in
+    events_of-append (piece_sent line n p) rest
+    ∙ ap (λ (l : List ℕ). l ++ events_of rest) (piece_records line n p)
+    ∙ ap (λ (l : List ℕ). record_text n p ++ l) (records_sent line (number_after n p) ps)
     ∙ record_first n p ps
 
 pub told_file : ToldSendsEventFile
 told_file plan script answers =
     let ps = pieces (the_run plan script answers) in
-    events_of-append (to_events (header Two)) (pieces_sent script 1 ps)
-    ∙ ap (λ (l : List ℕ). l ++ events_of (pieces_sent script 1 ps)) (events_recorded (header Two))
-    ∙ ap (λ (l : List ℕ). header Two ++ l) (records_sent script 1 ps)
+    events_of-append (to_events (header Two)) (pieces_sent (item_text script) 1 ps)
+    ∙ ap (λ (l : List ℕ). l ++ events_of (pieces_sent (item_text script) 1 ps)) (events_recorded (header Two))
+    ∙ ap (λ (l : List ℕ). header Two ++ l) (records_sent (item_text script) 1 ps)
 
 -- a last line adds nothing
 with_line : (plan : Layout) (script : Script) (answers : List Answer) (line : List ℕ) → events_of (told plan script answers ++ to_listing line) ≡ event_file plan script answers
@@ -71,10 +71,10 @@ module _ (plan : Layout) (script : Script) (ks : List Bounds) (left : Option Rea
     numbered answers few =
         let lengths : length (run_events plan script answers) ≡ length (events (the_run plan script answers)) = length-map (events (the_run plan script answers)) entry_of in omega (arith, lengths, few)
 
-    stopped : (c : Held) (f : PlayFault) → Feeds plan script left b c (Err f) → PlayKeepsHeadline plan script ks left a.events c.events (Err f)
+    stopped : (c : Held) (f : PlayFault) → Feeds (item_text script) plan script left b c (Err f) → PlayKeepsHeadline plan script ks left a.events c.events (Err f)
     stopped c fault.Write feeds = tt
     stopped c fault.Read (taken, first, few, sends) =
-        let whole = Sends-trans a b c (to_events (header Two)) (run_sent plan script taken) begun sends in (
+        let whole = Sends-trans a b c (to_events (header Two)) (run_sent (item_text script) plan script taken) begun sends in (
           taken,
           event_file plan script taken,
           first,
@@ -83,13 +83,13 @@ module _ (plan : Layout) (script : Script) (ks : List Bounds) (left : Option Rea
         )
 
     -- the run stopped
-    pub stops_by_headline : (c : Held) (f : PlayFault) (r : Result Ending PlayFault) → r ≡ Err f → Feeds plan script left b c (Err f) → PlayKeepsHeadline plan script ks left a.events c.events r
+    pub stops_by_headline : (c : Held) (f : PlayFault) (r : Result Ending PlayFault) → r ≡ Err f → Feeds (item_text script) plan script left b c (Err f) → PlayKeepsHeadline plan script ks left a.events c.events r
     stops_by_headline c f r is feeds = subst (λ (x : Result Ending PlayFault). PlayKeepsHeadline plan script ks left a.events c.events x) (sym is) (stopped c f feeds)
 
     -- the run came to its last line
-    pub ends_by_headline : (c d : Held) (e : Ending) (n : ℕ) (r : Result Ending PlayFault) → n < 2 ^ 32 → Feeds plan script left b c (Ok (e, n)) → IfErr r (λ f. f ≡ fault.Write) → SendsBy c d r (to_listing (ending_text e n)) → PlayKeepsHeadline plan script ks left a.events d.events r
+    pub ends_by_headline : (c d : Held) (e : Ending) (n : ℕ) (r : Result Ending PlayFault) → n < 2 ^ 32 → Feeds (item_text script) plan script left b c (Ok (e, n)) → IfErr r (λ f. f ≡ fault.Write) → SendsBy c d r (to_listing (ending_text e n)) → PlayKeepsHeadline plan script ks left a.events d.events r
     ends_by_headline c d e n (Ok x) few (r, gives, same, count, sends) write sent =
-        let whole = Sends-trans a c d (told plan script r.answers) (to_listing (ending_text e n)) (Sends-trans a b c (to_events (header Two)) (run_sent plan script r.answers) begun sends) sent in (
+        let whole = Sends-trans a c d (told plan script r.answers) (to_listing (ending_text e n)) (Sends-trans a b c (to_events (header Two)) (run_sent (item_text script) plan script r.answers) begun sends) sent in (
           r,
           event_file plan script r.answers,
           gives,

@@ -17,7 +17,7 @@ use Rattle.camac_run_machine.specs.Ends.{stop_in}
 use Rattle.camac_run_machine.specs.Runner.{Held as RunHeld, rest}
 use Rattle.camac_run_machine.specs.declared.item.End.{End}
 use Rattle.camac_run_machine.specs.declared.item.End.TheVariants as end
-use Rattle.camac_tool_play.specs.Play.{Gives, GivesFirst, Feeds, run_sent, faulted, failed_by}
+use Rattle.camac_tool_play.specs.Play.{Gives, GivesFirst, with_taken, HasGiven, Feeds, run_sent, faulted, failed_by}
 use Rattle.camac_tool_play.specs.Played.{pieces_sent, ending_of}
 use Rattle.camac_tool_play.specs.Sent.{Held, Sends, SendsFront, Sent}
 use Rattle.camac_tool_play.specs.Step.{after, count_of, Does, Overruns, IsOut}
@@ -28,24 +28,17 @@ use Rattle.camac_tool_play.specs.declared.fault.PlayFault.TheVariants as fault
 use Rattle.camac_tool_play.proofs.Pieces.{pieces-after, stop_of-after, after-append, count-append, pieces_sent-append}
 use Rattle.camac_tool_play.proofs.Sending.{sends_nothing, Sends-trans, SendsFront-longer, SendsFront-after}
 
-abbrev pub with_taken : List Answer → Reading → Reading
-with_taken taken r = record r { answers = taken ++ r.answers }
-
--- the text gave these answers, and has this left
-abbrev pub HasGiven : Option Reading → Option Reading → List Answer → Type 0
-HasGiven left now taken = (whole : Reading) → left ≡ Some whole → (r : Reading) × (now ≡ Some r) × (whole ≡ with_taken taken r)
-
 -- the answers so far did these pieces, which were sent, and the runner holds the rest
-pub record IsFed (plan : Layout) (script : Script) (left now : Option Reading) (start sent_now : Held) (runner : RunHeld) (count : ℕ) : Type 0 where
+pub record IsFed (line : Piece → List ℕ) (plan : Layout) (script : Script) (left now : Option Reading) (start sent_now : Held) (runner : RunHeld) (count : ℕ) : Type 0 where
   pub taken : List Answer
   pub done : List Piece
   pub run : (answers : List Answer) → the_run plan script (taken ++ answers) ≡ after done (rest runner answers)
-  pub sent : Sends start sent_now (pieces_sent script 1 done)
+  pub sent : Sends start sent_now (pieces_sent line 1 done)
   pub counted : count ≡ count_of done
   pub given : HasGiven left now taken
 
-pub starts : (plan : Layout) (script : Script) (left : Option Reading) (a : Held) (runner : RunHeld) → ((answers : List Answer) → rest runner answers ≡ the_run plan script answers) → IsFed plan script left left a a runner 0
-starts plan script left a runner run = record {
+abbrev pub starts : (line : Piece → List ℕ) (plan : Layout) (script : Script) (left : Option Reading) (a : Held) (runner : RunHeld) → ((answers : List Answer) → rest runner answers ≡ the_run plan script answers) → IsFed line plan script left left a a runner 0
+starts line plan script left a runner run = record {
   taken = [];
   done = [];
   run = λ (answers : List Answer). sym (run answers);
@@ -112,38 +105,38 @@ given_all left now taken h whole e =
     let g = h whole e in
     g.2 ∙ ap (λ (o : Option Reading). with_taken taken (known o)) (sym g.1)
 
-ends_by : (e : End) → ending_of (stop_in e) None ≡ how.End e
+pub ends_by : (e : End) → ending_of (stop_in e) None ≡ how.End e
 ends_by end.Ended = refl
 ends_by end.Short = refl
 ends_by (end.Overrun o) = refl
 
-refused_by : (s : Option Stop) (rule : AnswerRule) (line : ℕ) → IsOut s → ending_of s (Some (Broken rule line)) ≡ how.Refused rule line
+pub refused_by : (s : Option Stop) (rule : AnswerRule) (line : ℕ) → IsOut s → ending_of s (Some (Broken rule line)) ≡ how.Refused rule line
 refused_by None rule line h = refl
 refused_by (Some short) rule line h = refl
 refused_by (Some (overrun c w)) rule line h = absurd h
 refused_by (Some wrong) rule line h = absurd h
 refused_by (Some more) rule line h = absurd h
 
-module _ (plan : Layout) (script : Script) (left now : Option Reading) (a b : Held) (runner : RunHeld) (count : ℕ) (fed : IsFed plan script left now a b runner count) where
+module _ (line : Piece → List ℕ) (plan : Layout) (script : Script) (left now : Option Reading) (a b : Held) (runner : RunHeld) (count : ℕ) (fed : IsFed line plan script left now a b runner count) where
   abbrev taken : List Answer
   taken = fed.taken ++ []
 
-  pieces_now : pieces (rest runner []) ≡ [] → pieces (the_run plan script taken) ≡ fed.done
+  pub pieces_now : pieces (rest runner []) ≡ [] → pieces (the_run plan script taken) ≡ fed.done
   pieces_now quiet =
       ap (λ (x : Behaviour (Unit {0})). pieces x) (fed.run []) ∙ pieces-after fed.done (rest runner [])
       ∙ ap (λ (ps : List Piece). fed.done ++ ps) quiet ∙ append-nil fed.done
 
-  stop_now : stop_of (the_run plan script taken) ≡ stop_of (rest runner [])
+  pub stop_now : stop_of (the_run plan script taken) ≡ stop_of (rest runner [])
   stop_now = ap (λ (x : Behaviour (Unit {0})). stop_of x) (fed.run []) ∙ stop_of-after fed.done (rest runner [])
 
-  counts_now : pieces (rest runner []) ≡ [] → count ≡ length (events (the_run plan script taken))
+  pub counts_now : pieces (rest runner []) ≡ [] → count ≡ length (events (the_run plan script taken))
   counts_now quiet = fed.counted ∙ ap (λ (ps : List Piece). length (events_in ps)) (sym (pieces_now quiet))
 
-  sends_now : pieces (rest runner []) ≡ [] → Sends a b (run_sent plan script taken)
-  sends_now quiet = subst (λ (ps : List Piece). Sends a b (pieces_sent script 1 ps)) (sym (pieces_now quiet)) fed.sent
+  pub sends_now : pieces (rest runner []) ≡ [] → Sends a b (run_sent line plan script taken)
+  sends_now quiet = subst (λ (ps : List Piece). Sends a b (pieces_sent line 1 ps)) (sym (pieces_now quiet)) fed.sent
 
   -- no answer is left
-  pub ends_here : (new : Option Reading) (e : End) → Steps now (Ok None) new → stop_in e ≡ stop_of (rest runner []) → pieces (rest runner []) ≡ [] → Feeds plan script left a b (Ok (how.End e, count))
+  pub ends_here : (new : Option Reading) (e : End) → Steps now (Ok None) new → stop_in e ≡ stop_of (rest runner []) → pieces (rest runner []) ≡ [] → Feeds line plan script left a b (Ok (how.End e, count))
   ends_here new e s stop quiet = (
     record { answers = taken; fault = None },
     given_end left now new fed.taken fed.given s,
@@ -152,11 +145,11 @@ module _ (plan : Layout) (script : Script) (left now : Option Reading) (a b : He
     sends_now quiet,
   )
 
-  few_now : count < 2 ^ 32 → pieces (rest runner []) ≡ [] → length (events (the_run plan script taken)) < 2 ^ 32
+  pub few_now : count < 2 ^ 32 → pieces (rest runner []) ≡ [] → length (events (the_run plan script taken)) < 2 ^ 32
   few_now few quiet = let n = counts_now quiet in omega (arith, n, few)
 
   -- the text has a fault where the next answer is wanted
-  pub faults_here : (new : Option Reading) (f : AnswerFault) → count < 2 ^ 32 → Steps now (Err f) new → is_memory_failure (failed_by f) ≡ false → IsOut (stop_of (rest runner [])) → pieces (rest runner []) ≡ [] → Feeds plan script left a b (faulted f count)
+  pub faults_here : (new : Option Reading) (f : AnswerFault) → count < 2 ^ 32 → Steps now (Err f) new → is_memory_failure (failed_by f) ≡ false → IsOut (stop_of (rest runner [])) → pieces (rest runner []) ≡ [] → Feeds line plan script left a b (faulted f count)
   faults_here new OutOfMemory few s fine out quiet = (taken, given_first left now new fed.taken fed.given, few_now few quiet, sends_now quiet)
   faults_here new Read few s fine out quiet = (taken, given_first left now new fed.taken fed.given, few_now few quiet, sends_now quiet)
   faults_here new (Broken rule line) few s fine out quiet = (
@@ -168,17 +161,17 @@ module _ (plan : Layout) (script : Script) (left now : Option Reading) (a b : He
   )
 
   module _ (new : Option Reading) (answer : Answer) (given : Steps now (Ok (Some answer)) new) where
-    abbrev then_taken : List Answer
+    abbrev pub then_taken : List Answer
     then_taken = fed.taken ++ answer ∷ []
 
-    abbrev left_then : HasGiven left new then_taken
+    abbrev pub left_then : HasGiven left new then_taken
     left_then = given_next left now new fed.taken fed.given answer given
 
-    run_then : (answers : List Answer) → the_run plan script (then_taken ++ answers) ≡ after fed.done (rest runner (answer ∷ answers))
+    pub run_then : (answers : List Answer) → the_run plan script (then_taken ++ answers) ≡ after fed.done (rest runner (answer ∷ answers))
     run_then answers = ap (the_run plan script) (append_assoc fed.taken (answer ∷ []) answers) ∙ fed.run (answer ∷ answers)
 
     -- its wait is not permitted
-    pub overruns_here : (c : Held) (o : Overrun) → Overruns runner answer o → Sends b c [] → Feeds plan script left a c (Ok (how.End (end.Overrun o), count))
+    pub overruns_here : (c : Held) (o : Overrun) → Overruns runner answer o → Sends b c [] → Feeds line plan script left a c (Ok (how.End (end.Overrun o), count))
     overruns_here c o s sends =
         let r : Reading = with_taken then_taken (known new) in
         let x = s (known new).answers in
@@ -189,50 +182,50 @@ module _ (plan : Layout) (script : Script) (left now : Option Reading) (a b : He
           given_all left new then_taken left_then,
           ap (λ (y : Option Stop). ending_of y r.fault) (sym stop),
           fed.counted ∙ ap (λ (ps : List Piece). length (events_in ps)) (sym did),
-          subst (λ (ps : List Piece). Sends a c (pieces_sent script 1 ps)) (sym did)
-              (subst (λ (l : List Sent). Sends a c l) (append-nil (pieces_sent script 1 fed.done)) (Sends-trans a b c (pieces_sent script 1 fed.done) [] fed.sent sends)),
+          subst (λ (ps : List Piece). Sends a c (pieces_sent line 1 ps)) (sym did)
+              (subst (λ (l : List Sent). Sends a c l) (append-nil (pieces_sent line 1 fed.done)) (Sends-trans a b c (pieces_sent line 1 fed.done) [] fed.sent sends)),
         )
 
     module _ (runner' : RunHeld) (ps : List Piece) (did : Does runner answer runner' ps) where
-      run_on : (answers : List Answer) → the_run plan script (then_taken ++ answers) ≡ after (fed.done ++ ps) (rest runner' answers)
+      pub run_on : (answers : List Answer) → the_run plan script (then_taken ++ answers) ≡ after (fed.done ++ ps) (rest runner' answers)
       run_on answers = run_then answers ∙ ap (after fed.done) (did.run answers) ∙ after-append fed.done ps (rest runner' answers)
 
       abbrev next_number : ℕ
       next_number = 1 + count_of fed.done
 
-      numbers : count + 1 ≡ next_number
+      pub numbers : count + 1 ≡ next_number
       numbers = omega (arith, fed.counted)
 
       -- what the answer did was written
-      pub goes_on : (c : Held) (n : ℕ) → n ≡ count + count_of ps → Sends b c (pieces_sent script (count + 1) ps) → IsFed plan script left new a c runner' n
+      abbrev pub goes_on : (c : Held) (n : ℕ) → n ≡ count + count_of ps → Sends b c (pieces_sent line (count + 1) ps) → IsFed line plan script left new a c runner' n
       goes_on c n counts sends = record {
         taken = then_taken;
         done = fed.done ++ ps;
         run = run_on;
-        sent = subst (λ (l : List Sent). Sends a c l) (sym (pieces_sent-append script 1 fed.done ps))
-            (Sends-trans a b c (pieces_sent script 1 fed.done) (pieces_sent script next_number ps) fed.sent (subst (λ (k : ℕ). Sends b c (pieces_sent script k ps)) numbers sends));
+        sent = subst (λ (l : List Sent). Sends a c l) (sym (pieces_sent-append line 1 fed.done ps))
+            (Sends-trans a b c (pieces_sent line 1 fed.done) (pieces_sent line next_number ps) fed.sent (subst (λ (k : ℕ). Sends b c (pieces_sent line k ps)) numbers sends));
         counted = counts ∙ ap (λ (k : ℕ). k + count_of ps) fed.counted ∙ sym (count-append fed.done ps);
         given = left_then;
       }
 
-      front_here : (c : Held) → SendsFront b c (pieces_sent script (count + 1) ps) → (r : Reading) × Gives left r × SendsFront a c (run_sent plan script r.answers)
+      front_here : (c : Held) → SendsFront b c (pieces_sent line (count + 1) ps) → (r : Reading) × Gives left r × SendsFront a c (run_sent line plan script r.answers)
       front_here c front =
           let r : Reading = with_taken then_taken (known new) in
           let more' : List Piece = pieces (rest runner' (known new).answers) in
           let all : pieces (the_run plan script r.answers) ≡ (fed.done ++ ps) ++ more' =
           ap (λ (y : Behaviour (Unit {0})). pieces y) (run_on (known new).answers) ∙ pieces-after (fed.done ++ ps) (rest runner' (known new).answers) in
-          let first = pieces_sent script 1 (fed.done ++ ps) in
-          let later = pieces_sent script (1 + count_of (fed.done ++ ps)) more' in
-          let sent : run_sent plan script r.answers ≡ first ++ later = ap (pieces_sent script 1) all ∙ pieces_sent-append script 1 (fed.done ++ ps) more' in (
+          let first = pieces_sent line 1 (fed.done ++ ps) in
+          let later = pieces_sent line (1 + count_of (fed.done ++ ps)) more' in
+          let sent : run_sent line plan script r.answers ≡ first ++ later = ap (pieces_sent line 1) all ∙ pieces_sent-append line 1 (fed.done ++ ps) more' in (
             r,
             given_all left new then_taken left_then,
             subst (λ (l : List Sent). SendsFront a c l) (sym sent)
                 (SendsFront-longer a c first later
-                (subst (λ (l : List Sent). SendsFront a c l) (sym (pieces_sent-append script 1 fed.done ps))
-                (SendsFront-after a b c (pieces_sent script 1 fed.done) (pieces_sent script next_number ps) fed.sent
-                (subst (λ (k : ℕ). SendsFront b c (pieces_sent script k ps)) numbers front)))),
+                (subst (λ (l : List Sent). SendsFront a c l) (sym (pieces_sent-append line 1 fed.done ps))
+                (SendsFront-after a b c (pieces_sent line 1 fed.done) (pieces_sent line next_number ps) fed.sent
+                (subst (λ (k : ℕ). SendsFront b c (pieces_sent line k ps)) numbers front)))),
           )
 
       -- a front of what the answer did was written
-      pub stops_here : (r : Result (Ending × ℕ) PlayFault) (c : Held) → IsErr r → r ≡ Err fault.Write → SendsFront b c (pieces_sent script (count + 1) ps) → Feeds plan script left a c r
+      pub stops_here : (r : Result (Ending × ℕ) PlayFault) (c : Held) → IsErr r → r ≡ Err fault.Write → SendsFront b c (pieces_sent line (count + 1) ps) → Feeds line plan script left a c r
       stops_here r c is write front = rw write (front_here c front)

@@ -2,7 +2,7 @@
 use Rattle.std.proofs.Common.{◌≡◌, ℕ, ◌+◌, List, [], ◌∷◌, ◌++◌, length, map, Option, Some, None, refl, sym, ap, ◌∙◌, append_assoc, append-nil, length-append, arith}
 use Rattle.std.specs.Prelude.{IfSome, IfNone}
 use Rattle.camac_lang.specs.Tree.{Script}
-use Rattle.camac_model.specs.Behaviour.{Behaviour, does, Piece, demanded, cycled, lock_taken, lock_released, event_left, pieces, stop_of, event_in, events_in}
+use Rattle.camac_model.specs.Behaviour.{Behaviour, does, Event, Piece, demanded, cycled, lock_taken, lock_released, event_left, pieces, stop_of, event_in, events_in}
 use Rattle.camac_report.specs.Items.{item_text, unlock_text, unlock_texts}
 use Rattle.camac_run_machine.specs.declared.item.Item.{Item}
 use Rattle.camac_run_machine.specs.declared.item.Item.TheVariants as item
@@ -41,16 +41,16 @@ numbered n (lock_taken c w) = omega arith
 numbered n (lock_released c) = omega arith
 numbered n (event_left e) = omega arith
 
-pub pieces_sent-append : (script : Script) (n : ℕ) (ps qs : List Piece) → pieces_sent script n (ps ++ qs) ≡ pieces_sent script n ps ++ pieces_sent script (n + count_of ps) qs
-pieces_sent-append script n [] qs =
+pub pieces_sent-append : (line : Piece → List ℕ) (n : ℕ) (ps qs : List Piece) → pieces_sent line n (ps ++ qs) ≡ pieces_sent line n ps ++ pieces_sent line (n + count_of ps) qs
+pieces_sent-append line n [] qs =
     let same : n ≡ n + 0 = omega arith in
-    ap (λ (k : ℕ). pieces_sent script k qs) same
-pieces_sent-append script n (p ∷ ps) qs =
-    let sent = piece_sent script n p in
+    ap (λ (k : ℕ). pieces_sent line k qs) same
+pieces_sent-append line n (p ∷ ps) qs =
+    let sent = piece_sent line n p in
     let k = number_after n p in
     let same : k + count_of ps ≡ n + count_of (p ∷ ps) = omega (arith, numbered n p, length-append (event_in p) (events_in ps)) in
-    ap (λ (l : List Sent). sent ++ l) (pieces_sent-append script k ps qs ∙ ap (λ (j : ℕ). pieces_sent script k ps ++ pieces_sent script j qs) same)
-    ∙ sym (append_assoc sent (pieces_sent script k ps) (pieces_sent script (n + count_of (p ∷ ps)) qs))
+    ap (λ (l : List Sent). sent ++ l) (pieces_sent-append line k ps qs ∙ ap (λ (j : ℕ). pieces_sent line k ps ++ pieces_sent line j qs) same)
+    ∙ sym (append_assoc sent (pieces_sent line k ps) (pieces_sent line (n + count_of (p ∷ ps)) qs))
 
 abbrev pub event_pieces : Option Left → List ℕ → List Piece
 event_pieces None words = []
@@ -91,37 +91,46 @@ quiet_event (item.Lock c w) = refl
 quiet_event (item.Unlock c) = refl
 quiet_event (item.Demand p v) = refl
 
-event_sent : (script : Script) (n : ℕ) (event : Option Left) (words : List ℕ) → IfSome event (λ e. e.0 ≡ n) → pieces_sent script n (event_pieces event words) ≡ to_events (event_record event words)
-event_sent script n None words h = refl
-event_sent script n (Some e) words h =
-    append-nil (to_events (record_text n (event_left (record { bit = e.1; cycles = e.2.cycles; missed = e.2.missed; words = words }))))
-    ∙ ap (λ (k : ℕ). to_events (event_record (Some (k, e.1, e.2)) words)) (sym h)
+module _ (line : Piece → List ℕ) (releases : (k : ℕ) → line (lock_released k) ≡ unlock_text k) (leaves : (e : Event) → line (event_left e) ≡ []) where
+  event_sent : (n : ℕ) (event : Option Left) (words : List ℕ) → IfSome event (λ e. e.0 ≡ n) → pieces_sent line n (event_pieces event words) ≡ to_events (event_record event words)
+  event_sent n None words h = refl
+  event_sent n (Some e) words h =
+      let left : Event = record { bit = e.1; cycles = e.2.cycles; missed = e.2.missed; words = words } in
+      append-nil (piece_sent line n (event_left left))
+      ∙ ap (λ (l : List ℕ). to_listing l ++ to_events (record_text n (event_left left))) (leaves left)
+      ∙ ap (λ (k : ℕ). to_events (event_record (Some (k, e.1, e.2)) words)) (sym h)
 
-released_sent : (script : Script) (n : ℕ) (ks : List ℕ) (ps : List Piece) → pieces_sent script n (map lock_released ks ++ ps) ≡ to_listing (unlock_texts ks) ++ pieces_sent script n ps
-released_sent script n [] ps = refl
-released_sent script n (k ∷ ks) ps =
-    let more = pieces_sent script n ps in
-    ap (λ (l : List Sent). (to_listing (unlock_text k) ++ []) ++ l) (released_sent script n ks ps)
-    ∙ ap (λ (l : List Sent). l ++ (to_listing (unlock_texts ks) ++ more)) (append-nil (to_listing (unlock_text k)))
-    ∙ sym (append_assoc (to_listing (unlock_text k)) (to_listing (unlock_texts ks)) more)
-    ∙ ap (λ (l : List Sent). l ++ more) (sym (to_listing-append (unlock_text k) (unlock_texts ks)))
+  released_sent : (n : ℕ) (ks : List ℕ) (ps : List Piece) → pieces_sent line n (map lock_released ks ++ ps) ≡ to_listing (unlock_texts ks) ++ pieces_sent line n ps
+  released_sent n [] ps = refl
+  released_sent n (k ∷ ks) ps =
+      let more = pieces_sent line n ps in
+      ap (λ (l : List ℕ). (to_listing l ++ []) ++ pieces_sent line n (map lock_released ks ++ ps)) (releases k)
+      ∙ ap (λ (l : List Sent). (to_listing (unlock_text k) ++ []) ++ l) (released_sent n ks ps)
+      ∙ ap (λ (l : List Sent). l ++ (to_listing (unlock_texts ks) ++ more)) (append-nil (to_listing (unlock_text k)))
+      ∙ sym (append_assoc (to_listing (unlock_text k)) (to_listing (unlock_texts ks)) more)
+      ∙ ap (λ (l : List Sent). l ++ more) (sym (to_listing-append (unlock_text k) (unlock_texts ks)))
+
+  -- what is sent after an answer's item
+  pub later_sent : (n : ℕ) (ks : List ℕ) (event : Option Left) (words : List ℕ) → IfSome event (λ e. e.0 ≡ n) → pieces_sent line n (map lock_released ks ++ event_pieces event words) ≡ to_listing (unlock_texts ks) ++ to_events (event_record event words)
+  later_sent n ks event words h = released_sent n ks (event_pieces event words) ∙ ap (λ (l : List Sent). to_listing (unlock_texts ks) ++ l) (event_sent n event words h)
+
+  pub first_sent : (n : ℕ) (told : Item) (ps : List Piece) → pieces_sent line n (piece_of told ∷ ps) ≡ to_listing (line (piece_of told)) ++ pieces_sent line n ps
+  first_sent n told ps =
+      let words = to_listing (line (piece_of told)) in
+      ap (λ (k : ℕ). piece_sent line n (piece_of told) ++ pieces_sent line k ps) (quiet_number n told)
+      ∙ ap (λ (l : List ℕ). (words ++ to_events l) ++ pieces_sent line n ps) (quiet_record n told)
+      ∙ ap (λ (l : List Sent). l ++ pieces_sent line n ps) (append-nil words)
 
 -- what is sent of an answer's pieces
 pub step_sent : (script : Script) (n : ℕ) (told : Item) (ks : List ℕ) (event : Option Left) (words : List ℕ) → IfSome event (λ e. e.0 ≡ n)
-    → pieces_sent script n (step told ks event words) ≡ to_listing (item_text script (piece_of told) ++ unlock_texts ks) ++ to_events (event_record event words)
+    → pieces_sent (item_text script) n (step told ks event words) ≡ to_listing (item_text script (piece_of told) ++ unlock_texts ks) ++ to_events (event_record event words)
 step_sent script n told ks event words h =
-    let q = piece_of told in
-    let line = to_listing (item_text script q) in
-    let lines = to_listing (unlock_texts ks) in
+    let line = to_listing (item_text script (piece_of told)) in
     let event' = to_events (event_record event words) in
-    let ps = map lock_released ks ++ event_pieces event words in
-    let first : piece_sent script n q ≡ line = ap (λ (l : List ℕ). line ++ to_events l) (quiet_record n told) ∙ append-nil line in
-    let then' : pieces_sent script n ps ≡ lines ++ event' = released_sent script n ks (event_pieces event words) ∙ ap (λ (l : List Sent). lines ++ l) (event_sent script n event words h) in
-    ap (λ (k : ℕ). piece_sent script n q ++ pieces_sent script k ps) (quiet_number n told)
-    ∙ ap (λ (l : List Sent). l ++ pieces_sent script n ps) first
-    ∙ ap (λ (l : List Sent). line ++ l) then'
-    ∙ sym (append_assoc line lines event')
-    ∙ ap (λ (l : List Sent). l ++ event') (sym (to_listing-append (item_text script q) (unlock_texts ks)))
+    first_sent (item_text script) (λ k. refl) (λ e. refl) n told (map lock_released ks ++ event_pieces event words)
+    ∙ ap (λ (l : List Sent). line ++ l) (later_sent (item_text script) (λ k. refl) (λ e. refl) n ks event words h)
+    ∙ sym (append_assoc line (to_listing (unlock_texts ks)) event')
+    ∙ ap (λ (l : List Sent). l ++ event') (sym (to_listing-append (item_text script (piece_of told)) (unlock_texts ks)))
 
 released_quiet : (ks : List ℕ) (ps : List Piece) → count_of (map lock_released ks ++ ps) ≡ count_of ps
 released_quiet [] ps = refl

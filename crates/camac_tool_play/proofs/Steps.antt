@@ -18,11 +18,11 @@ use Rattle.camac_tool_play.specs.declared.step.Step.{Step}
 use Rattle.camac_tool_play.specs.Telling.{event_record}
 use Rattle.camac_tool_play.proofs.Pieces.{step, step-after, step_sent, step_counts}
 
-next_number : (event : Option Left) (n k m : ℕ) → IfSome event (λ e. (e.0 ≡ n + 1) × (m ≡ e.0) × (e.2.missed ≤ e.2.cycles)) → n ≡ k → IfSome event (λ e. e.0 ≡ k + 1)
+pub next_number : (event : Option Left) (n k m : ℕ) → IfSome event (λ e. (e.0 ≡ n + 1) × (m ≡ e.0) × (e.2.missed ≤ e.2.cycles)) → n ≡ k → IfSome event (λ e. e.0 ≡ k + 1)
 next_number None n k m h same = tt
 next_number (Some e) n k m h same = h.0 ∙ ap (λ (j : ℕ). j + 1) same
 
-same_number : (event : Option Left) (n k m r : ℕ) → IfNone event (m ≡ n) → IfSome event (λ e. (e.0 ≡ n + 1) × (m ≡ e.0) × (e.2.missed ≤ e.2.cycles)) → n ≡ k → IfNone event (r ≡ k) → IfSome event (λ e. r ≡ e.0) → m ≡ r
+pub same_number : (event : Option Left) (n k m r : ℕ) → IfNone event (m ≡ n) → IfSome event (λ e. (e.0 ≡ n + 1) × (m ≡ e.0) × (e.2.missed ≤ e.2.cycles)) → n ≡ k → IfNone event (r ≡ k) → IfSome event (λ e. r ≡ e.0) → m ≡ r
 same_number None n k m r a h same b d = a ∙ same ∙ sym b
 same_number (Some e) n k m r a h same b d = h.1 ∙ sym d
 
@@ -37,11 +37,11 @@ module _ (old new : RunHeld) (answer : Answer) (told : Item) (ks : List ℕ) (ev
   }
 
   module _ (script : Script) (count : ℕ) (counted : old.events ≡ count) where
-    same_sent : pieces_sent script (count + 1) (step told ks event words) ≡ to_listing (item_text script (piece_of told) ++ unlock_texts ks) ++ to_events (event_record event words)
+    same_sent : pieces_sent (item_text script) (count + 1) (step told ks event words) ≡ to_listing (item_text script (piece_of told) ++ unlock_texts ks) ++ to_events (event_record event words)
     same_sent = step_sent script (count + 1) told ks event words (next_number event old.events count new.events g.next counted)
 
     pub went_on : (n : ℕ) (a b : Held) → IfNone event (n ≡ count) → IfSome event (λ e. n ≡ e.0) → Sends a b (to_listing (item_text script (piece_of told) ++ unlock_texts ks) ++ to_events (event_record event words))
-        → (ps : List Piece) × Does old answer new ps × (n ≡ count + count_of ps) × (new.events ≡ n) × Sends a b (pieces_sent script (count + 1) ps)
+        → (ps : List Piece) × Does old answer new ps × (n ≡ count + count_of ps) × (new.events ≡ n) × Sends a b (pieces_sent (item_text script) (count + 1) ps)
     went_on n a b none some sends = (
       step told ks event words,
       went,

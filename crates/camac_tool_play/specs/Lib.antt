@@ -3,4 +3,6 @@ pub mod Played
 pub mod Telling
 pub mod Step
 pub mod Play
+pub mod InTurn
+pub mod Live
 pub mod Headline

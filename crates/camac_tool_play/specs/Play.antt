@@ -3,7 +3,7 @@ use Rattle.std.specs.Prelude.{◌≡◌, ◌<◌, ◌^◌, ℕ, Bool, true, fals
 use Rattle.camac_lang.specs.Tree.{Script}
 use Rattle.camac_branch.specs.Branch.{Answer}
 use Rattle.camac_branch.specs.Plan.{Layout}
-use Rattle.camac_model.specs.Behaviour.{pieces, events}
+use Rattle.camac_model.specs.Behaviour.{Piece, pieces, events}
 use Rattle.camac_model.specs.Run.{the_run}
 use Rattle.camac_answer.specs.Reading.{Reading, Answered}
 use Rattle.camac_answer.specs.declared.fault.AnswerFault.{AnswerFault}
@@ -23,6 +23,14 @@ Gives left r = (whole : Reading) → left ≡ Some whole → whole ≡ r
 abbrev pub GivesFirst : Option Reading → List Answer → Type 0
 GivesFirst left taken = (whole : Reading) → left ≡ Some whole → (more : List Answer) × (whole.answers ≡ taken ++ more)
 
+-- these answers and then what this gives
+abbrev pub with_taken : List Answer → Reading → Reading
+with_taken taken r = record r { answers = taken ++ r.answers }
+
+-- the text gave these answers, and has this left
+abbrev pub HasGiven : Option Reading → Option Reading → List Answer → Type 0
+HasGiven left now taken = (whole : Reading) → left ≡ Some whole → (r : Reading) × (now ≡ Some r) × (whole ≡ with_taken taken r)
+
 -- All was written at an ending; a prefix of it after a write fault; after a read fault what the run on the answers before it tells.
 abbrev pub Plays : Layout → Script → Option Reading → Held → Held → Result Ending PlayFault → Type 0
 Plays plan script left old new (Ok e) =
@@ -33,19 +41,19 @@ Plays plan script left old new (Err fault.Read) =
     (taken : List Answer) × GivesFirst left taken × Sends old new (told plan script taken)
 
 -- what a run tells on these answers, after the header of its event file
-abbrev pub run_sent : Layout → Script → List Answer → List Sent
-run_sent plan script answers = pieces_sent script 1 (pieces (the_run plan script answers))
+abbrev pub run_sent : (Piece → List ℕ) → Layout → Script → List Answer → List Sent
+run_sent line plan script answers = pieces_sent line 1 (pieces (the_run plan script answers))
 
 -- the same after the header and before the last line, with the number of events; after a read fault they can be numbered
-abbrev pub Feeds : Layout → Script → Option Reading → Held → Held → Result (Ending × ℕ) PlayFault → Type 0
-Feeds plan script left old new (Ok v) =
+abbrev pub Feeds : (Piece → List ℕ) → Layout → Script → Option Reading → Held → Held → Result (Ending × ℕ) PlayFault → Type 0
+Feeds line plan script left old new (Ok v) =
     (r : Reading) × Gives left r × (v.0 ≡ ending plan script r) × (v.1 ≡ length (events (the_run plan script r.answers)))
-    × Sends old new (run_sent plan script r.answers)
-Feeds plan script left old new (Err fault.Write) =
-    (r : Reading) × Gives left r × SendsFront old new (run_sent plan script r.answers)
-Feeds plan script left old new (Err fault.Read) =
+    × Sends old new (run_sent line plan script r.answers)
+Feeds line plan script left old new (Err fault.Write) =
+    (r : Reading) × Gives left r × SendsFront old new (run_sent line plan script r.answers)
+Feeds line plan script left old new (Err fault.Read) =
     (taken : List Answer) × GivesFirst left taken × (length (events (the_run plan script taken)) < 2 ^ 32)
-    × Sends old new (run_sent plan script taken)
+    × Sends old new (run_sent line plan script taken)
 
 abbrev pub is_write_fault : {T : Type 0} → Result T PlayFault → Bool
 is_write_fault (Err fault.Write) = true

@@ -41,18 +41,18 @@ number_after n (lock_taken c w) = n
 number_after n (lock_released c) = n
 number_after n (event_left e) = n + 1
 
--- the line or the record of a piece
-abbrev pub piece_sent : Script → ℕ → Piece → List Sent
-piece_sent script n p = to_listing (item_text script p) ++ to_events (record_text n p)
+-- the line, in these words, or the record of a piece
+abbrev pub piece_sent : (Piece → List ℕ) → ℕ → Piece → List Sent
+piece_sent line n p = to_listing (line p) ++ to_events (record_text n p)
 
 -- pieces one after another, where n is the number of the next event
-abbrev pub pieces_sent : Script → ℕ → List Piece → List Sent
-pieces_sent script n [] = []
-pieces_sent script n (p ∷ ps) = piece_sent script n p ++ pieces_sent script (number_after n p) ps
+abbrev pub pieces_sent : (Piece → List ℕ) → ℕ → List Piece → List Sent
+pieces_sent line n [] = []
+pieces_sent line n (p ∷ ps) = piece_sent line n p ++ pieces_sent line (number_after n p) ps
 
 -- the header of the event file, and then the run on these answers
 abbrev pub told : Layout → Script → List Answer → List Sent
-told plan script answers = to_events (header Two) ++ pieces_sent script 1 (pieces (the_run plan script answers))
+told plan script answers = to_events (header Two) ++ pieces_sent (item_text script) 1 (pieces (the_run plan script answers))
 
 -- the code of a rule of answer texts
 abbrev pub answer_code : AnswerRule → AnswerCode

@@ -5,6 +5,7 @@ use Rattle.camac_branch.specs.Branch.{Answer}
 use Rattle.camac_branch.specs.declared.answer.Overrun.{Overrun}
 use Rattle.camac_model.specs.State.{State}
 use Rattle.camac_model.specs.Behaviour.{Behaviour, does, stops, Piece, events_in, Stop, short, overrun, wrong, more}
+use Rattle.camac_report.specs.Items.{item_text}
 use Rattle.camac_run_machine.specs.Runner.{Held as RunHeld, rest}
 use Rattle.camac_tool_play.specs.Played.{pieces_sent}
 use Rattle.camac_tool_play.specs.Sent.{Held, Sends, SendsFront}
@@ -33,10 +34,10 @@ Overruns old answer o = (answers : List Answer) → (s : State) × (rest old (an
 -- the pieces of the answer were written, or a prefix of them, or the run stopped
 abbrev pub StepsBy : Script → RunHeld → Answer → ℕ → Held → Held → Result Step WriteFault → RunHeld → Type 0
 StepsBy script old answer count a b (Ok (step.Went n)) new =
-    (ps : List Piece) × Does old answer new ps × (n ≡ count + count_of ps) × (new.events ≡ n) × Sends a b (pieces_sent script (count + 1) ps)
+    (ps : List Piece) × Does old answer new ps × (n ≡ count + count_of ps) × (new.events ≡ n) × Sends a b (pieces_sent (item_text script) (count + 1) ps)
 StepsBy script old answer count a b (Ok (step.Overrun o)) new = Overruns old answer o × Sends a b []
 StepsBy script old answer count a b (Err e) new =
-    (ps : List Piece) × Does old answer new ps × SendsFront a b (pieces_sent script (count + 1) ps)
+    (ps : List Piece) × Does old answer new ps × SendsFront a b (pieces_sent (item_text script) (count + 1) ps)
 
 -- why a run stops, if it does, is only that no answer is left
 abbrev pub IsOut : Option Stop → Type 0

@@ -1,10 +1,12 @@
 // The loop that feeds a run its answers.
 
 ghost use Rattle.std.specs.Prelude.{◌≡◌, ◌<◌, ◌||◌, ◌+◌, ◌^◌, true, false, []};
-ghost use Rattle.camac_answer.specs.Answers.{left_of, stage_of, given_by, reader_failed, is_memory_failure, is_read_failure};
+ghost use Rattle.camac_answer.specs.Answers.{left_of, stage_of, given_by, text_of, reader_failed, is_memory_failure, is_read_failure};
 ghost use Rattle.camac_answer.specs.declared.answers.Stage.TheVariants.{Running};
 ghost use Rattle.camac_run_machine.specs.Ends.{stop_in};
 ghost use Rattle.camac_model.specs.Behaviour.{stop_of, pieces};
+ghost use Rattle.camac_report.specs.Items.{item_text};
+ghost use Rattle.camac_tool_play.specs.InTurn.{FeedsInTurn};
 ghost use Rattle.camac_tool_play.specs.Play.{Feeds, failed_by, faulted, is_read_fault, is_write_fault};
 ghost use Rattle.camac_tool_play.specs.Step.{IsOut};
 ghost use Rattle.camac_tool_play.specs.Sent.{held};
@@ -30,7 +32,9 @@ pub fn feed<R: Read, W: Write, E: Write>(
 ) -> Result<(Ending, u32), PlayFault>
     requires running { stage_of answers.old ≡ Running }
     requires given { given_by answers.old ≡ 0 }
-    ensures feeds { Feeds checked.now.plan checked.now.script (left_of R.remaining answers.old)
+    ensures feeds { Feeds (item_text checked.now.script) checked.now.plan checked.now.script (left_of R.remaining answers.old)
+        (held (W.contents (inner_of out.old)) (E.contents (inner_of events.old))) (held (W.contents (inner_of out.new)) (E.contents (inner_of events.new))) result }
+    ensures in_turn { FeedsInTurn checked.now.plan checked.now.script (left_of R.remaining answers.old) (text_of R.remaining answers.new)
         (held (W.contents (inner_of out.old)) (E.contents (inner_of events.old))) (held (W.contents (inner_of out.new)) (E.contents (inner_of events.new))) result }
     ensures out_failed { (has_failed out.new || has_failed events.new) ≡ ((has_failed out.old || has_failed events.old) || is_write_fault result) }
     ensures in_failed { reader_failed answers.new ≡ (reader_failed answers.old || is_read_fault result) }
@@ -56,8 +60,9 @@ pub fn feed<R: Read, W: Write, E: Write>(
 }
 
 // How a run ends where no answer is left.
-fn end_of(runner: &Runner<'_, 64, 16, 4096>) -> End
+pub fn end_of(runner: &Runner<'_, 64, 16, 4096>) -> End
     ensures stop { stop_in result ≡ stop_of (rest runner.now []) }
+    ensures out { IsOut (stop_of (rest runner.now [])) }
     ensures quiet { pieces (rest runner.now []) ≡ [] }
 {
     if runner.in_service() {
@@ -68,7 +73,7 @@ fn end_of(runner: &Runner<'_, 64, 16, 4096>) -> End
 }
 
 // The fact that without a further answer a run tells nothing more, and stops for no other reason than that.
-fn wants_answer(runner: &Runner<'_, 64, 16, 4096>)
+pub fn wants_answer(runner: &Runner<'_, 64, 16, 4096>)
     ensures stop { IsOut (stop_of (rest runner.now [])) }
     ensures quiet { pieces (rest runner.now []) ≡ [] }
 {
@@ -76,7 +81,7 @@ fn wants_answer(runner: &Runner<'_, 64, 16, 4096>)
 }
 
 // How a run ends after so many events that wants an answer where the text has a fault.
-fn at_fault(fault: AnswerFault, count: u32) -> Result<(Ending, u32), PlayFault>
+pub fn at_fault(fault: AnswerFault, count: u32) -> Result<(Ending, u32), PlayFault>
     requires { is_memory_failure (failed_by fault) ≡ false }
     ensures faults { result ≡ faulted fault count }
     ensures few { count < 2 ^ 32 }

@@ -1,9 +1,10 @@
 // A run, from the text of its answers to its listing and its event file.
 
 ghost use Rattle.std.specs.Prelude.{◌≡◌, ◌||◌, ◌<◌, ◌^◌, true, is_err, IfOk, IfErr};
-ghost use Rattle.camac_answer.specs.Answers.{left_in, left_of, stage_of, given_by, reader_failed};
+ghost use Rattle.camac_answer.specs.Answers.{left_in, left_of, stage_of, given_by, text_of, reader_failed};
 ghost use Rattle.camac_answer.specs.declared.answers.Stage.TheVariants.{Running};
 ghost use Rattle.camac_tool_play.specs.Headline.{PlayKeepsHeadline};
+ghost use Rattle.camac_tool_play.specs.InTurn.{PlaysInTurn};
 ghost use Rattle.camac_tool_play.specs.Play.{Plays, is_read_fault, is_write_fault};
 ghost use Rattle.camac_tool_play.specs.Played.{ending_text};
 ghost use Rattle.camac_tool_play.specs.Sent.{held};
@@ -25,7 +26,7 @@ use std::io::{Read, Write};
 
 /// Runs a checked script on the answers of a text: the listing goes to `out`, the event file to `events`. What an answer did is written
 /// before the next one is asked for, and the last line of the listing at the end. A fault of the text counts only where the run needs
-/// that answer. After a write fault nothing more is written to either writer; after a read fault no last line is.
+/// that answer, and no answer is read beyond a wait that is not permitted. After a write fault nothing more is written to either writer; after a read fault no last line is.
 pub fn play<R: Read, W: Write, E: Write>(
     alloc: Global,
     checked: &Checked,
@@ -34,6 +35,8 @@ pub fn play<R: Read, W: Write, E: Write>(
     events: &mut Watched<E>,
 ) -> Result<Ending, PlayFault>
     ensures plays { Plays checked.now.plan checked.now.script (left_in Running 0 (R.remaining (inner_of answers.old)))
+        (held (W.contents (inner_of out.old)) (E.contents (inner_of events.old))) (held (W.contents (inner_of out.new)) (E.contents (inner_of events.new))) result }
+    ensures in_turn { PlaysInTurn checked.now.plan checked.now.script (left_in Running 0 (R.remaining (inner_of answers.old))) (R.remaining (inner_of answers.new))
         (held (W.contents (inner_of out.old)) (E.contents (inner_of events.old))) (held (W.contents (inner_of out.new)) (E.contents (inner_of events.new))) result }
     ensures headline { PlayKeepsHeadline checked.now.plan checked.now.script checked.now.bounds (left_in Running 0 (R.remaining (inner_of answers.old)))
         (E.contents (inner_of events.old)) (E.contents (inner_of events.new)) result }
@@ -55,6 +58,8 @@ fn play_on<R: Read, W: Write, E: Write>(
     requires given { given_by answers.old ≡ 0 }
     ensures plays { Plays checked.now.plan checked.now.script (left_of R.remaining answers.old)
         (held (W.contents (inner_of out.old)) (E.contents (inner_of events.old))) (held (W.contents (inner_of out.new)) (E.contents (inner_of events.new))) result }
+    ensures in_turn { PlaysInTurn checked.now.plan checked.now.script (left_of R.remaining answers.old) (text_of R.remaining answers.new)
+        (held (W.contents (inner_of out.old)) (E.contents (inner_of events.old))) (held (W.contents (inner_of out.new)) (E.contents (inner_of events.new))) result }
     ensures headline { PlayKeepsHeadline checked.now.plan checked.now.script checked.now.bounds (left_of R.remaining answers.old)
         (E.contents (inner_of events.old)) (E.contents (inner_of events.new)) result }
     ensures out_failed { (has_failed out.new || has_failed events.new) ≡ ((has_failed out.old || has_failed events.old) || is_write_fault result) }
@@ -68,7 +73,11 @@ fn play_on<R: Read, W: Write, E: Write>(
 }
 
 // The last line.
-fn finish<W: Write>(out: &mut Watched<W>, ending: Ending, count: u32) -> Result<Ending, PlayFault>
+pub fn finish<W: Write>(
+    out: &mut Watched<W>,
+    ending: Ending,
+    count: u32,
+) -> Result<Ending, PlayFault>
     ensures value { IfOk result (λ e. e ≡ ending) }
     ensures text { Writes (W.contents (inner_of out.old)) (W.contents (inner_of out.new)) result (ending_text ending count) }
     ensures fault { IfErr result (λ f. f ≡ Write) }

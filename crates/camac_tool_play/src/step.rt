@@ -60,7 +60,7 @@ pub fn take_step<W: Write, E: Write>(
 }
 
 // How many events there are after an answer.
-fn count_after(event: &Option<Left>, count: u32) -> u32
+pub fn count_after(event: &Option<Left>, count: u32) -> u32
     ensures same { IfNone event.now (result ≡ count) }
     ensures next { IfSome event.now (λ e. result ≡ e.0) }
 {

@@ -43,7 +43,7 @@ pub fn tell<W: Write, E: Write>(
     write_event(events, event, words)
 }
 
-fn write_event<E: Write>(
+pub fn write_event<E: Write>(
     events: &mut Watched<E>,
     event: &Option<Left>,
     words: &[Word24],

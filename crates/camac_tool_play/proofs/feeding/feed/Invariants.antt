@@ -1,16 +1,18 @@
-use Rattle.std.proofs.Common.{◌≡◌, ◌≤◌, ◌-◌, ◌||◌, None}
+use Rattle.std.proofs.Common.{◌≡◌, ◌≤◌, ◌-◌, ◌||◌, None, length}
 use Rattle.camac_answer.specs.Answers.{left_of, stage_of, given_by, reader_failed}
 use Rattle.camac_answer.specs.declared.answers.Stage.TheVariants.{Running}
 use Rattle.camac_word.specs.Watched.{inner_of, has_failed}
 use Rattle.camac_tool_play.specs.Sent.{held}
+use Rattle.camac_report.specs.Items.{item_text}
 use Rattle.camac_tool_play.proofs.Fed.{IsFed}
 use Rattle.camac_tool_play.proofs.feeding.feed.Given as goal
 
 abbrev pub invariant-answers : goal.invariant-answers
 invariant-answers g l = record {
-  fed : IsFed l.checked.plan l.checked.script (left_of g.R.Read.remaining l.fn.answers) (left_of g.R.Read.remaining l.answers)
+  fed : IsFed (item_text l.checked.script) l.checked.plan l.checked.script (left_of g.R.Read.remaining l.fn.answers) (left_of g.R.Read.remaining l.answers)
       (held (g.W.Write.contents (inner_of l.fn.out)) (g.E.Write.contents (inner_of l.fn.events))) (held (g.W.Write.contents (inner_of l.out)) (g.E.Write.contents (inner_of l.events)))
       l.runner l.count;
+  number : given_by l.answers ≡ length fed.taken;
   stage : stage_of l.answers ≡ Running;
   counted : l.runner.fed ≡ given_by l.answers;
   few : given_by l.answers ≤ 1000000;
