@@ -27,3 +27,4 @@ pub mod Services
 pub mod Headline
 pub mod Transferred
 pub mod Demands
+pub mod Whole

@@ -7,7 +7,7 @@ use Rattle.camac_event.specs.Spelling.{Entry, spelling}
 use Rattle.camac_event.specs.Reading.{file_at}
 use Rattle.camac_event.specs.declared.event.Version.TheVariants.{Two}
 use Rattle.camac_model.specs.Behaviour.{Behaviour, Event, pieces, events}
-use Rattle.camac_model.specs.Fine.{Bounds, IsOfAnswers}
+use Rattle.camac_model.specs.Fine.{Bounds, IsOfAnswers, AreFineServices}
 use Rattle.camac_model.specs.Headline.{AreSafe, WithinHeadings, InService, WordsFit, EventFits, StepsFit, CostStays, IsShortOfAnswers, IsOver, Locked, locked_after, NoneHeld, first_moment, moment_after, no_count, nothing}
 use Rattle.camac_model.specs.Moments.{Meets, Any, AnyStop}
 use Rattle.camac_model.specs.Run.{the_run}
@@ -31,7 +31,7 @@ abbrev pub NoneLocked : Locked → Unit {0} → Type 0
 NoneLocked l u = (c : ℕ) → l c ≡ false
 
 -- For these answers
-pub record Headline (plan : Layout) (script : Script) (ks : List Bounds) (answers : List Answer) (file : List ℕ) : Type 0 where
+pub record RunHeadline (plan : Layout) (script : Script) (ks : List Bounds) (answers : List Answer) : Type 0 where
   -- the run sends only commands that are declared, moves data only as the function code says and within the register's width,
   pub safe_cycles : AreSafe plan (pieces (the_run plan script answers))
   -- keeps each event within its declared words,
@@ -44,17 +44,27 @@ pub record Headline (plan : Layout) (script : Script) (ks : List Bounds) (answer
       (the_run plan script answers)
   -- where the bounds keep to the headings;
   pub within_headings : WithinHeadings plan script ks
+  -- at each moment of a service, as of all that it counts, its steps are within its bounds;
+  pub services : AreFineServices plan script ks
   -- every service ends, while answers last and auxiliaries keep their waits:
   pub right_and_ending : Meets no_count Any (λ u w s. IsOfAnswers w) Any nothing (the_run plan script answers)
   pub short_of_answers :
       Meets moment_after Any (IsShortOfAnswers ks) IsOver (first_moment answers) (the_run plan script answers)
-  -- no crate stays locked where a service ends, and where the run ends;
+  -- no crate stays locked where a service ends, and where the run ends
   pub locks_released : Meets locked_after NoneHeld AnyStop NoneLocked (λ c. false) (the_run plan script answers)
-  -- and its event file decodes to exactly its events, whose spelling it is
+
+-- And with these bytes of an event file
+pub record Headline (plan : Layout) (script : Script) (ks : List Bounds) (answers : List Answer) (file : List ℕ) : Type 0 where
+  pub run : RunHeadline plan script ks answers
+  -- the file decodes to exactly the events of the run, whose spelling it is
   pub decodes : file_at file ≡ Ok (Two, run_events plan script answers)
   pub is_spelled : file ≡ event_file plan script answers
 
--- the law: of each list of answers on which the run leaves events that can be numbered
+-- the law of the run: of each list of answers
+abbrev pub RunsAlways : Layout → Script → List Bounds → Type 0
+RunsAlways plan script ks = (answers : List Answer) → RunHeadline plan script ks answers
+
+-- and with its event file: of each list of answers on which the run leaves events that can be numbered
 abbrev pub RunsByHeadline : Layout → Script → List Bounds → Type 0
 RunsByHeadline plan script ks =
     (answers : List Answer) → length (run_events plan script answers) < 2 ^ 32

@@ -1,12 +1,14 @@
 // The headline, as a law of every checked script.
 
-ghost use Rattle.camac_run.specs.Headline.{RunsByHeadline, LeavesFewEvents};
+ghost use Rattle.camac_run.specs.Headline.{RunsAlways, RunsByHeadline, LeavesFewEvents};
 ghost use Rattle.camac_run.specs.Requested.{RequestsAreSafe};
 
 use camac_check::Checked;
 
-/// The law that the headline is true of every run of this script, and of its event file. A run leaves no more events than it has answers.
+/// The law that the headline is true of every run of this script (`always`), and of its event file where its events can be numbered. A run
+/// leaves no more events than it has answers.
 pub fn runs_by_headline(checked: &Checked)
+    ensures always { RunsAlways checked.now.plan checked.now.script checked.now.bounds }
     ensures headline { RunsByHeadline checked.now.plan checked.now.script checked.now.bounds }
     ensures few { LeavesFewEvents checked.now.plan checked.now.script }
 {
