@@ -1,5 +1,5 @@
 -- The lines of an answer text, and the answer that a line spells.
-use Rattle.std.specs.Prelude.{ℕ, ◌+◌, ◌*◌, Bool, true, false, ◌==◌, ◌&&◌, not, List, [], ◌∷◌, length, take_while, slice_index, slice_range, Option, Some, None, Result, Ok, Err, if◌then◌else◌}
+use Rattle.std.specs.Prelude.{ℕ, Bool, true, false, ◌==◌, ◌&&◌, not, List, [], ◌∷◌, length, take_while, slice_index, slice_range, Option, Some, None, Result, Ok, Err, if◌then◌else◌}
 use Rattle.byteorder.specs.Endian.{big_number}
 use Rattle.hex.specs.Hex.{decode_sized, hex_digit_value}
 use Rattle.hex.specs.declared.error.FromHexError.{FromHexError}
@@ -48,13 +48,6 @@ digit_in None = Err BadDigit
 -- one hexadecimal digit
 abbrev pub wait_at : ℕ → Result ℕ AnswerRule
 wait_at b = digit_in (hex_digit_value b)
-
--- two hexadecimal digits, the high four bits first
-abbrev pub byte_at : (high low : ℕ) → Result ℕ AnswerRule
-byte_at high low = do
-  h ← wait_at high
-  l ← wait_at low
-  Ok (h * 16 + l)
 
 -- nineteen bytes, with a space (32) between the fields
 abbrev pub has_shape : List ℕ → Bool

@@ -1,9 +1,11 @@
 // The answer that a line spells.
 
 ghost use Rattle.std.specs.Prelude.{◌≡◌, ◌≤◌, ◌<◌, ◌^◌, length, IfOk};
-ghost use Rattle.camac_answer.specs.Lines.{first_line, bit_at, byte_at, word_at, wait_at, has_shape as is_shaped, fields_answer, line_answer};
+ghost use Rattle.byteorder.specs.Endian.{big_number};
+ghost use Rattle.camac_answer.specs.Lines.{first_line, bit_at, word_at, wait_at, has_shape as is_shaped, fields_answer, line_answer};
 
 use crate::fault::AnswerRule;
+use byteorder::{BigEndian, ByteOrder};
 use camac_branch::Answer;
 use camac_word::Word24;
 
@@ -25,8 +27,29 @@ fn bit_of(byte: u8) -> Result<bool, AnswerRule>
     }
 }
 
-// The value of a digit.
-fn digit_of(digit: u8) -> Result<u8, AnswerRule>
+// The word that six digits spell.
+fn word_of(digits: &[u8]) -> Result<Word24, AnswerRule>
+    ensures { result ≡ word_at digits.now }
+{
+    let mut bytes = [0; 3];
+    match hex::decode_to_slice(digits, &mut bytes) {
+        Ok(()) => Ok(word_in(&bytes)),
+        Err(_) => Err(AnswerRule::BadDigit),
+    }
+}
+
+// The word of three bytes, the highest first.
+fn word_in(bytes: &[u8; 3]) -> Word24
+    ensures { result ≡ big_number 3 bytes.now }
+{
+    match Word24::new(BigEndian::read_u24(bytes)) {
+        Some(word) => word,
+        None => unreachable!(),
+    }
+}
+
+// The wait that a digit spells.
+fn wait_of(digit: u8) -> Result<u8, AnswerRule>
     ensures value { result ≡ wait_at digit }
     ensures in_range { IfOk result (λ w. w ≤ 15) }
 {
@@ -35,31 +58,6 @@ fn digit_of(digit: u8) -> Result<u8, AnswerRule>
         b'a'..=b'f' => Ok(digit - b'a' + 10),
         b'A'..=b'F' => Ok(digit - b'A' + 10),
         _ => Err(AnswerRule::BadDigit),
-    }
-}
-
-// The byte that two digits spell.
-fn byte_of(high: u8, low: u8) -> Result<u32, AnswerRule>
-    ensures value { result ≡ byte_at high low }
-    ensures in_range { IfOk result (λ b. b ≤ 255) }
-{
-    let high = digit_of(high)?;
-    let low = digit_of(low)?;
-    Ok(u32::from(high) * 16 + u32::from(low))
-}
-
-// The word that six digits spell.
-#[tactic(auto, using(crate::proofs::Words::word_by_bytes))]
-fn word_of(digits: &[u8]) -> Result<Word24, AnswerRule>
-    requires { length digits.now ≡ 6 }
-    ensures { result ≡ word_at digits.now }
-{
-    let high = byte_of(digits[0], digits[1])?;
-    let middle = byte_of(digits[2], digits[3])?;
-    let low = byte_of(digits[4], digits[5])?;
-    match Word24::new(high * 65_536 + middle * 256 + low) {
-        Some(word) => Ok(word),
-        None => unreachable!(),
     }
 }
 
@@ -78,7 +76,7 @@ fn fields_of(line: &[u8]) -> Result<Answer, AnswerRule>
     let x = bit_of(line[0])?;
     let q = bit_of(line[2])?;
     let word = word_of(&line[4..10])?;
-    let wait = digit_of(line[11])?;
+    let wait = wait_of(line[11])?;
     let gl = word_of(&line[13..19])?;
     match Answer::new(x, q, word, wait, gl) {
         Some(answer) => Ok(answer),

@@ -19,49 +19,60 @@ pub fn write_cycle<W: Write>(out: &mut Watched<W>, cycle: &CycleDone) -> Result<
         (cycle_text (address cycle.now.command.c cycle.now.command.n cycle.now.command.a) cycle.now.command.f cycle.now.command.mv cycle.now.reply cycle.now.wait) }
     ensures failed { has_failed out.new ≡ (has_failed out.old || is_err result) }
 {
-    out.write_text(cycle_line(cycle).as_bytes())
+    let mut line = Line::new();
+    push_cycle(&mut line, cycle);
+    out.write_text(line.as_bytes())
 }
 
-pub fn cycle_line(cycle: &CycleDone) -> Line
-    ensures text { result ≡ cycle_text (address cycle.now.command.c cycle.now.command.n cycle.now.command.a) cycle.now.command.f cycle.now.command.mv cycle.now.reply cycle.now.wait }
-    ensures short { length result ≤ 80 }
+/// Puts the line of a dataway cycle at the end.
+pub fn push_cycle(line: &mut Line, cycle: &CycleDone)
+    requires room { length line.old ≤ 40 }
+    ensures text { line.new ≡ line.old ++ cycle_text (address cycle.now.command.c cycle.now.command.n cycle.now.command.a) cycle.now.command.f cycle.now.command.mv cycle.now.reply cycle.now.wait }
+    ensures short { length line.new ≤ length line.old + 80 }
 {
-    with_move(command_line(&cycle.command), cycle.command.mv, cycle.reply)
-        .with(" x")
-        .with(bit(cycle.reply.x))
-        .with(" q")
-        .with(bit(cycle.reply.q))
-        .with(" wait ")
-        .with_number(cycle.wait)
-        .with("\n")
+    push_command(line, &cycle.command);
+    push_move(line, cycle.command.mv, cycle.reply);
+    line.push_str(" x");
+    line.push_str(bit(cycle.reply.x));
+    line.push_str(" q");
+    line.push_str(bit(cycle.reply.q));
+    line.push_str(" wait ");
+    line.push_number(cycle.wait);
+    line.push_str("\n");
 }
 
 // The line's begin: the command alone.
-pub fn command_line(command: &Command) -> Line
-    ensures text { result ≡ command_text (address command.now.c command.now.n command.now.a) command.now.f }
-    ensures short { length result ≤ 50 }
+pub fn push_command(line: &mut Line, command: &Command)
+    requires room { length line.old ≤ 40 }
+    ensures text { line.new ≡ line.old ++ command_text (address command.now.c command.now.n command.now.a) command.now.f }
+    ensures short { length line.new ≤ length line.old + 50 }
 {
-    Line::new()
-        .with("cycle ")
-        .with_number(command.c.get())
-        .with(" ")
-        .with_number(command.n.get())
-        .with(" ")
-        .with_number(command.a.get())
-        .with(" ")
-        .with_number(command.f.get())
-        .with(" ")
+    line.push_str("cycle ");
+    line.push_number(command.c.get());
+    line.push_str(" ");
+    line.push_number(command.n.get());
+    line.push_str(" ");
+    line.push_number(command.a.get());
+    line.push_str(" ");
+    line.push_number(command.f.get());
+    line.push_str(" ");
 }
 
-fn with_move(line: Line, moves: DataMove, reply: Reply) -> Line
-    requires { length line ≤ 50 }
-    ensures text { result ≡ line ++ move_text moves reply }
-    ensures short { length result ≤ length line + 10 }
+fn push_move(line: &mut Line, moves: DataMove, reply: Reply)
+    requires { length line.old ≤ 100 }
+    ensures text { line.new ≡ line.old ++ move_text moves reply }
+    ensures short { length line.new ≤ length line.old + 10 }
 {
     match moves {
-        DataMove::In => line.with("in ").with_word(reply.word),
-        DataMove::Out(word) => line.with("out ").with_word(word),
-        DataMove::None => line.with("none"),
+        DataMove::In => {
+            line.push_str("in ");
+            line.push_word(reply.word);
+        }
+        DataMove::Out(word) => {
+            line.push_str("out ");
+            line.push_word(word);
+        }
+        DataMove::None => line.push_str("none"),
     }
 }
 

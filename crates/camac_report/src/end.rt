@@ -1,12 +1,13 @@
 // The last line of a run.
 
-ghost use Rattle.std.specs.Prelude.{◌≡◌, ◌≤◌, ◌||◌, ◌++◌, length, is_err};
-ghost use Rattle.camac_report.specs.Ends.{end_text, events_text};
+ghost use Rattle.std.specs.Prelude.{◌≡◌, ◌≤◌, ◌+◌, ◌||◌, ◌++◌, length, is_err, codes, decimal};
+ghost use Rattle.camac_report.specs.Ends.{end_text};
 ghost use Rattle.camac_run_machine.specs.Ends.{stop_in};
 ghost use Rattle.camac_word.specs.Watched.{inner_of, has_failed};
 ghost use Rattle.camac_word.specs.Writing.{Writes};
 
 use crate::line::Line;
+use camac_branch::Overrun;
 use camac_run_machine::End;
 use camac_word::{Watched, WriteFault};
 use std::io::Write;
@@ -22,25 +23,27 @@ pub fn write_end<W: Write>(out: &mut Watched<W>, end: End, events: u32) -> Resul
 fn end_line(end: End, events: u32) -> Line
     ensures { result ≡ end_text (stop_in end) events }
 {
+    let mut line = Line::new();
     match end {
-        End::Ended => with_events(Line::new().with("ended "), events),
-        End::Short => with_events(Line::new().with("short "), events),
-        End::Overrun(overrun) => with_events(
-            Line::new()
-                .with("overrun ")
-                .with_number(overrun.c.get())
-                .with(" wait ")
-                .with_number(overrun.wait)
-                .with(" "),
-            events,
-        ),
+        End::Ended => line.push_str("ended "),
+        End::Short => line.push_str("short "),
+        End::Overrun(overrun) => push_overrun(&mut line, overrun),
     }
+    line.push_str("events ");
+    line.push_number(events);
+    line.push_str("\n");
+    line
 }
 
-// The line with the number of events at its end.
-fn with_events(line: Line, events: u32) -> Line
-    requires { length line ≤ 40 }
-    ensures { result ≡ line ++ events_text events }
+// The crate that took too long, and its wait.
+fn push_overrun(line: &mut Line, overrun: Overrun)
+    requires { length line.old ≤ 40 }
+    ensures text { line.new ≡ line.old ++ codes "overrun " ++ decimal overrun.c ++ codes " wait " ++ decimal overrun.wait ++ codes " " }
+    ensures short { length line.new ≤ length line.old + 40 }
 {
-    line.with("events ").with_number(events).with("\n")
+    line.push_str("overrun ");
+    line.push_number(overrun.c.get());
+    line.push_str(" wait ");
+    line.push_number(overrun.wait);
+    line.push_str(" ");
 }

@@ -1,6 +1,6 @@
 // The lines of an event file.
 
-ghost use Rattle.std.specs.Prelude.{◌≡◌, ◌≤◌, ◌<◌, ◌+◌, ◌||◌, ◌++◌, length, is_err};
+ghost use Rattle.std.specs.Prelude.{◌≡◌, ◌≤◌, ◌<◌, ◌+◌, ◌||◌, ◌++◌, length, is_err, Some};
 ghost use Rattle.std.specs.List.{flat_map};
 ghost use Rattle.camac_event.specs.Spelling.{entry_of};
 ghost use Rattle.camac_report.specs.Events.{usage_text, event_start, word_text, event_line, last_line, events_text};
@@ -33,38 +33,37 @@ fn write_event<W: Write>(
     ensures text { Writes (W.contents (inner_of out.old)) (W.contents (inner_of out.new)) result (event_line number (entry_of event.now)) }
     ensures failed { has_failed out.new ≡ (has_failed out.old || is_err result) }
 {
-    out.write_text(start_of_event(number, event).as_bytes())?;
+    let mut line = Line::new();
+    push_start(&mut line, number, event);
+    out.write_text(line.as_bytes())?;
     write_words(out, &event.words)?;
     out.write_text(b"\n")
 }
 
-fn start_of_event(number: usize, event: &Event) -> Line
-    ensures { result ≡ event_start number (entry_of event.now) }
+fn push_start(line: &mut Line, number: usize, event: &Event)
+    requires { length line.old ≤ 40 }
+    ensures { line.new ≡ line.old ++ event_start number (entry_of event.now) }
 {
-    let line = Line::new()
-        .with("event ")
-        .with_number(number)
-        .with(" gl ")
-        .with_number(event.gl.get());
-    with_usage(line, event.usage)
-        .with(" words ")
-        .with_number(event.words.len())
+    line.push_str("event ");
+    line.push_number(number);
+    line.push_str(" gl ");
+    line.push_number(event.gl.get());
+    if let Some(usage) = event.usage {
+        push_usage(line, usage);
+    }
+    line.push_str(" words ");
+    line.push_number(event.words.len());
 }
 
-// The line with the usage at its end, where there is one.
-fn with_usage(line: Line, usage: Option<Usage>) -> Line
-    requires { length line ≤ 60 }
-    ensures bytes { result ≡ line ++ usage_text usage }
-    ensures len { length result ≤ length line + 31 }
+fn push_usage(line: &mut Line, usage: Usage)
+    requires { length line.old ≤ 100 }
+    ensures bytes { line.new ≡ line.old ++ usage_text (Some usage) }
+    ensures len { length line.new ≤ length line.old + 31 }
 {
-    match usage {
-        Some(usage) => line
-            .with(" cycles ")
-            .with_number(usage.cycles)
-            .with(" missed ")
-            .with_number(usage.missed),
-        None => line,
-    }
+    line.push_str(" cycles ");
+    line.push_number(usage.cycles);
+    line.push_str(" missed ");
+    line.push_number(usage.missed);
 }
 
 fn write_words<W: Write>(out: &mut Watched<W>, words: &[Word24]) -> Result<(), WriteFault>
@@ -88,5 +87,9 @@ fn spaced(word: Word24) -> [u8; 7]
 fn line_of_number(events: usize) -> Line
     ensures { result ≡ last_line events }
 {
-    Line::new().with("events ").with_number(events).with("\n")
+    let mut line = Line::new();
+    line.push_str("events ");
+    line.push_number(events);
+    line.push_str("\n");
+    line
 }

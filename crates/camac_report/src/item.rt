@@ -6,7 +6,7 @@ ghost use Rattle.camac_run_machine.specs.Held.{piece_of};
 ghost use Rattle.camac_word.specs.Watched.{inner_of, has_failed};
 ghost use Rattle.camac_word.specs.Writing.{Writes};
 
-use crate::cycle::cycle_line;
+use crate::cycle::push_cycle;
 use crate::line::Line;
 use crate::verdict::lam_name;
 use camac_check::Checked;
@@ -25,7 +25,9 @@ pub fn write_item<W: Write>(
     ensures text { Writes (W.contents (inner_of out.old)) (W.contents (inner_of out.new)) result (item_text checked.now.script (piece_of item.now)) }
     ensures failed { has_failed out.new ≡ (has_failed out.old || is_err result) }
 {
-    out.write_text(item_line(checked, item).as_bytes())
+    let mut line = Line::new();
+    push_item(&mut line, checked, item);
+    out.write_text(line.as_bytes())
 }
 
 /// Writes the line of an item, and in the same write a line for each crate, at most seven, whose lockout was released after it. After a
@@ -40,39 +42,45 @@ pub fn write_items<W: Write>(
     ensures text { Writes (W.contents (inner_of out.old)) (W.contents (inner_of out.new)) result (item_text checked.now.script (piece_of item.now) ++ unlock_texts unlocks.now) }
     ensures failed { has_failed out.new ≡ (has_failed out.old || is_err result) }
 {
-    let lines = with_unlocks(item_line(checked, item), unlocks);
+    let mut lines = Line::new();
+    push_item(&mut lines, checked, item);
+    push_unlocks(&mut lines, unlocks);
     out.write_text(lines.as_bytes())
 }
 
-fn item_line(checked: &Checked, item: &Item) -> Line
-    ensures text { result ≡ item_text checked.now.script (piece_of item.now) }
-    ensures short { length result ≤ 80 }
+fn push_item(line: &mut Line, checked: &Checked, item: &Item)
+    requires { length line.old ≤ 40 }
+    ensures text { line.new ≡ line.old ++ item_text checked.now.script (piece_of item.now) }
+    ensures short { length line.new ≤ length line.old + 80 }
 {
     match item {
-        Item::Cycle(done) => cycle_line(done),
-        Item::Lock(c, wait) => lock_line(*c, *wait),
-        Item::Unlock(c) => with_unlock(Line::new(), *c),
-        Item::Demand(pattern, service) => demand_line(checked.script(), *pattern, *service),
+        Item::Cycle(done) => push_cycle(line, done),
+        Item::Lock(c, wait) => push_lock(line, *c, *wait),
+        Item::Unlock(c) => push_unlock(line, *c),
+        Item::Demand(pattern, service) => push_demand(line, checked.script(), *pattern, *service),
     }
 }
 
-fn demand_line(script: &Script, pattern: Word24, service: Option<usize>) -> Line
-    ensures text { result ≡ demand_text script.now pattern service }
-    ensures short { length result ≤ 80 }
+fn push_demand(line: &mut Line, script: &Script, pattern: Word24, service: Option<usize>)
+    requires { length line.old ≤ 40 }
+    ensures text { line.new ≡ line.old ++ demand_text script.now pattern service }
+    ensures short { length line.new ≤ length line.old + 80 }
 {
-    let line = Line::new().with("demand ").with_word(pattern).with(" ");
-    with_called(line, script, service).with("\n")
+    line.push_str("demand ");
+    line.push_word(pattern);
+    line.push_str(" ");
+    line.push_bytes(called_name(script, service));
+    line.push_str("\n");
 }
 
-// The line with the service that was called at its end.
-fn with_called(line: Line, script: &Script, service: Option<usize>) -> Line
-    requires { length line ≤ 40 }
-    ensures text { result ≡ line ++ called_text script.now service }
-    ensures short { length result ≤ length line + 32 }
+// The name of the service that is called.
+fn called_name(script: &Script, service: Option<usize>) -> &[u8]
+    ensures name { result.now ≡ called_text script.now service }
+    ensures short { length result.now ≤ 32 }
 {
     match service {
-        Some(i) => line.with_bytes(service_name(script, i)),
-        None => line.with("-"),
+        Some(i) => service_name(script, i),
+        None => b"-",
     }
 }
 
@@ -87,34 +95,34 @@ fn service_name(script: &Script, i: usize) -> &[u8]
     }
 }
 
-fn lock_line(c: CrateNo, wait: u8) -> Line
-    ensures text { result ≡ lock_text c wait }
-    ensures short { length result ≤ 80 }
+fn push_lock(line: &mut Line, c: CrateNo, wait: u8)
+    requires { length line.old ≤ 40 }
+    ensures text { line.new ≡ line.old ++ lock_text c wait }
+    ensures short { length line.new ≤ length line.old + 80 }
 {
-    Line::new()
-        .with("lock ")
-        .with_number(c.get())
-        .with(" wait ")
-        .with_number(wait)
-        .with("\n")
+    line.push_str("lock ");
+    line.push_number(c.get());
+    line.push_str(" wait ");
+    line.push_number(wait);
+    line.push_str("\n");
 }
 
-fn with_unlock(line: Line, c: CrateNo) -> Line
-    requires { length line ≤ 200 }
-    ensures text { result ≡ line ++ unlock_text c }
-    ensures short { length result ≤ length line + 18 }
+fn push_unlock(line: &mut Line, c: CrateNo)
+    requires { length line.old ≤ 200 }
+    ensures text { line.new ≡ line.old ++ unlock_text c }
+    ensures short { length line.new ≤ length line.old + 18 }
 {
-    line.with("unlock ").with_number(c.get()).with("\n")
+    line.push_str("unlock ");
+    line.push_number(c.get());
+    line.push_str("\n");
 }
 
-pub fn with_unlocks(line: Line, unlocks: &[CrateNo]) -> Line
+pub fn push_unlocks(lines: &mut Line, unlocks: &[CrateNo])
     requires few { length unlocks.now ≤ 7 }
-    requires room { length line ≤ 80 }
-    ensures { result ≡ line ++ unlock_texts unlocks.now }
+    requires room { length lines.old ≤ 80 }
+    ensures { lines.new ≡ lines.old ++ unlock_texts unlocks.now }
 {
-    let mut lines = line;
     'unlocks: for c in unlocks {
-        lines = with_unlock(lines, *c);
+        push_unlock(lines, *c);
     }
-    lines
 }

@@ -36,42 +36,43 @@ impl Line {
         }
     }
 
-    /// The line with the text at its end.
-    pub fn with(self, text: &str) -> Line
-        requires { length self + length text.now ≤ LONGEST_LINE }
-        ensures bytes { result ≡ self ++ text.now }
-        ensures len { length result ≡ length self + length text.now }
+    /// Puts the text at the end.
+    #[inline(always)]
+    pub fn push_str(&mut self, text: &str)
+        requires { length self.old + length text.now ≤ LONGEST_LINE }
+        ensures bytes { self.new ≡ self.old ++ text.now }
+        ensures len { length self.new ≡ length self.old + length text.now }
     {
-        self.with_bytes(text.as_bytes())
+        self.push_bytes(text.as_bytes());
     }
 
-    /// The line with the bytes at its end.
-    pub fn with_bytes(mut self, bytes: &[u8]) -> Line
-        requires { length self + length bytes.now ≤ LONGEST_LINE }
-        ensures bytes { result ≡ self ++ bytes.now }
-        ensures len { length result ≡ length self + length bytes.now }
+    /// Puts the bytes at the end.
+    #[inline(always)]
+    pub fn push_bytes(&mut self, bytes: &[u8])
+        requires { length self.old + length bytes.now ≤ LONGEST_LINE }
+        ensures bytes { self.new ≡ self.old ++ bytes.now }
+        ensures len { length self.new ≡ length self.old + length bytes.now }
     {
         self.bytes.try_extend_from_slice(bytes).unwrap();
-        self
     }
 
-    /// The line with the number at its end, in decimal.
-    pub fn with_number<N: Integer>(self, number: N) -> Line
-        requires room { length self + N.MAX_STR_LEN ≤ LONGEST_LINE }
-        ensures bytes { result ≡ self ++ N.text number }
-        ensures len { length result ≤ length self + N.MAX_STR_LEN }
+    /// Puts the number at the end, in decimal.
+    pub fn push_number<N: Integer>(&mut self, number: N)
+        requires room { length self.old + N.MAX_STR_LEN ≤ LONGEST_LINE }
+        ensures bytes { self.new ≡ self.old ++ N.text number }
+        ensures len { length self.new ≤ length self.old + N.MAX_STR_LEN }
     {
         let mut buffer = Buffer::new();
-        self.with(buffer.format(number))
+        self.push_str(buffer.format(number));
     }
 
-    /// The line with the word at its end, in six hexadecimal digits.
-    pub fn with_word(self, word: Word24) -> Line
-        requires room { length self + 6 ≤ LONGEST_LINE }
-        ensures bytes { result ≡ self ++ hex_word word }
-        ensures len { length result ≡ length self + 6 }
+    /// Puts the word at the end, in six hexadecimal digits.
+    pub fn push_word(&mut self, word: Word24)
+        requires room { length self.old + 6 ≤ LONGEST_LINE }
+        ensures bytes { self.new ≡ self.old ++ hex_word word }
+        ensures len { length self.new ≡ length self.old + 6 }
     {
-        self.with_bytes(&hex_word(word))
+        self.push_bytes(&hex_word(word));
     }
 
     pub fn as_bytes(&self) -> &[u8]

@@ -25,7 +25,11 @@ pub fn write_plan<W: Write>(out: &mut Watched<W>, plan: &Plan) -> Result<(), Wri
 fn line_of_buffer(buffer: u16) -> Line
     ensures { result ≡ buffer_line buffer }
 {
-    Line::new().with("buffer ").with_number(buffer).with("\n")
+    let mut line = Line::new();
+    line.push_str("buffer ");
+    line.push_number(buffer);
+    line.push_str("\n");
+    line
 }
 
 fn write_types<W: Write>(out: &mut Watched<W>, plan: &Plan) -> Result<(), WriteFault>
@@ -44,9 +48,11 @@ fn write_type<W: Write>(out: &mut Watched<W>, plan: &Plan, t: usize) -> Result<(
     ensures failed { has_failed out.new ≡ (has_failed out.old || is_err result) }
 {
     let (commands, probes) = plan.type_counts(t);
+    let mut start = Line::new();
+    start.push_str("type ");
     write_around(
         out,
-        &Line::new().with("type "),
+        &start,
         plan.type_name(t).as_bytes(),
         &end_of_type(commands, probes),
     )
@@ -55,12 +61,13 @@ fn write_type<W: Write>(out: &mut Watched<W>, plan: &Plan, t: usize) -> Result<(
 fn end_of_type(commands: u32, probes: u32) -> Line
     ensures { result ≡ codes " commands " ++ decimal commands ++ codes " probes " ++ decimal probes ++ codes "\n" }
 {
-    Line::new()
-        .with(" commands ")
-        .with_number(commands)
-        .with(" probes ")
-        .with_number(probes)
-        .with("\n")
+    let mut line = Line::new();
+    line.push_str(" commands ");
+    line.push_number(commands);
+    line.push_str(" probes ");
+    line.push_number(probes);
+    line.push_str("\n");
+    line
 }
 
 fn write_crates<W: Write>(out: &mut Watched<W>, plan: &Plan) -> Result<(), WriteFault>
@@ -87,12 +94,13 @@ fn write_crate<W: Write>(out: &mut Watched<W>, plan: &Plan, c: CrateNo) -> Resul
 fn line_of_crate(c: CrateNo, waits: u8) -> Line
     ensures { result ≡ crate_line c waits }
 {
-    Line::new()
-        .with("crate ")
-        .with_number(c.get())
-        .with(" waits ")
-        .with_number(waits)
-        .with("\n")
+    let mut line = Line::new();
+    line.push_str("crate ");
+    line.push_number(c.get());
+    line.push_str(" waits ");
+    line.push_number(waits);
+    line.push_str("\n");
+    line
 }
 
 fn write_stations<W: Write>(out: &mut Watched<W>, plan: &Plan, c: CrateNo) -> Result<(), WriteFault>
@@ -128,17 +136,24 @@ fn write_station<W: Write>(
 fn start_of_station(n: Station) -> Line
     ensures { result ≡ codes "station " ++ decimal n ++ codes " " }
 {
-    Line::new().with("station ").with_number(n.get()).with(" ")
+    let mut line = Line::new();
+    line.push_str("station ");
+    line.push_number(n.get());
+    line.push_str(" ");
+    line
 }
 
 fn end_of_station(bit: Option<GlBit>) -> Line
     ensures { result ≡ codes " gl " ++ bit_text bit ++ codes "\n" }
 {
-    let line = Line::new().with(" gl ");
+    let mut line = Line::new();
+    line.push_str(" gl ");
     match bit {
-        Some(bit) => line.with_number(bit.get()).with("\n"),
-        None => line.with("-\n"),
+        Some(bit) => line.push_number(bit.get()),
+        None => line.push_str("-"),
     }
+    line.push_str("\n");
+    line
 }
 
 // Writes a line with a name in it.

@@ -54,12 +54,13 @@ fn whole(code: CodeText) -> Line
     requires { (length code.name.now ≤ LONGEST_NAME) × (length code.meaning.now ≤ LONGEST_MEANING) }
     ensures { result ≡ refused_whole (code.name.now, code.meaning.now) }
 {
-    Line::new()
-        .with("refused ")
-        .with(code.name)
-        .with(": ")
-        .with(code.meaning)
-        .with("\n")
+    let mut line = Line::new();
+    line.push_str("refused ");
+    line.push_str(code.name);
+    line.push_str(": ");
+    line.push_str(code.meaning);
+    line.push_str("\n");
+    line
 }
 
 fn at(code: CodeText, place: &str, number: usize) -> Line
@@ -67,12 +68,13 @@ fn at(code: CodeText, place: &str, number: usize) -> Line
     requires place { length place.now ≤ 6 }
     ensures { result ≡ refused_at (code.name.now, code.meaning.now) place.now number }
 {
-    Line::new()
-        .with("refused ")
-        .with(code.name)
-        .with(place)
-        .with_number(number)
-        .with(": ")
-        .with(code.meaning)
-        .with("\n")
+    let mut line = Line::new();
+    line.push_str("refused ");
+    line.push_str(code.name);
+    line.push_str(place);
+    line.push_number(number);
+    line.push_str(": ");
+    line.push_str(code.meaning);
+    line.push_str("\n");
+    line
 }

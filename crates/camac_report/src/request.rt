@@ -7,8 +7,8 @@ ghost use Rattle.camac_report.specs.Requests.{asked_text, request_text};
 ghost use Rattle.camac_word.specs.Watched.{inner_of, has_failed};
 ghost use Rattle.camac_word.specs.Writing.{Writes};
 
-use crate::cycle::command_line;
-use crate::item::with_unlocks;
+use crate::cycle::push_command;
+use crate::item::push_unlocks;
 use crate::line::Line;
 use camac_branch::Command;
 use camac_func::DataMove;
@@ -22,7 +22,9 @@ pub fn write_request<W: Write>(out: &mut Watched<W>, wanted: Wanted) -> Result<(
     ensures text { Writes (W.contents (inner_of out.old)) (W.contents (inner_of out.new)) result (request_text wanted) }
     ensures failed { has_failed out.new ≡ (has_failed out.old || is_err result) }
 {
-    out.write_text(request_line(wanted).as_bytes())
+    let mut line = Line::new();
+    push_request(&mut line, wanted);
+    out.write_text(line.as_bytes())
 }
 
 /// Writes a line `unlock` for each crate, at most seven, whose lockout is released, all in one write. After a write fault a prefix of
@@ -32,28 +34,42 @@ pub fn write_unlocks<W: Write>(out: &mut Watched<W>, unlocks: &[CrateNo]) -> Res
     ensures text { Writes (W.contents (inner_of out.old)) (W.contents (inner_of out.new)) result (unlock_texts unlocks.now) }
     ensures failed { has_failed out.new ≡ (has_failed out.old || is_err result) }
 {
-    out.write_text(with_unlocks(Line::new(), unlocks).as_bytes())
+    let mut lines = Line::new();
+    push_unlocks(&mut lines, unlocks);
+    out.write_text(lines.as_bytes())
 }
 
-fn request_line(wanted: Wanted) -> Line
-    ensures { result ≡ request_text wanted }
+fn push_request(line: &mut Line, wanted: Wanted)
+    requires room { length line.old ≤ 40 }
+    ensures { line.new ≡ line.old ++ request_text wanted }
 {
     match wanted {
-        Wanted::Demand => Line::new().with("demand\n"),
-        Wanted::Cycle(command) => with_asked(command_line(&command), command.mv).with("\n"),
-        Wanted::Lock(c) => Line::new().with("lock ").with_number(c.get()).with("\n"),
+        Wanted::Demand => line.push_str("demand\n"),
+        Wanted::Cycle(command) => {
+            push_command(line, &command);
+            push_asked(line, command.mv);
+            line.push_str("\n");
+        }
+        Wanted::Lock(c) => {
+            line.push_str("lock ");
+            line.push_number(c.get());
+            line.push_str("\n");
+        }
     }
 }
 
-// The line with what a cycle moves at its end.
-fn with_asked(line: Line, moves: DataMove) -> Line
-    requires { length line ≤ 50 }
-    ensures text { result ≡ line ++ asked_text moves }
-    ensures short { length result ≤ length line + 10 }
+// Puts what a cycle moves at the end.
+fn push_asked(line: &mut Line, moves: DataMove)
+    requires { length line.old ≤ 100 }
+    ensures text { line.new ≡ line.old ++ asked_text moves }
+    ensures short { length line.new ≤ length line.old + 10 }
 {
     match moves {
-        DataMove::In => line.with("in"),
-        DataMove::Out(word) => line.with("out ").with_word(word),
-        DataMove::None => line.with("none"),
+        DataMove::In => line.push_str("in"),
+        DataMove::Out(word) => {
+            line.push_str("out ");
+            line.push_word(word);
+        }
+        DataMove::None => line.push_str("none"),
     }
 }

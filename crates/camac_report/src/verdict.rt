@@ -56,20 +56,21 @@ fn laid_out(name: &[u8], bit: GlBit, service: &Service, bounds: Bounds) -> Line
     requires { length name.now ≤ 32 }
     ensures { result ≡ service_line name.now bit (service_of service.now) bounds }
 {
-    Line::new()
-        .with("service ")
-        .with_bytes(name)
-        .with(" gl ")
-        .with_number(bit.get())
-        .with(" cycles ")
-        .with_number(bounds.cycles)
-        .with(" of ")
-        .with_number(service.cycles)
-        .with(" words ")
-        .with_number(bounds.words)
-        .with(" of ")
-        .with_number(service.words)
-        .with(" steps ")
-        .with_number(bounds.steps)
-        .with("\n")
+    let mut line = Line::new();
+    line.push_str("service ");
+    line.push_bytes(name);
+    line.push_str(" gl ");
+    line.push_number(bit.get());
+    line.push_str(" cycles ");
+    line.push_number(bounds.cycles);
+    line.push_str(" of ");
+    line.push_number(service.cycles);
+    line.push_str(" words ");
+    line.push_number(bounds.words);
+    line.push_str(" of ");
+    line.push_number(service.words);
+    line.push_str(" steps ");
+    line.push_number(bounds.steps);
+    line.push_str("\n");
+    line
 }

@@ -1,4 +1,4 @@
-use Rattle.std.proofs.Common.{◌∙◌, ◌++◌, codes}
+use Rattle.std.proofs.Common.{◌≡◌, ◌∙◌, ◌++◌, codes, rules}
 use Rattle.std.specs.List.{flat_map}
 use Rattle.std.proofs.KnownBytes.{Appends-trans}
 use Rattle.camac_event.specs.Spelling.{entry_of}
@@ -13,8 +13,9 @@ returns-in_err-write_text-clause-text g c =
     let e = entry_of c.args.event.now in
     let start = event_start c.args.number e in
     let words = flat_map word_text e.words in
+    let started : c.push_start.new.line ≡ start = search rules in
     Writes-at_err c.from_residual.result _ _ _ c.from_residual.ensures.0
-    (front_longer (start ++ words) (codes "\n") _ _ (front_longer start words _ _ (rw (c.as_bytes.ensures ∙ c.start_of_event.ensures) at c.in_err-write_text.ensures.text)))
+    (front_longer (start ++ words) (codes "\n") _ _ (front_longer start words _ _ (rw (c.as_bytes.ensures ∙ started) at c.in_err-write_text.ensures.text)))
 
 pub returns-in_err-write_words-clause-text : goal.returns-in_err-write_words-clause-text
 unfolding event_line
@@ -22,9 +23,10 @@ returns-in_err-write_words-clause-text g c =
     let e = entry_of c.args.event.now in
     let start = event_start c.args.number e in
     let words = flat_map word_text e.words in
+    let started : c.push_start.new.line ≡ start = search rules in
     Writes-at_err c.from_residual-in_err-write_words.result _ _ _ c.from_residual-in_err-write_words.ensures.0
     (front_longer (start ++ words) (codes "\n") _ _
-    (front_after start words _ _ _ (rw (c.as_bytes.ensures ∙ c.start_of_event.ensures) at c.in_ok-write_text.ensures.text) (rw c.deref.ensures.value at c.in_err-write_words.ensures.text)))
+    (front_after start words _ _ _ (rw (c.as_bytes.ensures ∙ started) at c.in_ok-write_text.ensures.text) (rw c.deref.ensures.value at c.in_err-write_words.ensures.text)))
 
 pub returns-clause-text : goal.returns-clause-text
 unfolding event_line
@@ -32,6 +34,7 @@ returns-clause-text g c =
     let e = entry_of c.args.event.now in
     let start = event_start c.args.number e in
     let words = flat_map word_text e.words in
+    let started : c.push_start.new.line ≡ start = search rules in
     Writes-after c.write_text-2.result (start ++ words) (codes "\n") _ _ _
-    (Appends-trans _ _ _ start words (rw (c.as_bytes.ensures ∙ c.start_of_event.ensures) at c.in_ok-write_text.ensures.text) (rw c.deref.ensures.value at c.in_ok-write_words.ensures.text))
+    (Appends-trans _ _ _ start words (rw (c.as_bytes.ensures ∙ started) at c.in_ok-write_text.ensures.text) (rw c.deref.ensures.value at c.in_ok-write_words.ensures.text))
     c.write_text-2.ensures.text

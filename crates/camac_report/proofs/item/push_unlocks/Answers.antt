@@ -1,7 +1,7 @@
 use Rattle.std.proofs.Common.{◌≡◌, ◌∙◌, ◌++◌, List, ℕ, ap, sym, append_assoc, refl, drop, ◌+◌, arith}
 use Rattle.camac_report.proofs.Texts.{flat_map-next}
 use Rattle.camac_report.specs.Items.{unlock_text, unlock_texts}
-use Rattle.camac_report.proofs.item.with_unlocks.Goals as goal
+use Rattle.camac_report.proofs.item.push_unlocks.Goals as goal
 
 pub unlocks-preserved : goal.unlocks-preserved
 unlocks-preserved c =
@@ -12,6 +12,6 @@ unlocks-preserved c =
     let next : unlock_texts (drop i unlocks) ≡ line ++ rest =
     flat_map-next unlock_text unlocks i c.c-item.result line c.unlocks-test.true c.c-item.is refl in (
       c.unlocks.invariant.0 ∙ ap (λ (l : List ℕ). c.unlocks.lines ++ l) next ∙ sym (append_assoc c.unlocks.lines line rest)
-          ∙ ap (λ (l : List ℕ). l ++ rest) (sym c.with_unlock-lines.ensures.text),
+          ∙ ap (λ (l : List ℕ). l ++ rest) (sym c.push_unlock.ensures.text),
       omega arith,
     )
