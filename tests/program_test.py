@@ -33,7 +33,7 @@ ANSWERS = DEMAND + b"1 1 123fff 2 000000\n"
 LISTING = b"demand 000004 adc\ncycle 1 5 0 0 in 123fff x1 q1 wait 2\nended events 1\n"
 EVENT_FILE = bytes.fromhex("43414d4143455632 ca4d 0003 00000001 00000003 0000 0001 00000fff")
 EVENT_FILE_ONE = bytes.fromhex("43414d4143455631 ca4d 0003 00000001 0001 00000fff")
-WORDS = {"plan": ["PLAN"], "check": ["PLAN", "SCRIPT"], "run": ["PLAN", "SCRIPT", "ANSWERS", "EVENTS"], "events": ["FILE"]}
+WORDS = {"plan": ["PLAN"], "check": ["PLAN", "SCRIPT"], "run": ["PLAN", "SCRIPT", "ANSWERS", "EVENTS"], "drive": ["PLAN", "SCRIPT", "EVENTS"], "events": ["FILE"]}
 # Stands in front of the C library's calls: one fails as the environment says, as '2 write 4': the second write, with errno 4. Standard
 # error is left alone. The numbers of the system's calls are those of x86-64, for which programs are built.
 FAILING_CALLS = r"""
@@ -137,7 +137,7 @@ class Usage(Case):
     """Words that are not understood: status 2, a text on standard error, nothing on standard output."""
 
     def test_words_that_clap_refuses(self):
-        tried = [[], ["chekc"], ["--frob"], ["plan"], ["check", "@sample"], ["run", "a", "b", "c"], ["events"]]
+        tried = [[], ["chekc"], ["--frob"], ["plan"], ["check", "@sample"], ["run", "a", "b", "c"], ["drive", "a", "b"], ["events"]]
         tried += [["plan", "a", "b"], ["events", "a", "b"], ["check", "a", "b", "c"], ["plan", "--frob"], ["plan", "--version"]]
         for words in tried:
             status, out, err = self.call(*words)
@@ -177,7 +177,7 @@ class Help(Case):
             for word in words:
                 self.assertRegex(text, rf"(?m)^  <{word}> +[A-Z][^\n]{{10}}", "a word without a text")
             self.assertEqual("@sample" in text, "PLAN" in words)
-            self.assertIn("@in", text)
+            self.assertEqual("@in" in text, name != "drive", "the answers of drive are standard input")
             self.assertIn("Examples:\n", text)
             self.assertIn(f"  camac {name} ", text.partition("Examples:")[2])
 

@@ -67,6 +67,19 @@ fn run_words(rt: HostRuntime) -> Result<(), Fail> {
 }
 
 #[test]
+fn drive_words(rt: HostRuntime) -> Result<(), Fail> {
+    let words = words(rt.alloc(), "drive a b c")?;
+    let job = read_words(rt.alloc(), words.as_slice());
+    let Ok(Job::Drive(plan, script, events)) = job else {
+        return Err(Fail::from("no live run"));
+    };
+    assert_eq!(rt; plan, "a");
+    assert_eq!(rt; script, "b");
+    assert_eq!(rt; events, "c");
+    Ok(())
+}
+
+#[test]
 fn events_words(rt: HostRuntime) -> Result<(), Fail> {
     let words = words(rt.alloc(), "events a")?;
     let Ok(Job::Events(file)) = read_words(rt.alloc(), words.as_slice()) else {
@@ -84,6 +97,8 @@ fn standard_input_twice(rt: HostRuntime) -> Result<(), Fail> {
         "run @in s @in e",
         "run p @in @in e",
         "run @in @in @in e",
+        "drive @in s e",
+        "drive p @in e",
     ] {
         assert_eq!(rt; fault(rt.alloc(), line)?, Some(Why::InTwice));
     }
@@ -102,6 +117,7 @@ fn standard_input_once(rt: HostRuntime) -> Result<(), Fail> {
         "run p s @in e",
         "run p s a @in",
         "run p s @in @in",
+        "drive p s @in",
         "events @in",
     ] {
         assert_eq!(rt; fault(rt.alloc(), line)?, None);
@@ -117,10 +133,12 @@ fn words_of_no_job(rt: HostRuntime) -> Result<(), Fail> {
         ("plan", ErrorKind::MissingRequiredArgument),
         ("check p", ErrorKind::MissingRequiredArgument),
         ("run p s a", ErrorKind::MissingRequiredArgument),
+        ("drive p s", ErrorKind::MissingRequiredArgument),
         ("events", ErrorKind::MissingRequiredArgument),
         ("plan p s", ErrorKind::UnknownArgument),
         ("check p s a", ErrorKind::UnknownArgument),
         ("run p s a e f", ErrorKind::UnknownArgument),
+        ("drive p s e f", ErrorKind::UnknownArgument),
         ("events e f", ErrorKind::UnknownArgument),
         ("--frob", ErrorKind::UnknownArgument),
         ("plan --version", ErrorKind::UnknownArgument),

@@ -8,6 +8,8 @@ mod endless;
 #[cfg(test)]
 mod faults;
 #[cfg(test)]
+mod live;
+#[cfg(test)]
 mod locks;
 #[cfg(test)]
 mod log;

@@ -2,8 +2,9 @@
 
 use camac_branch::Answer;
 use camac_check::{Checked, check};
+use camac_func::DataMove;
 use camac_names::resolve;
-use camac_run::{Item, Progress, Runner};
+use camac_run::{Item, Progress, Runner, Wanted};
 use camac_test_fixtures::scripts::STRAIGHT_LINE;
 use camac_text::parse;
 use camac_tool::sample_plan;
@@ -75,17 +76,32 @@ fn expect_event(rt: &impl Abort, progress: &Progress) -> Result<(), Fail> {
     Ok(())
 }
 
+fn expect_wanted_read(rt: &impl Abort, wanted: Option<Wanted>) -> Result<(), Fail> {
+    let Some(Wanted::Cycle(command)) = wanted else {
+        return Err(Fail::from("a cycle"));
+    };
+    assert_eq!(rt; command.c.get(), 1);
+    assert_eq!(rt; command.n.get(), 5);
+    assert_eq!(rt; command.a.get(), 0);
+    assert_eq!(rt; command.f.get(), 0);
+    assert_eq!(rt; command.mv, DataMove::In);
+    Ok(())
+}
+
 fn expect_straight_line(rt: &impl Abort, checked: &Checked) -> Result<(), Fail> {
     assert!(rt; checked.fits(1, 1, 1));
     let mut runner = Runner::<1, 1, 1>::start(checked);
     expect_at(rt, &runner, 0, false, 0)?;
+    assert_eq!(rt; runner.wants(), Some(Wanted::Demand));
     let progress = feed(rt, &mut runner, answer(false, 0, 0, 4)?);
     expect_demand(rt, &progress)?;
     expect_at(rt, &runner, 1, true, 2)?;
+    expect_wanted_read(rt, runner.wants())?;
     assert!(rt; runner.last_words().is_empty());
     let progress = feed(rt, &mut runner, answer(true, 0x123fff, 2, 0)?);
     expect_event(rt, &progress)?;
     expect_at(rt, &runner, 2, false, 0)?;
+    assert_eq!(rt; runner.wants(), Some(Wanted::Demand));
     let word = runner.last_words().first().ok_or("a word")?;
     assert_eq!(rt; word.get(), 0xfff);
     Ok(())
@@ -95,4 +111,24 @@ fn expect_straight_line(rt: &impl Abort, checked: &Checked) -> Result<(), Fail> 
 fn runner_straight_line(rt: HostRuntime) -> Result<(), Fail> {
     let checked = straight_line(rt.alloc())?;
     expect_straight_line(&rt, &checked)
+}
+
+// After a wait that is not permitted nothing is wanted.
+fn expect_overrun(rt: &impl Abort, checked: &Checked) -> Result<(), Fail> {
+    assert!(rt; checked.fits(1, 1, 1));
+    let mut runner = Runner::<1, 1, 1>::start(checked);
+    feed(rt, &mut runner, answer(false, 0, 0, 4)?);
+    let progress = feed(rt, &mut runner, answer(true, 0, 3, 0)?);
+    let Progress::Overrun(overrun) = progress else {
+        return Err(Fail::from("a wait that is not permitted"));
+    };
+    assert_eq!(rt; overrun.wait, 3);
+    assert_eq!(rt; runner.wants(), None);
+    Ok(())
+}
+
+#[test]
+fn runner_overrun(rt: HostRuntime) -> Result<(), Fail> {
+    let checked = straight_line(rt.alloc())?;
+    expect_overrun(&rt, &checked)
 }

@@ -2,10 +2,11 @@
 
 use crate::judged::{straight_line, straight_line_log};
 use camac_report::{
-    write_cycle, write_end, write_events, write_item, write_items, write_plan, write_verdict,
+    write_cycle, write_end, write_events, write_item, write_items, write_plan, write_request,
+    write_unlocks, write_verdict,
 };
-use camac_run::{End, Item};
-use camac_word::Watched;
+use camac_run::{End, Item, Wanted, requests_are_safe};
+use camac_word::{CrateNo, Watched};
 use std::process::Abort;
 use std::test::Fail;
 
@@ -39,6 +40,24 @@ fn lines_of_a_run(rt: HostRuntime) -> Result<(), Fail> {
         write_cycle(&mut out, done)?;
     }
     let want = b"cycle 1 5 0 0 in 123fff x1 q1 wait 2\n";
+    assert_eq!(rt; out.into_inner().as_slice(), want.as_slice());
+    Ok(())
+}
+
+#[test]
+fn lines_of_a_live_run(rt: HostRuntime) -> Result<(), Fail> {
+    let checked = straight_line(rt.alloc())?;
+    requests_are_safe(&checked);
+    let log = straight_line_log(rt.alloc(), &checked)?;
+    let crate_no = CrateNo::new(7).ok_or("a crate")?;
+    let mut out = Watched::new(Vec::new(rt.alloc()));
+    write_request(&mut out, Wanted::Demand)?;
+    if let Item::Cycle(done) = &log.items.as_slice()[1] {
+        write_request(&mut out, Wanted::Cycle(done.command))?;
+    }
+    write_request(&mut out, Wanted::Lock(crate_no))?;
+    write_unlocks(&mut out, &[crate_no])?;
+    let want = b"demand\ncycle 1 5 0 0 in\nlock 7\nunlock 7\n";
     assert_eq!(rt; out.into_inner().as_slice(), want.as_slice());
     Ok(())
 }

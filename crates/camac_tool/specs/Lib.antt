@@ -7,5 +7,8 @@ pub mod Engine
 pub mod Accepted
 pub mod Run
 pub mod Headline
+pub mod Found
+pub mod RunInTurn
+pub mod Drive
 pub mod Input
 pub mod OneTry

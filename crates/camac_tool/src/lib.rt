@@ -2,6 +2,7 @@
 #![tactic(auto)]
 
 mod codes;
+mod driving;
 mod engine;
 mod fault;
 mod input;
@@ -18,6 +19,7 @@ mod streams;
 mod target;
 
 pub use camac_tool_words::{Job, JobFault, read_words};
+pub use driving::engine_drive;
 pub use engine::{engine_check, engine_events, engine_plan};
 pub use fault::ToolFault;
 pub use launch::{ArgumentsFault, arguments};

@@ -4,6 +4,7 @@ ghost use Rattle.std.specs.Prelude.{◌≡◌};
 ghost use Rattle.camac_tool.specs.Engine.{status_of};
 ghost use Rattle.camac_tool.specs.declared.launch.ArgumentsFault.TheVariants.{Memory, NotText};
 
+use crate::driving::engine_drive;
 use crate::engine::{engine_check, engine_events, engine_plan};
 use crate::fault::ToolFault;
 use crate::input::{Input, open};
@@ -59,6 +60,7 @@ fn serve<R: Runtime + AllocGlobal>(rt: &R, job: Job<'_>) -> u8 {
         Job::Run(plan, script, answers, events) => {
             finished(rt, run(rt, plan, script, answers, events))
         }
+        Job::Drive(plan, script, events) => finished(rt, drive(rt, plan, script, events)),
     }
 }
 
@@ -95,6 +97,30 @@ fn run<R: Runtime + AllocGlobal>(
         &mut source_of(plan),
         &mut Watched::new(script),
         &mut Watched::new(ahead),
+        &mut Watched::new(io::writer(rt)),
+        &mut events,
+    )?;
+    settle(&events.into_inner())?;
+    Ok(outcome)
+}
+
+// A request goes out in one write to a writer that keeps nothing back, and no answer is read ahead of its request.
+fn drive<R: Runtime + AllocGlobal>(
+    rt: &R,
+    plan: &str,
+    script: &str,
+    events: &str,
+) -> Result<Outcome, ToolFault> {
+    let plan = plan_input(rt, plan)?;
+    let script = open(rt, script)?;
+    let answers = Input::Standard(rt.reader());
+    let file = create_events(rt, events, plan.as_ref(), &script, &answers)?;
+    let mut events = Watched::new(file);
+    let outcome = engine_drive(
+        rt.alloc(),
+        &mut source_of(plan),
+        &mut Watched::new(script),
+        &mut Watched::new(answers),
         &mut Watched::new(io::writer(rt)),
         &mut events,
     )?;

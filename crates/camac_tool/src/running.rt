@@ -5,20 +5,18 @@ ghost use Rattle.camac_answer.specs.Answers.{left_in};
 ghost use Rattle.camac_answer.specs.declared.answers.Stage.TheVariants.{Running};
 ghost use Rattle.camac_tool_play.specs.Sent.{held};
 ghost use Rattle.camac_tool.specs.Engine.{is_write_fault};
-ghost use Rattle.camac_tool.specs.Headline.{CheckedKeeps, JudgedKeeps, TextKeepsOn, KeepsHeadline};
+ghost use Rattle.camac_tool.specs.Headline.{CheckedKeeps, JudgedKeeps, KeepsHeadline};
 ghost use Rattle.camac_tool.specs.Plan.{plan_failed};
 ghost use Rattle.camac_tool.specs.Reading.{is_read_fault};
-ghost use Rattle.camac_tool.specs.Run.{Refuses, Runs, RunsJudged, RunsOn, RunsScript, outcome_of};
+ghost use Rattle.camac_tool.specs.Run.{Refuses, Runs, RunsJudged, RunsScript, outcome_of};
+ghost use Rattle.camac_tool.specs.RunInTurn.{JudgedInTurn, RunsInTurn, ScriptInTurn};
 ghost use Rattle.camac_word.specs.Watched.{inner_of, has_failed};
 
-use crate::codes::plan_code;
 use crate::engine::refuse;
 use crate::fault::ToolFault;
-use crate::judging::{Judged, judge};
+use crate::judging::{Judged, read_judged};
 use crate::outcome::Outcome;
-use crate::plan::{PlanSource, read_plan};
-use crate::reading::{TEXT_LIMIT, read_whole};
-use camac_branch::Plan;
+use crate::plan::PlanSource;
 use camac_check::Checked;
 use camac_report::Refusal;
 use camac_run_machine::End;
@@ -30,7 +28,8 @@ use std::io::{Read, Write};
 /// Runs a script on a plan and the text of its answers. The listing, or the line of the first refusal, is written to `out`, the event file
 /// to `events`. The plan is read and judged first, then the script. Then the run begins, and what an answer did is written before the next
 /// answer is read. A fault leaves nothing written, but for two. A fault of a writer leaves a prefix of what is sent to both, in one order.
-/// A fault of the reader of the answers leaves what belongs to the answers before it.
+/// A fault of the reader of the answers leaves what belongs to the answers before it. Where the plan or the script cannot be read, no
+/// answer is.
 pub fn engine_run<P: Read, S: Read, A: Read, W: Write, E: Write>(
     alloc: Global,
     plan: &mut PlanSource<P>,
@@ -41,36 +40,16 @@ pub fn engine_run<P: Read, S: Read, A: Read, W: Write, E: Write>(
 ) -> Result<Outcome, ToolFault>
     ensures runs { Runs P.remaining plan.old plan.new (S.remaining (inner_of script.old)) (S.remaining (inner_of script.new)) (left_in Running 0 (A.remaining (inner_of answers.old)))
         (held (W.contents (inner_of out.old)) (E.contents (inner_of events.old))) (held (W.contents (inner_of out.new)) (E.contents (inner_of events.new))) result }
+    ensures in_turn { RunsInTurn P.remaining plan.old plan.new (S.remaining (inner_of script.old)) (S.remaining (inner_of script.new))
+        (left_in Running 0 (A.remaining (inner_of answers.old))) (A.remaining (inner_of answers.old)) (A.remaining (inner_of answers.new))
+        (held (W.contents (inner_of out.old)) (E.contents (inner_of events.old))) (held (W.contents (inner_of out.new)) (E.contents (inner_of events.new))) result }
     ensures headline { KeepsHeadline P.remaining plan.old plan.new (S.remaining (inner_of script.old)) (S.remaining (inner_of script.new))
         (left_in Running 0 (A.remaining (inner_of answers.old))) (E.contents (inner_of events.old)) (E.contents (inner_of events.new)) result }
     ensures out_failed { (has_failed out.new || has_failed events.new) ≡ ((has_failed out.old || has_failed events.old) || is_write_fault result) }
     ensures in_failed { ((plan_failed plan.new || has_failed script.new) || has_failed answers.new)
         ≡ (((plan_failed plan.old || has_failed script.old) || has_failed answers.old) || is_read_fault result) }
 {
-    let says = read_plan(alloc, plan)?;
-    match says {
-        Ok(plan) => run_on(alloc, &plan, script, answers, out, events),
-        Err(rule) => refuse_run(out, Refusal::Plan(plan_code(rule))),
-    }
-}
-
-fn run_on<S: Read, A: Read, W: Write, E: Write>(
-    alloc: Global,
-    plan: &Plan,
-    script: &mut Watched<S>,
-    answers: &mut Watched<A>,
-    out: &mut Watched<W>,
-    events: &mut Watched<E>,
-) -> Result<Outcome, ToolFault>
-    ensures runs { RunsOn plan.now (S.remaining (inner_of script.old)) (S.remaining (inner_of script.new)) (left_in Running 0 (A.remaining (inner_of answers.old)))
-        (held (W.contents (inner_of out.old)) (E.contents (inner_of events.old))) (held (W.contents (inner_of out.new)) (E.contents (inner_of events.new))) result }
-    ensures headline { TextKeepsOn plan.now (S.remaining (inner_of script.old)) (S.remaining (inner_of script.new))
-        (left_in Running 0 (A.remaining (inner_of answers.old))) (E.contents (inner_of events.old)) (E.contents (inner_of events.new)) result }
-    ensures out_failed { (has_failed out.new || has_failed events.new) ≡ ((has_failed out.old || has_failed events.old) || is_write_fault result) }
-    ensures in_failed { (has_failed script.new || has_failed answers.new) ≡ ((has_failed script.old || has_failed answers.old) || is_read_fault result) }
-{
-    let text = read_whole(alloc, script, TEXT_LIMIT)?;
-    let judged = judge(alloc, plan, &text)?;
+    let judged = read_judged(alloc, plan, script)?;
     run_judged(alloc, &judged, answers, out, events)
 }
 
@@ -82,6 +61,8 @@ fn run_judged<A: Read, W: Write, E: Write>(
     events: &mut Watched<E>,
 ) -> Result<Outcome, ToolFault>
     ensures runs { RunsJudged judged.now (left_in Running 0 (A.remaining (inner_of answers.old)))
+        (held (W.contents (inner_of out.old)) (E.contents (inner_of events.old))) (held (W.contents (inner_of out.new)) (E.contents (inner_of events.new))) result }
+    ensures in_turn { JudgedInTurn judged.now (left_in Running 0 (A.remaining (inner_of answers.old))) (A.remaining (inner_of answers.old)) (A.remaining (inner_of answers.new))
         (held (W.contents (inner_of out.old)) (E.contents (inner_of events.old))) (held (W.contents (inner_of out.new)) (E.contents (inner_of events.new))) result }
     ensures headline { JudgedKeeps judged.now (left_in Running 0 (A.remaining (inner_of answers.old))) (E.contents (inner_of events.old)) (E.contents (inner_of events.new)) result }
     ensures out_failed { (has_failed out.new || has_failed events.new) ≡ ((has_failed out.old || has_failed events.old) || is_write_fault result) }
@@ -102,6 +83,8 @@ fn run_checked<A: Read, W: Write, E: Write>(
 ) -> Result<Outcome, ToolFault>
     ensures runs { RunsScript checked.now.plan checked.now.script (left_in Running 0 (A.remaining (inner_of answers.old)))
         (held (W.contents (inner_of out.old)) (E.contents (inner_of events.old))) (held (W.contents (inner_of out.new)) (E.contents (inner_of events.new))) result }
+    ensures in_turn { ScriptInTurn checked.now.plan checked.now.script (left_in Running 0 (A.remaining (inner_of answers.old))) (A.remaining (inner_of answers.new))
+        (held (W.contents (inner_of out.old)) (E.contents (inner_of events.old))) (held (W.contents (inner_of out.new)) (E.contents (inner_of events.new))) result }
     ensures headline { CheckedKeeps checked.now (left_in Running 0 (A.remaining (inner_of answers.old))) (E.contents (inner_of events.old)) (E.contents (inner_of events.new)) result }
     ensures out_failed { (has_failed out.new || has_failed events.new) ≡ ((has_failed out.old || has_failed events.old) || is_write_fault result) }
     ensures in_failed { has_failed answers.new ≡ (has_failed answers.old || is_read_fault result) }
@@ -115,7 +98,7 @@ fn run_checked<A: Read, W: Write, E: Write>(
 }
 
 // A wait that is not permitted and a fault of the answers refuse, the end of the answers does not.
-fn outcome_of(ending: Ending) -> Outcome
+pub fn outcome_of(ending: Ending) -> Outcome
     ensures { result ≡ outcome_of ending }
 {
     match ending {
@@ -127,7 +110,7 @@ fn outcome_of(ending: Ending) -> Outcome
 }
 
 // The line of a refusal, and nothing to the event file.
-fn refuse_run<W: Write>(out: &mut Watched<W>, refusal: Refusal) -> Result<Outcome, ToolFault>
+pub fn refuse_run<W: Write>(out: &mut Watched<W>, refusal: Refusal) -> Result<Outcome, ToolFault>
     ensures refuses { (e : Option (List ℕ)) → Refuses refusal (held (W.contents (inner_of out.old)) e) (held (W.contents (inner_of out.new)) e) result }
     ensures failed { has_failed out.new ≡ (has_failed out.old || is_write_fault result) }
     ensures no_read { is_read_fault result ≡ false }

@@ -4,7 +4,7 @@ use Rattle.std.specs.Str.{bytes_eq}
 use Rattle.clap.specs.Words.{App, Row, Rule, Text, first_of, kind_of, new_app, new_rule, subcommand_of, takes, with_rule, with_subcommand}
 use Rattle.clap.specs.declared.error.kind.ErrorKind.TheVariants as kind
 use Rattle.camac_tool_words.specs.declared.words.Job.{Job}
-use Rattle.camac_tool_words.specs.declared.words.Job.TheVariants.{Plan, Check, Run, Events}
+use Rattle.camac_tool_words.specs.declared.words.Job.TheVariants.{Plan, Check, Run, Drive, Events}
 use Rattle.camac_tool_words.specs.declared.words.JobFault.{JobFault}
 use Rattle.camac_tool_words.specs.declared.words.JobFault.TheVariants.{Usage, InTwice}
 
@@ -21,6 +21,10 @@ abbrev pub run_app : App
 run_app =
     with_rule (with_rule (with_rule (with_rule (new_app (codes "run")) (word_rule (codes "PLAN"))) (word_rule (codes "SCRIPT"))) (word_rule (codes "ANSWERS"))) (word_rule (codes "EVENTS"))
 
+abbrev pub drive_app : App
+drive_app =
+    with_rule (with_rule (with_rule (new_app (codes "drive")) (word_rule (codes "PLAN"))) (word_rule (codes "SCRIPT"))) (word_rule (codes "EVENTS"))
+
 abbrev pub events_app : App
 events_app = with_rule (new_app (codes "events")) (word_rule (codes "FILE"))
 
@@ -30,12 +34,14 @@ camac_top =
     record (new_app (codes "camac")) { top = record (new_app (codes "camac")).top { has_version = true; no_binary_name = true; subcommand_required = true } }
 
 abbrev pub camac_app : App
-camac_app = with_subcommand (with_subcommand (with_subcommand (with_subcommand camac_top plan_app.top) check_app.top) run_app.top) events_app.top
+camac_app =
+    with_subcommand (with_subcommand (with_subcommand (with_subcommand (with_subcommand camac_top plan_app.top) check_app.top) run_app.top) drive_app.top) events_app.top
 
 abbrev pub name_of : Job → Text
 name_of (Plan plan) = codes "plan"
 name_of (Check plan script) = codes "check"
 name_of (Run plan script answers events) = codes "run"
+name_of (Drive plan script events) = codes "drive"
 name_of (Events file) = codes "events"
 
 -- the names of a job's words, in order
@@ -43,19 +49,22 @@ abbrev pub ids_of : Job → List Text
 ids_of (Plan plan) = codes "PLAN" ∷ []
 ids_of (Check plan script) = codes "PLAN" ∷ codes "SCRIPT" ∷ []
 ids_of (Run plan script answers events) = codes "PLAN" ∷ codes "SCRIPT" ∷ codes "ANSWERS" ∷ codes "EVENTS" ∷ []
+ids_of (Drive plan script events) = codes "PLAN" ∷ codes "SCRIPT" ∷ codes "EVENTS" ∷ []
 ids_of (Events file) = codes "FILE" ∷ []
 
 abbrev pub words_of : Job → List Text
 words_of (Plan plan) = plan.now ∷ []
 words_of (Check plan script) = plan.now ∷ script.now ∷ []
 words_of (Run plan script answers events) = plan.now ∷ script.now ∷ answers.now ∷ events.now ∷ []
+words_of (Drive plan script events) = plan.now ∷ script.now ∷ events.now ∷ []
 words_of (Events file) = file.now ∷ []
 
--- the words that name an input
+-- the words that name an input; the answers of a live run are standard input
 abbrev pub inputs_of : Job → List Text
 inputs_of (Plan plan) = plan.now ∷ []
 inputs_of (Check plan script) = plan.now ∷ script.now ∷ []
 inputs_of (Run plan script answers events) = plan.now ∷ script.now ∷ answers.now ∷ []
+inputs_of (Drive plan script events) = codes "@in" ∷ plan.now ∷ script.now ∷ []
 inputs_of (Events file) = file.now ∷ []
 
 -- the job is the subcommand with the values that these matches hold, in order

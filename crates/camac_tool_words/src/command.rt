@@ -3,13 +3,13 @@
 ghost use Rattle.std.specs.Prelude.{◌≡◌, IfOk, false};
 ghost use Rattle.clap.specs.Words.{app_of, new_app, rule_of};
 ghost use Rattle.clap.specs.declared.builder.command.Command.TheViews.{out-Command};
-ghost use Rattle.camac_tool_words.specs.Words.{word_rule, plan_app, check_app, run_app, events_app, camac_top, camac_app};
+ghost use Rattle.camac_tool_words.specs.Words.{word_rule, plan_app, check_app, run_app, drive_app, events_app, camac_top, camac_app};
 
 use crate::texts;
 use clap::{Arg, Command};
 use std::alloc::{AllocError, Global};
 
-/// The program's command line: four subcommands with their words, and what help says of each.
+/// The program's command line: the subcommands with their words, and what help says of each.
 pub fn camac_command<'a>(alloc: Global) -> Result<Command<'a>, AllocError>
     ensures { IfOk result (λ c. app_of c ≡ camac_app) }
 {
@@ -17,6 +17,7 @@ pub fn camac_command<'a>(alloc: Global) -> Result<Command<'a>, AllocError>
         .subcommand(plan_command(alloc)?)?
         .subcommand(check_command(alloc)?)?
         .subcommand(run_command(alloc)?)?
+        .subcommand(drive_command(alloc)?)?
         .subcommand(events_command(alloc)?)
 }
 
@@ -74,6 +75,16 @@ fn run_command<'a>(alloc: Global) -> Result<Command<'a>, AllocError>
         .arg(word(alloc, "PLAN", texts::PLAN))?
         .arg(word(alloc, "SCRIPT", texts::SCRIPT))?
         .arg(word(alloc, "ANSWERS", texts::ANSWERS))?
+        .arg(word(alloc, "EVENTS", texts::EVENTS))
+}
+
+fn drive_command<'a>(alloc: Global) -> Result<Command<'a>, AllocError>
+    ensures app { IfOk result (λ c. app_of c ≡ drive_app) }
+    ensures local { IfOk result (λ c. (out-Command c).has_globals ≡ false) }
+{
+    subcommand(alloc, "drive", texts::DRIVE_COMMAND, texts::AFTER_DRIVE)
+        .arg(word(alloc, "PLAN", texts::PLAN_OF_DRIVE))?
+        .arg(word(alloc, "SCRIPT", texts::SCRIPT_OF_DRIVE))?
         .arg(word(alloc, "EVENTS", texts::EVENTS))
 }
 

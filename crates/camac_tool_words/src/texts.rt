@@ -13,11 +13,18 @@ pub const CHECK_COMMAND: &str =
 pub const RUN_COMMAND: &str =
     "Plays an accepted script against a list of answers, and writes its events";
 
+pub const DRIVE_COMMAND: &str =
+    "Runs an accepted script live: asks for each operation, and reads its answer";
+
 pub const EVENTS_COMMAND: &str = "Lists an event file";
 
 pub const PLAN: &str = "A plan: a TOML file, or @sample, the built-in plan, or @in, standard input";
 
 pub const SCRIPT: &str = "A script: a file, or @in, standard input";
+
+pub const PLAN_OF_DRIVE: &str = "A plan: a TOML file, or @sample, the built-in plan";
+
+pub const SCRIPT_OF_DRIVE: &str = "A script: a file";
 
 pub const ANSWERS: &str =
     "Answers, a line for each operation (see below): a file, or @in, standard input";
@@ -34,6 +41,7 @@ Examples:
   camac check plan.toml readout.script
   camac check @sample @in < readout.script
   camac run plan.toml readout.script answers.txt run.events
+  camac drive plan.toml readout.script run.events
   camac events run.events
 
 'camac help run' tells the form of answers.";
@@ -70,6 +78,22 @@ permitted. @in stands for one of the three inputs at most.
 Examples:
   camac run plan.toml readout.script answers.txt run.events
   camac run @sample readout.script @in run.events < answers.txt";
+
+pub const AFTER_DRIVE: &str =
+    "Writes a request to standard output before it reads the answer from standard input:
+  demand                   make a graded-L operation
+  cycle C N A F in         make a dataway cycle that reads
+  cycle C N A F out WORD   make one that writes the word, six hexadecimal digits
+  cycle C N A F none       make one that moves no data
+  lock C                   lock auxiliary controllers out of the crate
+  unlock C                 let them in again: no answer is read for it
+Answers are lines as for 'camac run'. At the end of the input, at a wait that is
+not permitted and at a bad answer the last line tells how the run ended. A run
+that stops inside a lock writes no unlock: the driver releases what it holds.
+
+Examples:
+  camac drive plan.toml readout.script run.events
+  camac drive @sample readout.script run.events";
 
 pub const AFTER_EVENTS: &str =
     "Prints a line for each event with its words in hexadecimal, and their number;

@@ -17,6 +17,7 @@ pub enum Job<'a> {
     Plan(&'a str),
     Check(&'a str, &'a str),
     Run(&'a str, &'a str, &'a str, &'a str),
+    Drive(&'a str, &'a str, &'a str),
     Events(&'a str),
 }
 
@@ -96,6 +97,15 @@ fn run_job<'a>(found: &ArgMatches<'a>) -> Option<Job<'a>>
     Some(Job::Run(plan, script, answers, value_of(found, "EVENTS")?))
 }
 
+fn drive_job<'a>(found: &ArgMatches<'a>) -> Option<Job<'a>>
+    ensures some { IfSome result (λ job. IsJob job (Some (codes "drive", rows_of (found_of found.now)))) }
+    ensures none { IfNone result (NamesNoJob (Some (codes "drive", rows_of (found_of found.now)))) }
+{
+    let plan = value_of(found, "PLAN")?;
+    let script = value_of(found, "SCRIPT")?;
+    Some(Job::Drive(plan, script, value_of(found, "EVENTS")?))
+}
+
 fn events_job<'a>(found: &ArgMatches<'a>) -> Option<Job<'a>>
     ensures some { IfSome result (λ job. IsJob job (Some (codes "events", rows_of (found_of found.now)))) }
     ensures none { IfNone result (NamesNoJob (Some (codes "events", rows_of (found_of found.now)))) }
@@ -120,6 +130,8 @@ fn job_in<'a>(name: &str, found: &ArgMatches<'a>) -> Option<Job<'a>>
         check_job(found)
     } else if is_word(name, "run") {
         run_job(found)
+    } else if is_word(name, "drive") {
+        drive_job(found)
     } else if is_word(name, "events") {
         events_job(found)
     } else {
@@ -141,7 +153,7 @@ fn is_standard_input(word: &str) -> bool
     word == "@in"
 }
 
-// How many inputs are standard input.
+// How many inputs are standard input. Of a live run the answers are.
 fn input_count(job: &Job<'_>) -> usize
     ensures { result ≡ input_count_of job.now }
 {
@@ -150,6 +162,7 @@ fn input_count(job: &Job<'_>) -> usize
         Job::Plan(plan) => is_in(plan),
         Job::Check(plan, script) => is_in(plan) + is_in(script),
         Job::Run(plan, script, answers, _) => is_in(plan) + is_in(script) + is_in(answers),
+        Job::Drive(plan, script, _) => 1 + is_in(plan) + is_in(script),
         Job::Events(file) => is_in(file),
     }
 }

@@ -1,3 +1,4 @@
+use Rattle.std.proofs.Common.{refl}
 use Rattle.camac_word.specs.Watched.{inner_of}
 use Rattle.camac_tool.proofs.running.run_judged.Goals as goal
 
@@ -9,3 +10,9 @@ returns-in-Accepted-clause-headline g c = rw c.in-Accepted.is c.run_checked.ensu
 
 pub returns-in-Refused-clause-headline : goal.returns-in-Refused-clause-headline
 returns-in-Refused-clause-headline g c = rw c.in-Refused.is tt
+
+pub returns-in-Accepted-clause-in_turn : goal.returns-in-Accepted-clause-in_turn
+returns-in-Accepted-clause-in_turn g c = rw c.in-Accepted.is c.run_checked.ensures.in_turn
+
+pub returns-in-Refused-clause-in_turn : goal.returns-in-Refused-clause-in_turn
+returns-in-Refused-clause-in_turn g c = rw c.in-Refused.is refl
