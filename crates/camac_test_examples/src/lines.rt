@@ -1,6 +1,6 @@
 // The command lines.
 
-pub const LINES: [&str; 47] = [
+pub const LINES: [&str; 50] = [
     // the examples
     "plan beam_line.toml",
     "plan sample_plan.toml",
@@ -19,6 +19,7 @@ pub const LINES: [&str; 47] = [
     "events events",
     "run @sample straight.script late.answers events",
     "run @sample straight.script bad.answers events",
+    "drive @sample straight.script events",
     "events events",
     "events straight.script",
     // an event file that is an input
@@ -35,6 +36,7 @@ pub const LINES: [&str; 47] = [
     "events a b",
     "check @in @in",
     "run @sample @in @in events",
+    "drive @in straight.script events",
     // files that lack or cannot be made, inputs at their limits and above
     "plan none",
     "check @sample none",
@@ -53,5 +55,6 @@ pub const LINES: [&str; 47] = [
     "plan --help",
     "check --help",
     "run --help",
+    "drive --help",
     "events --help",
 ];
