@@ -19,7 +19,7 @@ ended events 1
 ";
 
 // What is answered, the requests, and the event file.
-fn drive<R: Read>(
+fn drive<R: Read + Drop>(
     alloc: Global,
     script: &[u8],
     answers: R,
