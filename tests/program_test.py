@@ -31,6 +31,7 @@ VERDICT = b"accepted\nservice adc gl 3 cycles 3 of 3 words 1 of 1 steps 3\n"
 DEMAND = b"0 0 000000 0 000004\n"
 ANSWERS = DEMAND + b"1 1 123fff 2 000000\n"
 LISTING = b"demand 000004 adc\ncycle 1 5 0 0 in 123fff x1 q1 wait 2\nended events 1\n"
+REQUESTS = b"demand\ncycle 1 5 0 0 in\ndemand\nended events 1\n"
 EVENT_FILE = bytes.fromhex("43414d4143455632 ca4d 0003 00000001 00000003 0000 0001 00000fff")
 EVENT_FILE_ONE = bytes.fromhex("43414d4143455631 ca4d 0003 00000001 0001 00000fff")
 WORDS = {"plan": ["PLAN"], "check": ["PLAN", "SCRIPT"], "run": ["PLAN", "SCRIPT", "ANSWERS", "EVENTS"], "drive": ["PLAN", "SCRIPT", "EVENTS"], "events": ["FILE"]}
@@ -344,6 +345,14 @@ class Kept(Case):
             with open(self.room / name, "rb") as file:
                 self.refused([*words, f"./{name}"], given=None, stdin=file)
 
+    def test_events_of_a_live_run_is_an_input(self):
+        before = {it.name: it.read_bytes() for it in self.room.iterdir()}
+        for events in ("plan.toml", "straight.script"):
+            self.assertEqual(self.call("drive", "plan.toml", "straight.script", events, given=ANSWERS), (3, b"", WRITE), events)
+        with open(self.room / "answers", "rb") as file:
+            self.assertEqual(self.call("drive", "plan.toml", "straight.script", "answers", given=None, stdin=file), (3, b"", WRITE))
+        self.assertEqual({it.name: it.read_bytes() for it in self.room.iterdir()}, before)
+
     def test_events_is_standard_output(self):
         (self.room / "soft").symlink_to(self.room / "e")
         for name in ("e", "soft", "/dev/stdout", "/proc/self/fd/1"):
@@ -412,6 +421,20 @@ class FailingCalls(Case):
                 self.assertEqual((status, err), (3, WRITE), turn)
             self.assertEqual((out, self.file("e")), (LISTING, EVENT_FILE))
             self.assertGreater(turn, 4)
+
+    def test_calls_of_a_live_run(self):
+        words = ["drive", "plan.toml", "straight.script", "e"]
+        for error in (EINTR, EIO):
+            self.assertGreater(self.each("read", error, READ, *words, given=ANSWERS), 4)
+            for turn in range(1, 100):
+                status, out, err = self.failing(turn, "write", error, *words, given=ANSWERS)
+                self.assertTrue(REQUESTS.startswith(out) and EVENT_FILE.startswith(self.file("e")), turn)
+                if status == 0:
+                    break
+                self.assertEqual((status, err), (3, WRITE), turn)
+            self.assertEqual((out, self.file("e")), (REQUESTS, EVENT_FILE))
+            self.assertGreater(turn, 5)
+        self.assertEqual(self.failing(1, "fsync", EIO, *words, given=ANSWERS), (3, REQUESTS, WRITE))
 
     def test_reads(self):
         (self.room / "one.events").write_bytes(EVENT_FILE)

@@ -163,6 +163,10 @@ class RefusedMemory(unittest.TestCase):
         self.refuse_each("run @sample script @in run.events", ANSWERS, REFUSED)
         self.refuse_each("run @sample script @in run.events", b"0 0\n")
 
+    def test_drive(self):
+        self.refuse_each("drive @sample script run.events", ANSWERS)
+        self.refuse_each("drive @sample script run.events", ANSWERS, REFUSED)
+
     def test_events(self):
         for file in (EVENTS_ONE, EVENTS_TWO, EVENTS_TWO[:-1]):
             self.refuse_each("events @in", file)
