@@ -23,7 +23,7 @@ use Rattle.camac_run_machine.specs.Held.{context_in, left_in, stands, state_of, 
 use Rattle.camac_run_machine.specs.Rest.{address_of, awaited, onward, served}
 use Rattle.camac_run_machine.specs.Runner.{bit_at, rest}
 use Rattle.camac_run_machine.specs.Sound.{held}
-use Rattle.camac_run_machine.specs.Operation.{StopsAt, Begins, operation}
+use Rattle.camac_run_machine.specs.Operation.{StopsAt, Begins, CanLock, operation}
 use Rattle.camac_run_machine.specs.declared.item.Wanted.{Wanted}
 use Rattle.camac_run_machine.specs.declared.item.Wanted.TheVariants as wanted
 use Rattle.camac_run_machine.specs.declared.machine.Machine.{Machine}
@@ -66,6 +66,13 @@ module _ (plan : Layout) (c : ℕ) (body : Action) (s : State) (a : Answer) (ans
 
   lock_begins : Begins (wanted.Lock c) a (given (crate_waits plan c) (λ waits t. take_lock c waits (t.branch c).locked body t) s)
   lock_begins = lock_by (is_permitted plan s.branch c a.wait) refl
+
+-- what is waited for, and is a lock, can be taken
+pub can_lock : {V D C : ℕ} (h : Machine V D C) (w : Wanting) (wanting : Option Wanting) (fed n : ℕ) (has : Bool) (o : Option Overrun) → wanting ≡ Some w → IfSome wanting (IsWanting h) → CanLock (held h wanting fed n has o) (Some (operation w))
+can_lock h (Cycle k) wanting fed n has o e p = tt
+can_lock h (Read k x bits) wanting fed n has o e p = tt
+can_lock h (Lock c body) wanting fed n has o e p = let q : IsWanting h (Lock c body) = rw e at p in (q.0, q.1.0)
+can_lock h (Transfer k t table x) wanting fed n has o e p = tt
 
 module _ {V D C : ℕ} (h : Machine V D C) (a : Answer) (answers : List Answer) where
   first_begins : (w : Wanting) → IsWanting h w → Begins (operation w) a (awaited (context_in h.checked.now) (want_of w) (state_of h (a ∷ answers)))

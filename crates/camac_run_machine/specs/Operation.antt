@@ -2,7 +2,8 @@
 use Rattle.std.specs.Prelude.{◌≡◌, ℕ, ◌<◌, List, [], ◌∷◌, ◌++◌, length, Option, Some, None, IsSome, false, option_and_then, slice_get}
 use Rattle.camac_lang.specs.Tree.{Script}
 use Rattle.camac_branch.specs.Branch.{Answer}
-use Rattle.camac_branch.specs.Plan.{Layout}
+use Rattle.camac_branch.specs.Crates.{branch_of}
+use Rattle.camac_branch.specs.Plan.{Layout, crate_waits}
 use Rattle.camac_model.specs.Behaviour.{Behaviour, does, ends, stops, Piece, pieces, demanded, cycled, lock_taken, lock_released, event_left, Stop, short, overrun, wrong, more}
 use Rattle.camac_model.specs.Run.{the_run}
 use Rattle.camac_run_machine.specs.Runner.{Held, rest}
@@ -53,6 +54,13 @@ Begins o a (stops w s) = StopsAt o a w
 abbrev pub Wants : Held → Option Wanted → Type 0
 Wants h (Some o) = (h.overrun ≡ None) × ((a : Answer) (answers : List Answer) → Begins o a (rest h (a ∷ answers)))
 Wants h None = IsSome h.overrun
+
+-- a lock that is wanted is of a crate of the plan which is not locked
+abbrev pub CanLock : Held → Option Wanted → Type 0
+CanLock h None = Unit {0}
+CanLock h (Some Demand) = Unit {0}
+CanLock h (Some (Cycle k)) = Unit {0}
+CanLock h (Some (Lock c)) = IsSome (crate_waits h.checked.plan c) × ((branch_of h.crates c).locked ≡ false)
 
 -- the operation that a service in progress waits for
 abbrev pub operation : Wanting → Wanted

@@ -7,7 +7,7 @@ ghost use Rattle.camac_size.specs.Fits.{fits};
 ghost use Rattle.camac_model.specs.Behaviour.{stops, short, ends};
 ghost use Rattle.camac_model.specs.Run.{the_run};
 ghost use Rattle.camac_run_machine.specs.Runner.{state_in, rest, last_words_in, Progresses, steps_of, words_of};
-ghost use Rattle.camac_run_machine.specs.Operation.{Wants, operation};
+ghost use Rattle.camac_run_machine.specs.Operation.{CanLock, Wants, operation};
 
 use crate::item::{Item, Progress, Wanted};
 use crate::machine::{Machine, Wanting};
@@ -162,9 +162,11 @@ impl<'a, const V: usize, const DEPTH: usize, const CAP: usize> Runner<'a, V, DEP
         }
     }
 
-    /// The operation that the next answer is for, whatever that answer is. None after a wait that was not permitted.
+    /// The operation that the next answer is for, whatever that answer is. None after a wait that was not permitted. A lock that is wanted
+    /// is of a crate of the plan which is not locked.
     pub fn wants(&self) -> Option<Wanted>
-        ensures { Wants self.now result }
+        ensures wants { Wants self.now result }
+        ensures lock { CanLock self.now result }
     {
         if self.overrun.is_some() {
             return None;

@@ -1,16 +1,27 @@
-use Rattle.std.proofs.Common.{◌≡◌, None, sym, ◌∙◌}
-use Rattle.camac_run_machine.proofs.Operation.{not_some, wanted_begins, idle_begins}
+use Rattle.std.proofs.Common.{◌≡◌, None, Some, subst, sym, ◌∙◌}
+use Rattle.camac_run_machine.specs.Operation.{CanLock}
+use Rattle.camac_run_machine.specs.Runner.{Held}
+use Rattle.camac_run_machine.specs.Sound.{held}
+use Rattle.camac_run_machine.specs.declared.item.Wanted.{Wanted}
+use Rattle.camac_run_machine.proofs.Operation.{not_some, can_lock, wanted_begins, idle_begins}
 use Rattle.camac_run_machine.proofs.runner.Runner.wants.Goals as goal
 
-pub returns-in-Some : goal.returns-in-Some
-returns-in-Some g c =
+pub returns-in-Some-clause-wants : goal.returns-in-Some-clause-wants
+returns-in-Some-clause-wants g c =
     let r = c.self.inside in
     let first : r.overrun ≡ None = not_some r.overrun (sym c.is_some.ensures ∙ c.if-is_some.false) in
     rw (c.operation.ensures, ← c.self.view_is)
     (first, λ a answers. wanted_begins r.machine a answers r.fed r.events r.has_event r.overrun r.wanting c.in-Some.wanting c.in-Some.is c.self.invariant.wants)
 
-pub returns-in-None : goal.returns-in-None
-returns-in-None g c =
+pub returns-in-Some-clause-lock : goal.returns-in-Some-clause-lock
+returns-in-Some-clause-lock g c =
+    let r = c.self.inside in
+    subst (λ (x : Held). CanLock x (Some c.operation.result)) c.self.view_is
+    (subst (λ (o : Wanted). CanLock (held r.machine r.wanting r.fed r.events r.has_event r.overrun) (Some o)) (sym c.operation.ensures)
+    (can_lock r.machine c.in-Some.wanting r.wanting r.fed r.events r.has_event r.overrun c.in-Some.is c.self.invariant.wants))
+
+pub returns-in-None-clause-wants : goal.returns-in-None-clause-wants
+returns-in-None-clause-wants g c =
     let r = c.self.inside in
     let first : r.overrun ≡ None = not_some r.overrun (sym c.is_some.ensures ∙ c.if-is_some.false) in
     rw (← c.self.view_is) (first, λ a answers. idle_begins r.machine a answers r.fed r.events r.has_event r.overrun r.wanting c.in-None.is)
