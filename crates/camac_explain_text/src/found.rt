@@ -76,11 +76,14 @@ fn case_at(
             line: first_line_of(text, pieces, found),
             hint: hint_before(text, &pieces[..place.min(pieces.len())]),
         },
-        TextRule::NotDeclared => TextCase::NotDeclared {
-            name: quote,
-            needed: kind_after(text, &pieces[..place.min(pieces.len())]),
-            hint: hint_for_name(text, pieces, place),
-        },
+        TextRule::NotDeclared => {
+            let expected = expected_after(alloc, between(text, 0, piece.start))?;
+            TextCase::NotDeclared {
+                name: quote,
+                needed: kind_after(text, &pieces[..place.min(pieces.len())]),
+                hint: hint_for_name(text, pieces, place, &expected),
+            }
+        }
         TextRule::LimitPassed => TextCase::Limit { found: quote },
         TextRule::BranchNotOne => TextCase::Branch { number: quote },
     }))

@@ -1,7 +1,7 @@
 // What may be meant where a text is refused.
 
 use crate::expected::Expected;
-use camac_explain_words::{Kind, Piece, Quote, is_near, keyword_near};
+use camac_explain_words::{KEYWORDS, Kind, Piece, Quote, is_keyword, is_near};
 use std::fmt;
 
 /// What may be meant, or what is to be known there.
@@ -47,7 +47,10 @@ pub fn hint_at(text: &[u8], pieces: &[Piece], place: usize, expected: &[Expected
     if follows_number(*piece, before) {
         return Some(Hint::Decimal);
     }
-    if let Some(meant) = keyword_near(word) {
+    if let Some(hint) = hint_for_word(word) {
+        return Some(hint);
+    }
+    if let Some(meant) = expected_near(word, expected) {
         return Some(Hint::Meant(meant));
     }
     if let Some(hint) = hint_before(text, before) {
@@ -71,22 +74,27 @@ pub fn hint_before(text: &[u8], before: &[Piece]) -> Option<Hint> {
 
 fn meant_before(text: &[u8], piece: Piece) -> Option<Hint> {
     let word = piece.of(text);
-    let meant = keyword_near(word)?;
+    let meant = expected_near(word, &[Expected::Declaration, Expected::Statement])?;
     Some(Hint::MeantBefore {
         word: Quote::new(word),
         meant,
     })
 }
 
-/// A name that follows a number, is near a word of the language, or near one that stands before it.
-pub fn hint_for_name(text: &[u8], pieces: &[Piece], place: usize) -> Option<Hint> {
+/// Of a name that is not declared: whether it goes on with a number, or the word of the language or the name before it that is near.
+pub fn hint_for_name(
+    text: &[u8],
+    pieces: &[Piece],
+    place: usize,
+    expected: &[Expected],
+) -> Option<Hint> {
     let piece = pieces.get(place)?;
     let before = &pieces[..place.min(pieces.len())];
     if follows_number(*piece, before) {
         return Some(Hint::Decimal);
     }
     let word = piece.of(text);
-    if let Some(meant) = keyword_near(word) {
+    if let Some(meant) = expected_near(word, expected) {
         return Some(Hint::Meant(meant));
     }
     for earlier in before {
@@ -131,6 +139,64 @@ fn meant_by_sign(word: &[u8], expected: &[Expected]) -> Option<&'static str> {
         }
     }
     None
+}
+
+// What takes the place of a word of other languages.
+fn hint_for_word(word: &[u8]) -> Option<Hint> {
+    if word == b"or".as_slice() {
+        return Some(Hint::Instead("There is no or: write one `if` after the other."));
+    }
+    None
+}
+
+// The first word of the language that is near a word and might stand there.
+fn expected_near(word: &[u8], expected: &[Expected]) -> Option<&'static str> {
+    if is_keyword(word) {
+        return None;
+    }
+    for keyword in KEYWORDS {
+        if is_near(word, keyword.as_bytes()) && may_stand(keyword, expected) {
+            return Some(keyword);
+        }
+    }
+    None
+}
+
+// Whether a word of the language is among what might stand there.
+fn may_stand(word: &'static str, expected: &[Expected]) -> bool {
+    if expected.contains(&Expected::Token(word)) {
+        return true;
+    }
+    let group = if begins_declaration(word.as_bytes()) {
+        Expected::Declaration
+    } else if is_among(word, &["not", "q", "x"]) {
+        Expected::Condition
+    } else if begins_statement(word) {
+        Expected::Statement
+    } else {
+        return false;
+    };
+    expected.contains(&group)
+}
+
+fn begins_statement(word: &str) -> bool {
+    is_among(
+        word,
+        &[
+            "cdreg", "cfsa", "cssa", "cfmad", "cfubc", "cfubr", "put", "cccz", "cccc", "ctci",
+            "ctcd", "ctgl", "ccci", "cccd", "cclm", "cclc", "ctlm", "if", "for", "while", "lock",
+            "call",
+        ],
+    )
+}
+
+fn is_among(word: &str, words: &[&str]) -> bool {
+    for other in words {
+        if word == *other {
+            return true;
+        }
+    }
+    false
 }
 
 // Whether a word stands right after a number, as in `0x1F`.

@@ -7,6 +7,6 @@ mod piece;
 mod quote;
 
 pub use lines::source_line;
-pub use near::{KEYWORDS, is_keyword, is_near, keyword_near};
+pub use near::{KEYWORDS, is_keyword, is_near};
 pub use piece::{Kind, Piece, between, pieces};
 pub use quote::Quote;
