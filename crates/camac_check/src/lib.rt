@@ -14,4 +14,6 @@ mod transfer;
 
 pub use camac_check_known::CheckFault;
 pub use checked::{Bounds, Checked};
+pub use context::Context;
 pub use judge::check;
+pub use statement::{Findings, accept_block, accept_statement};
