@@ -9,3 +9,4 @@ pub mod Run
 pub mod Headline
 pub mod Input
 pub mod OneTry
+pub mod Explain

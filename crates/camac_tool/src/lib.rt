@@ -3,6 +3,7 @@
 
 mod codes;
 mod engine;
+mod explaining;
 mod fault;
 mod input;
 mod judging;
@@ -19,6 +20,7 @@ mod target;
 
 pub use camac_tool_words::{Job, JobFault, read_words};
 pub use engine::{engine_check, engine_events, engine_plan};
+pub use explaining::engine_explain;
 pub use fault::ToolFault;
 pub use launch::{ArgumentsFault, arguments};
 pub use outcome::{Outcome, status};

@@ -5,6 +5,7 @@ ghost use Rattle.camac_tool.specs.Engine.{status_of};
 ghost use Rattle.camac_tool.specs.declared.launch.ArgumentsFault.TheVariants.{Memory, NotText};
 
 use crate::engine::{engine_check, engine_events, engine_plan};
+use crate::explaining::engine_explain;
 use crate::fault::ToolFault;
 use crate::input::{Input, open};
 use crate::launch::ArgumentsFault;
@@ -35,7 +36,7 @@ pub fn exit_status<R: Runtime + AllocGlobal>(rt: &R, words: &[String]) -> u8 {
     match read_words(rt.alloc(), words) {
         Ok(job) => serve(rt, job),
         Err(JobFault::InTwice) => misused(rt, "fault @in twice"),
-        Err(JobFault::Usage(error)) => explain(rt, error),
+        Err(JobFault::Usage(error)) => print_usage(rt, error),
     }
 }
 
@@ -55,6 +56,7 @@ fn serve<R: Runtime + AllocGlobal>(rt: &R, job: Job<'_>) -> u8 {
     match job {
         Job::Plan(plan) => finished(rt, show_plan(rt, plan)),
         Job::Check(plan, script) => finished(rt, check(rt, plan, script)),
+        Job::Explain(plan, script) => finished(rt, explain(rt, plan, script)),
         Job::Events(file) => finished(rt, show_events(rt, file)),
         Job::Run(plan, script, answers, events) => {
             finished(rt, run(rt, plan, script, answers, events))
@@ -73,6 +75,17 @@ fn check<R: Runtime + AllocGlobal>(rt: &R, plan: &str, script: &str) -> Result<O
     let mut script = Watched::new(open(rt, script)?);
     let mut out = Watched::new(io::writer(rt));
     engine_check(rt.alloc(), &mut plan, &mut script, &mut out)
+}
+
+fn explain<R: Runtime + AllocGlobal>(
+    rt: &R,
+    plan: &str,
+    script: &str,
+) -> Result<Outcome, ToolFault> {
+    let mut plan = source_of(plan_input(rt, plan)?);
+    let mut script = Watched::new(open(rt, script)?);
+    let mut out = Watched::new(io::writer(rt));
+    engine_explain(rt.alloc(), &mut plan, &mut script, &mut out)
 }
 
 // Answers are read ahead as far as they have come. The lines of an answer go out in one write, and none waits for the next answer.
@@ -159,7 +172,7 @@ fn misused<R: Runtime>(rt: &R, why: &str) -> u8
 }
 
 // The text of `clap`: help, version, or why the words name no job.
-fn explain<R: Runtime>(rt: &R, error: Error) -> u8 {
+fn print_usage<R: Runtime>(rt: &R, error: Error) -> u8 {
     if error.kind() == ErrorKind::OutOfMemory {
         return stopped(rt, ToolFault::Memory);
     }
