@@ -33,7 +33,7 @@ ANSWERS = DEMAND + b"1 1 123fff 2 000000\n"
 LISTING = b"demand 000004 adc\ncycle 1 5 0 0 in 123fff x1 q1 wait 2\nended events 1\n"
 EVENT_FILE = bytes.fromhex("43414d4143455632 ca4d 0003 00000001 00000003 0000 0001 00000fff")
 EVENT_FILE_ONE = bytes.fromhex("43414d4143455631 ca4d 0003 00000001 0001 00000fff")
-WORDS = {"plan": ["PLAN"], "check": ["PLAN", "SCRIPT"], "run": ["PLAN", "SCRIPT", "ANSWERS", "EVENTS"], "events": ["FILE"]}
+WORDS = {"plan": ["PLAN"], "check": ["PLAN", "SCRIPT"], "bounds": ["PLAN", "SCRIPT"], "run": ["PLAN", "SCRIPT", "ANSWERS", "EVENTS"], "events": ["FILE"]}
 # Stands in front of the C library's calls: one fails as the environment says, as '2 write 4': the second write, with errno 4. Standard
 # error is left alone. The numbers of the system's calls are those of x86-64, for which programs are built.
 FAILING_CALLS = r"""
@@ -287,7 +287,7 @@ class Streams(Case):
         self.assertEqual(self.file("e"), EVENT_FILE)
 
     def test_help_that_cannot_be_written(self):
-        for words in ("--help", "-h", "help", "plan --help", "check --help", "run --help", "events --help", "--version"):
+        for words in ("--help", "-h", "help", "plan --help", "check --help", "bounds --help", "run --help", "events --help", "--version"):
             self.assertEqual(self.shell(f'"$camac" {words} >/dev/full'), (3, b"", WRITE), words)
             self.assertEqual(self.shell(f'"$camac" {words} >&-'), (3, b"", WRITE), words)
         self.assertEqual(self.shell('"$camac" --frob 2>/dev/full'), (2, b"", b""))

@@ -53,6 +53,17 @@ fn check_words(rt: HostRuntime) -> Result<(), Fail> {
 }
 
 #[test]
+fn bounds_words(rt: HostRuntime) -> Result<(), Fail> {
+    let words = words(rt.alloc(), "bounds a @in")?;
+    let Ok(Job::Bounds(plan, script)) = read_words(rt.alloc(), words.as_slice()) else {
+        return Err(Fail::from("no bounds"));
+    };
+    assert_eq!(rt; plan, "a");
+    assert_eq!(rt; script, "@in");
+    Ok(())
+}
+
+#[test]
 fn run_words(rt: HostRuntime) -> Result<(), Fail> {
     let words = words(rt.alloc(), "run a b c d")?;
     let job = read_words(rt.alloc(), words.as_slice());

@@ -20,6 +20,8 @@ mod faults;
 #[cfg(test)]
 mod fits;
 #[cfg(test)]
+mod headings;
+#[cfg(test)]
 mod listing;
 #[cfg(test)]
 mod locks;

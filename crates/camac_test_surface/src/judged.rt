@@ -1,7 +1,7 @@
 // What a checked script says of itself, and a log of its run.
 
 use camac_branch::Answer;
-use camac_check::{Checked, check};
+use camac_check::{Checked, check, least};
 use camac_names::resolve;
 use camac_run::{End, Item, Log, Runner, run};
 use camac_test_fixtures::scripts::STRAIGHT_LINE;
@@ -17,6 +17,20 @@ pub fn straight_line(alloc: Global) -> Result<Checked, Fail> {
     let script = parse(alloc, STRAIGHT_LINE)?;
     let linked = resolve(alloc, script, &plan)?;
     Ok(check(alloc, linked)?)
+}
+
+#[test]
+fn least_headings(rt: HostRuntime) -> Result<(), Fail> {
+    let plan = sample_plan(rt.alloc())?;
+    let mut script = parse(rt.alloc(), STRAIGHT_LINE)?;
+    script.annotate_service(0, 9, 9);
+    assert_eq!(rt; script.services()[0].cycles, 9);
+    script.unannotate();
+    assert_eq!(rt; script.services()[0].words, 0);
+    let checked = least(rt.alloc(), script, &plan)?;
+    assert_eq!(rt; checked.script().services()[0].cycles, 3);
+    assert_eq!(rt; checked.script().services()[0].words, 1);
+    Ok(())
 }
 
 fn word(value: u32) -> Result<Word24, Fail> {

@@ -4,6 +4,7 @@ pub mod Report
 pub mod Reading
 pub mod Plan
 pub mod Engine
+pub mod Headings
 pub mod Accepted
 pub mod Run
 pub mod Headline

@@ -4,6 +4,7 @@
 mod codes;
 mod engine;
 mod fault;
+mod headings;
 mod input;
 mod judging;
 mod launch;
@@ -20,6 +21,7 @@ mod target;
 pub use camac_tool_words::{Job, JobFault, read_words};
 pub use engine::{engine_check, engine_events, engine_plan};
 pub use fault::ToolFault;
+pub use headings::engine_bounds;
 pub use launch::{ArgumentsFault, arguments};
 pub use outcome::{Outcome, status};
 pub use plan::PlanSource;

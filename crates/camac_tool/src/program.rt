@@ -6,6 +6,7 @@ ghost use Rattle.camac_tool.specs.declared.launch.ArgumentsFault.TheVariants.{Me
 
 use crate::engine::{engine_check, engine_events, engine_plan};
 use crate::fault::ToolFault;
+use crate::headings::engine_bounds;
 use crate::input::{Input, open};
 use crate::launch::ArgumentsFault;
 use crate::one_try::OneTry;
@@ -55,6 +56,7 @@ fn serve<R: Runtime + AllocGlobal>(rt: &R, job: Job<'_>) -> u8 {
     match job {
         Job::Plan(plan) => finished(rt, show_plan(rt, plan)),
         Job::Check(plan, script) => finished(rt, check(rt, plan, script)),
+        Job::Bounds(plan, script) => finished(rt, show_bounds(rt, plan, script)),
         Job::Events(file) => finished(rt, show_events(rt, file)),
         Job::Run(plan, script, answers, events) => {
             finished(rt, run(rt, plan, script, answers, events))
@@ -73,6 +75,17 @@ fn check<R: Runtime + AllocGlobal>(rt: &R, plan: &str, script: &str) -> Result<O
     let mut script = Watched::new(open(rt, script)?);
     let mut out = Watched::new(io::writer(rt));
     engine_check(rt.alloc(), &mut plan, &mut script, &mut out)
+}
+
+fn show_bounds<R: Runtime + AllocGlobal>(
+    rt: &R,
+    plan: &str,
+    script: &str,
+) -> Result<Outcome, ToolFault> {
+    let mut plan = source_of(plan_input(rt, plan)?);
+    let mut script = Watched::new(open(rt, script)?);
+    let mut out = Watched::new(io::writer(rt));
+    engine_bounds(rt.alloc(), &mut plan, &mut script, &mut out)
 }
 
 // Answers are read ahead as far as they have come. The lines of an answer go out in one write, and none waits for the next answer.

@@ -4,7 +4,7 @@ use Rattle.std.specs.Str.{bytes_eq}
 use Rattle.clap.specs.Words.{App, Row, Rule, Text, first_of, kind_of, new_app, new_rule, subcommand_of, takes, with_rule, with_subcommand}
 use Rattle.clap.specs.declared.error.kind.ErrorKind.TheVariants as kind
 use Rattle.camac_tool_words.specs.declared.words.Job.{Job}
-use Rattle.camac_tool_words.specs.declared.words.Job.TheVariants.{Plan, Check, Run, Events}
+use Rattle.camac_tool_words.specs.declared.words.Job.TheVariants.{Plan, Check, Bounds, Run, Events}
 use Rattle.camac_tool_words.specs.declared.words.JobFault.{JobFault}
 use Rattle.camac_tool_words.specs.declared.words.JobFault.TheVariants.{Usage, InTwice}
 
@@ -16,6 +16,9 @@ plan_app = with_rule (new_app (codes "plan")) (word_rule (codes "PLAN"))
 
 abbrev pub check_app : App
 check_app = with_rule (with_rule (new_app (codes "check")) (word_rule (codes "PLAN"))) (word_rule (codes "SCRIPT"))
+
+abbrev pub bounds_app : App
+bounds_app = with_rule (with_rule (new_app (codes "bounds")) (word_rule (codes "PLAN"))) (word_rule (codes "SCRIPT"))
 
 abbrev pub run_app : App
 run_app =
@@ -30,11 +33,13 @@ camac_top =
     record (new_app (codes "camac")) { top = record (new_app (codes "camac")).top { has_version = true; no_binary_name = true; subcommand_required = true } }
 
 abbrev pub camac_app : App
-camac_app = with_subcommand (with_subcommand (with_subcommand (with_subcommand camac_top plan_app.top) check_app.top) run_app.top) events_app.top
+camac_app =
+    with_subcommand (with_subcommand (with_subcommand (with_subcommand (with_subcommand camac_top plan_app.top) check_app.top) bounds_app.top) run_app.top) events_app.top
 
 abbrev pub name_of : Job → Text
 name_of (Plan plan) = codes "plan"
 name_of (Check plan script) = codes "check"
+name_of (Bounds plan script) = codes "bounds"
 name_of (Run plan script answers events) = codes "run"
 name_of (Events file) = codes "events"
 
@@ -42,12 +47,14 @@ name_of (Events file) = codes "events"
 abbrev pub ids_of : Job → List Text
 ids_of (Plan plan) = codes "PLAN" ∷ []
 ids_of (Check plan script) = codes "PLAN" ∷ codes "SCRIPT" ∷ []
+ids_of (Bounds plan script) = codes "PLAN" ∷ codes "SCRIPT" ∷ []
 ids_of (Run plan script answers events) = codes "PLAN" ∷ codes "SCRIPT" ∷ codes "ANSWERS" ∷ codes "EVENTS" ∷ []
 ids_of (Events file) = codes "FILE" ∷ []
 
 abbrev pub words_of : Job → List Text
 words_of (Plan plan) = plan.now ∷ []
 words_of (Check plan script) = plan.now ∷ script.now ∷ []
+words_of (Bounds plan script) = plan.now ∷ script.now ∷ []
 words_of (Run plan script answers events) = plan.now ∷ script.now ∷ answers.now ∷ events.now ∷ []
 words_of (Events file) = file.now ∷ []
 
@@ -55,6 +62,7 @@ words_of (Events file) = file.now ∷ []
 abbrev pub inputs_of : Job → List Text
 inputs_of (Plan plan) = plan.now ∷ []
 inputs_of (Check plan script) = plan.now ∷ script.now ∷ []
+inputs_of (Bounds plan script) = plan.now ∷ script.now ∷ []
 inputs_of (Run plan script answers events) = plan.now ∷ script.now ∷ answers.now ∷ []
 inputs_of (Events file) = file.now ∷ []
 

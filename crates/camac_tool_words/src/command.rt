@@ -3,19 +3,20 @@
 ghost use Rattle.std.specs.Prelude.{◌≡◌, IfOk, false};
 ghost use Rattle.clap.specs.Words.{app_of, new_app, rule_of};
 ghost use Rattle.clap.specs.declared.builder.command.Command.TheViews.{out-Command};
-ghost use Rattle.camac_tool_words.specs.Words.{word_rule, plan_app, check_app, run_app, events_app, camac_top, camac_app};
+ghost use Rattle.camac_tool_words.specs.Words.{word_rule, plan_app, check_app, bounds_app, run_app, events_app, camac_top, camac_app};
 
 use crate::texts;
 use clap::{Arg, Command};
 use std::alloc::{AllocError, Global};
 
-/// The program's command line: four subcommands with their words, and what help says of each.
+/// The program's command line: five subcommands with their words, and what help says of each.
 pub fn camac_command<'a>(alloc: Global) -> Result<Command<'a>, AllocError>
     ensures { IfOk result (λ c. app_of c ≡ camac_app) }
 {
     top_command(alloc)?
         .subcommand(plan_command(alloc)?)?
         .subcommand(check_command(alloc)?)?
+        .subcommand(bounds_command(alloc)?)?
         .subcommand(run_command(alloc)?)?
         .subcommand(events_command(alloc)?)
 }
@@ -62,6 +63,15 @@ fn check_command<'a>(alloc: Global) -> Result<Command<'a>, AllocError>
     ensures local { IfOk result (λ c. (out-Command c).has_globals ≡ false) }
 {
     subcommand(alloc, "check", texts::CHECK_COMMAND, texts::AFTER_CHECK)
+        .arg(word(alloc, "PLAN", texts::PLAN))?
+        .arg(word(alloc, "SCRIPT", texts::SCRIPT))
+}
+
+fn bounds_command<'a>(alloc: Global) -> Result<Command<'a>, AllocError>
+    ensures app { IfOk result (λ c. app_of c ≡ bounds_app) }
+    ensures local { IfOk result (λ c. (out-Command c).has_globals ≡ false) }
+{
+    subcommand(alloc, "bounds", texts::BOUNDS_COMMAND, texts::AFTER_BOUNDS)
         .arg(word(alloc, "PLAN", texts::PLAN))?
         .arg(word(alloc, "SCRIPT", texts::SCRIPT))
 }

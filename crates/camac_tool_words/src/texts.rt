@@ -10,6 +10,9 @@ pub const PLAN_COMMAND: &str = "Lists what a plan says";
 pub const CHECK_COMMAND: &str =
     "Accepts a script with its bounds, or refuses it with a rule and a line";
 
+pub const BOUNDS_COMMAND: &str =
+    "Prints the headings of a script with the least numbers that are accepted";
+
 pub const RUN_COMMAND: &str =
     "Plays an accepted script against a list of answers, and writes its events";
 
@@ -33,6 +36,7 @@ Examples:
   camac plan plan.toml
   camac check plan.toml readout.script
   camac check @sample @in < readout.script
+  camac bounds plan.toml readout.script
   camac run plan.toml readout.script answers.txt run.events
   camac events run.events
 
@@ -53,6 +57,16 @@ the rule and the line (status 1). @in stands for one of the two at most.
 Examples:
   camac check plan.toml readout.script
   camac check @sample @in < readout.script";
+
+pub const AFTER_BOUNDS: &str =
+    "Prints the heading of each procedure and service with the numbers that its body
+needs (status 0), or 'refused' with the rule and the line (status 1). The
+numbers in the script's own headings are not looked at. @in stands for one of
+the two at most.
+
+Examples:
+  camac bounds plan.toml readout.script
+  camac bounds @sample @in < readout.script";
 
 pub const AFTER_RUN: &str = "Each answer is a line of 19 bytes, 'x q word wait gl':
   x     X of the reply, 0 or 1

@@ -16,6 +16,7 @@ use std::alloc::{AllocError, Global};
 pub enum Job<'a> {
     Plan(&'a str),
     Check(&'a str, &'a str),
+    Bounds(&'a str, &'a str),
     Run(&'a str, &'a str, &'a str, &'a str),
     Events(&'a str),
 }
@@ -86,6 +87,13 @@ fn check_job<'a>(found: &ArgMatches<'a>) -> Option<Job<'a>>
     Some(Job::Check(value_of(found, "PLAN")?, value_of(found, "SCRIPT")?))
 }
 
+fn bounds_job<'a>(found: &ArgMatches<'a>) -> Option<Job<'a>>
+    ensures some { IfSome result (λ job. IsJob job (Some (codes "bounds", rows_of (found_of found.now)))) }
+    ensures none { IfNone result (NamesNoJob (Some (codes "bounds", rows_of (found_of found.now)))) }
+{
+    Some(Job::Bounds(value_of(found, "PLAN")?, value_of(found, "SCRIPT")?))
+}
+
 fn run_job<'a>(found: &ArgMatches<'a>) -> Option<Job<'a>>
     ensures some { IfSome result (λ job. IsJob job (Some (codes "run", rows_of (found_of found.now)))) }
     ensures none { IfNone result (NamesNoJob (Some (codes "run", rows_of (found_of found.now)))) }
@@ -118,6 +126,8 @@ fn job_in<'a>(name: &str, found: &ArgMatches<'a>) -> Option<Job<'a>>
         plan_job(found)
     } else if is_word(name, "check") {
         check_job(found)
+    } else if is_word(name, "bounds") {
+        bounds_job(found)
     } else if is_word(name, "run") {
         run_job(found)
     } else if is_word(name, "events") {
@@ -149,6 +159,7 @@ fn input_count(job: &Job<'_>) -> usize
     match *job {
         Job::Plan(plan) => is_in(plan),
         Job::Check(plan, script) => is_in(plan) + is_in(script),
+        Job::Bounds(plan, script) => is_in(plan) + is_in(script),
         Job::Run(plan, script, answers, _) => is_in(plan) + is_in(script) + is_in(answers),
         Job::Events(file) => is_in(file),
     }
