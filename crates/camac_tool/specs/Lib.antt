@@ -1,5 +1,6 @@
 pub mod Codes
 pub mod Sample
+pub mod SampleText
 pub mod Report
 pub mod Reading
 pub mod Plan

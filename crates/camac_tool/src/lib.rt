@@ -7,6 +7,7 @@ mod fault;
 mod input;
 mod judging;
 mod launch;
+pub mod laws;
 mod one_try;
 mod outcome;
 mod plan;
