@@ -113,6 +113,11 @@ class WorkedRow(Case):
         for words, given in ((["@sample"], b""), (["plan.toml"], b""), (["@in"], self.file("plan.toml"))):
             self.assertEqual(self.call("plan", *words, given=given), (0, listed, b""), words)
 
+    def test_sample_text(self):
+        written = (TOP / "crates/camac_tool/specs/SampleText.antt").read_text()
+        said = "".join(json.loads(f'"{line}"') for line in re.findall(r'codes "((?:[^"\\]|\\.)*)"', written))
+        self.assertEqual(said, (TOP / "examples/sample_plan.toml").read_text())
+
     def test_refusals(self):
         script = STRAIGHT_LINE.replace(b"within 3", b"within 2")
         refusal = b"refused E12 line 3: more cycles than annotated\n"
