@@ -52,7 +52,7 @@ fn lines_of_a_live_run(rt: HostRuntime) -> Result<(), Fail> {
     let crate_no = CrateNo::new(7).ok_or("a crate")?;
     let mut out = Watched::new(Vec::new(rt.alloc()));
     write_request(&mut out, Wanted::Demand)?;
-    if let Item::Cycle(done) = &log.items.as_slice()[1] {
+    if let Some(Item::Cycle(done)) = log.items.as_slice().get(1) {
         write_request(&mut out, Wanted::Cycle(done.command))?;
     }
     write_request(&mut out, Wanted::Lock(crate_no))?;
