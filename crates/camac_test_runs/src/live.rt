@@ -190,10 +190,10 @@ service adc within 3 cycles event 0 words {
 fn live_refused_script(rt: HostRuntime) -> Result<(), Fail> {
     let want = (
         Outcome::Refused,
-        b"refused S2 line 1: unexpected token\n".as_slice(),
+        b"refused S1 line 1: bad byte\n".as_slice(),
         b"".as_slice(),
     );
-    expect_drive(&rt, b"cdlam\n", ANSWERS, want)
+    expect_drive(&rt, b"!", ANSWERS, want)
 }
 
 // A read fails: all that the answers before it call for was sent, the open request too.
