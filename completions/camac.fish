@@ -9,6 +9,8 @@ end
 complete -c camac -n __fish_use_subcommand -f
 complete -c camac -n __fish_use_subcommand -a plan -d 'Lists what a plan says'
 complete -c camac -n __fish_use_subcommand -a check -d 'Accepts a script with its bounds, or refuses it with a rule and a line'
+complete -c camac -n __fish_use_subcommand -a explain -d 'Checks like check, and says of a refusal where, why and how to mend it'
+complete -c camac -n __fish_use_subcommand -a bounds -d 'Prints the headings of a script with the least numbers that are accepted'
 complete -c camac -n __fish_use_subcommand -a run -d 'Plays an accepted script against a list of answers, and writes its events'
 complete -c camac -n __fish_use_subcommand -a drive -d 'Runs an accepted script live: asks for each operation, and reads its answer'
 complete -c camac -n __fish_use_subcommand -a events -d 'Lists an event file'
@@ -17,6 +19,6 @@ complete -c camac -s h -l help -d 'Print help'
 complete -c camac -n __fish_use_subcommand -s V -l version -d 'Print version'
 
 complete -c camac -n '__camac_at 1 help; or __camac_at 2 help' -f
-complete -c camac -n '__camac_at 1 help' -a 'plan check run drive events help'
-complete -c camac -n '__camac_at 1 plan check run drive' -a @sample -d 'the built-in plan'
-complete -c camac -n '__camac_at 1 plan check run events; or __camac_at 2 check run; or __camac_at 3 run' -a @in -d 'standard input'
+complete -c camac -n '__camac_at 1 help' -a 'plan check explain bounds run drive events help'
+complete -c camac -n '__camac_at 1 plan check explain bounds run drive' -a @sample -d 'the built-in plan'
+complete -c camac -n '__camac_at 1 plan check explain bounds run events; or __camac_at 2 check explain bounds run; or __camac_at 3 run' -a @in -d 'standard input'

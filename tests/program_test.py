@@ -10,7 +10,7 @@ import json
 import os
 import pathlib
 import re
-import shutil
+import select
 import subprocess
 import sys
 import tempfile
@@ -34,30 +34,7 @@ LISTING = b"demand 000004 adc\ncycle 1 5 0 0 in 123fff x1 q1 wait 2\nended event
 REQUESTS = b"demand\ncycle 1 5 0 0 in\ndemand\nended events 1\n"
 EVENT_FILE = bytes.fromhex("43414d4143455632 ca4d 0003 00000001 00000003 0000 0001 00000fff")
 EVENT_FILE_ONE = bytes.fromhex("43414d4143455631 ca4d 0003 00000001 0001 00000fff")
-WORDS = {"plan": ["PLAN"], "check": ["PLAN", "SCRIPT"], "run": ["PLAN", "SCRIPT", "ANSWERS", "EVENTS"], "drive": ["PLAN", "SCRIPT", "EVENTS"], "events": ["FILE"]}
-# Stands in front of the C library's calls: one fails as the environment says, as '2 write 4': the second write, with errno 4. Standard
-# error is left alone. The numbers of the system's calls are those of x86-64, for which programs are built.
-FAILING_CALLS = r"""
-extern int *__errno_location(void);
-extern char *getenv(const char *);
-extern int sscanf(const char *, const char *, ...);
-extern int strcmp(const char *, const char *);
-extern long syscall(long, ...);
-static int seen;
-static long call(const char *name, long number, int fd, const void *bytes, unsigned long size) {
-  char wanted[16];
-  int turn, error;
-  if (fd != 2 && sscanf(getenv("FAILING_CALL"), "%d %15s %d", &turn, wanted, &error) == 3 && !strcmp(name, wanted) && ++seen == turn) {
-    *__errno_location() = error;
-    return -1;
-  }
-  return syscall(number, fd, bytes, size);
-}
-long read(int fd, void *bytes, unsigned long size) { return call("read", 0, fd, bytes, size); }
-long write(int fd, const void *bytes, unsigned long size) { return call("write", 1, fd, bytes, size); }
-int fsync(int fd) { return call("fsync", 74, fd, 0, 0); }
-"""
-EINTR, EIO = 4, 5
+WORDS = {"plan": ["PLAN"], "check": ["PLAN", "SCRIPT"], "explain": ["PLAN", "SCRIPT"], "bounds": ["PLAN", "SCRIPT"], "run": ["PLAN", "SCRIPT", "ANSWERS", "EVENTS"], "drive": ["PLAN", "SCRIPT", "EVENTS"], "events": ["FILE"]}
 READ, WRITE, TOO_LONG, TWICE = (f"fault {it}\n".encode() for it in ("read", "write", "input too long", "@in twice"))
 
 
@@ -114,6 +91,11 @@ class WorkedRow(Case):
         for words, given in ((["@sample"], b""), (["plan.toml"], b""), (["@in"], self.file("plan.toml"))):
             self.assertEqual(self.call("plan", *words, given=given), (0, listed, b""), words)
 
+    def test_sample_text(self):
+        written = (TOP / "crates/camac_plan_laws/specs/SampleText.antt").read_text()
+        said = "".join(json.loads(f'"{line}"') for line in re.findall(r'codes "((?:[^"\\]|\\.)*)"', written))
+        self.assertEqual(said, (TOP / "examples/sample_plan.toml").read_text())
+
     def test_refusals(self):
         script = STRAIGHT_LINE.replace(b"within 3", b"within 2")
         refusal = b"refused E12 line 3: more cycles than annotated\n"
@@ -147,7 +129,7 @@ class Usage(Case):
             self.assertIn(b"Usage: camac", err, words)
 
     def test_standard_input_twice(self):
-        for line in ("check @in @in", "run @in @in a e", "run @in s @in e", "run @sample @in @in e"):
+        for line in ("check @in @in", "explain @in @in", "bounds @in @in", "run @in @in a e", "run @in s @in e", "run @sample @in @in e"):
             self.assertEqual(self.call(*line.split()), (2, b"", TWICE), line)
             self.assertFalse((self.room / "e").exists())
 
@@ -288,7 +270,7 @@ class Streams(Case):
         self.assertEqual(self.file("e"), EVENT_FILE)
 
     def test_help_that_cannot_be_written(self):
-        for words in ("--help", "-h", "help", "plan --help", "check --help", "run --help", "events --help", "--version"):
+        for words in ("--help", "-h", "help", "plan --help", "check --help", "explain --help", "bounds --help", "run --help", "events --help", "--version"):
             self.assertEqual(self.shell(f'"$camac" {words} >/dev/full'), (3, b"", WRITE), words)
             self.assertEqual(self.shell(f'"$camac" {words} >&-'), (3, b"", WRITE), words)
         self.assertEqual(self.shell('"$camac" --frob 2>/dev/full'), (2, b"", b""))
@@ -320,6 +302,61 @@ class Streams(Case):
             ran.stdin.close()
             self.assertEqual(ran.stdout.read(), b"ended events 1\n")
         self.assertEqual(ran.returncode, 0)
+
+    def until(self, name, wanted):
+        """Waits for a file to hold this."""
+        limit = time.monotonic() + 10
+        while not ((self.room / name).exists() and self.file(name) == wanted) and time.monotonic() < limit:
+            time.sleep(0.01)
+        self.assertEqual(self.file(name), wanted)
+
+    def test_all_is_handed_on_before_an_answer_is_waited_for(self):
+        words = [PROGRAM, "run", "@sample", "straight.script", "@in", "e"]
+        lines = LISTING.splitlines(True)[:-1]
+        with subprocess.Popen(words, stdin=subprocess.PIPE, stdout=subprocess.PIPE, bufsize=0, cwd=self.room) as ran:
+            self.until("e", b"CAMACEV2")
+            # many services at once, and the begin of an answer that comes later
+            ran.stdin.write(ANSWERS * 100 + ANSWERS[:10])
+            told = b"".join(ran.stdout.readline() for _ in range(100 * len(lines)))
+            self.assertEqual(told, b"".join(lines) * 100)
+            self.until("e", b"CAMACEV2" + b"".join(self.record(number) for number in range(1, 101)))
+            self.assertEqual(select.select([ran.stdout], [], [], 0.1)[0], [])
+            ran.stdin.write(ANSWERS[10:])
+            self.assertEqual(b"".join(ran.stdout.readline() for _ in lines), b"".join(lines))
+            ran.stdin.close()
+            self.assertEqual(ran.stdout.read(), b"ended events 101\n")
+        self.assertEqual(ran.returncode, 0)
+
+    def record(self, number):
+        """The record of this service with another number."""
+        return EVENT_FILE[8:12] + number.to_bytes(4, "big") + EVENT_FILE[16:]
+
+    def test_an_output_fails_before_an_answer_is_waited_for(self):
+        """The program ends though its answers do not, and nothing more is written."""
+        first, rest = ANSWERS.splitlines(True)[0], b"".join(ANSWERS.splitlines(True)[1:])
+        piped = {"stdin": subprocess.PIPE, "stderr": subprocess.PIPE, "bufsize": 0, "cwd": self.room}
+        words = [PROGRAM, "run", "@sample", "straight.script", "@in"]
+        with subprocess.Popen([*words, "e"], stdout=subprocess.PIPE, **piped) as ran:
+            ran.stdin.write(first)
+            self.assertEqual(ran.stdout.readline(), LISTING.splitlines(True)[0])
+            ran.stdout.close()
+            ran.stdin.write(rest)
+            self.assertEqual((ran.wait(10), ran.stderr.read()), (3, WRITE))
+        self.assertEqual(self.file("e"), b"CAMACEV2")
+        with open("/dev/full", "wb") as full, subprocess.Popen([*words, "e"], stdout=full, **piped) as ran:
+            ran.stdin.write(first)
+            self.assertEqual((ran.wait(10), ran.stderr.read()), (3, WRITE))
+        self.assertEqual(self.file("e"), b"CAMACEV2")
+        with subprocess.Popen([*words, "/dev/full"], stdout=subprocess.PIPE, **piped) as ran:
+            self.assertEqual((ran.wait(10), ran.stdout.read(), ran.stderr.read()), (3, b"", WRITE))
+
+    def test_an_output_fails_at_the_end(self):
+        words = '"$camac" run @sample'
+        (self.room / "bad.script").write_bytes(b"!")
+        self.assertEqual(self.shell(f"{words} bad.script answers e >/dev/full"), (3, b"", WRITE))
+        self.assertEqual(self.file("e"), b"")
+        self.assertEqual(self.shell(f'{words} straight.script /dev/null e >/dev/full'), (3, b"", WRITE))
+        self.assertEqual(self.file("e"), b"CAMACEV2")
 
 
 class Kept(Case):
@@ -370,86 +407,6 @@ class Kept(Case):
         (self.room / "e").write_bytes(EVENT_FILE * 1000)
         self.assertEqual(self.call("run", "@sample", "straight.script", "answers", "e"), (0, LISTING, b""))
         self.assertEqual(self.file("e"), EVENT_FILE)
-
-
-class FailingCalls(Case):
-    """Calls of the system that fail or are interrupted: each is a fault, and is not made again."""
-
-    @classmethod
-    def setUpClass(cls):
-        with open(PROGRAM, "rb") as program:
-            if program.read(4) != b"\x7fELF":
-                raise unittest.SkipTest("the calls of a launcher would fail")
-        room = tempfile.TemporaryDirectory(prefix="camac-test-")
-        cls.addClassCleanup(room.cleanup)
-        cls.library = f"{room.name}/failing.so"
-        compiler = shutil.which("cc") or shutil.which("clang")
-        subprocess.run([compiler, "-shared", "-fPIC", "-w", "-xc", "-o", cls.library, "-"], input=FAILING_CALLS.encode(), check=True)
-
-    def failing(self, turn, name, error, *words, **how):
-        env = {**os.environ, "LD_PRELOAD": self.library, "FAILING_CALL": f"{turn} {name} {error}"}
-        return self.call(*words, env=env, **how)
-
-    def each(self, name, error, fault, *words, **how):
-        """Has each call fail in turn; what was written before it is a front of what the program writes. Says how many calls there are."""
-        whole = self.failing(0, name, error, *words, **how)
-        for turn in range(1, 1000):
-            status, out, err = self.failing(turn, name, error, *words, **how)
-            if (status, out, err) == whole:
-                return turn - 1
-            self.assertEqual((status, err), (3, fault), (turn, words))
-            self.assertTrue(whole[1].startswith(out) and out != whole[1], (turn, words))
-        self.fail("the calls do not end")
-
-    def test_writes(self):
-        (self.room / "one.events").write_bytes(EVENT_FILE)
-        many = b"CAMACEV2" + b"".join(EVENT_FILE[8:12] + bytes([0, 0, n >> 8, n & 255]) + EVENT_FILE[16:] for n in range(1, 501))
-        (self.room / "many.events").write_bytes(many)
-        for error in (EINTR, EIO):
-            self.assertGreater(self.each("write", error, WRITE, "plan", "@sample"), 0)
-            self.assertGreater(self.each("write", error, WRITE, "check", "plan.toml", "straight.script"), 0)
-            self.assertGreater(self.each("write", error, WRITE, "events", "one.events"), 0)
-            self.assertGreater(self.each("write", error, WRITE, "events", "many.events"), 1)
-
-    def test_writes_of_a_run(self):
-        for error in (EINTR, EIO):
-            for turn in range(1, 100):
-                status, out, err = self.failing(turn, "write", error, "run", "plan.toml", "straight.script", "answers", "e")
-                self.assertTrue(LISTING.startswith(out) and EVENT_FILE.startswith(self.file("e")), turn)
-                if status == 0:
-                    break
-                self.assertEqual((status, err), (3, WRITE), turn)
-            self.assertEqual((out, self.file("e")), (LISTING, EVENT_FILE))
-            self.assertGreater(turn, 4)
-
-    def test_calls_of_a_live_run(self):
-        words = ["drive", "plan.toml", "straight.script", "e"]
-        for error in (EINTR, EIO):
-            self.assertGreater(self.each("read", error, READ, *words, given=ANSWERS), 4)
-            for turn in range(1, 100):
-                status, out, err = self.failing(turn, "write", error, *words, given=ANSWERS)
-                self.assertTrue(REQUESTS.startswith(out) and EVENT_FILE.startswith(self.file("e")), turn)
-                if status == 0:
-                    break
-                self.assertEqual((status, err), (3, WRITE), turn)
-            self.assertEqual((out, self.file("e")), (REQUESTS, EVENT_FILE))
-            self.assertGreater(turn, 5)
-        self.assertEqual(self.failing(1, "fsync", EIO, *words, given=ANSWERS), (3, REQUESTS, WRITE))
-
-    def test_reads(self):
-        (self.room / "one.events").write_bytes(EVENT_FILE)
-        for error in (EINTR, EIO):
-            for words in (["plan", "plan.toml"], ["check", "plan.toml", "straight.script"], ["events", "one.events"]):
-                self.assertGreater(self.each("read", error, READ, *words), 1)
-                self.assertGreater(self.each("read", error, READ, *words[:-1], "@in", given=self.file(words[-1])), 1)
-            self.assertGreater(self.each("read", error, READ, "run", "plan.toml", "straight.script", "answers", "e"), 4)
-
-    def test_sync(self):
-        words = ["run", "plan.toml", "straight.script", "answers"]
-        self.assertEqual(self.failing(1, "fsync", EIO, *words, "e"), (3, LISTING, WRITE))
-        self.assertEqual(self.file("e"), EVENT_FILE)
-        self.assertEqual(self.failing(1, "fsync", EIO, *words, "/dev/null"), (0, LISTING, b""))
-        self.assertEqual(self.failing(2, "fsync", EIO, *words, "e"), (0, LISTING, b""))
 
 
 def subcommands(help_text):

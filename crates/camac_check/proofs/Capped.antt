@@ -35,10 +35,10 @@ use Rattle.camac_check.specs.declared.context.Context as code
 use Rattle.camac_check.specs.Gives.{by_code, by_rules}
 
 -- a verdict with its costs cut
-abbrev cut : Verdict → Verdict
+abbrev pub cut : Verdict → Verdict
 cut v = verdict v.after (capped v.costs)
 
-abbrev cut_all : Result Verdict Fault → Result Verdict Fault
+abbrev pub cut_all : Result Verdict Fault → Result Verdict Fault
 cut_all (Ok v) = Ok (cut v)
 cut_all (Err f) = Err f
 
@@ -183,7 +183,7 @@ mutual
       go_same (given (slice_get (by_rules context).procedures p) ArgumentOutOfRange line) _ _ (λ procedure.
       go_same (required (arguments_fit rs procedure.parameters) ArgumentOutOfRange line) _ _ (λ _. refl)))
 
-  block_cut : (context : code.Context) (around : Around) (b : Block) (k : Facts) → accept_block (by_code context) around b k ≡ cut_all (accept_block (by_rules context) around b k)
+  pub block_cut : (context : code.Context) (around : Around) (b : Block) (k : Facts) → accept_block (by_code context) around b k ≡ cut_all (accept_block (by_rules context) around b k)
   block_cut context around done k = refl
   block_cut context around (next s rest) k =
       go_cut (accept_statement (by_code context) around s k) (accept_statement (by_rules context) around s k) _ _ (statement_cut context around s k) (λ first.
@@ -206,7 +206,7 @@ guard_same b false rule line r q e h = ap (λ x. go_on (required x rule line) (�
 uncut : (n w k : ℕ) → w < k → nat_le n w ≡ true → min n k ≡ n
 uncut n w k h e = let le : n ≤ w = leb-true n w e in omega arith
 
-within_cut : (most found : Bounds) (line : ℕ) → most.cycles < 2 ^ 64 - 1 → most.words < 2 ^ 64 - 1 → most.steps < 2 ^ 64 - 1 → within most (capped found) line ≡ within most found line
+pub within_cut : (most found : Bounds) (line : ℕ) → most.cycles < 2 ^ 64 - 1 → most.words < 2 ^ 64 - 1 → most.steps < 2 ^ 64 - 1 → within most (capped found) line ≡ within most found line
 within_cut most found line hc hw hs =
     let k = 2 ^ 64 - 1 in
     guard_same (nat_le (min found.words k) most.words) (nat_le found.words most.words) TooManyWords line _ _ (leb_cut found.words most.words k hw) (λ w.

@@ -23,11 +23,11 @@ fine_count plan script [] (v ∷ vs) h = absurd h
 fine_count plan script (k ∷ ks) [] h = absurd h
 fine_count plan script (k ∷ ks) (v ∷ vs) h = let e = fine_count plan script ks vs h.1 in omega arith
 
-or_else_parts : (o p : Option LinkFault) → or_else o p ≡ None → (o ≡ None) × (p ≡ None)
+pub or_else_parts : (o p : Option LinkFault) → or_else o p ≡ None → (o ≡ None) × (p ≡ None)
 or_else_parts None p e = (refl, e)
 or_else_parts (Some x) p e = cc
 
-unless_parts : (test : Bool) (rule : LinkRule) (line : ℕ) (p : Option LinkFault) → unless test rule line p ≡ None → (test ≡ true) × (p ≡ None)
+pub unless_parts : (test : Bool) (rule : LinkRule) (line : ℕ) (p : Option LinkFault) → unless test rule line p ≡ None → (test ≡ true) × (p ≡ None)
 unless_parts true rule line p e = (refl, e)
 unless_parts false rule line p e = cc
 

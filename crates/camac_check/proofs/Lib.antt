@@ -4,3 +4,7 @@ pub mod Capped
 pub mod Judged
 pub mod Blocks
 pub mod Fitting
+pub mod Needs
+pub mod Heading
+pub mod Relinked
+pub mod Found

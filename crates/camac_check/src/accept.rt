@@ -3,16 +3,20 @@
 ghost use Rattle.std.specs.Prelude.{◌≡◌, ◌≤◌, drop, length, map};
 ghost use Rattle.camac_lang.specs.View.{item_of, procedure_of, service_of};
 ghost use Rattle.camac_check_rules.specs.Accept.{within, accept_procedure, accept_service, accept_items, accept};
+ghost use Rattle.camac_lang.specs.Headings.{annotate};
 ghost use Rattle.camac_check.specs.Gives.{Gives, by_code, by_rules, rules_before};
+ghost use Rattle.camac_check.specs.Least.{Finds, event_fits, most, service_needs};
 
 use crate::checked::Bounds;
 use crate::context::Context;
+use crate::fault::LeastFault;
 use crate::procedure::at_entry;
 use crate::statement::accept_block;
 use camac_branch::Plan;
 use camac_check_known::{Around, CheckFault, Costs, Facts};
 use camac_check_rules::CheckRule;
 use camac_lang::{Item, Procedure, Script, Service};
+use camac_names::LinkRule;
 use std::alloc::Global;
 
 /// What each service can cost.
@@ -85,7 +89,7 @@ fn accept_procedure(
 ) -> Result<Bounds, CheckFault>
     ensures { Gives (λ b. b) result (accept_procedure (by_rules context.now) (procedure_of procedure.now)) }
 {
-    procedure_capped(
+    procedure_within(
         alloc,
         context,
         procedure,
@@ -93,6 +97,20 @@ fn accept_procedure(
         procedure.words,
         procedure.steps,
     )
+}
+
+/// What a procedure can cost, with these numbers in the place of those of its heading.
+pub fn procedure_within(
+    alloc: Global,
+    context: &Context,
+    procedure: &Procedure,
+    cycles: u32,
+    words: u32,
+    steps: u32,
+) -> Result<Bounds, CheckFault>
+    ensures { Gives (λ b. b) result (accept_procedure (by_rules context.now) (annotate cycles words steps (procedure_of procedure.now))) }
+{
+    procedure_capped(alloc, context, procedure, cycles, words, steps)
 }
 
 // The same with costs in 64 bits.
@@ -105,10 +123,7 @@ fn procedure_capped(
     words: u32,
     steps: u32,
 ) -> Result<Bounds, CheckFault>
-    requires cycles { cycles ≡ procedure.now.cycles }
-    requires words { words ≡ procedure.now.words }
-    requires steps { steps ≡ procedure.now.steps }
-    ensures { Gives (λ b. b) result (accept_procedure (by_code context.now) (procedure_of procedure.now)) }
+    ensures { Gives (λ b. b) result (accept_procedure (by_code context.now) (annotate cycles words steps (procedure_of procedure.now))) }
 {
     let around = Around::nothing(alloc);
     let known = at_entry(alloc, &procedure.parameters)?;
@@ -150,6 +165,59 @@ fn accept_capped(
         steps: u32::MAX,
     };
     within(most, found.costs, service.line)
+}
+
+/// What a service needs, whatever its heading says.
+pub fn service_needs(
+    alloc: Global,
+    context: &Context,
+    service: &Service,
+) -> Result<Bounds, LeastFault>
+    ensures { Finds (λ b. b) result (service_needs (by_rules context.now) (service_of service.now)) }
+{
+    needs_capped(alloc, context, service)
+}
+
+// The same with costs in 64 bits.
+#[tactic(auto, unfolding(camac_check_rules::specs::Refusal::go_on, camac_check_rules::specs::Refusal::if_reached, crate::specs::Least::and_then))]
+fn needs_capped(alloc: Global, context: &Context, service: &Service) -> Result<Bounds, LeastFault>
+    ensures { Finds (λ b. b) result (service_needs (by_code context.now) (service_of service.now)) }
+{
+    let around = Around::nothing(alloc);
+    let known = Facts::at_start(alloc);
+    let found = accept_block(alloc, context, &around, &service.body, Some(known))?;
+    event_fits(context.plan, found.costs.words(), service.line)?;
+    Ok(within(most(), found.costs, service.line)?)
+}
+
+// So many words of an event as a number of a heading, and in the plan's buffer.
+fn event_fits(plan: &Plan, words: u64, line: u32) -> Result<(), LeastFault>
+    ensures { Finds (λ _. tt) result (event_fits plan.now words line) }
+{
+    if words > u64::from(u32::MAX) {
+        return Err(LeastFault::Check {
+            rule: CheckRule::TooManyWords,
+            line,
+        });
+    }
+    if words > u64::from(plan.buffer()) {
+        return Err(LeastFault::Link {
+            rule: LinkRule::EventAboveBuffer,
+            line,
+        });
+    }
+    Ok(())
+}
+
+// The greatest numbers of a heading.
+fn most() -> Bounds
+    ensures { result ≡ most }
+{
+    Bounds {
+        cycles: u32::MAX,
+        words: u32::MAX,
+        steps: u32::MAX,
+    }
 }
 
 // The costs of a body within the numbers of its heading, on this line.

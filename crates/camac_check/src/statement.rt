@@ -59,10 +59,10 @@ pub fn accept_block(
     Ok(found)
 }
 
-// Checks a statement, if it can be reached.
+/// Checks a statement, if it can be reached.
 #[cycle(statements)]
 #[tactic(auto, unfolding(camac_check_rules::specs::Refusal::if_reached))]
-fn accept_statement(
+pub fn accept_statement(
     alloc: Global,
     context: &Context,
     around: &Around,

@@ -2,6 +2,7 @@
 #![tactic(auto)]
 
 mod copy;
+mod headings;
 mod laws;
 mod name;
 mod script;

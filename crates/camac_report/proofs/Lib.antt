@@ -1,3 +1,4 @@
 pub mod EventLines
+pub mod HeadingLines
 pub mod Lines
 pub mod Texts

@@ -2,6 +2,7 @@ pub mod Codes
 pub mod Digits
 pub mod Ends
 pub mod Events
+pub mod Headings
 pub mod Items
 pub mod Plan
 pub mod Refusal

@@ -1,4 +1,4 @@
-//! The lines that the program prints: verdicts, refusals, plans, event files, and the items and the end of a run.
+//! The lines that the program prints: verdicts, headings, refusals, plans, event files, and the items and the end of a run.
 #![tactic(auto)]
 
 mod code;
@@ -6,6 +6,7 @@ mod cycle;
 mod digits;
 mod end;
 mod events;
+mod headings;
 mod item;
 mod line;
 mod plan;
@@ -17,6 +18,7 @@ pub use code::{AnswerCode, CheckCode, CodeText, EventCode, LinkCode, PlanCode, T
 pub use cycle::write_cycle;
 pub use end::write_end;
 pub use events::write_events;
+pub use headings::write_headings;
 pub use item::{write_item, write_items};
 pub use line::{LONGEST_LINE, Line};
 pub use plan::write_plan;

@@ -1,6 +1,6 @@
 // The command lines.
 
-pub const LINES: [&str; 50] = [
+pub const LINES: [&str; 54] = [
     // the examples
     "plan beam_line.toml",
     "plan sample_plan.toml",
@@ -14,6 +14,8 @@ pub const LINES: [&str; 50] = [
     "check @sample @in",
     "check sample_plan.toml straight.script",
     "check @sample greedy.script",
+    "explain @sample greedy.script",
+    "bounds @sample greedy.script",
     "run @sample greedy.script answers events",
     "run sample_plan.toml straight.script answers events",
     "events events",
@@ -54,6 +56,8 @@ pub const LINES: [&str; 50] = [
     "--help",
     "plan --help",
     "check --help",
+    "explain --help",
+    "bounds --help",
     "run --help",
     "drive --help",
     "events --help",

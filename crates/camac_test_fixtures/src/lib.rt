@@ -2,4 +2,5 @@
 #![tactic(auto)]
 
 pub mod fakes;
+pub mod once;
 pub mod scripts;

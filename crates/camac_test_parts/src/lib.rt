@@ -17,5 +17,3 @@ mod script_texts;
 mod tokens;
 #[cfg(test)]
 mod tree;
-#[cfg(test)]
-mod words;

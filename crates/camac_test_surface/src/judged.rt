@@ -1,7 +1,8 @@
 // What a checked script says of itself, and a log of its run.
 
 use camac_branch::Answer;
-use camac_check::{Checked, check};
+use camac_check::{Checked, check, least};
+use camac_lang::Script;
 use camac_names::resolve;
 use camac_run::{End, Item, Log, Runner, run};
 use camac_test_fixtures::scripts::STRAIGHT_LINE;
@@ -17,6 +18,25 @@ pub fn straight_line(alloc: Global) -> Result<Checked, Fail> {
     let script = parse(alloc, STRAIGHT_LINE)?;
     let linked = resolve(alloc, script, &plan)?;
     Ok(check(alloc, linked)?)
+}
+
+fn numbers_of_the_service(script: &Script) -> Option<(u32, u32)> {
+    let service = script.services().first()?;
+    Some((service.cycles, service.words))
+}
+
+#[test]
+fn least_headings(rt: HostRuntime) -> Result<(), Fail> {
+    let plan = sample_plan(rt.alloc())?;
+    let mut script = parse(rt.alloc(), STRAIGHT_LINE)?;
+    assert_eq!(rt; script.services().len(), 1);
+    script.annotate_service(0, 9, 8);
+    assert_eq!(rt; numbers_of_the_service(&script), Some((9, 8)));
+    script.unannotate();
+    assert_eq!(rt; numbers_of_the_service(&script), Some((0, 0)));
+    let checked = least(rt.alloc(), script, &plan)?;
+    assert_eq!(rt; numbers_of_the_service(checked.script()), Some((3, 1)));
+    Ok(())
 }
 
 fn word(value: u32) -> Result<Word24, Fail> {

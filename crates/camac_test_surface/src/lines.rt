@@ -2,8 +2,8 @@
 
 use crate::judged::{straight_line, straight_line_log};
 use camac_report::{
-    write_cycle, write_end, write_events, write_item, write_items, write_plan, write_request,
-    write_unlocks, write_verdict,
+    write_cycle, write_end, write_events, write_headings, write_item, write_items, write_plan,
+    write_request, write_unlocks, write_verdict,
 };
 use camac_run::{End, Item, Wanted, requests_are_safe};
 use camac_word::{CrateNo, Watched};
@@ -16,6 +16,10 @@ fn lines_of_a_verdict(rt: HostRuntime) -> Result<(), Fail> {
     let mut out = Watched::new(Vec::new(rt.alloc()));
     write_verdict(&mut out, &checked)?;
     let want = b"accepted\nservice adc gl 3 cycles 3 of 3 words 1 of 1 steps 3\n";
+    assert_eq!(rt; out.into_inner().as_slice(), want.as_slice());
+    let mut out = Watched::new(Vec::new(rt.alloc()));
+    write_headings(&mut out, checked.script())?;
+    let want = b"service adc within 3 cycles event 1 words\n";
     assert_eq!(rt; out.into_inner().as_slice(), want.as_slice());
     let mut out = Watched::new(Vec::new(rt.alloc()));
     write_plan(&mut out, checked.plan())?;

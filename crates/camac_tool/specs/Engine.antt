@@ -7,7 +7,7 @@ use Rattle.camac_event.specs.Reading.{file_at}
 use Rattle.camac_plan.specs.declared.fault.PlanRule.{PlanRule}
 use Rattle.camac_tool.specs.Reading.{ConsumesSome, WasRead}
 use Rattle.camac_tool.specs.Plan.{Says, IsPlanTooLong}
-use Rattle.camac_tool.specs.Report.{Report, report, report_plan, report_events, report_of}
+use Rattle.camac_tool.specs.Report.{Report, report_plan, report_events, report_of}
 use Rattle.camac_tool.specs.declared.fault.ToolFault.{ToolFault}
 use Rattle.camac_tool.specs.declared.fault.ToolFault.TheVariants as fault
 use Rattle.camac_tool.specs.declared.outcome.Outcome.{Outcome}
@@ -40,27 +40,31 @@ ShowsPlan left plan plan' o p (Err fault.Read) = Keeps o p
 ShowsPlan left plan plan' o p (Err fault.Memory) = Keeps o p
 ShowsPlan left plan plan' o p (Err fault.TooLong) = IsPlanTooLong left plan plan' × Keeps o p
 
--- What was read of a script for a plan, and written: the report on the text, and nothing after a fault before it.
-abbrev pub ChecksOn : Layout → (a b : Option (List ℕ)) → (o p : Option (List ℕ)) → Result Outcome ToolFault → Type 0
-ChecksOn plan a b o p (Ok outcome) = (text : List ℕ) × WasRead TEXT_LIMIT a b text × Shows (report plan text) o p (Ok outcome)
-ChecksOn plan a b o p (Err fault.Write) = (text : List ℕ) × WasRead TEXT_LIMIT a b text × Shows (report plan text) o p (Err fault.Write)
-ChecksOn plan a b o p (Err fault.Read) = Keeps o p
-ChecksOn plan a b o p (Err fault.Memory) = Keeps o p
-ChecksOn plan a b o p (Err fault.TooLong) = ConsumesSome a b (TEXT_LIMIT + 1) × Keeps o p
+-- what is told of a script's text, for a plan
+abbrev pub Tale : Type 0
+Tale = Layout → List ℕ → Report
+
+-- What was read of a script for a plan, and written: what is told of its text, and nothing after a fault before it.
+abbrev pub ChecksOn : Tale → Layout → (a b : Option (List ℕ)) → (o p : Option (List ℕ)) → Result Outcome ToolFault → Type 0
+ChecksOn tale plan a b o p (Ok outcome) = (text : List ℕ) × WasRead TEXT_LIMIT a b text × Shows (tale plan text) o p (Ok outcome)
+ChecksOn tale plan a b o p (Err fault.Write) = (text : List ℕ) × WasRead TEXT_LIMIT a b text × Shows (tale plan text) o p (Err fault.Write)
+ChecksOn tale plan a b o p (Err fault.Read) = Keeps o p
+ChecksOn tale plan a b o p (Err fault.Memory) = Keeps o p
+ChecksOn tale plan a b o p (Err fault.TooLong) = ConsumesSome a b (TEXT_LIMIT + 1) × Keeps o p
 
 -- the same where the plan may be refused: of the script nothing is read then
-abbrev pub ChecksIf : Result Layout PlanRule → (a b : Option (List ℕ)) → (o p : Option (List ℕ)) → Result Outcome ToolFault → Type 0
-ChecksIf (Ok plan) a b o p r = ChecksOn plan a b o p r
-ChecksIf (Err rule) a b o p r = (b ≡ a) × Shows (report_plan (Err rule)) o p r
+abbrev pub ChecksIf : Tale → Result Layout PlanRule → (a b : Option (List ℕ)) → (o p : Option (List ℕ)) → Result Outcome ToolFault → Type 0
+ChecksIf tale (Ok plan) a b o p r = ChecksOn tale plan a b o p r
+ChecksIf tale (Err rule) a b o p r = (b ≡ a) × Shows (report_plan (Err rule)) o p r
 
 -- What was read of a plan and then of a script, and written. A fault may come before the plan is judged.
-abbrev pub Checks : {R : Type 0} → (left : R → Option (List ℕ)) → (plan plan' : PlanSource R) → (a b : Option (List ℕ)) → (o p : Option (List ℕ)) → Result Outcome ToolFault → Type 0
-Checks left plan plan' a b o p (Err fault.Read) = Keeps o p
-Checks left plan plan' a b o p (Err fault.Memory) = Keeps o p
-Checks left plan plan' a b o p (Err fault.TooLong) =
+abbrev pub Checks : {R : Type 0} → Tale → (left : R → Option (List ℕ)) → (plan plan' : PlanSource R) → (a b : Option (List ℕ)) → (o p : Option (List ℕ)) → Result Outcome ToolFault → Type 0
+Checks tale left plan plan' a b o p (Err fault.Read) = Keeps o p
+Checks tale left plan plan' a b o p (Err fault.Memory) = Keeps o p
+Checks tale left plan plan' a b o p (Err fault.TooLong) =
     (IsPlanTooLong left plan plan' × (b ≡ a) × Keeps o p)
-    ⊎ ((says : Result Layout PlanRule) × Says left plan plan' says × ChecksIf says a b o p (Err fault.TooLong))
-Checks left plan plan' a b o p r = (says : Result Layout PlanRule) × Says left plan plan' says × ChecksIf says a b o p r
+    ⊎ ((says : Result Layout PlanRule) × Says left plan plan' says × ChecksIf tale says a b o p (Err fault.TooLong))
+Checks tale left plan plan' a b o p r = (says : Result Layout PlanRule) × Says left plan plan' says × ChecksIf tale says a b o p r
 
 -- what was written of an event file's bytes, unless memory was refused
 abbrev pub ListsEvents : List ℕ → (o p : Option (List ℕ)) → Result Outcome ToolFault → Type 0

@@ -1,5 +1,5 @@
 -- What an input of the program has left.
-use Rattle.std.specs.Prelude.{ℕ, List, Option}
+use Rattle.std.specs.Prelude.{ℕ, Bool, true, false, List, Option}
 use Rattle.camac_tool.specs.declared.input.Input.{Input}
 use Rattle.camac_tool.specs.declared.input.Input.TheVariants.{Standard, File}
 
@@ -7,3 +7,7 @@ use Rattle.camac_tool.specs.declared.input.Input.TheVariants.{Standard, File}
 abbrev pub left_in : {S F : Type 0} → (S → Option (List ℕ)) → (F → Option (List ℕ)) → Input S F → Option (List ℕ)
 left_in standard file (Standard reader) = standard reader
 left_in standard file (File reader) = file reader
+
+abbrev pub is_standard : {S F : Type 0} → Input S F → Bool
+is_standard (Standard reader) = true
+is_standard (File reader) = false

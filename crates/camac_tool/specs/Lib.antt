@@ -4,6 +4,7 @@ pub mod Report
 pub mod Reading
 pub mod Plan
 pub mod Engine
+pub mod Headings
 pub mod Accepted
 pub mod Run
 pub mod Headline
@@ -11,4 +12,4 @@ pub mod Found
 pub mod RunInTurn
 pub mod Drive
 pub mod Input
-pub mod OneTry
+pub mod Explain

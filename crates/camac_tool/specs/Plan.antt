@@ -8,6 +8,7 @@ use Rattle.camac_tool.specs.Reading.{ConsumesSome, WasRead}
 use Rattle.camac_tool.specs.Sample.{sample}
 use Rattle.camac_tool.specs.declared.fault.ToolFault.{ToolFault}
 use Rattle.camac_tool.specs.declared.fault.ToolFault.TheVariants as fault
+use Rattle.camac_tool.specs.declared.plan.PlanRead.{PlanRead}
 use Rattle.camac_tool.specs.declared.plan.PlanSource.{PlanSource}
 use Rattle.camac_tool.specs.declared.plan.PlanSource.TheVariants.{Sample, Text}
 use Rattle.camac_tool.specs.declared.reading.TheConstants.{TEXT_LIMIT}
@@ -30,6 +31,11 @@ ReadsPlan left old new (Err fault.TooLong) = IsPlanTooLong left old new
 ReadsPlan left old new (Err fault.Read) = Unit {0}
 ReadsPlan left old new (Err fault.Memory) = Unit {0}
 ReadsPlan left old new (Err _) = ⊥
+
+-- what was read says
+abbrev pub says_of : Result PlanRead ToolFault → Result (Result Layout PlanRule) ToolFault
+says_of (Ok read) = Ok read.says
+says_of (Err f) = Err f
 
 -- what a text reads as, unless memory was refused
 abbrev pub JudgesPlan : Result (Result Layout PlanRule) ToolFault → Result Layout PlanRule → Type 0

@@ -4,7 +4,7 @@ ghost use Rattle.std.specs.Prelude.{◌≡◌, ◌||◌};
 ghost use Rattle.camac_tool.specs.Engine.{Checks, ChecksOn, ListsEvents, ShowsEvents, ShowsPlan, Shows, is_write_fault};
 ghost use Rattle.camac_tool.specs.Plan.{plan_failed};
 ghost use Rattle.camac_tool.specs.Reading.{is_read_fault};
-ghost use Rattle.camac_tool.specs.Report.{refused, report_of};
+ghost use Rattle.camac_tool.specs.Report.{refused, report, report_of};
 ghost use Rattle.camac_word.specs.Watched.{inner_of, has_failed};
 
 use crate::codes::{event_code, plan_code};
@@ -48,7 +48,7 @@ pub fn engine_check<P: Read, S: Read, W: Write>(
     script: &mut Watched<S>,
     out: &mut Watched<W>,
 ) -> Result<Outcome, ToolFault>
-    ensures checks { Checks P.remaining plan.old plan.new (S.remaining (inner_of script.old)) (S.remaining (inner_of script.new)) (W.contents (inner_of out.old)) (W.contents (inner_of out.new)) result }
+    ensures checks { Checks report P.remaining plan.old plan.new (S.remaining (inner_of script.old)) (S.remaining (inner_of script.new)) (W.contents (inner_of out.old)) (W.contents (inner_of out.new)) result }
     ensures out_failed { has_failed out.new ≡ (has_failed out.old || is_write_fault result) }
     ensures in_failed { (plan_failed plan.new || has_failed script.new)
         ≡ (plan_failed plan.old || has_failed script.old || is_read_fault result) }
@@ -66,7 +66,7 @@ fn check_on<S: Read, W: Write>(
     script: &mut Watched<S>,
     out: &mut Watched<W>,
 ) -> Result<Outcome, ToolFault>
-    ensures checks { ChecksOn plan.now (S.remaining (inner_of script.old)) (S.remaining (inner_of script.new)) (W.contents (inner_of out.old)) (W.contents (inner_of out.new)) result }
+    ensures checks { ChecksOn report plan.now (S.remaining (inner_of script.old)) (S.remaining (inner_of script.new)) (W.contents (inner_of out.old)) (W.contents (inner_of out.new)) result }
     ensures out_failed { has_failed out.new ≡ (has_failed out.old || is_write_fault result) }
     ensures in_failed { has_failed script.new ≡ (has_failed script.old || is_read_fault result) }
 {

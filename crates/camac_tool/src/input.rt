@@ -1,9 +1,10 @@
 // What the program reads: a file, or standard input.
 
-ghost use Rattle.std.specs.Prelude.{◌≡◌, IfErr};
+ghost use Rattle.std.specs.Prelude.{◌≡◌, IfOk, IfErr, codes};
 ghost use Rattle.std.specs.Io.{ReadsAtMost};
 ghost use Rattle.std.specs.Io.KnownBytes.{ReadConsumes};
-ghost use Rattle.camac_tool.specs.Input.{left_in};
+ghost use Rattle.std.specs.Str.{bytes_eq};
+ghost use Rattle.camac_tool.specs.Input.{is_standard, left_in};
 ghost use Rattle.camac_tool.specs.declared.fault.ToolFault.TheVariants.{Read as read-fault};
 
 use crate::fault::ToolFault;
@@ -23,7 +24,8 @@ pub fn open<R: Files + StandardInput>(
     rt: &R,
     word: &str,
 ) -> Result<Input<R::Reader, R::File>, ToolFault>
-    ensures { IfErr result (λ fault. fault ≡ read-fault) }
+    ensures which { IfOk result (λ input. is_standard input ≡ bytes_eq word.now (codes "@in")) }
+    ensures fault { IfErr result (λ fault. fault ≡ read-fault) }
 {
     if word == "@in" {
         return Ok(Input::Standard(rt.reader()));

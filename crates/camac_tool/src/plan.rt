@@ -2,7 +2,7 @@
 
 ghost use Rattle.std.specs.Prelude.{◌≡◌, ◌||◌, IfErr};
 ghost use Rattle.camac_plan.specs.Reading.{reading};
-ghost use Rattle.camac_tool.specs.Plan.{JudgesPlan, ReadsPlan, plan_failed};
+ghost use Rattle.camac_tool.specs.Plan.{JudgesPlan, ReadsPlan, plan_failed, says_of};
 ghost use Rattle.camac_tool.specs.Reading.{is_read_fault};
 
 use crate::fault::ToolFault;
@@ -36,6 +36,34 @@ pub fn read_plan<R: Read>(
         PlanSource::Text(reader) => {
             let text = read_whole(alloc, reader, TEXT_LIMIT)?;
             judge_plan(alloc, &text)
+        }
+    }
+}
+
+/// What a source says, with its text. The sample plan has none.
+#[derive(Drop)]
+pub struct PlanRead {
+    pub text: Vec<u8>,
+    pub says: Result<Plan, PlanRule>,
+}
+
+/// The plan of a source with its text, or the first rule that this breaks.
+pub fn read_plan_text<R: Read>(
+    alloc: Global,
+    source: &mut PlanSource<R>,
+) -> Result<PlanRead, ToolFault>
+    ensures reads { ReadsPlan R.remaining source.old source.new (says_of result) }
+    ensures failed { plan_failed source.new ≡ (plan_failed source.old || is_read_fault result) }
+{
+    match source {
+        PlanSource::Sample => Ok(PlanRead {
+            text: Vec::new(alloc),
+            says: Ok(sample_plan(alloc)?),
+        }),
+        PlanSource::Text(reader) => {
+            let text = read_whole(alloc, reader, TEXT_LIMIT)?;
+            let says = judge_plan(alloc, text.as_slice())?;
+            Ok(PlanRead { text, says })
         }
     }
 }

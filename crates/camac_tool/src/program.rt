@@ -1,31 +1,41 @@
 // The program, from its words to its exit status.
 
-ghost use Rattle.std.specs.Prelude.{◌≡◌};
+ghost use Rattle.std.specs.Prelude.{◌≡◌, ◌||◌, IfOk, IfErr, codes, is_err, is_none};
+ghost use Rattle.std.specs.Str.{bytes_eq};
 ghost use Rattle.camac_tool.specs.Engine.{status_of};
+ghost use Rattle.camac_tool.specs.declared.fault.ToolFault.TheVariants.{Read as read-fault, Write};
 ghost use Rattle.camac_tool.specs.declared.launch.ArgumentsFault.TheVariants.{Memory, NotText};
+ghost use Rattle.camac_word.specs.Watched.{has_failed};
 
 use crate::driving::engine_drive;
 use crate::engine::{engine_check, engine_events, engine_plan};
+use crate::explaining::engine_explain;
 use crate::fault::ToolFault;
+use crate::headings::engine_bounds;
 use crate::input::{Input, open};
 use crate::launch::ArgumentsFault;
-use crate::one_try::OneTry;
 use crate::outcome::{Outcome, status};
 use crate::plan::PlanSource;
 use crate::running::engine_run;
 use crate::streams::hold_places;
 use crate::target::{create_events, settle};
+use camac_tool_streams::{FromAnswers, Gathered, Streams, ToListing, ToRecords};
 use camac_tool_words::{Job, JobFault, read_words};
 use camac_word::Watched;
 use clap::Error;
 use clap::error::ErrorKind;
+use std::alloc::Global;
+use std::cell::RefCell;
 use std::fs::Files;
 use std::io;
-use std::io::{BufReader, BufWriter, Input as StandardInput, Write};
+use std::io::{BufReader, Input as StandardInput, Read, Write};
 use std::rt::Runtime;
 
 /// The status of a usage fault.
 const USAGE: u8 = 2;
+
+/// How many bytes of the answers are asked for at a time.
+const AHEAD: usize = 65_536;
 
 /// Does what the words after the program's name ask for, and returns the exit status: 0 or 1 by the outcome, 2 where the words
 /// ask for nothing that is there, and 3 for a fault. Help and version print and end with 0. A fault is one line on standard error.
@@ -36,7 +46,7 @@ pub fn exit_status<R: Runtime + AllocGlobal>(rt: &R, words: &[String]) -> u8 {
     match read_words(rt.alloc(), words) {
         Ok(job) => serve(rt, job),
         Err(JobFault::InTwice) => misused(rt, "fault @in twice"),
-        Err(JobFault::Usage(error)) => explain(rt, error),
+        Err(JobFault::Usage(error)) => print_usage(rt, error),
     }
 }
 
@@ -56,6 +66,8 @@ fn serve<R: Runtime + AllocGlobal>(rt: &R, job: Job<'_>) -> u8 {
     match job {
         Job::Plan(plan) => finished(rt, show_plan(rt, plan)),
         Job::Check(plan, script) => finished(rt, check(rt, plan, script)),
+        Job::Explain(plan, script) => finished(rt, explain(rt, plan, script)),
+        Job::Bounds(plan, script) => finished(rt, show_bounds(rt, plan, script)),
         Job::Events(file) => finished(rt, show_events(rt, file)),
         Job::Run(plan, script, answers, events) => {
             finished(rt, run(rt, plan, script, answers, events))
@@ -66,8 +78,9 @@ fn serve<R: Runtime + AllocGlobal>(rt: &R, job: Job<'_>) -> u8 {
 
 fn show_plan<R: Runtime + AllocGlobal>(rt: &R, plan: &str) -> Result<Outcome, ToolFault> {
     let mut plan = source_of(plan_input(rt, plan)?);
-    let mut out = Watched::new(io::writer(rt));
-    engine_plan(rt.alloc(), &mut plan, &mut out)
+    let mut out = Watched::new(Gathered::new(rt.alloc(), io::writer(rt))?);
+    let outcome = engine_plan(rt.alloc(), &mut plan, &mut out)?;
+    handed_on(&mut out, outcome)
 }
 
 fn check<R: Runtime + AllocGlobal>(rt: &R, plan: &str, script: &str) -> Result<Outcome, ToolFault> {
@@ -77,7 +90,30 @@ fn check<R: Runtime + AllocGlobal>(rt: &R, plan: &str, script: &str) -> Result<O
     engine_check(rt.alloc(), &mut plan, &mut script, &mut out)
 }
 
-// Answers are read ahead as far as they have come. The lines of an answer go out in one write, and none waits for the next answer.
+fn explain<R: Runtime + AllocGlobal>(
+    rt: &R,
+    plan: &str,
+    script: &str,
+) -> Result<Outcome, ToolFault> {
+    let mut plan = source_of(plan_input(rt, plan)?);
+    let mut script = Watched::new(open(rt, script)?);
+    let mut out = Watched::new(io::writer(rt));
+    engine_explain(rt.alloc(), &mut plan, &mut script, &mut out)
+}
+
+fn show_bounds<R: Runtime + AllocGlobal>(
+    rt: &R,
+    plan: &str,
+    script: &str,
+) -> Result<Outcome, ToolFault> {
+    let mut plan = source_of(plan_input(rt, plan)?);
+    let mut script = Watched::new(open(rt, script)?);
+    let mut out = Watched::new(io::writer(rt));
+    engine_bounds(rt.alloc(), &mut plan, &mut script, &mut out)
+}
+
+// What it tells is gathered, and handed on before each read of the answers and at the end. An output that fails, also before a read, is a
+// write fault.
 fn run<R: Runtime + AllocGlobal>(
     rt: &R,
     plan: &str,
@@ -87,21 +123,36 @@ fn run<R: Runtime + AllocGlobal>(
 ) -> Result<Outcome, ToolFault> {
     let plan = plan_input(rt, plan)?;
     let script = open(rt, script)?;
-    let Ok(ahead) = BufReader::new(rt.alloc(), open(rt, answers)?) else {
+    let answers = open(rt, answers)?;
+    let file = create_events(rt, events, plan.as_ref(), &script, &answers)?;
+    let streams = RefCell::new(Streams::new(rt.alloc(), answers, io::writer(rt), file)?);
+    let outcome = run_on_streams(rt.alloc(), plan, script, &streams);
+    let Ok((_, file)) = streams.into_inner().finish() else {
+        return Err(ToolFault::Write);
+    };
+    let outcome = outcome?;
+    settle(&file)?;
+    Ok(outcome)
+}
+
+// Answers are read ahead as far as they have come.
+fn run_on_streams<I: Read + Drop, W: Write + Drop, E: Write + Drop>(
+    alloc: Global,
+    plan: Option<I>,
+    script: I,
+    streams: &RefCell<Streams<I, W, E>>,
+) -> Result<Outcome, ToolFault> {
+    let Ok(ahead) = BufReader::with_capacity(alloc, AHEAD, FromAnswers::of(streams)) else {
         return Err(ToolFault::Memory);
     };
-    let file = create_events(rt, events, plan.as_ref(), &script, ahead.get_ref())?;
-    let mut events = Watched::new(file);
-    let outcome = engine_run(
-        rt.alloc(),
+    engine_run(
+        alloc,
         &mut source_of(plan),
         &mut Watched::new(script),
         &mut Watched::new(ahead),
-        &mut Watched::new(io::writer(rt)),
-        &mut events,
-    )?;
-    settle(&events.into_inner())?;
-    Ok(outcome)
+        &mut Watched::new(ToListing::of(streams)),
+        &mut Watched::new(ToRecords::of(streams)),
+    )
 }
 
 // A request goes out in one write to a writer that keeps nothing back, and no answer is read ahead of its request.
@@ -128,14 +179,19 @@ fn drive<R: Runtime + AllocGlobal>(
     Ok(outcome)
 }
 
-// The lines are many, so they are gathered before they go out. The writer that gathers them tries an interrupted call again.
 fn show_events<R: Runtime + AllocGlobal>(rt: &R, file: &str) -> Result<Outcome, ToolFault> {
     let mut input = Watched::new(open(rt, file)?);
-    let Ok(gathered) = BufWriter::new(rt.alloc(), OneTry::new(io::writer(rt))) else {
-        return Err(ToolFault::Memory);
-    };
-    let mut out = Watched::new(gathered);
+    let mut out = Watched::new(Gathered::new(rt.alloc(), io::writer(rt))?);
     let outcome = engine_events(rt.alloc(), &mut input, &mut out)?;
+    handed_on(&mut out, outcome)
+}
+
+// The lines of a plan and of events are many, so they are gathered before they go out.
+fn handed_on<W: Write>(out: &mut Watched<W>, outcome: Outcome) -> Result<Outcome, ToolFault>
+    ensures outcome { IfOk result (λ o. o ≡ outcome) }
+    ensures fault { IfErr result (λ fault. fault ≡ Write) }
+    ensures failed { has_failed out.new ≡ (has_failed out.old || is_err result) }
+{
     match out.flush() {
         Ok(()) => Ok(outcome),
         Err(_) => Err(ToolFault::Write),
@@ -146,7 +202,10 @@ fn show_events<R: Runtime + AllocGlobal>(rt: &R, file: &str) -> Result<Outcome, 
 fn plan_input<R: Files + StandardInput>(
     rt: &R,
     word: &str,
-) -> Result<Option<Input<R::Reader, R::File>>, ToolFault> {
+) -> Result<Option<Input<R::Reader, R::File>>, ToolFault>
+    ensures which { IfOk result (λ input. is_none input ≡ bytes_eq word.now (codes "@sample")) }
+    ensures fault { IfErr result (λ fault. fault ≡ read-fault) }
+{
     if word == "@sample" {
         return Ok(None);
     }
@@ -185,7 +244,7 @@ fn misused<R: Runtime>(rt: &R, why: &str) -> u8
 }
 
 // The text of `clap`: help, version, or why the words name no job.
-fn explain<R: Runtime>(rt: &R, error: Error) -> u8 {
+fn print_usage<R: Runtime>(rt: &R, error: Error) -> u8 {
     if error.kind() == ErrorKind::OutOfMemory {
         return stopped(rt, ToolFault::Memory);
     }

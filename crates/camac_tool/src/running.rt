@@ -1,6 +1,6 @@
 // The engine of a run: from a plan, a script and the text of its answers to a listing and an event file.
 
-ghost use Rattle.std.specs.Prelude.{◌≡◌, ◌||◌, false, ℕ, List, Option};
+ghost use Rattle.std.specs.Prelude.{◌≡◌, ◌||◌, true, false, ℕ, List, Option};
 ghost use Rattle.camac_answer.specs.Answers.{left_in};
 ghost use Rattle.camac_answer.specs.declared.answers.Stage.TheVariants.{Running};
 ghost use Rattle.camac_tool_play.specs.Sent.{held};
@@ -9,7 +9,8 @@ ghost use Rattle.camac_tool.specs.Headline.{CheckedKeeps, JudgedKeeps, KeepsHead
 ghost use Rattle.camac_tool.specs.Plan.{plan_failed};
 ghost use Rattle.camac_tool.specs.Reading.{is_read_fault};
 ghost use Rattle.camac_tool.specs.Run.{Refuses, Runs, RunsJudged, RunsScript, outcome_of};
-ghost use Rattle.camac_tool.specs.RunInTurn.{JudgedInTurn, RunsInTurn, ScriptInTurn};
+ghost use Rattle.camac_tool.specs.Found.{StaysQuiet};
+ghost use Rattle.camac_tool.specs.RunInTurn.{FoundInTurn, JudgedInTurn, RunsInTurn, ScriptInTurn};
 ghost use Rattle.camac_word.specs.Watched.{inner_of, has_failed};
 
 use crate::engine::refuse;
@@ -48,6 +49,15 @@ pub fn engine_run<P: Read, S: Read, A: Read, W: Write, E: Write>(
     ensures out_failed { (has_failed out.new || has_failed events.new) ≡ ((has_failed out.old || has_failed events.old) || is_write_fault result) }
     ensures in_failed { ((plan_failed plan.new || has_failed script.new) || has_failed answers.new)
         ≡ (((plan_failed plan.old || has_failed script.old) || has_failed answers.old) || is_read_fault result) }
+    // The reader of the plan or of the script failed.
+    ensures unread { (plan_failed plan.old || has_failed script.old) ≡ false → (plan_failed plan.new || has_failed script.new) ≡ true
+        → StaysQuiet (A.remaining (inner_of answers.old)) (A.remaining (inner_of answers.new))
+        (held (W.contents (inner_of out.old)) (E.contents (inner_of events.old))) (held (W.contents (inner_of out.new)) (E.contents (inner_of events.new))) }
+    // The reader of the answers failed.
+    ensures begun { has_failed answers.old ≡ false → has_failed answers.new ≡ true
+        → FoundInTurn P.remaining plan.old plan.new (S.remaining (inner_of script.old)) (S.remaining (inner_of script.new))
+        (left_in Running 0 (A.remaining (inner_of answers.old))) (A.remaining (inner_of answers.old)) (A.remaining (inner_of answers.new))
+        (held (W.contents (inner_of out.old)) (E.contents (inner_of events.old))) (held (W.contents (inner_of out.new)) (E.contents (inner_of events.new))) result }
 {
     let judged = read_judged(alloc, plan, script)?;
     run_judged(alloc, &judged, answers, out, events)

@@ -1,10 +1,11 @@
 -- The command line as `clap` is told of it, and the job that its matches name.
 use Rattle.std.specs.Prelude.{◌≡◌, ◌⊎◌, ◌<◌, ℕ, true, List, [], ◌∷◌, map, codes, count_by, Option, Some, None}
 use Rattle.std.specs.Str.{bytes_eq}
-use Rattle.clap.specs.Words.{App, Row, Rule, Text, first_of, kind_of, new_app, new_rule, subcommand_of, takes, with_rule, with_subcommand}
+use Rattle.clap.specs.Words.{App, HasKind, Row, Rule, Text, fault_of, first_of, kind_of, new_app, new_rule, subcommand_of, takes, with_rule, with_subcommand}
+use Rattle.clap.specs.declared.error.Error.{Error}
 use Rattle.clap.specs.declared.error.kind.ErrorKind.TheVariants as kind
 use Rattle.camac_tool_words.specs.declared.words.Job.{Job}
-use Rattle.camac_tool_words.specs.declared.words.Job.TheVariants.{Plan, Check, Run, Drive, Events}
+use Rattle.camac_tool_words.specs.declared.words.Job.TheVariants.{Plan, Check, Explain, Bounds, Run, Drive, Events}
 use Rattle.camac_tool_words.specs.declared.words.JobFault.{JobFault}
 use Rattle.camac_tool_words.specs.declared.words.JobFault.TheVariants.{Usage, InTwice}
 
@@ -16,6 +17,12 @@ plan_app = with_rule (new_app (codes "plan")) (word_rule (codes "PLAN"))
 
 abbrev pub check_app : App
 check_app = with_rule (with_rule (new_app (codes "check")) (word_rule (codes "PLAN"))) (word_rule (codes "SCRIPT"))
+
+abbrev pub explain_app : App
+explain_app = with_rule (with_rule (new_app (codes "explain")) (word_rule (codes "PLAN"))) (word_rule (codes "SCRIPT"))
+
+abbrev pub bounds_app : App
+bounds_app = with_rule (with_rule (new_app (codes "bounds")) (word_rule (codes "PLAN"))) (word_rule (codes "SCRIPT"))
 
 abbrev pub run_app : App
 run_app =
@@ -35,11 +42,13 @@ camac_top =
 
 abbrev pub camac_app : App
 camac_app =
-    with_subcommand (with_subcommand (with_subcommand (with_subcommand (with_subcommand camac_top plan_app.top) check_app.top) run_app.top) drive_app.top) events_app.top
+    with_subcommand (with_subcommand (with_subcommand (with_subcommand (with_subcommand (with_subcommand (with_subcommand camac_top plan_app.top) check_app.top) explain_app.top) bounds_app.top) run_app.top) drive_app.top) events_app.top
 
 abbrev pub name_of : Job → Text
 name_of (Plan plan) = codes "plan"
 name_of (Check plan script) = codes "check"
+name_of (Explain plan script) = codes "explain"
+name_of (Bounds plan script) = codes "bounds"
 name_of (Run plan script answers events) = codes "run"
 name_of (Drive plan script events) = codes "drive"
 name_of (Events file) = codes "events"
@@ -48,6 +57,8 @@ name_of (Events file) = codes "events"
 abbrev pub ids_of : Job → List Text
 ids_of (Plan plan) = codes "PLAN" ∷ []
 ids_of (Check plan script) = codes "PLAN" ∷ codes "SCRIPT" ∷ []
+ids_of (Explain plan script) = codes "PLAN" ∷ codes "SCRIPT" ∷ []
+ids_of (Bounds plan script) = codes "PLAN" ∷ codes "SCRIPT" ∷ []
 ids_of (Run plan script answers events) = codes "PLAN" ∷ codes "SCRIPT" ∷ codes "ANSWERS" ∷ codes "EVENTS" ∷ []
 ids_of (Drive plan script events) = codes "PLAN" ∷ codes "SCRIPT" ∷ codes "EVENTS" ∷ []
 ids_of (Events file) = codes "FILE" ∷ []
@@ -55,6 +66,8 @@ ids_of (Events file) = codes "FILE" ∷ []
 abbrev pub words_of : Job → List Text
 words_of (Plan plan) = plan.now ∷ []
 words_of (Check plan script) = plan.now ∷ script.now ∷ []
+words_of (Explain plan script) = plan.now ∷ script.now ∷ []
+words_of (Bounds plan script) = plan.now ∷ script.now ∷ []
 words_of (Run plan script answers events) = plan.now ∷ script.now ∷ answers.now ∷ events.now ∷ []
 words_of (Drive plan script events) = plan.now ∷ script.now ∷ events.now ∷ []
 words_of (Events file) = file.now ∷ []
@@ -63,6 +76,8 @@ words_of (Events file) = file.now ∷ []
 abbrev pub inputs_of : Job → List Text
 inputs_of (Plan plan) = plan.now ∷ []
 inputs_of (Check plan script) = plan.now ∷ script.now ∷ []
+inputs_of (Explain plan script) = plan.now ∷ script.now ∷ []
+inputs_of (Bounds plan script) = plan.now ∷ script.now ∷ []
 inputs_of (Run plan script answers events) = plan.now ∷ script.now ∷ answers.now ∷ []
 inputs_of (Drive plan script events) = codes "@in" ∷ plan.now ∷ script.now ∷ []
 inputs_of (Events file) = file.now ∷ []
@@ -84,8 +99,13 @@ abbrev pub IsOfMemory : JobFault → Type 0
 IsOfMemory (Usage e) = kind_of e ≡ kind.OutOfMemory
 IsOfMemory InTwice = ⊥
 
+-- Memory ran out, or `clap` does not take the words: its error has the kind of the first step of its reading that fails. (Help and the
+-- version are such kinds.)
+abbrev pub IsRefusalOf : List Text → Error → Type 0
+IsRefusalOf words e = (takes camac_app words ≡ true → kind_of e ≡ kind.OutOfMemory) × HasKind (fault_of camac_app words) e
+
 -- Standard input is named twice among the inputs of the job that the words name; or `clap` does not take the words, or memory ran out, or
 -- its matches name no job.
 abbrev pub IsFaultOf : List Text → JobFault → Type 0
 IsFaultOf words InTwice = (job : Job) × IsJob job (subcommand_of camac_app words) × (1 < input_count_of job)
-IsFaultOf words (Usage e) = (takes camac_app words ≡ true → kind_of e ≡ kind.OutOfMemory) ⊎ NamesNoJob (subcommand_of camac_app words)
+IsFaultOf words (Usage e) = IsRefusalOf words e ⊎ NamesNoJob (subcommand_of camac_app words)

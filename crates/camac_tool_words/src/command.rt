@@ -3,7 +3,7 @@
 ghost use Rattle.std.specs.Prelude.{◌≡◌, IfOk, false};
 ghost use Rattle.clap.specs.Words.{app_of, new_app, rule_of};
 ghost use Rattle.clap.specs.declared.builder.command.Command.TheViews.{out-Command};
-ghost use Rattle.camac_tool_words.specs.Words.{word_rule, plan_app, check_app, run_app, drive_app, events_app, camac_top, camac_app};
+ghost use Rattle.camac_tool_words.specs.Words.{word_rule, plan_app, check_app, explain_app, bounds_app, run_app, drive_app, events_app, camac_top, camac_app};
 
 use crate::texts;
 use clap::{Arg, Command};
@@ -16,6 +16,8 @@ pub fn camac_command<'a>(alloc: Global) -> Result<Command<'a>, AllocError>
     top_command(alloc)?
         .subcommand(plan_command(alloc)?)?
         .subcommand(check_command(alloc)?)?
+        .subcommand(explain_command(alloc)?)?
+        .subcommand(bounds_command(alloc)?)?
         .subcommand(run_command(alloc)?)?
         .subcommand(drive_command(alloc)?)?
         .subcommand(events_command(alloc)?)
@@ -63,6 +65,30 @@ fn check_command<'a>(alloc: Global) -> Result<Command<'a>, AllocError>
     ensures local { IfOk result (λ c. (out-Command c).has_globals ≡ false) }
 {
     subcommand(alloc, "check", texts::CHECK_COMMAND, texts::AFTER_CHECK)
+        .arg(word(alloc, "PLAN", texts::PLAN))?
+        .arg(word(alloc, "SCRIPT", texts::SCRIPT))
+}
+
+fn explain_command<'a>(alloc: Global) -> Result<Command<'a>, AllocError>
+    ensures app { IfOk result (λ c. app_of c ≡ explain_app) }
+    ensures local { IfOk result (λ c. (out-Command c).has_globals ≡ false) }
+{
+    let explain = subcommand(
+        alloc,
+        "explain",
+        texts::EXPLAIN_COMMAND,
+        texts::AFTER_EXPLAIN,
+    );
+    explain
+        .arg(word(alloc, "PLAN", texts::PLAN))?
+        .arg(word(alloc, "SCRIPT", texts::SCRIPT))
+}
+
+fn bounds_command<'a>(alloc: Global) -> Result<Command<'a>, AllocError>
+    ensures app { IfOk result (λ c. app_of c ≡ bounds_app) }
+    ensures local { IfOk result (λ c. (out-Command c).has_globals ≡ false) }
+{
+    subcommand(alloc, "bounds", texts::BOUNDS_COMMAND, texts::AFTER_BOUNDS)
         .arg(word(alloc, "PLAN", texts::PLAN))?
         .arg(word(alloc, "SCRIPT", texts::SCRIPT))
 }

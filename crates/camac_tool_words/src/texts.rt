@@ -10,6 +10,12 @@ pub const PLAN_COMMAND: &str = "Lists what a plan says";
 pub const CHECK_COMMAND: &str =
     "Accepts a script with its bounds, or refuses it with a rule and a line";
 
+pub const EXPLAIN_COMMAND: &str =
+    "Checks like check, and says of a refusal where, why and how to mend it";
+
+pub const BOUNDS_COMMAND: &str =
+    "Prints the headings of a script with the least numbers that are accepted";
+
 pub const RUN_COMMAND: &str =
     "Plays an accepted script against a list of answers, and writes its events";
 
@@ -40,6 +46,8 @@ Examples:
   camac plan plan.toml
   camac check plan.toml readout.script
   camac check @sample @in < readout.script
+  camac explain plan.toml readout.script
+  camac bounds plan.toml readout.script
   camac run plan.toml readout.script answers.txt run.events
   camac drive plan.toml readout.script run.events
   camac events run.events
@@ -61,6 +69,25 @@ the rule and the line (status 1). @in stands for one of the two at most.
 Examples:
   camac check plan.toml readout.script
   camac check @sample @in < readout.script";
+
+pub const AFTER_EXPLAIN: &str =
+    "Prints what check prints. After a refusal it goes on with the line of the
+script, what is wrong there, why the rule is there, and how to mend it.
+Status as check. @in stands for one of the two at most.
+
+Examples:
+  camac explain plan.toml readout.script
+  camac explain @sample @in < readout.script";
+
+pub const AFTER_BOUNDS: &str =
+    "Prints the heading of each procedure and service with the numbers that its body
+needs (status 0), or 'refused' with the rule and the line (status 1). The
+numbers in the script's own headings are not looked at. @in stands for one of
+the two at most.
+
+Examples:
+  camac bounds plan.toml readout.script
+  camac bounds @sample @in < readout.script";
 
 pub const AFTER_RUN: &str = "Each answer is a line of 19 bytes, 'x q word wait gl':
   x     X of the reply, 0 or 1

@@ -16,6 +16,8 @@ use std::alloc::{AllocError, Global};
 pub enum Job<'a> {
     Plan(&'a str),
     Check(&'a str, &'a str),
+    Explain(&'a str, &'a str),
+    Bounds(&'a str, &'a str),
     Run(&'a str, &'a str, &'a str, &'a str),
     Drive(&'a str, &'a str, &'a str),
     Events(&'a str),
@@ -87,6 +89,20 @@ fn check_job<'a>(found: &ArgMatches<'a>) -> Option<Job<'a>>
     Some(Job::Check(value_of(found, "PLAN")?, value_of(found, "SCRIPT")?))
 }
 
+fn explain_job<'a>(found: &ArgMatches<'a>) -> Option<Job<'a>>
+    ensures some { IfSome result (λ job. IsJob job (Some (codes "explain", rows_of (found_of found.now)))) }
+    ensures none { IfNone result (NamesNoJob (Some (codes "explain", rows_of (found_of found.now)))) }
+{
+    Some(Job::Explain(value_of(found, "PLAN")?, value_of(found, "SCRIPT")?))
+}
+
+fn bounds_job<'a>(found: &ArgMatches<'a>) -> Option<Job<'a>>
+    ensures some { IfSome result (λ job. IsJob job (Some (codes "bounds", rows_of (found_of found.now)))) }
+    ensures none { IfNone result (NamesNoJob (Some (codes "bounds", rows_of (found_of found.now)))) }
+{
+    Some(Job::Bounds(value_of(found, "PLAN")?, value_of(found, "SCRIPT")?))
+}
+
 fn run_job<'a>(found: &ArgMatches<'a>) -> Option<Job<'a>>
     ensures some { IfSome result (λ job. IsJob job (Some (codes "run", rows_of (found_of found.now)))) }
     ensures none { IfNone result (NamesNoJob (Some (codes "run", rows_of (found_of found.now)))) }
@@ -128,6 +144,10 @@ fn job_in<'a>(name: &str, found: &ArgMatches<'a>) -> Option<Job<'a>>
         plan_job(found)
     } else if is_word(name, "check") {
         check_job(found)
+    } else if is_word(name, "explain") {
+        explain_job(found)
+    } else if is_word(name, "bounds") {
+        bounds_job(found)
     } else if is_word(name, "run") {
         run_job(found)
     } else if is_word(name, "drive") {
@@ -160,7 +180,9 @@ fn input_count(job: &Job<'_>) -> usize
     let is_in = |word: &str| usize::from(is_standard_input(word));
     match *job {
         Job::Plan(plan) => is_in(plan),
-        Job::Check(plan, script) => is_in(plan) + is_in(script),
+        Job::Check(plan, script) | Job::Explain(plan, script) | Job::Bounds(plan, script) => {
+            is_in(plan) + is_in(script)
+        }
         Job::Run(plan, script, answers, _) => is_in(plan) + is_in(script) + is_in(answers),
         Job::Drive(plan, script, _) => 1 + is_in(plan) + is_in(script),
         Job::Events(file) => is_in(file),

@@ -1,5 +1,6 @@
-use Rattle.std.proofs.Common.{◌∙◌, ap, Err}
+use Rattle.std.proofs.Common.{◌∙◌, ap, Err, refl}
 use Rattle.std.proofs.lemmas.Result.{err_from_is_err_and}
+use Rattle.camac_tool_play.proofs.Sending.{sends_nothing}
 use Rattle.camac_tool.proofs.Drives.{stops_before, keeps_before, drives_found, keeps_found}
 use Rattle.camac_tool.proofs.driving.engine_drive.Goals as goal
 
@@ -20,3 +21,9 @@ returns-in_err-judged-clause-headline g c =
 pub returns-clause-headline : goal.returns-clause-headline
 returns-clause-headline g c =
     keeps_found g.P.Read.remaining c.args.plan.now c.read_judged.new.plan _ _ _ c.in_ok-judged.judged c.in_ok-judged.ensures.reads _ _ c.drive_judged.result c.drive_judged.ensures.headline
+
+pub returns-in_err-judged-clause-unread : goal.returns-in_err-judged-clause-unread
+returns-in_err-judged-clause-unread g c was now = (refl, sends_nothing _)
+
+pub returns-clause-begun : goal.returns-clause-begun
+returns-clause-begun g c was now = (c.in_ok-judged.judged, c.in_ok-judged.ensures.reads, c.drive_judged.ensures.drives)

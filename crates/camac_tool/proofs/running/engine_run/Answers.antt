@@ -1,5 +1,6 @@
-use Rattle.std.proofs.Common.{◌∙◌, ap, Err}
+use Rattle.std.proofs.Common.{◌∙◌, ap, Err, refl}
 use Rattle.std.proofs.lemmas.Result.{err_from_is_err_and}
+use Rattle.camac_tool_play.proofs.Sending.{sends_nothing}
 use Rattle.camac_tool.proofs.Keeps.{run_keeps, keeps_unjudged}
 use Rattle.camac_tool.proofs.Runs.{runs_found, runs_before, in_turn_found, in_turn_before}
 use Rattle.camac_tool.proofs.running.engine_run.Goals as goal
@@ -30,3 +31,9 @@ returns-in_err-judged-clause-headline g c =
 pub returns-clause-headline : goal.returns-clause-headline
 returns-clause-headline g c =
     run_keeps _ _ _ g.P.Read.remaining c.args.plan.now c.read_judged.new.plan _ _ c.in_ok-judged.judged c.in_ok-judged.ensures.reads c.run_judged.result c.run_judged.ensures.headline
+
+pub returns-in_err-judged-clause-unread : goal.returns-in_err-judged-clause-unread
+returns-in_err-judged-clause-unread g c was now = (refl, sends_nothing _)
+
+pub returns-clause-begun : goal.returns-clause-begun
+returns-clause-begun g c was now = (c.in_ok-judged.judged, c.in_ok-judged.ensures.reads, c.run_judged.ensures.in_turn)

@@ -1,7 +1,7 @@
 use Rattle.std.proofs.Common.{rules, map, string_bytes}
 use Rattle.std.proofs.lemmas.Result.{err_from_is_err_and}
 use Rattle.clap.specs.Words.{app_of}
-use Rattle.camac_tool_words.proofs.Faults.{of_memory, of_no_job, of_usage}
+use Rattle.camac_tool_words.proofs.Faults.{of_job, of_memory, of_no_job, of_two, of_usage}
 use Rattle.camac_tool_words.proofs.words.read_words.Goals as goal
 
 pub returns-in_err-command-clause-fault : goal.returns-in_err-command-clause-fault
@@ -12,7 +12,7 @@ returns-in_err-command-clause-fault c =
 pub returns-in_err-matches-clause-fault : goal.returns-in_err-matches-clause-fault
 returns-in_err-matches-clause-fault c =
     let p = err_from_is_err_and c.from_residual-in_err-matches.result c.from_residual-in_err-matches.ensures.1 in
-    rw (p.1, p.2) (of_usage (app_of c.in_ok-command.command) _ c.in_err-matches.field-0.0 c.in_err-matches.ensures.passes (search rules))
+    rw (p.1, p.2) (of_usage (app_of c.in_ok-command.command) _ c.in_err-matches.field-0.0 c.in_err-matches.ensures.passes c.in_err-matches.ensures.kinds (search rules))
 
 pub returns-in_err-error-clause-fault : goal.returns-in_err-error-clause-fault
 returns-in_err-error-clause-fault c =
@@ -22,3 +22,12 @@ returns-in_err-error-clause-fault c =
 pub returns-in_default-clause-fault : goal.returns-in_default-clause-fault
 returns-in_default-clause-fault c =
     of_no_job (app_of c.in_ok-command.command) _ c.in_ok-error.error _ (c.in_ok-matches.ensures.ok.2 (search rules)).1 (search rules) (search rules)
+
+pub returns-then-input_count-gt1-clause-fault : goal.returns-then-input_count-gt1-clause-fault
+returns-then-input_count-gt1-clause-fault c =
+    of_two (map string_bytes c.args.words.now) c.in-Some.job (of_job (app_of c.in_ok-command.command) _ c.in-Some.job _ (c.in_ok-matches.ensures.ok.2 (search rules)).1 (search rules) c.in-Some.ensures.some)
+    (search rules)
+
+pub returns-clause-job : goal.returns-clause-job
+returns-clause-job c =
+    of_job (app_of c.in_ok-command.command) _ c.in-Some.job _ (c.in_ok-matches.ensures.ok.2 (search rules)).1 (search rules) c.in-Some.ensures.some

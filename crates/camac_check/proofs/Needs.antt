@@ -1,0 +1,69 @@
+-- What a body needs, by costs that are cut at 64 bits.
+use Rattle.std.proofs.Common.{◌≡◌, ℕ, ◌-◌, ◌^◌, ◌<◌, Result, Ok, Err, refl, sym, ap, ◌∙◌, ⊎_elim, lit<, arith}
+use Rattle.std.specs.Prelude.{min, nat_le, if◌then◌else◌}
+use Rattle.std.proofs.lemmas.Bool.{lt-leb, cases_lt}
+use Rattle.camac_lang.specs.Tree.{Service}
+use Rattle.camac_range.specs.Number.{greatest}
+use Rattle.camac_branch.specs.Plan.{Layout}
+use Rattle.camac_names.specs.declared.fault.LinkRule.TheVariants.{EventAboveBuffer}
+use Rattle.camac_model.specs.Fine.{Bounds}
+use Rattle.camac_check_rules.specs.declared.rule.CheckRule.TheVariants.{TooManyWords}
+use Rattle.camac_check_rules.specs.Fault.{Fault}
+use Rattle.camac_check_rules.specs.Capped.{capped}
+use Rattle.camac_check_rules.specs.Costs.{Verdict}
+use Rattle.camac_check_rules.specs.Cycles.{nothing_around}
+use Rattle.camac_check_rules.specs.Statements.{accept_block}
+use Rattle.camac_check_rules.specs.Accept.{at_start, within}
+use Rattle.camac_check_known.specs.declared.fault.CheckFault.{CheckFault}
+use Rattle.camac_check_known.specs.declared.fault.CheckFault.TheVariants.{OutOfMemory, Broken}
+use Rattle.camac_check.specs.declared.context.Context as code
+use Rattle.camac_check.specs.declared.fault.LeastFault.{LeastFault}
+use Rattle.camac_check.specs.declared.fault.LeastFault.TheVariants as least
+use Rattle.camac_check.specs.Faults.{of_check}
+use Rattle.camac_check.specs.Gives.{Fails, by_code, by_rules}
+use Rattle.camac_check.specs.Least.{Finds, and_then, checked, event_fits, most, service_needs}
+use Rattle.camac_check.proofs.Capped.{cut, cut_all, block_cut, within_cut}
+
+event_cut : (plan : Layout) (n line : ℕ) → event_fits plan (min n (2 ^ 64 - 1)) line ≡ event_fits plan n line
+event_cut plan n line =
+    let k : ℕ = 2 ^ 64 - 1 in
+    let fits : ℕ → Result (Unit {0}) LeastFault = λ w. if nat_le w plan.buffer then Ok tt else Err (least.Link EventAboveBuffer line) in
+    let fails : Result (Unit {0}) LeastFault = Err (least.Check TooManyWords line) in
+    ⊎_elim
+    (λ more.
+    ap (λ b. if b then fits (min n k) else fails) (lt-leb (min n k) greatest (omega (arith, more)))
+    ∙ sym (ap (λ b. if b then fits n else fails) (lt-leb n greatest more)))
+    (λ le. let same : min n k ≡ n = omega (arith, le) in ap (λ m. event_fits plan m line) same)
+    (cases_lt greatest n)
+
+-- what follows the body
+abbrev judged : Layout → ℕ → Verdict → Result Bounds LeastFault
+judged plan line v = and_then (event_fits plan v.costs.words line) (λ _. checked (within most v.costs line))
+
+judged_cut : (plan : Layout) (line : ℕ) (v : Verdict) → judged plan line (cut v) ≡ judged plan line v
+judged_cut plan line v =
+    ap (λ x. and_then x (λ _. checked (within most (capped v.costs) line))) (event_cut plan v.costs.words line)
+    ∙ ap (λ x. and_then (event_fits plan v.costs.words line) (λ _. checked x)) (within_cut most v.costs line (lit< tt) (lit< tt) (lit< tt))
+
+finish_needs : (plan : Layout) (line : ℕ) (q r : Result Verdict Fault) → q ≡ cut_all r → and_then (checked q) (judged plan line) ≡ and_then (checked r) (judged plan line)
+unfolding and_then
+finish_needs plan line q (Ok v) e = ap (λ x. and_then (checked x) (judged plan line)) e ∙ judged_cut plan line v
+finish_needs plan line q (Err f) e = ap (λ x. and_then (checked x) (judged plan line)) e
+
+pub needs_cut : (context : code.Context) (v : Service) → service_needs (by_code context) v ≡ service_needs (by_rules context) v
+needs_cut context v =
+    finish_needs context.plan.now v.line (accept_block (by_code context) nothing_around v.body at_start) (accept_block (by_rules context) nothing_around v.body at_start)
+    (block_cut context nothing_around v.body at_start)
+
+-- a fault of the checker, and what it allows, seen as what is needed
+pub finds_fault : {X A B : Type 0} (view : X → B) (e : CheckFault) (f : LeastFault) (r : Result A Fault) (next : A → Result B LeastFault) → f ≡ of_check e → Fails e r → Finds view (Err f) (and_then (checked r) next)
+unfolding and_then
+finds_fault view OutOfMemory f r next is h = rw is tt
+finds_fault view (Broken rule line) f r next is h = rw (is, h) refl
+
+pub finds_step : {A B : Type 0} (r : Result A LeastFault) (x : A) (next : A → Result B LeastFault) → r ≡ Ok x → and_then r next ≡ next x
+unfolding and_then
+finds_step r x next e = ap (λ q. and_then q next) e
+
+pub checked_is : {A : Type 0} (r : Result A Fault) (x : A) → r ≡ Ok x → checked r ≡ Ok x
+checked_is r x e = ap (λ q. checked q) e

@@ -1,0 +1,301 @@
+-- A script with its least headings is linked and accepted, with these headings as its bounds.
+use Rattle.std.proofs.Common.{◌≡◌, ℕ, ◌≤◌, List, [], ◌∷◌, ◌++◌, map, Option, Some, None, Result, Ok, Err, Bool, true, false, refl, sym, ap, ◌∙◌, subst, arith}
+use Rattle.std.specs.Prelude.{◌||◌, not, nat_le, is_some, slice_get, if◌then◌else◌}
+use Rattle.std.proofs.lemmas.Bool.{leb-true, le-leb}
+use Rattle.camac_lang.specs.Headings.{annotate_service}
+use Rattle.camac_lang.specs.Tree.{Lam, Procedure, Service, Item, next_table, next_lam, next_variables, next_procedure, next_service, Script}
+use Rattle.camac_range.specs.Number.{greatest}
+use Rattle.camac_branch.specs.Plan.{Layout}
+use Rattle.camac_names.specs.declared.fault.LinkFault.{LinkFault}
+use Rattle.camac_names.specs.declared.fault.LinkRule.{LinkRule}
+use Rattle.camac_names.specs.declared.fault.LinkRule.TheVariants.{StationWithoutBit, StationServedTwice, EventAboveBuffer}
+use Rattle.camac_names.specs.Link.{unless, lams_fault, lam_bit, is_on, is_served, service_fault, served_fault, or_else, services_fault, link_fault}
+use Rattle.camac_model.specs.Fine.{Bounds}
+use Rattle.camac_check_rules.specs.declared.rule.CheckRule.{CheckRule}
+use Rattle.camac_check_rules.specs.declared.rule.CheckRule.TheVariants.{TooManyWords, TooManyCycles, TooManySteps}
+use Rattle.camac_check_rules.specs.Fault.{Fault, broken}
+use Rattle.camac_check_rules.specs.Refusal.{go_on, required, if_reached}
+use Rattle.camac_check_rules.specs.Costs.{costs, Verdict, unreached}
+use Rattle.camac_check_rules.specs.Cycles.{Context, nothing_around}
+use Rattle.camac_check_rules.specs.Procedures.{at_entry}
+use Rattle.camac_check_rules.specs.Statements.{accept_block}
+use Rattle.camac_check_rules.specs.Accept.{at_start, within, accept_procedure, accept_service, accept_items, with_procedure, bare}
+use Rattle.camac_check.specs.declared.fault.LeastFault.{LeastFault}
+use Rattle.camac_check.specs.declared.fault.LeastFault.TheVariants as fault
+use Rattle.camac_check.specs.Least.{AreHeadings, Headed, and_then, checked, event_fits, least_items, linked, most, needing, procedure_first, procedure_needs, service_first, service_needing, service_needs}
+use Rattle.camac_check.proofs.Judged.{or_else_parts, unless_parts}
+
+-- ---- steps that were allowed
+
+pub then_ok : {A B : Type 0} (r : Result A LeastFault) (f : A → Result B LeastFault) (y : B) → and_then r f ≡ Ok y → (x : A) × (r ≡ Ok x) × (f x ≡ Ok y)
+unfolding and_then
+then_ok (Ok x) f y e = (x, refl, e)
+then_ok (Err g) f y e = absurd (cc)
+
+checked_ok : {A : Type 0} (r : Result A Fault) (x : A) → checked r ≡ Ok x → r ≡ Ok x
+checked_ok (Ok y) x e = let same : y ≡ x = cc in ap (λ z. Ok z) same
+checked_ok (Err (broken rule line)) x e = absurd (cc)
+
+go_ok : {A B : Type 0} (r : Result A Fault) (f : A → Result B Fault) (y : B) → go_on r f ≡ Ok y → (x : A) × (r ≡ Ok x) × (f x ≡ Ok y)
+unfolding go_on
+go_ok (Ok x) f y e = (x, refl, e)
+go_ok (Err g) f y e = absurd (cc)
+
+go_is : {A B : Type 0} (r : Result A Fault) (x : A) (f : A → Result B Fault) → r ≡ Ok x → go_on r f ≡ f x
+unfolding go_on
+go_is r x f e = ap (λ q. go_on q f) e
+
+required_ok : (b : Bool) (rule : CheckRule) (line : ℕ) (u : Unit {0}) → required b rule line ≡ Ok u → b ≡ true
+unfolding required
+required_ok true rule line u e = refl
+required_ok false rule line u e = absurd (cc)
+
+required_is : (b : Bool) (rule : CheckRule) (line : ℕ) → b ≡ true → required b rule line ≡ Ok tt
+unfolding required
+required_is b rule line e = ap (λ x. required x rule line) e
+
+-- ---- bounds that are the costs
+
+record Within (m found k : Bounds) : Type 0 where
+  same : k ≡ found
+  cycles : found.cycles ≤ m.cycles
+  words : found.words ≤ m.words
+  steps : found.steps ≤ m.steps
+
+within_ok : (m found k : Bounds) (line : ℕ) → within m found line ≡ Ok k → Within m found k
+within_ok m found k line e =
+    let a = go_ok (required (nat_le found.words m.words) TooManyWords line) _ k e in
+    let b = go_ok (required (nat_le found.cycles m.cycles) TooManyCycles line) _ k a.2 in
+    let c = go_ok (required (nat_le found.steps m.steps) TooManySteps line) _ k b.2 in
+    let last : Ok found ≡ Ok k = c.2 in
+    record {
+      same = sym (cc);
+      cycles = leb-true found.cycles m.cycles (required_ok (nat_le found.cycles m.cycles) TooManyCycles line b.0 b.1);
+      words = leb-true found.words m.words (required_ok (nat_le found.words m.words) TooManyWords line a.0 a.1);
+      steps = leb-true found.steps m.steps (required_ok (nat_le found.steps m.steps) TooManySteps line c.0 c.1);
+    }
+
+within_is : (m found : Bounds) (line : ℕ) → found.cycles ≤ m.cycles → found.words ≤ m.words → found.steps ≤ m.steps → within m found line ≡ Ok found
+within_is m found line hc hw hs =
+    go_is (required (nat_le found.words m.words) TooManyWords line) tt _ (required_is (nat_le found.words m.words) TooManyWords line (le-leb found.words m.words hw))
+    ∙ go_is (required (nat_le found.cycles m.cycles) TooManyCycles line) tt _ (required_is (nat_le found.cycles m.cycles) TooManyCycles line (le-leb found.cycles m.cycles hc))
+    ∙ go_is (required (nat_le found.steps m.steps) TooManySteps line) tt _ (required_is (nat_le found.steps m.steps) TooManySteps line (le-leb found.steps m.steps hs))
+
+procedure_accepted : (c : Context) (p : Procedure) (k : Bounds) → procedure_needs c p ≡ Ok k → accept_procedure c (needing k p) ≡ Ok k
+procedure_accepted c p k e =
+    let body : Result Verdict Fault = if_reached unreached (at_entry p.parameters) (accept_block c nothing_around p.body) in
+    let v = go_ok body (λ v. within most v.costs p.line) k (checked_ok (accept_procedure c (needing most p)) k e) in
+    let is = within_ok most v.0.costs k p.line v.2 in
+    go_is body v.0 (λ v. within k v.costs p.line) v.1
+    ∙ ap (λ b. within k b p.line) (sym is.same)
+    ∙ within_is k k p.line (omega arith) (omega arith) (omega arith)
+
+-- what a service needs, and what that says of its event
+record Served (c : Context) (v : Service) (k : Bounds) : Type 0 where
+  accepted : accept_service c (service_needing k v) ≡ Ok k
+  words : k.words ≤ c.plan.buffer
+
+event_ok : (plan : Layout) (words line : ℕ) (u : Unit {0}) → event_fits plan words line ≡ Ok u → words ≤ plan.buffer
+event_ok plan words line u e = go (nat_le words greatest) (nat_le words plan.buffer) refl e
+  where
+    go : (a b : Bool) → nat_le words plan.buffer ≡ b
+        → (if a then if b then Ok tt else Err (fault.Link EventAboveBuffer line) else Err (fault.Check TooManyWords line)) ≡ Ok u → words ≤ plan.buffer
+    go true true is e = leb-true words plan.buffer is
+    go true false is e = absurd (cc)
+    go false b is e = absurd (cc)
+
+service_served : (c : Context) (v : Service) (k : Bounds) → service_needs c v ≡ Ok k → Served c v k
+service_served c v k e =
+    let body : Result Verdict Fault = accept_block c nothing_around v.body at_start in
+    let x = then_ok (checked body) _ k e in
+    let found = checked_ok body x.0 x.1 in
+    let y = then_ok (event_fits c.plan x.0.costs.words v.line) _ k x.2 in
+    let is = within_ok most x.0.costs k v.line (checked_ok (within most x.0.costs v.line) k y.2) in
+    let small : x.0.costs.words ≤ c.plan.buffer = event_ok c.plan x.0.costs.words v.line y.0 y.1 in
+    let words : k.words ≡ x.0.costs.words = ap (λ b. b.words) is.same in
+    let steps : k.steps ≡ x.0.costs.steps = ap (λ b. b.steps) is.same in
+    let below : x.0.costs.steps ≤ greatest = is.steps in
+    record {
+      accepted =
+          go_is body x.0 (λ v'. within (costs k.cycles k.words greatest) v'.costs v.line) found
+          ∙ ap (λ b. within (costs k.cycles k.words greatest) b v.line) (sym is.same)
+          ∙ within_is (costs k.cycles k.words greatest) k v.line (omega arith) (omega arith) (omega (arith, steps, below));
+      words = omega (arith, words, small);
+    }
+
+-- ---- the script is accepted
+
+pub accepted_items : (c : Context) (items : List Item) (ps : List Procedure) (vs : List Service) (h : Headed) → least_items c items ps vs ≡ Ok h
+    → (ks : List Bounds) × (accept_items c items h.procedures h.services ≡ Ok ks) × AreHeadings ks h.services
+accepted_items c [] ps vs h e = ([], refl, tt)
+accepted_items c (next_table ∷ rest) ps vs h e = accepted_items c rest ps vs h e
+accepted_items c (next_lam ∷ rest) ps vs h e = accepted_items c rest ps vs h e
+accepted_items c (next_variables line n ∷ rest) ps vs h e = accepted_items c rest ps vs h e
+accepted_items c (next_procedure ∷ rest) [] vs h e =
+    let none : h.procedures ≡ [] = none_left c rest vs h e in
+    let inner = accepted_items c rest [] vs h e in (
+      inner.0,
+      ap (λ ps. accept_items c (next_procedure ∷ rest) ps h.services) none ∙ sym (ap (λ ps. accept_items c rest ps h.services) none) ∙ inner.1,
+      inner.2,
+    )
+  where
+    none_left : (c : Context) (items : List Item) (vs : List Service) (h : Headed) → least_items c items [] vs ≡ Ok h → h.procedures ≡ []
+    none_left c [] vs h e = let same : record { procedures = []; services = vs } ≡ h = cc in sym (ap (λ (g : Headed). g.procedures) same)
+    none_left c (next_table ∷ rest) vs h e = none_left c rest vs h e
+    none_left c (next_lam ∷ rest) vs h e = none_left c rest vs h e
+    none_left c (next_variables line n ∷ rest) vs h e = none_left c rest vs h e
+    none_left c (next_procedure ∷ rest) vs h e = none_left c rest vs h e
+    none_left c (next_service ∷ rest) [] h e = none_left c rest [] h e
+    none_left c (next_service ∷ rest) (v ∷ vs) h e =
+        let x = then_ok (service_needs c v) _ h e in
+        let y = then_ok (least_items c rest [] vs) _ h x.2 in
+        let last : Ok (service_first (service_needing x.0 v) y.0) ≡ Ok h = y.2 in
+        let same : service_first (service_needing x.0 v) y.0 ≡ h = cc in
+        sym (ap (λ (g : Headed). g.procedures) same) ∙ none_left c rest vs y.0 y.1
+accepted_items c (next_procedure ∷ rest) (p ∷ ps) vs h e =
+    let x = then_ok (procedure_needs c p) _ h e in
+    let y = then_ok (least_items (with_procedure (needing x.0 p) c) rest ps vs) _ h x.2 in
+    let last : Ok (procedure_first (needing x.0 p) y.0) ≡ Ok h = y.2 in
+    let same : procedure_first (needing x.0 p) y.0 ≡ h = cc in
+    let inner = accepted_items (with_procedure (needing x.0 p) c) rest ps vs y.0 y.1 in (
+      inner.0,
+      ap (λ (g : Headed). accept_items c (next_procedure ∷ rest) g.procedures g.services) (sym same)
+          ∙ go_is (accept_procedure c (needing x.0 p)) x.0 (λ _. accept_items (with_procedure (needing x.0 p) c) rest y.0.procedures y.0.services) (procedure_accepted c p x.0 x.1)
+          ∙ inner.1,
+      subst (λ (g : Headed). AreHeadings inner.0 g.services) same inner.2,
+    )
+accepted_items c (next_service ∷ rest) ps [] h e =
+    let none : h.services ≡ [] = none_left c rest ps h e in
+    let inner = accepted_items c rest ps [] h e in (
+      inner.0,
+      ap (λ vs. accept_items c (next_service ∷ rest) h.procedures vs) none ∙ sym (ap (λ vs. accept_items c rest h.procedures vs) none) ∙ inner.1,
+      inner.2,
+    )
+  where
+    none_left : (c : Context) (items : List Item) (ps : List Procedure) (h : Headed) → least_items c items ps [] ≡ Ok h → h.services ≡ []
+    none_left c [] ps h e = let same : record { procedures = ps; services = [] } ≡ h = cc in sym (ap (λ (g : Headed). g.services) same)
+    none_left c (next_table ∷ rest) ps h e = none_left c rest ps h e
+    none_left c (next_lam ∷ rest) ps h e = none_left c rest ps h e
+    none_left c (next_variables line n ∷ rest) ps h e = none_left c rest ps h e
+    none_left c (next_service ∷ rest) ps h e = none_left c rest ps h e
+    none_left c (next_procedure ∷ rest) [] h e = none_left c rest [] h e
+    none_left c (next_procedure ∷ rest) (p ∷ ps) h e =
+        let x = then_ok (procedure_needs c p) _ h e in
+        let y = then_ok (least_items (with_procedure (needing x.0 p) c) rest ps []) _ h x.2 in
+        let last : Ok (procedure_first (needing x.0 p) y.0) ≡ Ok h = y.2 in
+        let same : procedure_first (needing x.0 p) y.0 ≡ h = cc in
+        sym (ap (λ (g : Headed). g.services) same) ∙ none_left (with_procedure (needing x.0 p) c) rest ps y.0 y.1
+accepted_items c (next_service ∷ rest) ps (v ∷ vs) h e =
+    let x = then_ok (service_needs c v) _ h e in
+    let y = then_ok (least_items c rest ps vs) _ h x.2 in
+    let last : Ok (service_first (service_needing x.0 v) y.0) ≡ Ok h = y.2 in
+    let same : service_first (service_needing x.0 v) y.0 ≡ h = cc in
+    let served = service_served c v x.0 x.1 in
+    let inner = accepted_items c rest ps vs y.0 y.1 in (
+      x.0 ∷ inner.0,
+      ap (λ (g : Headed). accept_items c (next_service ∷ rest) g.procedures g.services) (sym same)
+          ∙ go_is (accept_service c (service_needing x.0 v)) x.0 (λ first. go_on (accept_items c rest y.0.procedures y.0.services) (λ others. Ok (first ∷ others))) served.accepted
+          ∙ go_is (accept_items c rest y.0.procedures y.0.services) inner.0 (λ others. Ok (x.0 ∷ others)) inner.1,
+      subst (λ (g : Headed). AreHeadings (x.0 ∷ inner.0) g.services) same (refl, refl, inner.2),
+    )
+
+-- ---- and linked
+
+-- on the same LAMs, with events that fit
+abbrev Relinks : Layout → List Service → List Service → Type 0
+Relinks plan [] [] = Unit {0}
+Relinks plan [] (w ∷ ws) = ⊥
+Relinks plan (v ∷ vs) [] = ⊥
+Relinks plan (v ∷ vs) (w ∷ ws) = (w.lam ≡ v.lam) × (w.words ≤ plan.buffer) × Relinks plan vs ws
+
+abbrev lams_of : List Service → List ℕ
+lams_of vs = map (λ v. v.lam) vs
+
+same_served : (lams : List Lam) (l : Lam) (vs ws : List Service) → lams_of ws ≡ lams_of vs → is_served lams l ws ≡ is_served lams l vs
+same_served lams l [] [] e = refl
+same_served lams l [] (w ∷ ws) e = absurd (cc)
+same_served lams l (v ∷ vs) [] e = absurd (cc)
+same_served lams l (v ∷ vs) (w ∷ ws) e =
+    let first : w.lam ≡ v.lam = cc in
+    let others : lams_of ws ≡ lams_of vs = cc in
+    ap (λ n. is_on l (slice_get lams n) || is_served lams l ws) first ∙ ap (λ b. is_on l (slice_get lams v.lam) || b) (same_served lams l vs ws others)
+
+lams_more : (vs ws : List Service) (v w : Service) → lams_of ws ≡ lams_of vs → w.lam ≡ v.lam → lams_of (ws ++ w ∷ []) ≡ lams_of (vs ++ v ∷ [])
+lams_more [] [] v w e h = ap (λ n. n ∷ []) h
+lams_more [] (y ∷ ws) v w e h = absurd (cc)
+lams_more (x ∷ vs) [] v w e h = absurd (cc)
+lams_more (x ∷ vs) (y ∷ ws) v w e h =
+    let first : y.lam ≡ x.lam = cc in
+    let others : lams_of ws ≡ lams_of vs = cc in
+    ap (λ n. n ∷ lams_of (ws ++ w ∷ [])) first ∙ ap (λ ns. x.lam ∷ ns) (lams_more vs ws v w others h)
+
+unless_none : (test : Bool) (rule : LinkRule) (line : ℕ) (next : Option LinkFault) → test ≡ true → next ≡ None → unless test rule line next ≡ None
+unless_none test rule line next e n = ap (λ b. unless b rule line next) e ∙ n
+
+relinked_service : (plan : Layout) (lams : List Lam) (earlier earlier' : List Service) (v w : Service) (o : Option Lam) → lams_of earlier' ≡ lams_of earlier → w.words ≤ plan.buffer
+    → served_fault plan lams earlier v o ≡ None → served_fault plan lams earlier' w o ≡ None
+relinked_service plan lams earlier earlier' v w None same fits e = absurd (cc)
+relinked_service plan lams earlier earlier' v w (Some l) same fits e =
+    let third : Option LinkFault = unless (nat_le v.words plan.buffer) EventAboveBuffer v.line None in
+    let second : Option LinkFault = unless (not (is_served lams l earlier)) StationServedTwice v.line third in
+    let a = unless_parts (is_some (lam_bit plan l)) StationWithoutBit v.line second e in
+    let b = unless_parts (not (is_served lams l earlier)) StationServedTwice v.line third a.1 in
+    unless_none (is_some (lam_bit plan l)) StationWithoutBit w.line _ a.0
+    (unless_none (not (is_served lams l earlier')) StationServedTwice w.line _ (ap not (same_served lams l earlier earlier' same) ∙ b.0)
+    (unless_none (nat_le w.words plan.buffer) EventAboveBuffer w.line None (le-leb w.words plan.buffer fits) refl))
+
+or_else_none : (o p : Option LinkFault) → o ≡ None → p ≡ None → or_else o p ≡ None
+or_else_none o p e n = ap (λ x. or_else x p) e ∙ n
+
+relinked_services : (plan : Layout) (lams : List Lam) (earlier earlier' vs ws : List Service) → lams_of earlier' ≡ lams_of earlier → Relinks plan vs ws
+    → services_fault plan lams earlier vs ≡ None → services_fault plan lams earlier' ws ≡ None
+relinked_services plan lams earlier earlier' [] [] same h e = refl
+relinked_services plan lams earlier earlier' [] (w ∷ ws) same h e = absurd h
+relinked_services plan lams earlier earlier' (v ∷ vs) [] same h e = absurd h
+relinked_services plan lams earlier earlier' (v ∷ vs) (w ∷ ws) same (lam, fits, others) e =
+    let p = or_else_parts (service_fault plan lams earlier v) (services_fault plan lams (earlier ++ v ∷ []) vs) e in
+    or_else_none (service_fault plan lams earlier' w) (services_fault plan lams (earlier' ++ w ∷ []) ws)
+    (ap (λ n. served_fault plan lams earlier' w (slice_get lams n)) lam ∙ relinked_service plan lams earlier earlier' v w (slice_get lams v.lam) same fits p.0)
+    (relinked_services plan lams (earlier ++ v ∷ []) (earlier' ++ w ∷ []) vs ws (lams_more earlier earlier' v w same lam) others p.1)
+
+-- events of no words
+abbrev AreEmpty : List Service → Type 0
+AreEmpty [] = Unit {0}
+AreEmpty (v ∷ vs) = (v.words ≡ 0) × AreEmpty vs
+
+pub are_empty : (vs : List Service) → AreEmpty (map (annotate_service 0 0) vs)
+are_empty [] = tt
+are_empty (v ∷ vs) = (refl, are_empty vs)
+
+relinks_itself : (plan : Layout) (vs : List Service) → AreEmpty vs → Relinks plan vs vs
+relinks_itself plan [] h = tt
+relinks_itself plan (v ∷ vs) (none, others) = (refl, omega (arith, none), relinks_itself plan vs others)
+
+relinks_items : (c : Context) (items : List Item) (ps : List Procedure) (vs : List Service) (h : Headed) → AreEmpty vs → least_items c items ps vs ≡ Ok h → Relinks c.plan vs h.services
+relinks_items c [] ps vs h none e =
+    let same : record { procedures = ps; services = vs } ≡ h = cc in
+    subst (λ (g : Headed). Relinks c.plan vs g.services) same (relinks_itself c.plan vs none)
+relinks_items c (next_table ∷ rest) ps vs h none e = relinks_items c rest ps vs h none e
+relinks_items c (next_lam ∷ rest) ps vs h none e = relinks_items c rest ps vs h none e
+relinks_items c (next_variables line n ∷ rest) ps vs h none e = relinks_items c rest ps vs h none e
+relinks_items c (next_procedure ∷ rest) [] vs h none e = relinks_items c rest [] vs h none e
+relinks_items c (next_procedure ∷ rest) (p ∷ ps) vs h none e =
+    let x = then_ok (procedure_needs c p) _ h e in
+    let y = then_ok (least_items (with_procedure (needing x.0 p) c) rest ps vs) _ h x.2 in
+    let last : Ok (procedure_first (needing x.0 p) y.0) ≡ Ok h = y.2 in
+    let same : procedure_first (needing x.0 p) y.0 ≡ h = cc in
+    subst (λ (g : Headed). Relinks c.plan vs g.services) same (relinks_items (with_procedure (needing x.0 p) c) rest ps vs y.0 none y.1)
+relinks_items c (next_service ∷ rest) ps [] h none e = relinks_items c rest ps [] h none e
+relinks_items c (next_service ∷ rest) ps (v ∷ vs) h (first, none) e =
+    let x = then_ok (service_needs c v) _ h e in
+    let y = then_ok (least_items c rest ps vs) _ h x.2 in
+    let last : Ok (service_first (service_needing x.0 v) y.0) ≡ Ok h = y.2 in
+    let same : service_first (service_needing x.0 v) y.0 ≡ h = cc in
+    subst (λ (g : Headed). Relinks c.plan (v ∷ vs) g.services) same (refl, (service_served c v x.0 x.1).words, relinks_items c rest ps vs y.0 none y.1)
+
+pub linked_again : (plan : Layout) (s : Script) (h : Headed) → AreEmpty s.services → link_fault plan s ≡ None → least_items (bare (λ k. k) plan s) s.order s.procedures s.services ≡ Ok h
+    → link_fault plan (record s { procedures = h.procedures; services = h.services }) ≡ None
+linked_again plan s h none e found =
+    let p = or_else_parts (lams_fault plan s.lams) (services_fault plan s.lams [] s.services) e in
+    or_else_none (lams_fault plan s.lams) (services_fault plan s.lams [] h.services) p.0
+    (relinked_services plan s.lams [] [] s.services h.services refl (relinks_items (bare (λ k. k) plan s) s.order s.procedures s.services h none found) p.1)

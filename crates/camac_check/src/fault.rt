@@ -1,0 +1,53 @@
+// Why a script has no least headings.
+
+ghost use Rattle.std.specs.Prelude.{◌≡◌};
+ghost use Rattle.camac_check.specs.Faults.{of_link, of_check};
+ghost use Rattle.camac_check.specs.declared.fault.LeastFault.TheVariants.{OutOfMemory};
+
+use camac_check_known::CheckFault;
+use camac_check_rules::CheckRule;
+use camac_names::{LinkFault, LinkRule};
+use std::alloc::AllocError;
+use thiserror::Error;
+
+/// The first rule that a script breaks whatever the numbers of its headings, with its line: of linking, or of the checker (own).
+#[derive(Clone, Copy, Debug, PartialEq, Eq, Error)]
+pub enum LeastFault {
+    /// L5, E19: memory ran out.
+    #[error("memory")]
+    OutOfMemory,
+    #[error("line {line}: {rule:?}")]
+    Link { rule: LinkRule, line: u32 },
+    #[error("line {line}: {rule:?}")]
+    Check { rule: CheckRule, line: u32 },
+}
+
+impl From<AllocError> for LeastFault {
+    ghost from_gives = { λ _ e. e ≡ OutOfMemory };
+
+    fn from(_e: AllocError) -> LeastFault {
+        LeastFault::OutOfMemory
+    }
+}
+
+impl From<LinkFault> for LeastFault {
+    ghost from_gives = { λ f e. e ≡ of_link f };
+
+    fn from(fault: LinkFault) -> LeastFault {
+        match fault {
+            LinkFault::OutOfMemory => LeastFault::OutOfMemory,
+            LinkFault::Broken { rule, line } => LeastFault::Link { rule, line },
+        }
+    }
+}
+
+impl From<CheckFault> for LeastFault {
+    ghost from_gives = { λ f e. e ≡ of_check f };
+
+    fn from(fault: CheckFault) -> LeastFault {
+        match fault {
+            CheckFault::OutOfMemory => LeastFault::OutOfMemory,
+            CheckFault::Broken { rule, line } => LeastFault::Check { rule, line },
+        }
+    }
+}

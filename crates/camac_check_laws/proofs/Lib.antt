@@ -1,0 +1,5 @@
+pub mod Costs
+pub mod Grown
+pub mod Steps
+pub mod Emptied
+pub mod Least

@@ -1,0 +1,6 @@
+//! What holds of the least headings of a script: they are there wherever some headings are accepted, and no number of them is greater.
+#![tactic(auto)]
+
+mod laws;
+
+pub use laws::{checked_have_least, costs_grow, least_are_least, refused_have_none};

@@ -1,0 +1,64 @@
+// The log of a run over a list of answers, and its event file.
+
+use crate::event_file::FILE_TWO;
+use crate::run::straight_line;
+use camac_branch::Answer;
+use camac_event::{decode, encode};
+use camac_run::{End, Item, run, runs_by_headline};
+use camac_tool_play::event_file_is_sent;
+use camac_word::Word24;
+use std::test::Fail;
+
+fn word(value: u32) -> Result<Word24, Fail> {
+    Ok(Word24::new(value).ok_or("word")?)
+}
+
+fn demand() -> Result<Answer, Fail> {
+    Ok(Answer::new(false, false, word(0)?, 0, word(4)?).ok_or("demand")?)
+}
+
+fn read(wait: u8) -> Result<Answer, Fail> {
+    Ok(Answer::new(true, true, word(0x12_3fff)?, wait, word(0)?).ok_or("read")?)
+}
+
+#[test]
+fn straight_line_log(rt: HostRuntime) -> Result<(), Fail> {
+    let checked = straight_line(rt.alloc())?;
+    let log = run(rt.alloc(), &checked, &[demand()?, read(2)?])?;
+    assert_eq!(rt; log.end, End::Ended);
+    let items = log.items.as_slice();
+    assert_eq!(rt; items.len(), 2);
+    assert_eq!(rt; items[0], Item::Demand(word(4)?, Some(0)));
+    assert!(rt;
+        matches!(&items[1], Item::Cycle(done) if done.wait == 2 && done.reply.word.get() == 0x12_3fff)
+    );
+    let file = encode(rt.alloc(), &log.events)?;
+    assert_eq!(rt; file.as_slice(), FILE_TWO);
+    assert_eq!(rt; decode(rt.alloc(), &file)?.len(), 1);
+    Ok(())
+}
+
+#[test]
+fn short_and_overrun_logs(rt: HostRuntime) -> Result<(), Fail> {
+    let checked = straight_line(rt.alloc())?;
+    let short = run(rt.alloc(), &checked, &[demand()?])?;
+    assert_eq!(rt;
+        (short.end, short.items.as_slice().len(), short.events.len()),
+        (End::Short, 1, 0)
+    );
+    let overrun = run(rt.alloc(), &checked, &[demand()?, read(3)?])?;
+    assert!(rt; matches!(&overrun.end, End::Overrun(o) if o.c.get() == 1 && o.wait == 3));
+    assert_eq!(rt;
+        (overrun.items.as_slice().len(), overrun.events.len()),
+        (1, 0)
+    );
+    Ok(())
+}
+
+#[test]
+fn laws_can_be_called(rt: HostRuntime) -> Result<(), Fail> {
+    let checked = straight_line(rt.alloc())?;
+    runs_by_headline(&checked);
+    event_file_is_sent();
+    Ok(())
+}

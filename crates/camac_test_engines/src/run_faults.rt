@@ -1,0 +1,190 @@
+// A run's reads and writes that fail, and answers without end.
+
+use crate::engines::narrow;
+use crate::event_file::FILE_TWO;
+use crate::run::{ANSWERS, LISTING, LOCKOUT, NO_EVENTS, OVERRUN, WAITING};
+use camac_test_fixtures::fakes::{Broken, Endless, WhenFull};
+use camac_test_fixtures::scripts::STRAIGHT_LINE;
+use camac_tool::{Outcome, PlanSource, ToolFault, engine_run};
+use camac_word::Watched;
+use std::alloc::Global;
+use std::io::{Read, Result as IoResult};
+use std::process::Abort;
+use std::test::Fail;
+
+// The answer where the writers have so much room, and what they took.
+fn run_into(
+    alloc: Global,
+    answers: &[u8],
+    listing: usize,
+    events: usize,
+    when_full: WhenFull,
+) -> (Result<Outcome, ToolFault>, Vec<u8>, Vec<u8>) {
+    let mut plan = PlanSource::<&[u8]>::Sample;
+    let mut script = Watched::new(STRAIGHT_LINE);
+    let mut answers = Watched::new(answers);
+    let mut out = narrow(alloc, listing, when_full);
+    let mut file = narrow(alloc, events, when_full);
+    let answer = engine_run(
+        alloc,
+        &mut plan,
+        &mut script,
+        &mut answers,
+        &mut out,
+        &mut file,
+    );
+    (answer, out.into_inner().taken, file.into_inner().taken)
+}
+
+// A write of no room: these were written.
+fn expect_full(
+    rt: &(impl Abort + AllocGlobal),
+    room: (usize, usize),
+    lines: &[u8],
+    file: &[u8],
+) -> Result<(), Fail> {
+    let (listing, events) = room;
+    for when_full in [WhenFull::Error, WhenFull::Nothing] {
+        let (answer, out, written) = run_into(rt.alloc(), ANSWERS, listing, events, when_full);
+        assert_eq!(rt; answer, Err(ToolFault::Write));
+        assert_eq!(rt; out.as_slice(), lines);
+        assert_eq!(rt; written.as_slice(), file);
+    }
+    Ok(())
+}
+
+#[test]
+fn out_fails_after_20(rt: HostRuntime) -> Result<(), Fail> {
+    expect_full(&rt, (20, 100), b"demand 000004 adc\ncy", b"CAMACEV2")
+}
+
+#[test]
+fn events_fail_after_12(rt: HostRuntime) -> Result<(), Fail> {
+    expect_full(
+        &rt,
+        (100, 12),
+        b"demand 000004 adc\ncycle 1 5 0 0 in 123fff x1 q1 wait 2\n",
+        b"CAMACEV2\xca\x4d\x00\x03",
+    )
+}
+
+#[test]
+fn events_fail_after_5(rt: HostRuntime) -> Result<(), Fail> {
+    expect_full(&rt, (100, 5), b"", b"CAMAC")
+}
+
+#[test]
+fn answers_fail_after_line_1(rt: HostRuntime) -> Result<(), Fail> {
+    let mut plan = PlanSource::<&[u8]>::Sample;
+    let mut script = Watched::new(STRAIGHT_LINE);
+    let mut answers = Watched::new(Broken {
+        bytes: &ANSWERS[..20],
+    });
+    let mut out = Watched::new(Vec::new(rt.alloc()));
+    let mut events = Watched::new(Vec::new(rt.alloc()));
+    let answer = engine_run(
+        rt.alloc(),
+        &mut plan,
+        &mut script,
+        &mut answers,
+        &mut out,
+        &mut events,
+    );
+    assert_eq!(rt; answer, Err(ToolFault::Read));
+    assert_eq!(rt;
+        out.into_inner().as_slice(),
+        b"demand 000004 adc\n".as_slice()
+    );
+    assert_eq!(rt; events.into_inner().as_slice(), b"CAMACEV2".as_slice());
+    Ok(())
+}
+
+#[test]
+fn writes_fail_each_in_turn(rt: HostRuntime) -> Result<(), Fail> {
+    for room in 0..LISTING.len() {
+        let (answer, out, _) = run_into(rt.alloc(), ANSWERS, room, 100, WhenFull::Error);
+        assert_eq!(rt; answer, Err(ToolFault::Write));
+        assert_eq!(rt; out.len(), room);
+        assert!(rt; LISTING.starts_with(out.as_slice()));
+    }
+    for room in 0..FILE_TWO.len() {
+        let (answer, _, file) = run_into(rt.alloc(), ANSWERS, 100, room, WhenFull::Nothing);
+        assert_eq!(rt; answer, Err(ToolFault::Write));
+        assert_eq!(rt; file.len(), room);
+        assert!(rt; FILE_TWO.starts_with(file.as_slice()));
+    }
+    Ok(())
+}
+
+#[test]
+fn writers_take_a_byte_at_a_time(rt: HostRuntime) -> Result<(), Fail> {
+    let (answer, out, file) = run_into(rt.alloc(), ANSWERS, 70, 28, WhenFull::Error);
+    assert_eq!(rt; answer, Ok(Outcome::Good));
+    assert_eq!(rt; out.as_slice(), LISTING);
+    assert_eq!(rt; file.as_slice(), FILE_TWO);
+    Ok(())
+}
+
+#[test]
+fn endless_script(rt: HostRuntime) -> Result<(), Fail> {
+    let mut plan = PlanSource::<&[u8]>::Sample;
+    let mut script = Watched::new(Endless { given: 0 });
+    let mut answers = Watched::new(ANSWERS);
+    let mut out = Watched::new(Vec::new(rt.alloc()));
+    let mut events = Watched::new(Vec::new(rt.alloc()));
+    let answer = engine_run(
+        rt.alloc(),
+        &mut plan,
+        &mut script,
+        &mut answers,
+        &mut out,
+        &mut events,
+    );
+    assert_eq!(rt; answer, Err(ToolFault::TooLong));
+    assert!(rt; out.into_inner().is_empty());
+    assert!(rt; events.into_inner().is_empty());
+    Ok(())
+}
+
+// Gives its text in pieces of a size.
+#[derive(Drop)]
+struct Pieces<'a> {
+    text: &'a [u8],
+    size: usize,
+}
+
+impl Read for Pieces<'_> {
+    fn read(&mut self, buf: &mut [u8]) -> IoResult<usize> {
+        let text: &[u8] = self.text;
+        let taken = text.len().min(buf.len()).min(self.size);
+        buf[..taken].copy_from_slice(&text[..taken]);
+        self.text = &text[taken..];
+        Ok(taken)
+    }
+}
+
+#[test]
+fn answers_in_pieces(rt: HostRuntime) -> Result<(), Fail> {
+    for size in [1, 2, 7, 19, 20, 21] {
+        let mut plan = PlanSource::<&[u8]>::Sample;
+        let mut script = Watched::new(LOCKOUT);
+        let mut answers = Watched::new(Pieces {
+            text: WAITING,
+            size,
+        });
+        let mut out = Watched::new(Vec::new(rt.alloc()));
+        let mut events = Watched::new(Vec::new(rt.alloc()));
+        let answer = engine_run(
+            rt.alloc(),
+            &mut plan,
+            &mut script,
+            &mut answers,
+            &mut out,
+            &mut events,
+        );
+        assert_eq!(rt; answer, Ok(Outcome::Refused));
+        assert_eq!(rt; out.into_inner().as_slice(), OVERRUN);
+        assert_eq!(rt; events.into_inner().as_slice(), NO_EVENTS);
+    }
+    Ok(())
+}

@@ -1,0 +1,123 @@
+// A run that is fed its answers one by one.
+
+use crate::run::straight_line;
+use camac_branch::Answer;
+use camac_check::Checked;
+use camac_func::DataMove;
+use camac_run::{Item, Progress, Runner, Wanted};
+use camac_word::Word24;
+use std::process::Abort;
+use std::test::Fail;
+
+fn answer(q: bool, word: u32, wait: u8, gl: u32) -> Result<Answer, Fail> {
+    let word = Word24::new(word).ok_or("a word of 24 bits")?;
+    let gl = Word24::new(gl).ok_or("a pattern of 24 bits")?;
+    Ok(Answer::new(true, q, word, wait, gl).ok_or("a wait below 16")?)
+}
+
+fn expect_at(
+    rt: &impl Abort,
+    runner: &Runner<1, 1, 1>,
+    fed: u32,
+    in_service: bool,
+    steps: u32,
+) -> Result<(), Fail> {
+    assert_eq!(rt; runner.fed(), fed);
+    assert_eq!(rt; runner.in_service(), in_service);
+    assert_eq!(rt; runner.steps(), steps);
+    assert_eq!(rt; runner.event_words(), 0);
+    Ok(())
+}
+
+fn feed(rt: &impl Abort, runner: &mut Runner<1, 1, 1>, answer: Answer) -> Progress {
+    assert!(rt; runner.fed() < 1_000_000);
+    runner.next(answer)
+}
+
+fn expect_demand(rt: &impl Abort, progress: &Progress) -> Result<(), Fail> {
+    let Progress::Went { item, event, .. } = progress else {
+        return Err(Fail::from("a wait that is permitted"));
+    };
+    let Item::Demand(pattern, service) = item else {
+        return Err(Fail::from("a demand"));
+    };
+    assert_eq!(rt; pattern.get(), 4);
+    assert_eq!(rt; *service, Some(0));
+    assert!(rt; event.is_none());
+    Ok(())
+}
+
+fn expect_event(rt: &impl Abort, progress: &Progress) -> Result<(), Fail> {
+    let Progress::Went { item, event, .. } = progress else {
+        return Err(Fail::from("a wait that is permitted"));
+    };
+    let Item::Cycle(cycle) = item else {
+        return Err(Fail::from("a cycle"));
+    };
+    let Some((number, gl, usage)) = event else {
+        return Err(Fail::from("an event"));
+    };
+    assert_eq!(rt; cycle.wait, 2);
+    assert_eq!(rt; *number, 1);
+    assert_eq!(rt; gl.get(), 3);
+    assert_eq!(rt; usage.cycles, 3);
+    assert_eq!(rt; usage.missed, 0);
+    Ok(())
+}
+
+fn expect_wanted_read(rt: &impl Abort, wanted: Option<Wanted>) -> Result<(), Fail> {
+    let Some(Wanted::Cycle(command)) = wanted else {
+        return Err(Fail::from("a cycle"));
+    };
+    assert_eq!(rt; command.c.get(), 1);
+    assert_eq!(rt; command.n.get(), 5);
+    assert_eq!(rt; command.a.get(), 0);
+    assert_eq!(rt; command.f.get(), 0);
+    assert_eq!(rt; command.mv, DataMove::In);
+    Ok(())
+}
+
+fn expect_straight_line(rt: &impl Abort, checked: &Checked) -> Result<(), Fail> {
+    assert!(rt; checked.fits(1, 1, 1));
+    let mut runner = Runner::<1, 1, 1>::start(checked);
+    expect_at(rt, &runner, 0, false, 0)?;
+    assert_eq!(rt; runner.wants(), Some(Wanted::Demand));
+    let progress = feed(rt, &mut runner, answer(false, 0, 0, 4)?);
+    expect_demand(rt, &progress)?;
+    expect_at(rt, &runner, 1, true, 2)?;
+    expect_wanted_read(rt, runner.wants())?;
+    assert!(rt; runner.last_words().is_empty());
+    let progress = feed(rt, &mut runner, answer(true, 0x123fff, 2, 0)?);
+    expect_event(rt, &progress)?;
+    expect_at(rt, &runner, 2, false, 0)?;
+    assert_eq!(rt; runner.wants(), Some(Wanted::Demand));
+    let word = runner.last_words().first().ok_or("a word")?;
+    assert_eq!(rt; word.get(), 0xfff);
+    Ok(())
+}
+
+#[test]
+fn runner_straight_line(rt: HostRuntime) -> Result<(), Fail> {
+    let checked = straight_line(rt.alloc())?;
+    expect_straight_line(&rt, &checked)
+}
+
+// After a wait that is not permitted nothing is wanted.
+fn expect_overrun(rt: &impl Abort, checked: &Checked) -> Result<(), Fail> {
+    assert!(rt; checked.fits(1, 1, 1));
+    let mut runner = Runner::<1, 1, 1>::start(checked);
+    feed(rt, &mut runner, answer(false, 0, 0, 4)?);
+    let progress = feed(rt, &mut runner, answer(true, 0, 3, 0)?);
+    let Progress::Overrun(overrun) = progress else {
+        return Err(Fail::from("a wait that is not permitted"));
+    };
+    assert_eq!(rt; overrun.wait, 3);
+    assert_eq!(rt; runner.wants(), None);
+    Ok(())
+}
+
+#[test]
+fn runner_overrun(rt: HostRuntime) -> Result<(), Fail> {
+    let checked = straight_line(rt.alloc())?;
+    expect_overrun(&rt, &checked)
+}

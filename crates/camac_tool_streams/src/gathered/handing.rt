@@ -1,0 +1,142 @@
+// How a gathering writer takes bytes and hands them on.
+
+ghost use Rattle.std.specs.Prelude.{◌≡◌, ◌≤◌, ◌<◌, ◌+◌, ◌-◌, ◌||◌, true, false, [], ◌++◌, length, take, drop, IfOk, OnOk, is_err, vec_len, vec_capacity};
+ghost use Rattle.std.specs.Io.{WritesAtMost};
+ghost use Rattle.std.specs.Io.KnownBytes.{Keeps, Appends, WriteAppends};
+ghost use Rattle.camac_tool_streams.specs.Gathered.{device_of, given_to, has_stopped, held_in};
+
+use super::Gathered;
+use std::alloc::{AllocError, Global};
+use std::io;
+use std::io::{Error, ErrorKind, Write};
+
+/// How many bytes are gathered before they are handed on unasked.
+const ROOM: usize = 65_536;
+
+impl<W: Drop> Gathered<W> {
+    pub fn new(alloc: Global, inner: W) -> Result<Gathered<W>, AllocError>
+        ensures inner { IfOk result (λ g. device_of g ≡ inner) }
+        ensures empty { IfOk result (λ g. held_in g ≡ []) }
+        ensures works { IfOk result (λ g. has_stopped g ≡ false) }
+    {
+        let held = Vec::with_capacity(alloc, ROOM)?;
+        Ok(Gathered {
+            inner,
+            held,
+            failed: false,
+        })
+    }
+
+    /// Whether a call of the writer behind it has failed so far.
+    pub fn failed(&self) -> bool
+        ensures { result ≡ has_stopped self.now }
+    {
+        let Gathered { failed, .. } = self;
+        *failed
+    }
+
+    /// The writer behind it. What is still held is lost.
+    pub fn into_inner(self) -> W
+        ensures { result ≡ device_of self }
+    {
+        self.inner
+    }
+}
+
+impl<W: Write + Drop> Gathered<W> {
+    // Hands on all that is held. What a failed call leaves stays held.
+    fn write_held(&mut self) -> io::Result<()>
+        requires works { has_stopped self.old ≡ false }
+        ensures empty { OnOk result (held_in self.new ≡ []) }
+        ensures room { OnOk result (vec_len self.new.held ≡ 0) }
+        ensures bytes { Keeps (given_to W.contents self.old) (given_to W.contents self.new) }
+        ensures failed { has_stopped self.new ≡ is_err result }
+    {
+        let (written, result) = write_out(self.held.as_slice(), &mut self.inner);
+        remove_front(&mut self.held, written);
+        self.failed = result.is_err();
+        result
+    }
+}
+
+impl<W: Write + Drop> Write for Gathered<W> {
+    ghost contents = { given_to W.contents };
+
+    fn write(&mut self, buf: &[u8]) -> io::Result<usize>
+        ensures bound { WritesAtMost result buf.now }
+        ensures bytes { WriteAppends (given_to W.contents self.old) (given_to W.contents self.new) result buf.now }
+        ensures some { IfOk result (λ taken. 0 < length buf.now → 0 < taken) }
+        ensures failed { has_stopped self.new ≡ (has_stopped self.old || is_err result) }
+        ensures stopped { has_stopped self.old ≡ true → (is_err result ≡ true) × (self.new ≡ self.old) }
+    {
+        if self.failed {
+            return Err(stopped());
+        }
+        if self.held.len() == self.held.capacity() {
+            self.write_held()?;
+        }
+        let room = self.held.capacity() - self.held.len();
+        let taken = room.min(buf.len());
+        append(&mut self.held, &buf[..taken]);
+        Ok(taken)
+    }
+
+    fn flush(&mut self) -> io::Result<()>
+        ensures bytes { Keeps (given_to W.contents self.old) (given_to W.contents self.new) }
+        ensures empty { OnOk result (held_in self.new ≡ []) }
+        ensures failed { has_stopped self.new ≡ (has_stopped self.old || is_err result) }
+        ensures stopped { has_stopped self.old ≡ true → (is_err result ≡ true) × (self.new ≡ self.old) }
+    {
+        if self.failed {
+            return Err(stopped());
+        }
+        self.write_held()?;
+        let flushed = self.inner.flush();
+        self.failed = flushed.is_err();
+        flushed
+    }
+}
+
+/// The error of each call that failed and of each that is not made.
+pub fn stopped() -> Error {
+    Error::from(ErrorKind::Other)
+}
+
+// Writes until all is written or a write fails, and returns how many bytes were written.
+fn write_out<W: Write>(bytes: &[u8], to: &mut W) -> (usize, io::Result<()>)
+    ensures bound { result.0 ≤ length bytes.now }
+    ensures all { OnOk result.1 (result.0 ≡ length bytes.now) }
+    ensures bytes { Appends (W.contents to.old) (W.contents to.new) (take result.0 bytes.now) }
+{
+    let mut written = 0;
+    while written < bytes.len() {
+        match to.write(&bytes[written..]) {
+            Ok(0) => return (written, Err(stopped())),
+            Ok(n) => written += n,
+            Err(_) => return (written, Err(stopped())),
+        }
+    }
+    (written, Ok(()))
+}
+
+fn remove_front(held: &mut Vec<u8>, n: usize)
+    requires { n ≤ vec_len held.old }
+    ensures items { held.new.items ≡ drop n held.old.items }
+    ensures len { vec_len held.new ≡ vec_len held.old - n }
+    ensures capacity { vec_capacity held.new ≡ vec_capacity held.old }
+{
+    let len = held.len();
+    held.as_mut_slice().copy_within(n..len, 0);
+    held.truncate(len - n);
+}
+
+#[inline(always)]
+fn append(held: &mut Vec<u8>, bytes: &[u8])
+    requires { vec_len held.old + length bytes.now ≤ vec_capacity held.old }
+    ensures items { held.new.items ≡ held.old.items ++ bytes.now }
+    ensures capacity { vec_capacity held.old ≤ vec_capacity held.new }
+{
+    let Ok(()) = held.extend_from_slice(bytes) else {
+        unreachable!()
+    };
+}

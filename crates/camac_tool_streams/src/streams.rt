@@ -1,0 +1,128 @@
+// The streams of a run: its answers, its listing and its event file.
+
+ghost use Rattle.std.specs.Prelude.{◌≡◌, ◌<◌, ◌||◌, true, false, length, IfOk, OnOk, is_err};
+ghost use Rattle.std.specs.Io.{ReadsAtMost, WritesAtMost};
+ghost use Rattle.std.specs.Io.KnownBytes.{Keeps, ReadConsumes, WriteAppends};
+ghost use Rattle.camac_tool_streams.specs.Gathered.{device_of, given_to};
+ghost use Rattle.camac_tool_streams.specs.Streams.{answers_of, listing_of, records_of, have_stopped, HoldNothing};
+
+use crate::gathered::Gathered;
+use crate::gathered::handing::stopped;
+use std::alloc::{AllocError, Global};
+use std::io;
+use std::io::{Read, Write};
+
+/// The answers of a run, and its listing and its event file, each gathered. Once a call of one output has failed, both are left alone,
+/// and each later call fails.
+#[derive(Drop)]
+pub struct Streams<R: Drop, W: Drop, E: Drop> {
+    answers: R,
+    listing: Gathered<W>,
+    records: Gathered<E>,
+}
+
+impl<R: Drop, W: Drop, E: Drop> Streams<R, W, E> {
+    pub fn new(
+        alloc: Global,
+        answers: R,
+        listing: W,
+        records: E,
+    ) -> Result<Streams<R, W, E>, AllocError>
+        ensures answers { IfOk result (λ s. answers_of s ≡ answers) }
+        ensures listing { IfOk result (λ s. device_of (listing_of s) ≡ listing) }
+        ensures records { IfOk result (λ s. device_of (records_of s) ≡ records) }
+        ensures empty { IfOk result (λ s. HoldNothing s) }
+        ensures works { IfOk result (λ s. have_stopped s ≡ false) }
+    {
+        Ok(Streams {
+            answers,
+            listing: Gathered::new(alloc, listing)?,
+            records: Gathered::new(alloc, records)?,
+        })
+    }
+
+    /// Whether a call of either output has failed so far.
+    pub fn failed(&self) -> bool
+        ensures { result ≡ have_stopped self.now }
+    {
+        self.listing.failed() || self.records.failed()
+    }
+}
+
+impl<R: Drop, W: Write + Drop, E: Write + Drop> Streams<R, W, E> {
+    /// Gives bytes to the listing, and returns how many it took: at least one, where there is one.
+    pub fn list(&mut self, bytes: &[u8]) -> io::Result<usize>
+        ensures bound { WritesAtMost result bytes.now }
+        ensures bytes { WriteAppends (given_to W.contents (listing_of self.old)) (given_to W.contents (listing_of self.new)) result bytes.now }
+        ensures some { IfOk result (λ taken. 0 < length bytes.now → 0 < taken) }
+        ensures answers { answers_of self.new ≡ answers_of self.old }
+        ensures records { records_of self.new ≡ records_of self.old }
+        ensures failed { have_stopped self.new ≡ (have_stopped self.old || is_err result) }
+        ensures stopped { have_stopped self.old ≡ true → (is_err result ≡ true) × (self.new ≡ self.old) }
+    {
+        if self.failed() {
+            return Err(stopped());
+        }
+        self.listing.write(bytes)
+    }
+
+    /// Gives bytes to the event file, and returns how many it took: at least one, where there is one.
+    pub fn record(&mut self, bytes: &[u8]) -> io::Result<usize>
+        ensures bound { WritesAtMost result bytes.now }
+        ensures bytes { WriteAppends (given_to E.contents (records_of self.old)) (given_to E.contents (records_of self.new)) result bytes.now }
+        ensures some { IfOk result (λ taken. 0 < length bytes.now → 0 < taken) }
+        ensures answers { answers_of self.new ≡ answers_of self.old }
+        ensures listing { listing_of self.new ≡ listing_of self.old }
+        ensures failed { have_stopped self.new ≡ (have_stopped self.old || is_err result) }
+        ensures stopped { have_stopped self.old ≡ true → (is_err result ≡ true) × (self.new ≡ self.old) }
+    {
+        if self.failed() {
+            return Err(stopped());
+        }
+        self.records.write(bytes)
+    }
+
+    /// Hands on all that was given, first the listing.
+    pub fn hand_on(&mut self) -> io::Result<()>
+        ensures empty { OnOk result (HoldNothing self.new) }
+        ensures answers { answers_of self.new ≡ answers_of self.old }
+        ensures listing { Keeps (given_to W.contents (listing_of self.old)) (given_to W.contents (listing_of self.new)) }
+        ensures records { Keeps (given_to E.contents (records_of self.old)) (given_to E.contents (records_of self.new)) }
+        ensures failed { have_stopped self.new ≡ (have_stopped self.old || is_err result) }
+        ensures stopped { have_stopped self.old ≡ true → (is_err result ≡ true) × (self.new ≡ self.old) }
+    {
+        if self.failed() {
+            return Err(stopped());
+        }
+        self.listing.flush()?;
+        self.records.flush()
+    }
+
+    /// Hands on all that was given, and returns both outputs.
+    pub fn finish(mut self) -> io::Result<(W, E)>
+        ensures listing { IfOk result (λ outputs. Keeps (given_to W.contents (listing_of self)) (W.contents outputs.0)) }
+        ensures records { IfOk result (λ outputs. Keeps (given_to E.contents (records_of self)) (E.contents outputs.1)) }
+        ensures stopped { have_stopped self ≡ true → is_err result ≡ true }
+    {
+        match self.hand_on() {
+            Ok(()) => Ok((self.listing.into_inner(), self.records.into_inner())),
+            Err(error) => Err(error),
+        }
+    }
+}
+
+impl<R: Read + Drop, W: Write + Drop, E: Write + Drop> Streams<R, W, E> {
+    /// Hands on all that was given, and only then reads the answers. Where that fails none is read.
+    pub fn read(&mut self, buf: &mut [u8]) -> io::Result<usize>
+        ensures bound { ReadsAtMost result buf.new }
+        ensures bytes { ReadConsumes (R.remaining (answers_of self.old)) (R.remaining (answers_of self.new)) result buf.new }
+        ensures first { have_stopped self.new ≡ false → HoldNothing self.new }
+        ensures unread { have_stopped self.new ≡ true → (is_err result ≡ true) × (answers_of self.new ≡ answers_of self.old) }
+        ensures listing { Keeps (given_to W.contents (listing_of self.old)) (given_to W.contents (listing_of self.new)) }
+        ensures records { Keeps (given_to E.contents (records_of self.old)) (given_to E.contents (records_of self.new)) }
+        ensures stopped { have_stopped self.old ≡ true → self.new ≡ self.old }
+    {
+        self.hand_on()?;
+        self.answers.read(buf)
+    }
+}

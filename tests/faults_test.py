@@ -1,0 +1,341 @@
+#!/usr/bin/env python3
+"""Tries the built program where one call of the system fails once and the next ones don't, and looks at the order of its calls. A small
+library in front of the C library writes all calls of the program into one log. It is compiled here by cc or clang.
+
+usage: tests/faults_test.py [-v] [TEST ..]     from any folder; takes about half a minute
+
+The program is crates/camac/out/camac (cd crates/camac && rt run makes it), or what the environment variable CAMAC_PROGRAM names.
+"""
+import collections
+import os
+import pathlib
+import shutil
+import subprocess
+import sys
+import tempfile
+import unittest
+
+from program_test import ANSWERS, DEMAND, EVENT_FILE, LISTING, PROGRAM, READ, REQUESTS, TWICE, WRITE, Case
+
+# FAILING_TURN is the number of the call that fails, and FAILING_ERROR its error, or 0 for a write that takes nothing. PIECE is how many bytes
+# a read or a write takes at most, or 0. Each call is a line of CALLS: its name, its file, how much was asked for, the answer, the bytes.
+SHIM = r"""
+#define _GNU_SOURCE
+#include <errno.h>
+#include <fcntl.h>
+#include <stdarg.h>
+#include <stdio.h>
+#include <stdlib.h>
+#include <string.h>
+#include <sys/stat.h>
+#include <sys/syscall.h>
+#include <unistd.h>
+
+static long number(const char *name) { return atol(getenv(name)); }
+
+static long least(long a, long b) { return b && b < a ? b : a; }
+
+static long end(long answer) {
+    if (answer >= 0) return answer;
+    errno = -answer;
+    return -1;
+}
+
+static long raw(long call, long a, long b, long c, long d, long e) {
+    long answer = syscall(call, a, b, c, d, e);
+    return answer < 0 ? -errno : answer;
+}
+
+static const char *place(int fd) {
+    static const char *standard[] = {"in", "out", "err"};
+    static char name[4096];
+    char link[64];
+    if (fd >= 0 && fd <= 2) return standard[fd];
+    snprintf(link, sizeof link, "/proc/self/fd/%d", fd);
+    long size = raw(SYS_readlinkat, AT_FDCWD, (long)link, (long)name, sizeof name - 1, 0);
+    name[size < 0 ? 0 : size] = 0;
+    return strrchr(name, '/') ? strrchr(name, '/') + 1 : name;
+}
+
+static void write_down(const char *name, const char *place, long asked, long answer, const unsigned char *bytes) {
+    static char line[200000];
+    long size = snprintf(line, 8192, "%s %s %ld %ld ", name, *place ? place : "/", asked, answer);
+    for (long at = 0; bytes && at < answer; at++) size += sprintf(line + size, "%02x", bytes[at]);
+    line[size++] = '\n';
+    int fd = raw(SYS_openat, AT_FDCWD, (long)getenv("CALLS"), O_WRONLY | O_APPEND | O_CREAT, 0666, 0);
+    raw(SYS_write, fd, (long)line, size, 0, 0);
+    raw(SYS_close, fd, 0, 0, 0, 0);
+}
+
+/* Whether it is the turn of this call to fail. */
+static int fails(void) {
+    static long turn;
+    return ++turn == number("FAILING_TURN");
+}
+
+static long move(const char *name, long call, int fd, const void *bytes, size_t size) {
+    long answer = fails() ? -number("FAILING_ERROR") : raw(call, fd, (long)bytes, least(size, number("PIECE")), 0, 0);
+    write_down(name, place(fd), size, answer, bytes);
+    return end(answer);
+}
+
+ssize_t read(int fd, void *bytes, size_t size) { return move("read", SYS_read, fd, bytes, size); }
+
+ssize_t write(int fd, const void *bytes, size_t size) { return move("write", SYS_write, fd, bytes, size); }
+
+int fsync(int fd) {
+    long answer = fails() ? -number("FAILING_ERROR") : raw(SYS_fsync, fd, 0, 0, 0, 0);
+    write_down("fsync", place(fd), 0, answer, 0);
+    return end(answer);
+}
+
+int statx(int fd, const char *path, int flags, unsigned mask, struct statx *about) {
+    long answer = fails() ? -number("FAILING_ERROR") : raw(SYS_statx, fd, (long)path, flags, mask, (long)about);
+    write_down("statx", *path ? path : place(fd), 0, answer, 0);
+    return end(answer);
+}
+
+int open(const char *path, int flags, ...) {
+    va_list more;
+    va_start(more, flags);
+    int mode = flags & O_CREAT ? va_arg(more, int) : 0;
+    va_end(more);
+    long answer = fails() ? -number("FAILING_ERROR") : raw(SYS_openat, AT_FDCWD, (long)path, flags, mode, 0);
+    write_down("open", path, 0, least(answer, 1), 0);
+    return end(answer);
+}
+"""
+EINTR, EIO, NOTHING = 4, 5, 0
+HEADER, RECORD = EVENT_FILE[:8], EVENT_FILE[8:]
+SECOND_RECORD = RECORD[:4] + bytes([0, 0, 0, 2]) + RECORD[8:]
+LINES, ASKED = LISTING.splitlines(True), REQUESTS.splitlines(True)
+Call = collections.namedtuple("Call", "name place asked answer bytes")
+
+
+class Ran:
+    """What the program answered, what is in EVENTS after it, and its calls but those on standard error, each with its number."""
+
+    def __init__(self, answer, events, log):
+        self.status, self.out, self.err = answer
+        self.events, self.calls, self.turns = events, [], []
+        for turn, line in enumerate(log.splitlines(), 1):
+            name, place, asked, answer, text = line.split(" ")
+            if place != "err":
+                self.calls.append(Call(name, place, int(asked), int(answer), bytes.fromhex(text)))
+                self.turns.append(turn)
+
+    def moves(self):
+        return [it for it in self.calls if it.name in ("read", "write")]
+
+    def writes(self):
+        return [(it.place, it.bytes) for it in self.calls if it.name == "write"]
+
+
+class Logged(Case):
+    """A test of the program with the library in front of its calls."""
+
+    @classmethod
+    def setUpClass(cls):
+        with open(PROGRAM, "rb") as program:
+            if program.read(4) != b"\x7fELF":
+                raise unittest.SkipTest("the calls of a launcher would fail")
+        room = tempfile.TemporaryDirectory(prefix="camac-test-")
+        cls.addClassCleanup(room.cleanup)
+        cls.library = f"{room.name}/calls.so"
+        compiler = shutil.which("cc") or shutil.which("clang")
+        subprocess.run([compiler, "-shared", "-fPIC", "-O1", "-xc", "-o", cls.library, "-"], input=SHIM.encode(), check=True)
+
+    def ran(self, line, given=None, turn=0, error=0, piece=0, there=None):
+        """The program on the words of a line. `given` names the file behind standard input, `there` is what stands in EVENTS before."""
+        log, events = self.room / "calls", self.room / "e"
+        log.write_text("")
+        events.unlink(missing_ok=True)
+        if there is not None:
+            events.write_bytes(there)
+        about = {"CALLS": log, "FAILING_TURN": turn, "FAILING_ERROR": error, "PIECE": piece}
+        env = {**os.environ, "LD_PRELOAD": self.library, **{name: str(it) for name, it in about.items()}}
+        with open(self.room / given if given else os.devnull, "rb") as file:
+            answer = self.call(*line.split(), given=None, stdin=file, env=env)
+        return Ran(answer, events.read_bytes() if events.exists() else None, log.read_text())
+
+
+class InTurn(Logged):
+    """The order of the reads and writes of a run, in one log."""
+
+    def expect_states(self, line, states, given=None):
+        """When an answer is read after so many whole lines, the listing and the event file hold this; at the end the last of these."""
+        answers = "in" if given else "answers"
+        for piece in (0, 1, 7, 19, 20, 21, 40):
+            with self.subTest(line=line, piece=piece):
+                ran = self.ran(line, given, piece=piece)
+                held = collections.defaultdict(bytes)
+                for call in ran.moves():
+                    if call.name == "read" and call.place == answers:
+                        self.assertEqual((held["out"], held["e"]), states[held[answers].count(b"\n")])
+                    elif call.name == "read":
+                        self.assertEqual((held[answers], held["out"], held["e"]), (b"", b"", b""), "a plan or a script is read late")
+                    held[call.place] += call.bytes
+                self.assertEqual((held["out"], held["e"]), states[-1])
+                self.assertEqual((ran.out, ran.err, ran.events), (held["out"], b"", held["e"]))
+
+    def test_run(self):
+        states = [(b"", HEADER), (LINES[0], HEADER), (LINES[0] + LINES[1], EVENT_FILE), (LISTING, EVENT_FILE)]
+        self.expect_states("run plan.toml straight.script answers e", states)
+        self.expect_states("run plan.toml straight.script @in e", states, "answers")
+
+    def test_run_of_two_events(self):
+        (self.room / "answers").write_bytes(ANSWERS * 2)
+        pair, file = LINES[0] + LINES[1], EVENT_FILE + SECOND_RECORD
+        states = [(b"", HEADER), (LINES[0], HEADER), (pair, EVENT_FILE), (pair + LINES[0], EVENT_FILE), (pair * 2, file)]
+        self.expect_states("run plan.toml straight.script answers e", [*states, (pair * 2 + b"ended events 2\n", file)])
+
+    def test_live_run(self):
+        asked = [b"".join(ASKED[:n]) for n in (1, 2, 3)]
+        states = [(asked[0], HEADER), (asked[1], HEADER), (asked[2], EVENT_FILE), (REQUESTS, EVENT_FILE)]
+        self.expect_states("drive plan.toml straight.script e", states, "answers")
+
+    def test_no_answer_is_read_after_the_last(self):
+        """After the second answer nothing is read any more."""
+        overrun = (DEMAND + b"1 1 123fff 3 000000\n", b"overrun 1 wait 3 events 0\n")
+        bad = (DEMAND + b"1 1 fffffff 0 000000\n", b"refused A1 line 2: line shape\n")
+        for given, told in (overrun, bad):
+            (self.room / "answers").write_bytes(given + ANSWERS)
+            self.expect_states("run plan.toml straight.script answers e", [(b"", HEADER), (LINES[0], HEADER), None, (LINES[0] + told, HEADER)])
+            asked = ASKED[0] + ASKED[1]
+            self.expect_states("drive plan.toml straight.script e", [(ASKED[0], HEADER), (asked, HEADER), None, (asked + told, HEADER)], "answers")
+
+    def test_each_request_is_one_write(self):
+        asked = self.ran("drive plan.toml straight.script e", "answers").writes()
+        self.assertEqual([it for it in asked if it[0] == "out"], [("out", it) for it in ASKED])
+
+    def test_a_refused_script_reads_no_answer(self):
+        (self.room / "bad").write_bytes(b"!")
+        refused = [("out", b"refused S1 line 1: bad byte\n")]
+        for line in ("run plan.toml bad @in e", "drive plan.toml bad e"):
+            ran = self.ran(line, "answers")
+            self.assertEqual(ran.writes(), refused)
+            self.assertEqual([it for it in ran.moves() if it.place == "in"], [])
+
+    def test_a_refused_plan_reads_no_script(self):
+        (self.room / "bad").write_bytes(b"=")
+        for line in ("check bad straight.script", "run bad straight.script answers e", "drive bad straight.script e"):
+            ran = self.ran(line, "answers")
+            self.assertEqual(ran.writes(), [("out", b"refused P1: not TOML\n")])
+            self.assertEqual({it.place for it in ran.moves()}, {"bad", "out"})
+
+
+class FailsOnce(Logged):
+    """A call that fails is the last one but for those that tell it, even where the next one would go well."""
+
+    def setUp(self):
+        super().setUp()
+        (self.room / "one.events").write_bytes(EVENT_FILE)
+        records = [RECORD[:6] + n.to_bytes(2, "big") + RECORD[8:] for n in range(1, 2001)]
+        (self.room / "many.events").write_bytes(HEADER + b"".join(records))
+
+    def expect_each(self, line, given=None, piece=0, there=None):
+        """Has each call fail in turn. Returns the names of the calls."""
+        whole = self.ran(line, given, piece=piece, there=there)
+        self.assertEqual((whole.status, whole.err), (0, b""))
+        command, *_, output = line.split()
+        for place, (turn, call) in enumerate(zip(whole.turns, whole.calls)):
+            for error in {"write": (EINTR, EIO, NOTHING), "statx": (EIO,)}.get(call.name, (EINTR, EIO)):
+                with self.subTest(line=line, call=call[:3], error=error):
+                    ran = self.ran(line, given, turn, error, piece, there)
+                    wanted = whole.calls[:place] + [call._replace(answer=-error, bytes=b"")]
+                    if call.name in ("open", "fsync") and error == EINTR:
+                        # std makes these again
+                        self.expect_calls(ran, wanted + whole.calls[place:])
+                        self.assertEqual((ran.status, ran.out, ran.err, ran.events), (0, whole.out, b"", whole.events))
+                        continue
+                    self.expect_calls(ran, wanted)
+                    is_read = call.name == "read" or call.name == "open" and (command not in ("run", "drive") or call.place != output)
+                    self.assertEqual((ran.status, ran.err), (3, READ if is_read else WRITE))
+                    self.expect_left(ran, there)
+        return [it.name for it in whole.calls]
+
+    def expect_calls(self, ran, wanted):
+        self.assertEqual([it[:4] for it in ran.calls], [it[:4] for it in wanted])
+        self.assertTrue(ran.calls == wanted)
+
+    def expect_left(self, ran, there):
+        """What the calls wrote is there, and no more; EVENTS is as it was where it was not opened."""
+        left = collections.defaultdict(bytes, {} if there is None else {"e": there})
+        for call in ran.calls:
+            if call.name == "open" and call.place == "e" and call.answer > 0:
+                left["e"] = b""
+            elif call.name == "write":
+                left[call.place] += call.bytes
+        self.assertEqual((ran.out, ran.events), (left["out"], left.get("e")))
+
+    def test_plans(self):
+        self.expect_each("plan @sample")
+        self.expect_each("plan plan.toml")
+        self.expect_each("plan @in", "plan.toml")
+
+    def test_scripts(self):
+        for name in ("check", "explain", "bounds"):
+            self.expect_each(f"{name} plan.toml straight.script")
+            self.expect_each(f"{name} plan.toml @in", "straight.script")
+
+    def test_event_files(self):
+        self.expect_each("events one.events")
+        self.expect_each("events @in", "one.events")
+        self.assertGreater(self.expect_each("events many.events").count("write"), 1)
+
+    def test_runs(self):
+        calls = self.expect_each("run plan.toml straight.script answers e")
+        self.assertEqual(calls[-2:], ["statx", "fsync"])
+        self.expect_each("run @sample straight.script @in e", "answers")
+        self.expect_each("run plan.toml straight.script answers e", there=b"of an earlier run")
+
+    def test_runs_in_pieces(self):
+        """A call that moves only some bytes is followed by one for the rest, and that may fail too."""
+        self.expect_each("run @sample straight.script answers e", piece=9)
+
+    def test_live_runs(self):
+        self.expect_each("drive plan.toml straight.script e", "answers")
+        self.expect_each("drive @sample straight.script e", "answers", there=b"of an earlier run")
+        self.expect_each("drive @sample straight.script e", "answers", piece=9)
+
+    def test_device_in_the_place_of_events(self):
+        """What is no file is not waited for."""
+        calls = self.expect_each("run @sample straight.script answers /dev/null")
+        self.assertNotIn("fsync", calls)
+
+
+class Told(Logged):
+    """Help, and the lines on standard error: an interrupted write of them is made again."""
+
+    def test_help(self):
+        for line in ("--help", "run --help", "--version"):
+            whole = self.ran(line)
+            for turn in whole.turns:
+                ran = self.ran(line, turn=turn, error=EINTR)
+                self.assertEqual((ran.status, ran.out, ran.err), (0, whole.out, b""), line)
+
+    def test_help_that_is_not_taken(self):
+        for line in ("--help", "run --help", "--version"):
+            whole = self.ran(line)
+            for place, (turn, call) in enumerate(zip(whole.turns, whole.calls)):
+                if call.name == "write":
+                    ran = self.ran(line, turn=turn, error=EIO)
+                    self.assertEqual((ran.status, ran.err), (3, WRITE), line)
+                    self.assertEqual(ran.calls, whole.calls[:place] + [call._replace(answer=-EIO, bytes=b"")])
+
+    def test_lines_on_standard_error(self):
+        """The line of a fault; where standard error does not take it, the status tells it alone."""
+        for line, status, told in (("plan none", 3, READ), ("check @in @in", 2, TWICE)):
+            last = len(self.ran(line).calls) + 1
+            self.assertEqual(self.answer(line, last, EINTR), (status, b"", told))
+            self.assertEqual(self.answer(line, last, EIO)[:2], (status, b""))
+
+    def answer(self, line, turn, error):
+        ran = self.ran(line, turn=turn, error=error)
+        return ran.status, ran.out, ran.err
+
+
+if __name__ == "__main__":
+    if not os.access(PROGRAM, os.X_OK):
+        sys.exit(f"{PROGRAM} is not there: cd crates/camac && rt run makes it, or CAMAC_PROGRAM names another")
+    unittest.main()

@@ -1,0 +1,319 @@
+#!/usr/bin/env python3
+"""Plays the worked rows of tests/rows, and those that no text of lines can hold. tests/rows/README.md tells the form of a row.
+
+usage: tests/rows_test.py [-v] [TEST ..]     from any folder; takes a few seconds
+
+The program is crates/camac/out/camac (cd crates/camac && rt run makes it), or what the environment variable CAMAC_PROGRAM names.
+"""
+import os
+import pathlib
+import re
+import struct
+import subprocess
+import tempfile
+import typing
+import unittest
+
+TOP = pathlib.Path(__file__).resolve().parent.parent
+PROGRAM = os.path.abspath(os.environ.get("CAMAC_PROGRAM") or TOP / "crates/camac/out/camac")
+INPUTS = ("PLAN", "SCRIPT", "ANSWERS")
+PLAYED = re.compile(r"(plan|check|bounds|run|drive) ([01])")
+EVENT = re.compile(r"gl (\d+) cycles (\d+) missed (\d+) words((?: [0-9a-f]{6})*)")
+NO_EVENTS = b"CAMACEV2"
+
+
+class Wrong(Exception):
+    """A text is no row."""
+
+
+class Case(typing.NamedTuple):
+    command: str
+    status: int
+    printed: bytes
+    inputs: typing.Dict[str, bytes]
+    # None where the event file is not looked at
+    events: typing.Optional[bytes]
+
+
+def event_file(lines):
+    """The event file, in version Two, of the events of these lines."""
+    file = NO_EVENTS
+    for number, line in enumerate(lines, 1):
+        found = EVENT.fullmatch(line)
+        if not found:
+            raise Wrong(f"no event: {line}")
+        words = [int(it, 16) for it in found[4].split()]
+        gl, cycles, missed = (int(it) for it in found.groups()[:3])
+        file += struct.pack(f">HHIIHH{len(words)}I", 0xCA4D, gl, number, cycles, missed, len(words), *words)
+    return file
+
+
+def read_cases(text):
+    """The cases that a row plays, in their order."""
+    cases, inputs, before = [], {}, "nothing"
+    for section in re.split(r"(?m)^-- ", text)[1:]:
+        head, _, body = section.partition("\n")
+        played = PLAYED.fullmatch(head)
+        if head in INPUTS:
+            inputs = {**inputs, head: body.encode()}
+        elif played and (played[1] == "plan" or "SCRIPT" in inputs):
+            cases.append(Case(played[1], int(played[2]), body.encode(), inputs, None))
+        elif head in ("EVENTS", "EVENTS none") and before in ("run", "drive") and not (body and head == "EVENTS none"):
+            cases[-1] = cases[-1]._replace(events=event_file(body.splitlines()) if head == "EVENTS" else b"")
+        else:
+            raise Wrong(f"-- {head} may not stand here")
+        before = head.partition(" ")[0]
+    if before in ("nothing", *INPUTS):
+        raise Wrong("the row, or the end of it, plays nothing")
+    return cases
+
+
+def read_rows(file, text):
+    """The cases of each row of a file."""
+    rows = {}
+    for part in re.split(r"(?m)^== ", text)[1:]:
+        name, _, rest = part.rstrip("\n").partition("\n")
+        if name in rows or not re.fullmatch(r"\w+", name):
+            raise Wrong(f"{file}: the name stands twice, or is none: {name}")
+        try:
+            rows[name] = read_cases(f"{rest}\n")
+        except Wrong as wrong:
+            raise Wrong(f"{file}: {name}: {wrong}") from None
+    return rows
+
+
+ROWS = {it.stem: read_rows(it.name, it.read_text()) for it in sorted((TOP / "tests/rows").glob("*.rows"))}
+SAMPLE = ROWS["plans"]["plan_listing"][1].inputs["PLAN"]
+STRAIGHT_LINE = ROWS["check"]["straight_line"][0]
+
+
+class Playing(unittest.TestCase):
+    def setUp(self):
+        room = tempfile.TemporaryDirectory(prefix="camac-rows-")
+        self.addCleanup(room.cleanup)
+        self.room = pathlib.Path(room.name)
+
+    def call(self, *words, given=b""):
+        """Status and standard output of the program, which has nothing to say on standard error."""
+        ran = subprocess.run([PROGRAM, *words], input=given, cwd=self.room, capture_output=True, timeout=60)
+        self.assertEqual(ran.stderr, b"")
+        return ran.returncode, ran.stdout
+
+    def play(self, command, inputs):
+        """Status, standard output, and the event file where one is written."""
+        for it in self.room.iterdir():
+            it.unlink()
+        for name, text in inputs.items():
+            (self.room / name).write_bytes(text)
+        (self.room / "ANSWERS").touch()
+        words = [command, "PLAN" if "PLAN" in inputs else "@sample"]
+        if command != "plan":
+            words.append("SCRIPT")
+        if command == "run":
+            words += ["ANSWERS", "events"]
+        if command == "drive":
+            words.append("events")
+        status, printed = self.call(*words, given=inputs.get("ANSWERS", b"") if command == "drive" else b"")
+        written = self.room / "events"
+        return status, printed, written.read_bytes() if written.exists() else None
+
+    def expect(self, command, status, printed, **inputs):
+        self.assertEqual(self.play(command, inputs)[:2], (status, printed))
+
+
+class Rows(Playing):
+    def test_rows(self):
+        for file, rows in ROWS.items():
+            for name, cases in rows.items():
+                for number, case in enumerate(cases, 1):
+                    with self.subTest(file=file, row=name, case=number):
+                        status, printed, events = self.play(case.command, case.inputs)
+                        self.assertEqual(printed.decode(), case.printed.decode())
+                        self.assertEqual(status, case.status)
+                        if case.events not in (None, events):
+                            self.fail(f"another event file: {self.call('events', 'events')[1].decode()}")
+
+    def test_form(self):
+        """What is no row is not passed over."""
+        self.assertEqual(len(read_rows("a.rows", "on loops\n\n== a\nof this\n-- SCRIPT\n-- check 0\naccepted\n\n== b\n-- plan 0\n")), 2)
+        for row in (
+            "",
+            "a sentence\n",
+            "-- SCRIPT\nvar v\n",
+            "-- SCRIPT\n-- check 0\n-- SCRIPT\n",
+            "-- check 0\n",
+            "-- PLAN\n-- check 0\n",
+            "-- SCRIPT\n-- check 2\n",
+            "-- SCRIPT\n-- chekc 0\n",
+            "-- SCRIPT\n-- check\n",
+            "-- script\n-- plan 0\n",
+            "-- SCRIPT\n-- check 0\n-- EVENTS\n",
+            "-- SCRIPT\n-- run 0\n-- EVENTS\n-- EVENTS\n",
+            "-- SCRIPT\n-- run 0\n-- EVENTS\nevent 1\n",
+            "-- SCRIPT\n-- run 0\n-- EVENTS none\ngl 3 cycles 0 missed 0 words\n",
+        ):
+            with self.subTest(row=row):
+                self.assertRaises(Wrong, read_rows, "a.rows", f"== a\n{row}")
+        for text in ("== a\n-- plan 0\n== a\n-- plan 0\n", "== \n-- plan 0\n", "== a b\n-- plan 0\n"):
+            with self.subTest(text=text):
+                self.assertRaises(Wrong, read_rows, "a.rows", text)
+
+
+# The body of a service, its greatest cycles and words, and its steps.
+BODIES = {
+    "scan_by_count": ("cdreg a 1 1 5 0\ncdreg b 1 1 5 15\ncfmad 0 a b max 12 tally t", 39, 12, 16),
+    "scan_through_probes": ("cdreg a 1 1 5 0\ncdreg b 1 1 5 15\ncfmad 0 a b max 16 tally t", 48, 16, 19),
+    "scan_two_stations": ("cdreg a 1 1 5 0\ncdreg b 1 1 6 0\ncfmad 0 a b max 17 tally t", 51, 17, 20),
+    "poll_loop": ("cdreg r 1 1 6 0\nk = 10\nwhile k > 0 and not q turns 10 by k { cfsa 27 r  k = k - 1 }", 30, 0, 33),
+    "keep_range": ("k = 20\nwhile k > 0 turns 20 by k keep i in 0..11 { k = k - 1  if i < 11 { i = i + 1 } }", 0, 0, 82),
+    "lockout": ("cdreg r 1 1 5 0\nlock 1 { cfsa 0 r -> v  cfsa 0 r -> v  cfsa 0 r -> v  cfsa 0 r -> v }", 6, 0, 7),
+    "repeat_until_q": ("cdreg r 1 1 5 0\ncfubr 0 r max 2 limit 3 tally t", 9, 2, 5),
+    "table_write": ("cdreg r 1 1 6 0\ncfubc 16 r table g max 3 tally t", 9, 0, 5),
+    "loop_over_stations": ("for n = 5 to 6 { cdreg r 1 1 n 0  cfsa 0 r -> v }", 6, 0, 7),
+    "computed_sub_address": ("cdreg r 1 1 5 0\ncfsa 0 r -> v\nv = v % 12\ncdreg s 1 1 5 v\ncfsa 0 s -> k", 6, 0, 5),
+    "guarded_write": ("cdreg r 1 1 5 0\ncfsa 0 r -> v\ncdreg w 1 1 6 0\nif v < 256 { cfsa 16 w <- v }", 6, 0, 5),
+    "longest_for": ("for i = 0 to 65534 {}", 0, 0, 65536),
+    "empty_for": ("for i = 5 to 4 { i = 3 }", 0, 0, 1),
+    "scan_backwards": ("cdreg a 1 1 5 3\ncdreg b 1 1 5 1\ncfmad 0 a b max 4 tally t", 0, 0, 3),
+    "lock_empty": ("lock 1 {}", 2, 0, 2),
+}
+
+
+def service(body, cycles, words):
+    heading = f"service adc within {cycles} cycles event {words} words"
+    return f"cdlam adc 1 1 5 12\nvar v k i t n table g = 1 2 3\n{heading} {{\n{body}\n}}\n".encode()
+
+
+# What the sample plan has, what stands there instead, and the refusal.
+TABLES = [
+    ("gl = 3", "gl = 25", "P4: value out of range"),
+    ('name = "REG"', 'name = "REG"\ncolour = 1', "P2: unknown key"),
+    ('name = "REG"', "", "P3: missing key or wrong kind"),
+    ('type = "REG"', 'type = "X"', "P7: unknown module type"),
+]
+TWICE = [
+    ("[[crate]]", "[[crate]]\nnumber = 1\n[[crate]]", "P5: crate twice"),
+    ("n = 6", "n = 5", "P6: station twice"),
+    ("{ f = 8, a = 12 }", "{ f = 8, a = 12 }, { f = 0, a = 11 }", "P8: declared twice"),
+    ('type = "REG"', 'type = "REG"\ngl = 3', "P9: GL bit twice"),
+]
+
+
+class NoRows(Playing):
+    """Texts that are made by a rule, or whose bytes are no lines."""
+
+    def test_one_below_the_bound(self):
+        for name, (body, cycles, words, steps) in BODIES.items():
+            with self.subTest(body=name):
+                bounds = f"service adc gl 3 cycles {cycles} of {cycles} words {words} of {words} steps {steps}\n"
+                self.expect("check", 0, b"accepted\n" + bounds.encode(), SCRIPT=service(body, cycles, words))
+                if cycles:
+                    self.expect("check", 1, b"refused E12 line 3: more cycles than annotated\n", SCRIPT=service(body, cycles - 1, words))
+                if words:
+                    self.expect("check", 1, b"refused E11 line 3: more event words than annotated\n", SCRIPT=service(body, cycles, words - 1))
+
+    def expect_refused_plans(self, table):
+        for old, new, refusal in table:
+            with self.subTest(new=new):
+                self.assertIn(old, SAMPLE.decode())
+                self.expect("plan", 1, f"refused {refusal}\n".encode(), PLAN=SAMPLE.decode().replace(old, new).encode())
+
+    def test_plan_faults_of_tables(self):
+        self.expect_refused_plans(TABLES)
+        self.expect("plan", 1, b"refused P1: not TOML\n", PLAN=b"=")
+
+    def test_plan_faults_of_what_is_twice(self):
+        self.expect_refused_plans(TWICE)
+
+    def test_no_final_line_feed(self):
+        self.expect("plan", 1, b"refused P4: value out of range\n", PLAN=b"buffer = 0")
+        self.expect("plan", 1, b"refused P3: missing key or wrong kind\n", PLAN=b'buffer = "4"')
+        self.expect("check", 1, b"refused P1: not TOML\n", PLAN=b"=", SCRIPT=b"!")
+        self.expect("check", 1, b"refused S1 line 1: bad byte\n", SCRIPT=b"!")
+        answers = ROWS["drive"]["live_refused_script"][0].inputs["ANSWERS"]
+        self.assertEqual(self.play("drive", {"SCRIPT": b"!", "ANSWERS": answers}), (1, b"refused S1 line 1: bad byte\n", b""))
+
+    def test_line_ends(self):
+        script = STRAIGHT_LINE.inputs["SCRIPT"]
+        self.expect("check", 0, STRAIGHT_LINE.printed, SCRIPT=script.replace(b"\n", b"\r\n"))
+        self.expect("check", 0, STRAIGHT_LINE.printed, SCRIPT=script[:-1])
+
+    def test_bytes_of_all_kinds(self):
+        self.expect("check", 1, b"refused S1 line 1: bad byte\n", SCRIPT=b"\x00\xff")
+        self.expect("check", 1, b"refused S1 line 2: bad byte\n", SCRIPT=b"var v\n\x80")
+        self.expect("check", 0, b"accepted\n", SCRIPT=b"# \xff\x00\n")
+
+    def test_script_fault_of_a_limit(self):
+        script = "".join(f"var v{tens}{ones}\n" for tens in "abcdefg" for ones in "abcdefghij")
+        self.expect("check", 1, b"refused S6 line 65: limit passed\n", SCRIPT=script.encode())
+
+    def test_missed_stays(self):
+        """The number of cycles without X stays at 65,535."""
+        script = ROWS["loops"]["missed_stays"][0].inputs["SCRIPT"]
+        answers = b"0 0 000000 0 000004\n" + 65536 * b"0 0 000000 0 000000\n"
+        status, _, events = self.play("run", {"SCRIPT": script, "ANSWERS": answers})
+        self.assertEqual((status, events), (0, event_file(["gl 3 cycles 65536 missed 65535 words"])))
+
+
+# A file of version One: an event of one word.
+FILE_ONE = b"CAMACEV1" + bytes.fromhex("ca4d 0003 00000001 0001 00000fff")
+# A file of version Two: the event of a service that cost three cycles.
+FILE_TWO = b"CAMACEV2" + bytes.fromhex("ca4d 0003 00000001 00000003 0000 0001 00000fff")
+
+
+class EventFiles(Playing):
+    """What `camac events` writes: the lines of an event file, or its refusal."""
+
+    def expect_listing(self, file, printed, status=0):
+        (self.room / "file").write_bytes(file)
+        self.assertEqual(self.call("events", "file"), (status, printed))
+
+    def expect_refused(self, file, refusal):
+        self.expect_listing(file, f"refused {refusal}\n".encode(), 1)
+
+    def expect_changed(self, file, place, byte, refusal):
+        """The file with one byte for another is refused."""
+        self.expect_refused(file[:place] + bytes([byte]) + file[place + 1 :], refusal)
+
+    def expect_truncated(self, file):
+        """Each prefix of the file that is cut inside its record is truncated."""
+        for front in range(9, len(file)):
+            (self.room / "file").write_bytes(file[:front])
+            status, printed = self.call("events", "file")
+            self.assertEqual(status, 1)
+            self.assertRegex(printed, rb"\Arefused V7 byte \d+: truncated\n\Z")
+
+    def test_event_file_one(self):
+        self.expect_listing(FILE_ONE, b"event 1 gl 3 words 1 000fff\nevents 1\n")
+        self.expect_truncated(FILE_ONE)
+        self.expect_listing(b"CAMACEV1", b"events 0\n")
+        self.expect_refused(b"CAMACEV", "V1 byte 0: header")
+        self.expect_changed(FILE_ONE, 18, 1, "V6 byte 18: word")
+        self.expect_refused(FILE_ONE + FILE_ONE[8:], "V4 byte 26: event number")
+
+    def test_event_file_two(self):
+        self.expect_listing(FILE_TWO, b"event 1 gl 3 cycles 3 missed 0 words 1 000fff\nevents 1\n")
+
+    def test_event_file_two_faults(self):
+        self.expect_truncated(FILE_TWO)
+        self.expect_listing(b"CAMACEV2", b"events 0\n")
+        self.expect_changed(FILE_TWO, 21, 4, "V9 byte 20: X count")
+        self.expect_changed(FILE_TWO, 24, 1, "V6 byte 24: word")
+        self.expect_refused(FILE_TWO + FILE_TWO[8:], "V4 byte 32: event number")
+
+    def test_event_field_faults(self):
+        self.expect_changed(FILE_ONE, 9, 0x4E, "V2 byte 8: marker")
+        self.expect_changed(FILE_ONE, 11, 0, "V3 byte 10: GL number")
+        self.expect_changed(FILE_ONE, 11, 25, "V3 byte 10: GL number")
+        self.expect_changed(FILE_ONE, 15, 2, "V4 byte 12: event number")
+        self.expect_changed(FILE_ONE, 16, 0x10, "V5 byte 16: count")
+
+    def test_events_of_no_word_and_of_many(self):
+        first = bytes.fromhex("ca4d 0018 00000001 ffffffff ffff 0000")
+        second = bytes.fromhex("ca4d 0001 00000002 00000000 0000 0003 00000000 00ffffff 0001abcd")
+        lines = b"event 1 gl 24 cycles 4294967295 missed 65535 words 0\nevent 2 gl 1 cycles 0 missed 0 words 3 000000 ffffff 01abcd\nevents 2\n"
+        self.expect_listing(NO_EVENTS + first + second, lines)
+
+
+if __name__ == "__main__":
+    unittest.main()
