@@ -1,5 +1,5 @@
 -- Accepted scripts keep the promises of acceptance.
-use Rattle.std.proofs.Common.{◌≡◌, ℕ, List, [], ◌∷◌, Ok, refl, subst, arith}
+use Rattle.std.proofs.Common.{◌≡◌, ℕ, Bool, List, [], ◌∷◌, Ok, refl, subst, arith}
 use Rattle.std.specs.Prelude.{IfOk, IsTrue}
 use Rattle.camac_lang.specs.Laws.{inside}
 use Rattle.camac_lang.specs.Scope.{is_well_formed}
@@ -57,28 +57,32 @@ in_range_small (v ∷ vs) (p ∷ ps) h n =
     let high = n.0 in
     (omega arith, in_range_small vs ps h.2 n.1)
 
-called_within : (k : Bounds) (vs : List ℕ) (b : Branch) (answers : List Answer) (t : State) → Paid k (entered vs (record (fresh b answers) { branch = b })) t → IsWithin k t
-called_within k vs b answers t p = record {
+-- where a call leaves a branch and flags as they are, and nothing is counted yet
+abbrev at_call : Branch → Bool → Bool → List Answer → State
+at_call b q x answers = record (fresh b answers) { branch = b; q = q; x = x }
+
+called_within : (k : Bounds) (vs : List ℕ) (b : Branch) (q x : Bool) (answers : List Answer) (t : State) → Paid k (entered vs (at_call b q x answers)) t → IsWithin k t
+called_within k vs b q x answers t p = record {
   cycles = omega (arith, p.cycles);
   words = omega (arith, p.words);
   steps = omega (arith, p.steps);
   are_words = p.are_words tt;
 }
 
-called_fine : (plan : Layout) (around : Place) (after : Known) (k : Bounds) (vs : List ℕ) (b : Branch) (answers : List Answer) (o : Behaviour State) → Sound plan around after k (entered vs (record (fresh b answers) { branch = b })) o → IsFine plan k o
-called_fine plan around after k vs b answers (does p o) h = (h.0, called_fine plan around after k vs b answers o h.1)
-called_fine plan around after k vs b answers (ends t) h = called_within k vs b answers t h.paid
-called_fine plan around after k vs b answers (stops w t) h = (h.of_answers, called_within k vs b answers t h.paid)
+called_fine : (plan : Layout) (around : Place) (after : Known) (k : Bounds) (vs : List ℕ) (b : Branch) (q x : Bool) (answers : List Answer) (o : Behaviour State) → Sound plan around after k (entered vs (at_call b q x answers)) o → IsFine plan k o
+called_fine plan around after k vs b q x answers (does p o) h = (h.0, called_fine plan around after k vs b q x answers o h.1)
+called_fine plan around after k vs b q x answers (ends t) h = called_within k vs b q x answers t h.paid
+called_fine plan around after k vs b q x answers (stops w t) h = (h.of_answers, called_within k vs b q x answers t h.paid)
 
 pub accepted_procedures_fine : AcceptedProceduresAreFine
-accepted_procedures_fine plan script ks is formed e j p body at there n le vs inside b answers =
+accepted_procedures_fine plan script ks is formed e j p body at there n le vs inside b q x answers =
     let first = first_accepted plan script ks is formed e in
     let all = first.procedures.all (order_procedures script formed) in
     let found = found_at plan (context plan script).routines script.procedures j p all at in
     let known = found.is in
     let same : found.routine ≡ body = cc in
-    let s : State = record (fresh b answers) { branch = b } in
+    let s : State = at_call b q x answers in
     let sound = subst (λ r. RoutineSound plan p r) same found.sound in
     let small = in_range_small vs p.parameters inside (parameters_are_numbers script formed j p at) in
-    called_fine plan (called (λ c. (b c).locked)) sound.after (annotated p) vs b answers (body n (entered vs s))
+    called_fine plan (called (λ c. (b c).locked)) sound.after (annotated p) vs b q x answers (body n (entered vs s))
     (sound.each n le (λ c. (b c).locked) vs inside small s (λ c. refl))

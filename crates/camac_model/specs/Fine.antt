@@ -1,5 +1,5 @@
 -- What is promised of each service by itself: the checker gives it, and the runner takes it.
-use Rattle.std.specs.Prelude.{◌≡◌, ℕ, ◌^◌, ◌<◌, ◌≤◌, List, [], ◌∷◌, length, Some, slice_get}
+use Rattle.std.specs.Prelude.{◌≡◌, ℕ, ◌^◌, ◌<◌, ◌≤◌, Bool, List, [], ◌∷◌, length, Some, slice_get}
 use Rattle.camac_lang.specs.Tree.{Parameter, Procedure, Service, Script}
 use Rattle.camac_branch.specs.Branch.{Branch, Answer}
 use Rattle.camac_branch.specs.Plan.{Layout}
@@ -71,11 +71,12 @@ AreInRanges (v ∷ vs) (p ∷ ps) = (p.low ≤ v) × (v ≤ p.high) × AreInRang
 abbrev pub annotated : Procedure → Bounds
 annotated p = record { cycles = p.cycles; words = p.words; steps = p.steps }
 
--- a procedure's body is fine by itself: on all arguments in range, whatever the branch is like, its locks too, and answers
+-- a procedure's body is fine by itself: on all arguments in range, whatever the branch is like, its locks too, and answers, and whatever the
+-- flags of the last cycle before the call are
 abbrev pub IsFineProcedure : Layout → Procedure → (ℕ → Action) → Type 0
 IsFineProcedure plan p body =
-    (n : ℕ) → most_turns ≤ n → (vs : List ℕ) → AreInRanges vs p.parameters → (b : Branch) (answers : List Answer)
-    → IsFine plan (annotated p) (body n (entered vs (record (fresh b answers) { branch = b })))
+    (n : ℕ) → most_turns ≤ n → (vs : List ℕ) → AreInRanges vs p.parameters → (b : Branch) (q x : Bool) (answers : List Answer)
+    → IsFine plan (annotated p) (body n (entered vs (record (fresh b answers) { branch = b; q = q; x = x })))
 
 -- each procedure of a script, where its body sees those before it
 abbrev pub AreFineProcedures : Layout → Script → Type 0
