@@ -3,3 +3,4 @@ pub mod Grown
 pub mod Steps
 pub mod Emptied
 pub mod Least
+pub mod Tested

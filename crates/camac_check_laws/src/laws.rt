@@ -1,5 +1,6 @@
 // What holds of headings, each law as the contract of a function that does nothing.
 
+ghost use Rattle.camac_check_laws.specs.Calls.{GuardsOnlyStop};
 ghost use Rattle.camac_check_laws.specs.Grow.{CostsGrow};
 ghost use Rattle.camac_check_laws.specs.Least.{CheckedHaveLeast, LeastAreLeast, RefusedHaveNone};
 
@@ -21,4 +22,9 @@ pub fn refused_have_none()
 /// Where `check` accepts a linked script, `least` answers Ok, with no number above those of its headings; or memory ran out.
 pub fn checked_have_least()
     ensures { CheckedHaveLeast }
+{}
+
+/// Of any script: where each call tests its arguments, a block does the same as without the tests, unless it stops as wrong.
+pub fn guards_only_stop()
+    ensures { GuardsOnlyStop }
 {}

@@ -3,4 +3,4 @@
 
 mod laws;
 
-pub use laws::{checked_have_least, costs_grow, least_are_least, refused_have_none};
+pub use laws::{checked_have_least, costs_grow, guards_only_stop, least_are_least, refused_have_none};
