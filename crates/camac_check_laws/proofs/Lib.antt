@@ -4,3 +4,5 @@ pub mod Steps
 pub mod Emptied
 pub mod Least
 pub mod Tested
+pub mod Kept
+pub mod Calls

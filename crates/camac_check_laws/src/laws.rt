@@ -1,8 +1,10 @@
 // What holds of headings, each law as the contract of a function that does nothing.
 
-ghost use Rattle.camac_check_laws.specs.Calls.{GuardsOnlyStop};
+ghost use Rattle.camac_check_laws.specs.Calls.{AcceptedCallsKeep, CallsKeepToRanges, GuardsAskRanges, GuardsOnlyStop};
 ghost use Rattle.camac_check_laws.specs.Grow.{CostsGrow};
 ghost use Rattle.camac_check_laws.specs.Least.{CheckedHaveLeast, LeastAreLeast, RefusedHaveNone};
+
+use camac_check::Checked;
 
 /// With lower numbers in the headings of its procedures a block is judged the same, and costs no more.
 pub fn costs_grow()
@@ -24,7 +26,27 @@ pub fn checked_have_least()
     ensures { CheckedHaveLeast }
 {}
 
+/// The test of a call's arguments is that they are in the ranges of its procedure's parameters, where they are as many.
+pub fn guards_ask_ranges()
+    ensures { GuardsAskRanges }
+{}
+
 /// Of any script: where each call tests its arguments, a block does the same as without the tests, unless it stops as wrong.
 pub fn guards_only_stop()
     ensures { GuardsOnlyStop }
 {}
+
+/// Each call of a procedure of an accepted script has its arguments in the ranges of the heading, in every run: where each call tests them,
+/// the script means the same, and nothing is wrong.
+pub fn accepted_calls_keep()
+    ensures { AcceptedCallsKeep }
+{}
+
+/// The same of this checked script.
+pub fn calls_keep_to_ranges(checked: &Checked)
+    ensures { CallsKeepToRanges checked.now.plan checked.now.script }
+{
+    checked.is_checked();
+    checked.script().well_formed();
+    checked.plan().is_plan();
+}

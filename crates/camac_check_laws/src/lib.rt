@@ -3,4 +3,4 @@
 
 mod laws;
 
-pub use laws::{checked_have_least, costs_grow, guards_only_stop, least_are_least, refused_have_none};
+pub use laws::{accepted_calls_keep, calls_keep_to_ranges, checked_have_least, costs_grow, guards_ask_ranges, guards_only_stop, least_are_least, refused_have_none};
