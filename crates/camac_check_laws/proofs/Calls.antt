@@ -9,7 +9,7 @@ use Rattle.camac_branch.specs.Branch.{Branch, Answer, start, pattern_of}
 use Rattle.camac_branch.specs.Plan.{Layout, IsPlan}
 use Rattle.camac_branch.proofs.Allowed.{allowed-in_range}
 use Rattle.camac_model.specs.State.{State, fresh}
-use Rattle.camac_model.specs.Behaviour.{Behaviour, does, ends, stops, demanded, event_left, Action, then_do}
+use Rattle.camac_model.specs.Behaviour.{Behaviour, does, ends, stops, demanded, event_left, then_do}
 use Rattle.camac_model.specs.Meaning.{Context, bare, context, entered}
 use Rattle.camac_model.specs.Run.{Chosen, service_bit, is_bit, has_bit, with_bit, or_next, first_service, service_for, service_meaning, event_of, serve, rounds, run}
 use Rattle.camac_model.specs.Fine.{Bounds, most_turns, AreInRanges, IsOfAnswers, annotated}
@@ -24,7 +24,7 @@ use Rattle.camac_check_rules.proofs.Routines.{called, AreSmall, RoutineSound}
 use Rattle.camac_check_rules.proofs.Services.{procedures_in}
 use Rattle.camac_check_rules.proofs.Settings.{found_at, AreLockless, are_lockless}
 use Rattle.camac_check_laws.specs.Calls.{guarded_context, guarded_run, CallsKeepToRanges, AcceptedCallsKeep}
-use Rattle.camac_check_laws.proofs.Tested.{SameRoutine, BothSame, alike_at, block_same, script_same}
+use Rattle.camac_check_laws.proofs.Guarded.{SameRoutine, BothSame, alike_at, block_same, script_same}
 use Rattle.camac_check_laws.proofs.Kept.{AllKept, items_kept, kept_at, sound_right}
 
 -- ---- runs whose services mean the same
@@ -63,7 +63,7 @@ then_each (ends t) go go' h = h t
 then_each (stops w s) go go' h = refl
 
 module _ (plan : Layout) (script : Script) (n : ℕ) where
-  -- a service that does the same with tests
+  -- a service that does the same with guards
   abbrev pub MeansSame : Service → Type 0
   MeansSame v = (b : Branch) (answers : List Answer) → service_meaning (guarded_context plan script) n v b answers ≡ service_meaning (context plan script) n v b answers
 
@@ -117,19 +117,19 @@ module _ (plan : Layout) (script : Script) (ks : List Bounds) (is : IsPlan plan)
   calls_keep : CallsKeepToRanges plan script
   calls_keep = record {
     services = service_same;
-    procedures = λ n le j p body tested at there there' vs inside s.
+    procedures = λ n le j p body guarded_body at there there' vs inside s.
         let found = found_at plan (guarded_context plan script).routines script.procedures j p (kept.procedures (order_procedures script formed)) at in
         let known = found.is in
-        let same : found.routine ≡ tested = cc in
+        let same : found.routine ≡ guarded_body = cc in
         let sound = subst (λ r. RoutineSound plan p r) same found.sound in
         let outside : ℕ → Bool = λ c. (s.branch c).locked in
         let small = in_range_small vs p.parameters inside (parameters_are_numbers script formed j p at) in
         let alike : BothSame (slice_get (guarded_context plan script).routines j) (slice_get (context plan script).routines j) =
-          alike_at (guarded_context plan script).routines (context plan script).routines (script_same plan script) j
+        alike_at (guarded_context plan script).routines (context plan script).routines (script_same plan script) j
         in
-        let both : SameRoutine tested body = subst (λ o. BothSame (Some tested) o) there (subst (λ o. BothSame o (slice_get (context plan script).routines j)) there' alike) in
+        let both : SameRoutine guarded_body body = subst (λ o. BothSame (Some guarded_body) o) there (subst (λ o. BothSame o (slice_get (context plan script).routines j)) there' alike) in
         both n (entered vs s)
-        (sound_right plan (called outside) sound.after (annotated p) (entered vs s) (tested n (entered vs s)) (sound.each n le outside vs inside small s (λ c. refl)));
+        (sound_right plan (called outside) sound.after (annotated p) (entered vs s) (guarded_body n (entered vs s)) (sound.each n le outside vs inside small s (λ c. refl)));
     runs = runs_same;
     right = λ n le answers.
         let safe : RunsSafely plan script ks = fine_services_run plan script ks (accepted_fine plan script ks is formed e) in

@@ -1,17 +1,17 @@
--- What is accepted is not wrong where calls test their arguments, so it means the same as without the tests.
-use Rattle.std.proofs.Common.{◌≡◌, ℕ, zero, suc, ◌≤◌, Bool, true, false, List, [], ◌∷◌, ◌++◌, length, map, Some, refl, sym, ap, ◌∙◌, subst, append_assoc, arith}
-use Rattle.std.specs.Prelude.{◌&&◌, ◌↔◌, nat_le, slice_get}
-use Rattle.std.proofs.lemmas.Bool.{and_parts, leb-true, le-leb, false≢true}
+-- What is accepted is not wrong with guards.
+use Rattle.std.proofs.Common.{◌≡◌, ℕ, zero, suc, ◌≤◌, false, List, [], ◌∷◌, ◌++◌, length, Some, refl, sym, ◌∙◌, subst, append_assoc, arith}
+use Rattle.std.specs.Prelude.{slice_get}
+use Rattle.std.proofs.lemmas.Bool.{false≢true}
 use Rattle.std.proofs.lemmas.List.{append-nil}
-use Rattle.camac_lang.specs.Tree.{Parameter, Procedure, Service, Item, next_table, next_lam, next_variables, next_procedure, next_service, Script}
+use Rattle.camac_lang.specs.Tree.{Procedure, Service, Item, next_table, next_lam, next_variables, next_procedure, next_service, Script}
 use Rattle.camac_range.specs.Interval.{only, IsWithin}
 use Rattle.camac_branch.specs.Branch.{Branch, Answer}
 use Rattle.camac_branch.specs.Plan.{Layout}
-use Rattle.camac_model.specs.State.{State, Variables, fresh}
+use Rattle.camac_model.specs.State.{State, fresh}
 use Rattle.camac_model.specs.Behaviour.{Behaviour, does, ends, stops, wrong, Action}
 use Rattle.camac_model.specs.Meaning.{arguments, entered, block_meaning}
 use Rattle.camac_model.specs.Run.{service_meaning}
-use Rattle.camac_model.specs.Fine.{Bounds, most_turns, AreInRanges, IsOfAnswers, annotated, AreFine}
+use Rattle.camac_model.specs.Fine.{Bounds, most_turns, IsOfAnswers, annotated, AreFine}
 use Rattle.camac_check_rules.specs.Known.{Known}
 use Rattle.camac_check_rules.specs.Cycles.{nothing_around}
 use Rattle.camac_check_rules.specs.Statements.{accept_block}
@@ -25,42 +25,16 @@ use Rattle.camac_check_rules.proofs.Routines.{called, RoutineSound, Serves, rout
 use Rattle.camac_check_rules.proofs.Statements.{block_sound}
 use Rattle.camac_check_rules.proofs.Services.{procedures_in}
 use Rattle.camac_check_rules.proofs.Settings.{bare_with, setting, Matched, matched_push, found_at, serves_own, AreLockless}
-use Rattle.camac_check_laws.specs.Calls.{begins_in_ranges, guarded, with_guarded, guarded_routines, guarded_context, GuardsAskRanges}
-use Rattle.camac_check_laws.proofs.Tested.{IsRight, calling}
+use Rattle.camac_check_laws.specs.Calls.{begins_in_ranges, guarded, guarded_routines, guarded_context}
+use Rattle.camac_check_laws.proofs.Guards.{guard_holds}
+use Rattle.camac_check_laws.proofs.Guarded.{IsRight}
 
--- ---- the test
-
-and_true : (a b : Bool) → a ≡ true → b ≡ true → a && b ≡ true
-and_true a b e f = ap (λ t. t && b) e ∙ f
-
-pub test_holds : (vs : List ℕ) (ps : List Parameter) → AreInRanges vs ps → begins_in_ranges ps (arguments vs) ≡ true
-test_holds [] [] h = refl
-test_holds [] (p ∷ ps) h = absurd h
-test_holds (v ∷ vs) [] h = absurd h
-test_holds (v ∷ vs) (p ∷ ps) h =
-    and_true (nat_le p.low v) (nat_le v p.high && begins_in_ranges ps (arguments vs)) (le-leb p.low v h.0)
-    (and_true (nat_le v p.high) (begins_in_ranges ps (arguments vs)) (le-leb v p.high h.1) (test_holds vs ps h.2))
-
-test_asks : (vs : List ℕ) (ps : List Parameter) → length vs ≡ length ps → begins_in_ranges ps (arguments vs) ≡ true → AreInRanges vs ps
-test_asks [] [] l e = tt
-test_asks [] (p ∷ ps) l e = absurd (omega (arith, l))
-test_asks (v ∷ vs) [] l e = absurd (omega (arith, l))
-test_asks (v ∷ vs) (p ∷ ps) l e =
-    let a = and_parts (nat_le p.low v) (nat_le v p.high && begins_in_ranges ps (arguments vs)) e in
-    let b = and_parts (nat_le v p.high) (begins_in_ranges ps (arguments vs)) a.1 in
-    (leb-true p.low v a.0, leb-true v p.high b.0, test_asks vs ps (omega (arith, l)) b.1)
-
-pub guards_ask_ranges : GuardsAskRanges
-guards_ask_ranges vs ps l = (λ e. test_asks vs ps l e, λ h. test_holds vs ps h)
-
--- ---- bodies and services with tests
-
--- a body keeps to its heading with the test too
-tested_sound : (plan : Layout) (q : Procedure) (run : ℕ → Action) → RoutineSound plan q run → RoutineSound plan q (guarded q.parameters run)
-tested_sound plan q run h = record {
+-- a guarded body keeps to its heading too
+guarded_sound : (plan : Layout) (q : Procedure) (run : ℕ → Action) → RoutineSound plan q run → RoutineSound plan q (guarded q.parameters run)
+guarded_sound plan q run h = record {
   after = h.after;
   each = λ n le outside vs inside small s locks.
-      with_test plan (called outside) h.after (annotated q) (entered vs s) (entered vs s) (begins_in_ranges q.parameters (arguments vs)) (run n) (test_holds vs q.parameters inside)
+      with_test plan (called outside) h.after (annotated q) (entered vs s) (entered vs s) (begins_in_ranges q.parameters (arguments vs)) (run n) (guard_holds vs q.parameters inside)
       (h.each n le outside vs inside small s locks);
 }
 
@@ -101,7 +75,7 @@ AreKept plan script (k ∷ ks) (v ∷ vs) = IsKept plan script v × AreKept plan
 
 pub record AllKept (plan : Layout) (script : Script) (n : ℕ) (done ps : List Procedure) (vs : List Service) (ks : List Bounds) : Type 0 where
   pub services : AreKept plan script ks vs
-  -- the bodies with tests, where n procedures are named
+  -- the guarded bodies, where n procedures are named
   pub procedures : n ≡ length ps → Matched plan (guarded_context plan script).routines (done ++ ps)
 
 module _ (plan : Layout) (script : Script) (narrow : HasWidths plan) where
@@ -140,7 +114,7 @@ module _ (plan : Layout) (script : Script) (narrow : HasWidths plan) where
       (routine_sound plan p run (accept_block (seen c) nothing_around p.body) (λ k.
       for_each (λ outside. Unit {0}) (λ outside v. SoundFor plan (called outside) (Some k) run v) (λ outside u.
       block_sound c narrow (serves_own plan script rs done m) (called outside) p.body (λ e. absurd (false≢true (sym free ∙ e))) k)))
-      (λ found h. tested_sound plan p run h)
+      (λ found h. guarded_sound plan p run h)
 
   none_left : (rs : List (ℕ → Action)) (done ps : List Procedure) → Matched plan rs done → guarded_routines (bare_with plan script rs) ps ≡ all → 0 ≡ length ps → Matched plan all (done ++ ps)
   none_left rs done [] m e n = subst (λ l. Matched plan all l) (sym (append-nil done)) (subst (λ l. Matched plan l done) e m)

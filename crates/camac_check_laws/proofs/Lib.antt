@@ -3,6 +3,8 @@ pub mod Grown
 pub mod Steps
 pub mod Emptied
 pub mod Least
-pub mod Tested
+pub mod Guarded
+pub mod Guards
 pub mod Kept
 pub mod Calls
+mod CallRows

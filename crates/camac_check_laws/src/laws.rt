@@ -1,6 +1,6 @@
-// What holds of headings, each law as the contract of a function that does nothing.
+// What holds of headings and calls, each law as the contract of a function that does nothing.
 
-ghost use Rattle.camac_check_laws.specs.Calls.{AcceptedCallsKeep, CallsKeepToRanges, GuardsAskRanges, GuardsOnlyStop};
+ghost use Rattle.camac_check_laws.specs.Calls.{AcceptedCallsKeep, CallsKeepToRanges, GuardsOnlyStop, GuardsStop};
 ghost use Rattle.camac_check_laws.specs.Grow.{CostsGrow};
 ghost use Rattle.camac_check_laws.specs.Least.{CheckedHaveLeast, LeastAreLeast, RefusedHaveNone};
 
@@ -26,18 +26,18 @@ pub fn checked_have_least()
     ensures { CheckedHaveLeast }
 {}
 
-/// The test of a call's arguments is that they are in the ranges of its procedure's parameters, where they are as many.
-pub fn guards_ask_ranges()
-    ensures { GuardsAskRanges }
+/// A guarded call is wrong, where its arguments are not in the ranges of its procedure's parameters.
+pub fn guards_stop()
+    ensures { GuardsStop }
 {}
 
-/// Of any script: where each call tests its arguments, a block does the same as without the tests, unless it stops as wrong.
+/// Of any script: a guarded block does the same as the plain one, unless it stops as wrong.
 pub fn guards_only_stop()
     ensures { GuardsOnlyStop }
 {}
 
-/// Each call of a procedure of an accepted script has its arguments in the ranges of the heading, in every run: where each call tests them,
-/// the script means the same, and nothing is wrong.
+/// In every run of an accepted script each call of a procedure has its arguments in the ranges of the heading. With guards the script means
+/// the same as without them, and nothing is wrong.
 pub fn accepted_calls_keep()
     ensures { AcceptedCallsKeep }
 {}

@@ -1,5 +1,5 @@
-use Rattle.camac_check_laws.proofs.Tested as tested
+use Rattle.camac_check_laws.proofs.Guarded as guarded
 use Rattle.camac_check_laws.proofs.laws.guards_only_stop.Goals as goal
 
 pub returns : goal.returns
-returns c = tested.guards_only_stop
+returns c = guarded.guards_only_stop

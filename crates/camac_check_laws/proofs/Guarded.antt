@@ -1,4 +1,4 @@
--- With tested calls a block does the same, unless it stops as wrong.
+-- A guarded block does the same as the plain one, unless it stops as wrong.
 use Rattle.std.proofs.Common.{◌≡◌, ◌≢◌, ℕ, zero, suc, ◌+◌, ◌-◌, List, [], ◌∷◌, ◌++◌, Option, Some, None, Bool, true, false, refl, ap, ◌∙◌}
 use Rattle.std.specs.Prelude.{slice_get}
 use Rattle.camac_crate.specs.Lock.{permitted}
@@ -6,7 +6,7 @@ use Rattle.camac_lang.specs.Tree.{Condition, Parameter, Procedure, Statement, as
 use Rattle.camac_branch.specs.Branch.{Answer}
 use Rattle.camac_branch.specs.Plan.{Layout, crate_waits}
 use Rattle.camac_model.specs.State.{State, stepped}
-use Rattle.camac_model.specs.Behaviour.{Piece, lock_taken, Behaviour, does, ends, stops, more, wrong, stop_of, Action, then_do, given, decide, unless_wrong}
+use Rattle.camac_model.specs.Behaviour.{lock_taken, Behaviour, does, ends, stops, wrong, stop_of, Action, then_do, given, decide, unless_wrong}
 use Rattle.camac_model.specs.Value.{value, values, truth}
 use Rattle.camac_model.specs.Cycle.{if_permitted, next_answer, after_lock, take_lock, release}
 use Rattle.camac_model.specs.Meaning.{Context, counted, count_turns, count_from, turns, entered, returned, enter, effect, block_meaning, bare, context, routines_with}
@@ -77,7 +77,7 @@ lock_same c waits false body body' h s = go s.answers
     go [] = λ r. refl
     go (a ∷ rest) = may (permitted false waits a.wait) a rest
 
--- bodies of procedures, the first of them with tests
+-- bodies that are the same, unless the first stops as wrong
 abbrev pub SameRoutine : (ℕ → Action) → (ℕ → Action) → Type 0
 SameRoutine f g = (n : ℕ) → SameAction (f n) (g n)
 
@@ -159,8 +159,8 @@ module _ (c : Context) (fs gs : List (ℕ → Action)) (alike : Alike fs gs) (n 
         then_same (effect (calling c fs) n st (stepped s)) (effect (calling c gs) n st (stepped s)) (block_meaning (calling c fs) n rest) (block_meaning (calling c gs) n rest)
         (statement_same st (stepped s)) (λ t. block_same rest t)
 
-tested_same : (ps : List Parameter) (f g : ℕ → Action) → SameRoutine f g → SameRoutine (guarded ps f) g
-tested_same ps f g h n s = go (begins_in_ranges ps s.variables)
+guarded_same : (ps : List Parameter) (f g : ℕ → Action) → SameRoutine f g → SameRoutine (guarded ps f) g
+guarded_same ps f g h n s = go (begins_in_ranges ps s.variables)
   where
     go : (b : Bool) → Same (unless_wrong b (f n) s) (g n s)
     go true = h n s
@@ -172,7 +172,7 @@ routines_same c fs gs (p ∷ ps) h =
     let f : ℕ → Action = λ n. block_meaning (calling c fs) n p.body in
     let g : ℕ → Action = λ n. block_meaning (calling c gs) n p.body in
     routines_same c (fs ++ guarded p.parameters f ∷ []) (gs ++ g ∷ []) ps
-    (alike_push fs gs (guarded p.parameters f) g h (tested_same p.parameters f g (λ n s. block_same c fs gs h n p.body s)))
+    (alike_push fs gs (guarded p.parameters f) g h (guarded_same p.parameters f g (λ n s. block_same c fs gs h n p.body s)))
 
 pub script_same : (plan : Layout) (script : Script) → Alike (guarded_context plan script).routines (context plan script).routines
 script_same plan script = routines_same (bare plan script) [] [] script.procedures tt
