@@ -3,7 +3,7 @@ use Rattle.std.proofs.Common.{◌≡◌, ℕ, [], ◌∷◌, List, Some, None, t
 use Rattle.std.specs.Prelude.{codes}
 use Rattle.camac_func.specs.declared.data.DataMove.TheVariants as moved
 use Rattle.camac_lang.specs.declared.word.WordSize.TheVariants.{Full}
-use Rattle.camac_lang.specs.Tree.{number, variable, into, set_register, single, put, call, Procedure, Script}
+use Rattle.camac_lang.specs.Tree.{number, variable, add, into, set_register, single, put, call, Procedure, Script}
 use Rattle.camac_lang.specs.View.{block_of}
 use Rattle.camac_lang.specs.Scope.{is_well_formed}
 use Rattle.camac_branch.specs.Branch.{Answer}
@@ -50,3 +50,32 @@ outside = refl
 
 outside_done : pieces (guarded_served (calls 12) (good 2)) ≡ called ∷ cycle_at 5 0 0 moved.In (reply true true 2) 0 ∷ []
 outside_done = refl
+
+-- a call in a body is guarded too: this one is of the sub-address after its own
+abbrev get_next : Procedure
+get_next = record {
+  line = 7;
+  name = codes "get_next";
+  parameters = record { name = codes "s"; low = 0; high = 11 } ∷ [];
+  cycles = 3;
+  words = 1;
+  steps = 5;
+  registers = [];
+  body = block_of (call 8 0 (add (variable 0) (number 1) ∷ []) ∷ []);
+}
+
+abbrev calls_next : ℕ → Script
+calls_next s = script_of opening [] (get ∷ get_next ∷ []) 6 2 [] (call 11 1 (number s ∷ []) ∷ [])
+
+next_stands : is_well_formed (calls_next 11) ≡ true
+unfolding is_well_formed
+next_stands = refl
+
+next_inside : stop_of (guarded_served (calls_next 10) (good 1)) ≡ None
+next_inside = refl
+
+next_outside : stop_of (guarded_served (calls_next 11) (good 1)) ≡ Some wrong
+next_outside = refl
+
+next_unguarded : stop_of (served (calls_next 11) (good 1)) ≡ None
+next_unguarded = refl
