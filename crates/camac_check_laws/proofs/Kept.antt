@@ -1,4 +1,4 @@
--- What is accepted is not wrong with guards.
+-- What is accepted is not wrong with guards: the walk over a script's items of camac_check_rules (`Services`), with guarded bodies.
 use Rattle.std.proofs.Common.{◌≡◌, ℕ, zero, suc, ◌≤◌, false, List, [], ◌∷◌, ◌++◌, length, Some, refl, sym, ◌∙◌, subst, append_assoc, arith}
 use Rattle.std.specs.Prelude.{slice_get}
 use Rattle.std.proofs.lemmas.Bool.{false≢true}

@@ -46,8 +46,8 @@ abbrev pub guarded_run : ℕ → Layout → Script → List Answer → Behaviour
 guarded_run n plan script answers =
     rounds (length answers) (guarded_context plan script) n script.services start answers
 
--- A guarded call whose arguments are not in the ranges is wrong. It has as many of them as its procedure has parameters, as each call of a
--- well-formed script.
+-- A guarded call whose arguments are not in the ranges is wrong. It has as many of them as its procedure has parameters: so has each call
+-- of a well-formed script.
 abbrev pub GuardsStop : Type 0
 GuardsStop =
     (plan : Layout) (script : Script) (ps : List Procedure) (j : ℕ) (p : Procedure) → slice_get ps j ≡ Some p
