@@ -1,3 +1,4 @@
 pub mod Lower
 pub mod Grow
 pub mod Least
+pub mod Calls
