@@ -153,28 +153,14 @@ fn command_case(
     rule: CheckRule,
 ) -> Option<CheckCase> {
     match statement {
-        Stmt::Single {
-            size,
-            function,
-            register,
-            data,
-            ..
-        } => {
-            let region = known.register(*register)?;
-            match (rule, data) {
-                (CheckRule::ValueTooWide, Move::From(value)) => {
-                    width_case(context.plan, *size, *function, region, value, known)
-                }
-                _ => region_case(context.plan, rule, *function, region, moved_by(data)),
-            }
-        }
+        Stmt::Single { .. } => single_case(context.plan, statement, known, rule),
         Stmt::LamCall { call, lam, .. } => {
-            let lam = context.lams.get(*lam)?;
+            let region = region_of(context.lams.get(*lam)?);
             region_case(
                 context.plan,
                 rule,
                 function_of(*call)?,
-                region_of(lam),
+                region,
                 "moves no data",
             )
         }
@@ -212,6 +198,27 @@ fn command_case(
             block_case(context.plan, rule, *function, region, table, max, known)
         }
         _ => None,
+    }
+}
+
+// What a single cycle breaks.
+fn single_case(plan: &Plan, statement: &Stmt, known: &Facts, rule: CheckRule) -> Option<CheckCase> {
+    let Stmt::Single {
+        size,
+        function,
+        register,
+        data,
+        ..
+    } = statement
+    else {
+        return None;
+    };
+    let region = known.register(*register)?;
+    match (rule, data) {
+        (CheckRule::ValueTooWide, Move::From(value)) => {
+            width_case(plan, *size, *function, region, value, known)
+        }
+        _ => region_case(plan, rule, *function, region, moved_by(data)),
     }
 }
 

@@ -250,79 +250,137 @@ fn refused_case(
     rule: CheckRule,
 ) -> Result<Option<CheckCase>, AllocError> {
     match statement {
-        Stmt::If { line, test, then } => {
-            match split(alloc, *line, &test.parts, known) {
-                Ok(ways) => reached_case(alloc, walk, around, then, ways.holds, rule),
-                Err(fault) => condition_case(fault, test, known),
-            }
-        }
+        Stmt::If { line, test, then } => match split(alloc, *line, &test.parts, known) {
+            Ok(ways) => reached_case(alloc, walk, around, then, ways.holds, rule),
+            Err(fault) => condition_case(fault, test, known),
+        },
         Stmt::IfElse {
             line,
             test,
             then,
             otherwise,
         } => match split(alloc, *line, &test.parts, known) {
-            Ok(ways) => {
-                match reached_case(alloc, walk, around, then, ways.holds, rule)? {
-                    Some(case) => Ok(Some(case)),
-                    None => reached_case(alloc, walk, around, otherwise, ways.fails, rule),
-                }
-            }
+            Ok(ways) => match reached_case(alloc, walk, around, then, ways.holds, rule)? {
+                Some(case) => Ok(Some(case)),
+                None => reached_case(alloc, walk, around, otherwise, ways.fails, rule),
+            },
             Err(fault) => condition_case(fault, test, known),
         },
-        Stmt::Lock { crate_no, body, .. } => {
-            if let Some(case) = lock_case(&walk.context, around, crate_no, known) {
-                return Ok(Some(case));
-            }
-            let Some(crates) = numbers_of(crate_no, known.ranges()) else {
-                return Ok(statement_case(&walk.context, &walk.body, statement, known, rule));
-            };
-            let inside = around.with_locked(alloc, crates.lo())?;
-            let start = known.try_clone(alloc)?;
-            block_case(alloc, walk, &inside, body, start, rule)
-        }
-        Stmt::For {
-            line,
-            variable,
-            from,
-            to,
-            keeps,
-            body,
-        } => match for_limits(around, *line, *variable, from, to, keeps, known) {
-            Ok(limits) => {
-                let inside = around.with_fixed(alloc, *variable)?;
-                let top = limits.head(alloc, *variable, keeps, body, known)?;
-                turn_case(alloc, walk, &inside, keeps, body, top, rule)
-            }
-            Err(CheckFault::OutOfMemory) => Err(AllocError),
-            Err(CheckFault::Broken { rule, .. }) => Ok(match rule {
-                CheckRule::TooManyTurns => for_turns(from, to, known.ranges()),
-                CheckRule::KeepFailsAtEntry => keep_at_entry(&walk.body, keeps, known),
-                _ => statement_case(&walk.context, &walk.body, statement, known, rule),
-            }),
+        Stmt::Lock { body, .. } => match lock_entry(alloc, walk, around, statement, known, rule)? {
+            Entry::Into(inside, top) => reached_case(alloc, walk, &inside, body, top, rule),
+            Entry::Refused(case) => Ok(case),
         },
-        Stmt::While {
-            line,
-            test,
-            turns,
-            measure,
-            keeps,
-            body,
-        } => match while_head(alloc, *line, *turns, *measure, keeps, body, known) {
-            Ok(top) => match split(alloc, *line, &test.parts, &top) {
-                Ok(ways) => turn_case(alloc, walk, around, keeps, body, ways.holds, rule),
-                Err(fault) => condition_case(fault, test, &top),
-            },
-            Err(CheckFault::OutOfMemory) => Err(AllocError),
-            Err(CheckFault::Broken { rule, .. }) => Ok(match rule {
-                CheckRule::MeasureBroken => Some(CheckCase::Measure {
-                    variable: walk.body.variable(*measure),
-                }),
-                CheckRule::TooManyTurns => while_turns(*turns, *measure, body, known),
-                _ => keep_at_entry(&walk.body, keeps, known),
-            }),
+        Stmt::For { keeps, body, .. } => match for_entry(alloc, walk, around, statement, known)? {
+            Entry::Into(inside, top) => turn_case(alloc, walk, &inside, keeps, body, top, rule),
+            Entry::Refused(case) => Ok(case),
+        },
+        Stmt::While { keeps, body, .. } => match while_top(alloc, walk, statement, known)? {
+            Top::Known(top) => turn_case(alloc, walk, around, keeps, body, top, rule),
+            Top::Refused(case) => Ok(case),
         },
         _ => Ok(statement_case(&walk.context, &walk.body, statement, known, rule)),
+    }
+}
+
+// What stands around a body and is known at its top, if that can be reached; or the case that keeps a script from entering it.
+#[derive(Drop)]
+enum Entry {
+    Into(Around, Option<Facts>),
+    Refused(Option<CheckCase>),
+}
+
+// What is known at the top of a body in which nothing else stands around.
+#[derive(Drop)]
+enum Top {
+    Known(Option<Facts>),
+    Refused(Option<CheckCase>),
+}
+
+fn lock_entry(
+    alloc: Global,
+    walk: &Walk,
+    around: &Around,
+    statement: &Stmt,
+    known: &Facts,
+    rule: CheckRule,
+) -> Result<Entry, AllocError> {
+    let Stmt::Lock { crate_no, .. } = statement else {
+        return Ok(Entry::Refused(None));
+    };
+    if let Some(case) = lock_case(&walk.context, around, crate_no, known) {
+        return Ok(Entry::Refused(Some(case)));
+    }
+    let Some(crates) = numbers_of(crate_no, known.ranges()) else {
+        let case = statement_case(&walk.context, &walk.body, statement, known, rule);
+        return Ok(Entry::Refused(case));
+    };
+    let inside = around.with_locked(alloc, crates.lo())?;
+    Ok(Entry::Into(inside, Some(known.try_clone(alloc)?)))
+}
+
+fn for_entry(
+    alloc: Global,
+    walk: &Walk,
+    around: &Around,
+    statement: &Stmt,
+    known: &Facts,
+) -> Result<Entry, AllocError> {
+    let Stmt::For {
+        line,
+        variable,
+        from,
+        to,
+        keeps,
+        body,
+    } = statement
+    else {
+        return Ok(Entry::Refused(None));
+    };
+    match for_limits(around, *line, *variable, from, to, keeps, known) {
+        Ok(limits) => {
+            let inside = around.with_fixed(alloc, *variable)?;
+            let top = limits.head(alloc, *variable, keeps, body, known)?;
+            Ok(Entry::Into(inside, top))
+        }
+        Err(CheckFault::OutOfMemory) => Err(AllocError),
+        Err(CheckFault::Broken { rule, .. }) => Ok(Entry::Refused(match rule {
+            CheckRule::TooManyTurns => for_turns(from, to, known.ranges()),
+            CheckRule::KeepFailsAtEntry => keep_at_entry(&walk.body, keeps, known),
+            _ => statement_case(&walk.context, &walk.body, statement, known, rule),
+        })),
+    }
+}
+
+fn while_top(
+    alloc: Global,
+    walk: &Walk,
+    statement: &Stmt,
+    known: &Facts,
+) -> Result<Top, AllocError> {
+    let Stmt::While {
+        line,
+        test,
+        turns,
+        measure,
+        keeps,
+        body,
+    } = statement
+    else {
+        return Ok(Top::Refused(None));
+    };
+    match while_head(alloc, *line, *turns, *measure, keeps, body, known) {
+        Ok(top) => match split(alloc, *line, &test.parts, &top) {
+            Ok(ways) => Ok(Top::Known(ways.holds)),
+            Err(fault) => Ok(Top::Refused(condition_case(fault, test, &top)?)),
+        },
+        Err(CheckFault::OutOfMemory) => Err(AllocError),
+        Err(CheckFault::Broken { rule, .. }) => Ok(Top::Refused(match rule {
+            CheckRule::MeasureBroken => Some(CheckCase::Measure {
+                variable: walk.body.variable(*measure),
+            }),
+            CheckRule::TooManyTurns => while_turns(*turns, *measure, body, known),
+            _ => keep_at_entry(&walk.body, keeps, known),
+        })),
     }
 }
 
