@@ -17,7 +17,7 @@ pub const TEXT_LIMIT: usize = 1_048_576;
 pub const EVENTS_LIMIT: usize = 16_777_216;
 
 /// How many bytes are asked for at a time.
-const CHUNK: usize = 4096;
+const CHUNK: usize = 65_536;
 
 /// All that the reader has left, where that is at most `limit` bytes. No more than one byte past
 /// the limit is taken.
