@@ -1,5 +1,5 @@
 -- Words and records that are read from the bytes where they lie.
-use Rattle.std.proofs.Common.{◌≡◌, ℕ, zero, suc, ◌+◌, ◌*◌, ◌^◌, ◌<◌, ◌≤◌, cond, ltb, List, [], ◌∷◌, ◌++◌, length, take, drop, Option, Some, Result, Ok, Err, refl, sym, ap, subst, ◌∙◌, append_assoc, length-append, arith}
+use Rattle.std.proofs.Common.{◌≡◌, ℕ, zero, suc, ◌+◌, ◌*◌, ◌^◌, ◌<◌, ◌≤◌, cond, ltb, List, [], ◌∷◌, length, take, drop, Option, Some, Result, Ok, Err, refl, sym, ap, subst, ◌∙◌, length-append, arith}
 use Rattle.std.specs.Prelude.{slice_get}
 use Rattle.std.specs.List.{AllByRecursion}
 use Rattle.std.proofs.lemmas.Bool.{ltb-true, ltb-false}
@@ -150,8 +150,8 @@ first_split version number gl usage count after front back es f fore aft =
     record {
       words = subst (AreWords count) (sym fore) f.words;
       first = f.first
-      ∙ ap (λ (l : List ℕ). record { gl = gl; usage = usage; words = words_in count l } ∷ f.others) (sym fore)
-      ∙ ap (λ (others : List Entry). record { gl = gl; usage = usage; words = words_in count front } ∷ others) (sym (events_in-is version (number + 1) back f.others rest));
+          ∙ ap (λ (l : List ℕ). record { gl = gl; usage = usage; words = words_in count l } ∷ f.others) (sym fore)
+          ∙ ap (λ (others : List Entry). record { gl = gl; usage = usage; words = words_in count front } ∷ others) (sym (events_in-is version (number + 1) back f.others rest));
       right = subst (λ (l : List ℕ). IsEvent version (record { gl = gl; usage = usage; words = words_in count l })) (sym fore) f.right;
       rest = are_records version (number + 1) back f.others rest;
     }
@@ -167,5 +167,5 @@ first_reads version number bytes f [] some r h = omega (arith, ap length r.spell
 first_reads version number bytes f (e ∷ es) some r h =
     let rest = records_from (number + 1) es in
     let again : record_at version number 0 bytes ≡ Ok (e, rest) = ap (record_at version number 0) r.spelled ∙ record_again version number 0 e rest (omega (arith, r.few)) r.right.0 in
-    let bad : Err f ≡ Ok (e, rest) = sym h ∙ again in
+    let bad : (let r : Result (Entry × List ℕ) Flaw = Err f in r) ≡ Ok (e, rest) = sym h ∙ again in
     absurd cc

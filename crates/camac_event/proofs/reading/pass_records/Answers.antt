@@ -1,7 +1,7 @@
 use Rattle.std.proofs.Common.{◌≡◌, ℕ, ◌+◌, ◌<◌, ◌++◌, ◌∷◌, [], length, Ok, Err, sym, subst, length-append, arith}
 use Rattle.std.proofs.lemmas.Grind.{common_steps}
 use Rattle.std.proofs.lemmas.Result.{err_from_is_err_and}
-use Rattle.camac_event.specs.Reading.{record_at, records_at}
+use Rattle.camac_event.specs.Reading.{record_at}
 use Rattle.camac_event.proofs.RecordLoop.{starts, goes_on, ends, is_done, shortens}
 use Rattle.camac_event.proofs.reading.pass_records.Goals as goal
 
@@ -26,8 +26,7 @@ loop-rest-preserved c =
     let e = c.in_ok-pass_record.ensures.0 in
     let some : 0 < length c.loop-rest.rest.now = grind (arith, common_steps) in
     let shorter = shortens c.args.version (c.loop-rest.number + 1) c.args.total c.loop-rest.rest.now e c.pass_record.new.bytes.now v.3.fits c.in_ok-pass_record.ensures.1 in
-    let read = subst (λ (n : ℕ). record_at c.args.version (n + 1) c.args.total c.loop-rest.rest.now ≡ Ok (e, c.pass_record.new.bytes.now)) (sym v.2) c.in_ok-pass_record.ensures.1 in
-    (
+    let read = subst (λ (n : ℕ). record_at c.args.version (n + 1) c.args.total c.loop-rest.rest.now ≡ Ok (e, c.pass_record.new.bytes.now)) (sym v.2) c.in_ok-pass_record.ensures.1 in (
       omega (arith, c.loop-rest.invariant.0, shorter),
       v.1 ++ e ∷ [],
       omega (arith, length-append v.1 (e ∷ []), v.2),

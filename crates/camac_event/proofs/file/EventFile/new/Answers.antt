@@ -1,8 +1,6 @@
-use Rattle.std.proofs.Common.{◌≡◌, ℕ, List, length, Ok, Err, ap, sym, ◌∙◌, refl, arith}
+use Rattle.std.proofs.Common.{refl, arith}
 use Rattle.std.proofs.lemmas.Result.{err_from_is_err_and}
 use Rattle.camac_event.specs.Reading.{file_at}
-use Rattle.camac_event.specs.Spelling.{Entry}
-use Rattle.camac_event.specs.Records.{AreRecords, events_in}
 use Rattle.camac_event.proofs.Files.{header_takes}
 use Rattle.camac_event.proofs.InPlace.{records_are, are_records, events_in-is}
 use Rattle.camac_event.proofs.file.EventFile.new.Goals as goal

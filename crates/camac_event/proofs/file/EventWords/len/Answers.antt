@@ -1,4 +1,4 @@
-use Rattle.std.proofs.Common.{◌≡◌, sym, ap, ◌∙◌, length}
+use Rattle.std.proofs.Common.{sym, ap, ◌∙◌, length}
 use Rattle.camac_event.proofs.InPlace.{length-words_in}
 use Rattle.camac_event.proofs.file.EventWords.len.Goals as goal
 
