@@ -43,7 +43,7 @@ header_again Two total rest = refl
 
 -- ---- records
 
-records_take : (most : ℕ) (version : Version) (number total : ℕ) (bytes : List ℕ) (es : List Entry) → IsBytes bytes → records_at most version number total bytes ≡ Ok es
+pub records_take : (most : ℕ) (version : Version) (number total : ℕ) (bytes : List ℕ) (es : List Entry) → IsBytes bytes → records_at most version number total bytes ≡ Ok es
     → (bytes ≡ records_from number es) × AllByRecursion (IsEvent version) es × (number ≤ 2 ^ 32 → number + length es ≤ 2 ^ 32)
 unfolding records_at
 records_take most version number total [] es fits e =
@@ -65,7 +65,7 @@ next_again : (most : ℕ) (version : Version) (number total : ℕ) (e : Entry) (
 unfolding records_at
 next_again most version number total e es rest h k = rw (h, k) refl
 
-records_again : (most : ℕ) (version : Version) (number total : ℕ) (es : List Entry) → AllByRecursion (IsEvent version) es → number + length es ≤ 2 ^ 32 → length (records_from number es) ≤ most
+pub records_again : (most : ℕ) (version : Version) (number total : ℕ) (es : List Entry) → AllByRecursion (IsEvent version) es → number + length es ≤ 2 ^ 32 → length (records_from number es) ≤ most
     → records_at most version number total (records_from number es) ≡ Ok es
 unfolding records_at
 records_again most version number total [] fits few enough = refl

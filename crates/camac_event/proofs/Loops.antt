@@ -1,8 +1,6 @@
 -- Reading words one after the other, as a loop does.
 use Rattle.std.proofs.Common.{◌≡◌, ℕ, suc, ◌-◌, ◌+◌, ◌≤◌, ◌<◌, List, [], ◌∷◌, ◌++◌, Result, Ok, Err, refl, sym, ap, ◌∙◌, append_assoc, append-nil, arith}
-use Rattle.camac_event.specs.declared.fault.EventFault.{EventFault}
-use Rattle.camac_event.specs.declared.fault.EventFault.TheVariants as faults
-use Rattle.camac_event.specs.Reading.{Flaw, ◌>>=◌, Fails, word_at, words_at}
+use Rattle.camac_event.specs.Reading.{Flaw, ◌>>=◌, word_at, words_at}
 
 -- what was read before, and what is still read
 abbrev pub with_front : List ℕ → Result (List ℕ × List ℕ) Flaw → Result (List ℕ × List ℕ) Flaw
@@ -12,6 +10,10 @@ regroup : (front : List ℕ) (n : ℕ) (read : Result (List ℕ × List ℕ) Fla
 regroup front n (Ok x) = ap (λ (ns : List ℕ). Ok (ns, x.1)) (simp append_assoc)
 regroup front n (Err f) = refl
 
+pub starts : (read : Result (List ℕ × List ℕ) Flaw) → with_front [] read ≡ read
+starts (Ok x) = refl
+starts (Err f) = refl
+
 pub goes_on : (front : List ℕ) (count i file : ℕ) (bytes : List ℕ) (n : ℕ) (after : List ℕ) (total : Result (List ℕ × List ℕ) Flaw) → i < count → word_at file bytes ≡ Ok (n, after)
     → with_front front (words_at (count - i) file bytes) ≡ total → with_front (front ++ n ∷ []) (words_at (count - (i + 1)) file after) ≡ total
 unfolding words_at
@@ -20,13 +22,12 @@ goes_on front count i file bytes n after total lt h so_far =
     let one : with_front front (words_at (count - i) file bytes) ≡ with_front (front ++ n ∷ []) (words_at (count - (i + 1)) file after) = rw (k, h) (regroup front n (words_at (count - (i + 1)) file after)) in
     sym one ∙ so_far
 
-pub ends : (e : EventFault) (front : List ℕ) (count i file : ℕ) (bytes : List ℕ) (total : Result (List ℕ × List ℕ) Flaw) → i < count → Fails e (word_at file bytes)
-    → with_front front (words_at (count - i) file bytes) ≡ total → Fails e total
+pub ends : (f : Flaw) (front : List ℕ) (count i file : ℕ) (bytes : List ℕ) (total : Result (List ℕ × List ℕ) Flaw) → i < count → word_at file bytes ≡ Err f
+    → with_front front (words_at (count - i) file bytes) ≡ total → total ≡ Err f
 unfolding words_at
-ends faults.OutOfMemory front count i file bytes total lt h so_far = tt
-ends (faults.Broken rule offset) front count i file bytes total lt h so_far =
+ends f front count i file bytes total lt h so_far =
     let k : count - i ≡ suc (count - (i + 1)) = omega arith in
-    let one : with_front front (words_at (count - i) file bytes) ≡ Err (record { rule = rule; offset = offset }) = rw (k, h) refl in
+    let one : with_front front (words_at (count - i) file bytes) ≡ Err f = rw (k, h) refl in
     sym so_far ∙ one
 
 pub is_done : (front : List ℕ) (count i file : ℕ) (bytes : List ℕ) (total : Result (List ℕ × List ℕ) Flaw) → count ≤ i → with_front front (words_at (count - i) file bytes) ≡ total → total ≡ Ok (front, bytes)

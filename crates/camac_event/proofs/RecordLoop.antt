@@ -1,10 +1,8 @@
 -- Reading records one after the other, as a loop does.
 use Rattle.std.proofs.Common.{◌≡◌, ℕ, suc, ◌-◌, ◌+◌, ◌≤◌, ◌<◌, List, [], ◌∷◌, ◌++◌, length, Result, Ok, Err, refl, sym, ap, ◌∙◌, append_assoc, append-nil, length-append, arith}
 use Rattle.camac_event.specs.declared.event.Version.{Version}
-use Rattle.camac_event.specs.declared.fault.EventFault.{EventFault}
-use Rattle.camac_event.specs.declared.fault.EventFault.TheVariants as faults
 use Rattle.camac_event.specs.Spelling.{Entry, record_of}
-use Rattle.camac_event.specs.Reading.{Flaw, ◌>>=◌, Fails, record_at, records_at}
+use Rattle.camac_event.specs.Reading.{Flaw, ◌>>=◌, record_at, records_at}
 use Rattle.camac_event.proofs.Fields.{IsBytes}
 use Rattle.camac_event.proofs.Records.{record_takes}
 
@@ -60,14 +58,13 @@ fails_at : (most : ℕ) (version : Version) (number total : ℕ) (b : ℕ) (byte
 unfolding records_at
 fails_at most version number total b bytes front f h = rw h refl
 
-pub ends : (f : EventFault) (version : Version) (total : ℕ) (front : List Entry) (rest : List ℕ) (all : Result (List Entry) Flaw) → 0 < length rest → IsReading version total front rest all
-    → Fails f (record_at version (length front + 1) total rest) → Fails f all
-ends faults.OutOfMemory version total front rest all some r h = tt
-ends (faults.Broken rule offset) version total front [] all some r h = absurd (omega arith)
-ends (faults.Broken rule offset) version total front (b ∷ rest) all some r h =
+pub ends : (f : Flaw) (version : Version) (total : ℕ) (front : List Entry) (rest : List ℕ) (all : Result (List Entry) Flaw) → 0 < length rest → IsReading version total front rest all
+    → record_at version (length front + 1) total rest ≡ Err f → all ≡ Err f
+ends f version total front [] all some r h = absurd (omega arith)
+ends f version total front (b ∷ rest) all some r h =
     let most_is : r.most ≡ suc (r.most - 1) = omega (arith, r.enough) in
     let before : with_events front (records_at (suc (r.most - 1)) version (length front + 1) total (b ∷ rest)) ≡ all = rw (← most_is) r.same in
-    sym before ∙ fails_at (r.most - 1) version (length front + 1) total b rest front (record { rule = rule; offset = offset }) h
+    sym before ∙ fails_at (r.most - 1) version (length front + 1) total b rest front f h
 
 pub is_done : (version : Version) (total : ℕ) (front : List Entry) (rest : List ℕ) (all : Result (List Entry) Flaw) → length rest ≡ 0 → IsReading version total front rest all → all ≡ Ok front
 unfolding records_at

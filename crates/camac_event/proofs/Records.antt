@@ -100,7 +100,7 @@ usage_again Two total (Some u) rest h k =
 
 -- ---- words
 
-words_take : (n total : ℕ) (bytes : List ℕ) (x : List ℕ × List ℕ) → IsBytes bytes → words_at n total bytes ≡ Ok x
+pub words_take : (n total : ℕ) (bytes : List ℕ) (x : List ℕ × List ℕ) → IsBytes bytes → words_at n total bytes ≡ Ok x
     → Takes bytes (flat_map (big_bytes 4) x.0) x.1 × (length x.0 ≡ n) × AllByRecursion (λ w. w < 2 ^ 24) x.0
 unfolding words_at
 words_take zero total bytes x fits e =

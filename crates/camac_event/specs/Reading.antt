@@ -10,31 +10,46 @@ use Rattle.camac_event.specs.declared.fault.EventRule.{EventRule}
 use Rattle.camac_event.specs.declared.fault.EventRule.TheVariants.{WrongHeader, WrongMarker, GlOutOfRange, NumberOutOfOrder, MissedAboveCycles, CountAboveLimit, WordTooWide, Truncated}
 use Rattle.camac_event.specs.declared.fault.EventFault.{EventFault}
 use Rattle.camac_event.specs.declared.fault.EventFault.TheVariants as faults
+use Rattle.camac_event.specs.declared.fault.EventFlaw.{EventFlaw}
+use Rattle.camac_event.specs.declared.reading.EventHead.{EventHead}
 use Rattle.camac_event.specs.Spelling.{Entry, header}
 
--- a rule that is broken, and the offset of its field's first byte
-pub record Flaw : Type 0 where
-  pub rule : EventRule
-  pub offset : ℕ
+abbrev pub Flaw : Type 0
+Flaw = EventFlaw
 
 infixl 10 ◌>>=◌
 abbrev pub ◌>>=◌ : {A B : Type 0} → Result A Flaw → (A → Result B Flaw) → Result B Flaw
 (Ok x) >>= f = f x
 (Err e) >>= f = Err e
 
--- What a function returned, seen by view, and the rest that it left are what reading gives, unless memory ran out.
+-- what a function returned, seen by view, and the rest that it left, are what reading gives
+abbrev pub Gives : {X Y : Type 0} → (X → Y) → Result X EventFlaw → List ℕ → Result (Y × List ℕ) Flaw → Type 0
+Gives view (Ok x) rest read = read ≡ Ok (view x, rest)
+Gives view (Err f) rest read = read ≡ Err f
+
+-- the same where nothing is left
+abbrev pub ReadsAll : {X Y : Type 0} → (X → Y) → Result X EventFlaw → Result Y Flaw → Type 0
+ReadsAll view (Ok x) read = read ≡ Ok (view x)
+ReadsAll view (Err f) read = read ≡ Err f
+
+-- the same unless memory ran out
 abbrev pub Fails : {Y : Type 0} → EventFault → Result Y Flaw → Type 0
 Fails faults.OutOfMemory read = Unit {0}
 Fails (faults.Broken rule offset) read = read ≡ Err (record { rule = rule; offset = offset })
 
-abbrev pub Gives : {X Y : Type 0} → (X → Y) → Result X EventFault → List ℕ → Result (Y × List ℕ) Flaw → Type 0
-Gives view (Ok x) rest read = read ≡ Ok (view x, rest)
-Gives view (Err e) rest read = Fails e read
-
--- the same where nothing is left
 abbrev pub GivesAll : {X Y : Type 0} → (X → Y) → Result X EventFault → Result Y Flaw → Type 0
 GivesAll view (Ok x) read = read ≡ Ok (view x)
 GivesAll view (Err e) read = Fails e read
+
+-- a function that keeps nothing of what it reads left this rest
+abbrev pub Passes : {X Y : Type 0} → Result X EventFlaw → List ℕ → Result (Y × List ℕ) Flaw → Type 0
+Passes {Y = Y} (Ok _) rest read = (y : Y) × (read ≡ Ok (y, rest))
+Passes (Err f) rest read = read ≡ Err f
+
+-- the same where nothing is left
+abbrev pub PassesAll : {X Y : Type 0} → Result X EventFlaw → Result Y Flaw → Type 0
+PassesAll {Y = Y} (Ok _) read = (y : Y) × (read ≡ Ok y)
+PassesAll (Err f) read = read ≡ Err f
 
 -- a rule broken by the field at which these bytes begin
 abbrev pub flaw_at : ℕ → List ℕ → EventRule → Flaw
@@ -92,6 +107,12 @@ record_at version number total bytes = do
   count ← count_at total usage.1
   words ← words_at count.0 total count.1
   Ok (record { gl = gl.0; usage = usage.0; words = words.0 }, words.1)
+
+-- the fields of a record before its words were read, and this rest begins with them
+abbrev pub GivesHead : ℕ → Result EventHead EventFlaw → List ℕ → Result (Entry × List ℕ) Flaw → Type 0
+GivesHead total (Ok h) rest read =
+    read ≡ (words_at h.words total rest >>= λ words. Ok (record { gl = h.gl; usage = h.usage; words = words.0 }, words.1))
+GivesHead total (Err f) rest read = read ≡ Err f
 
 -- The records up to the end of the bytes. A record takes bytes, so there are no more of them than bytes.
 unfoldable pub records_at : ℕ → Version → ℕ → ℕ → List ℕ → Result (List Entry) Flaw

@@ -1,7 +1,7 @@
 // Why an event file can't be read.
 
 ghost use Rattle.std.specs.Prelude.{◌≡◌};
-ghost use Rattle.camac_event.specs.declared.fault.EventFault.TheVariants.{OutOfMemory};
+ghost use Rattle.camac_event.specs.declared.fault.EventFault.TheVariants.{OutOfMemory, Broken};
 
 use std::alloc::{AllocError, AllocFailed};
 use thiserror::Error;
@@ -27,6 +27,13 @@ pub enum EventRule {
     MissedAboveCycles,
 }
 
+/// The first rule that is broken, and the offset in bytes of its field's first byte.
+#[derive(Clone, Copy, Debug, PartialEq, Eq)]
+pub struct EventFlaw {
+    pub rule: EventRule,
+    pub offset: usize,
+}
+
 /// The first rule that is broken, with the offset in bytes of its field's first byte; or V8, out of memory.
 #[derive(Clone, Copy, Debug, PartialEq, Eq, Error)]
 pub enum EventFault {
@@ -34,6 +41,17 @@ pub enum EventFault {
     OutOfMemory,
     #[error("byte {offset}: {rule:?}")]
     Broken { rule: EventRule, offset: usize },
+}
+
+impl From<EventFlaw> for EventFault {
+    ghost from_gives = { λ flaw fault. fault ≡ Broken flaw.rule flaw.offset };
+
+    fn from(flaw: EventFlaw) -> EventFault {
+        EventFault::Broken {
+            rule: flaw.rule,
+            offset: flaw.offset,
+        }
+    }
 }
 
 impl From<AllocError> for EventFault {

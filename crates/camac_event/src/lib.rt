@@ -2,15 +2,18 @@
 #![tactic(auto)]
 
 mod buffer;
+mod decoding;
 mod event;
 mod fault;
+mod file;
 mod laws;
 mod reading;
 mod writing;
 
 pub use buffer::EventBuffer;
+pub use decoding::decode;
 pub use event::{Event, Events, Usage, Version};
-pub use fault::{EventFault, EventRule};
+pub use fault::{EventFault, EventFlaw, EventRule};
+pub use file::{EventFile, EventRecord, EventRecords, EventWords};
 pub use laws::{spelling_is_one, spelling_reads_back};
-pub use reading::decode;
 pub use writing::{encode, write_header, write_record};

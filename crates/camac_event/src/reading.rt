@@ -1,49 +1,35 @@
 // Reading an event file from left to right.
 
-ghost use Rattle.std.specs.Prelude.{◌≡◌, ◌-◌, length, Ok, IfOk, List};
-ghost use Rattle.camac_event.specs.Spelling.{Entry, parts_of, entry_of, entries_of, spelling, AreEvents};
-ghost use Rattle.camac_event.specs.declared.event.Version.{Version};
-ghost use Rattle.camac_event.specs.Reading.{Gives, number_at, marker_at, gl_at, event_number_at, missed_at, usage_at, count_at, word_at, words_at, record_at, records_at, header_at, file_at, GivesAll};
+ghost use Rattle.std.specs.Prelude.{◌≡◌, ◌-◌, length};
+ghost use Rattle.camac_event.specs.Spelling.{Entry};
+ghost use Rattle.camac_event.specs.Reading.{Gives, GivesHead, Passes, PassesAll, number_at, marker_at, gl_at, event_number_at, missed_at, usage_at, count_at, word_at, words_at, record_at, records_at, header_at};
 
-use crate::event::{Event, Events, Usage, Version};
-use crate::fault::{EventFault, EventRule};
+use crate::event::{Usage, Version};
+use crate::fault::{EventFlaw, EventRule};
 use byteorder::{BigEndian, ByteOrder};
 use camac_word::{GlBit, Word24};
-use std::alloc::Global;
 
-/// The events that the bytes of a file spell. The first field that is wrong is answered with the offset of its first byte: V1 of the
-/// header; of each record V2 marker, V3 GL number, V4 event number, V9 missed in version Two, V5 count, V6 of each word; V7 where the
-/// bytes end inside the field. V8 is out of memory.
-pub fn decode(alloc: Global, bytes: &[u8]) -> Result<Events, EventFault>
-    // What is read is spelled so.
-    ensures found { IfOk result (λ e. AreEvents e.version e.events × (bytes.now ≡ spelling e.version e.events)) }
-    // What is spelled so is read, unless memory runs out.
-    ensures only { (version : Version) (events : List Entry) → AreEvents version events → bytes.now ≡ spelling version events
-        → GivesAll parts_of result (Ok (version, events)) }
-    // Which fault it is.
-    ensures exact { GivesAll parts_of result (file_at bytes.now) }
-{
-    let (version, items) = file_of(alloc, bytes)?;
-    Ok(Events {
-        alloc,
-        version,
-        items,
-    })
+/// What a record says before its words, of which `words` is the number.
+#[derive(Drop)]
+pub struct EventHead {
+    pub gl: GlBit,
+    pub usage: Option<Usage>,
+    pub words: usize,
 }
 
 // Each reader takes its field from the front of `bytes`, what is left of a file of `total` bytes.
 
 /// A rule broken by the field before which `left` bytes of the file were left.
-fn broken(total: usize, left: usize, rule: EventRule) -> EventFault
-    ensures { result ≡ EventFault.Broken rule (total - left) }
+fn broken(total: usize, left: usize, rule: EventRule) -> EventFlaw
+    ensures { result ≡ record { rule = rule; offset = total - left } }
 {
-    EventFault::Broken {
+    EventFlaw {
         rule,
         offset: total.saturating_sub(left),
     }
 }
 
-fn u16_of(total: usize, bytes: &mut &[u8]) -> Result<u16, EventFault>
+fn u16_of(total: usize, bytes: &mut &[u8]) -> Result<u16, EventFlaw>
     ensures { Gives (λ n. n) result bytes.new.now (number_at 2 total bytes.old.now) }
 {
     let all: &[u8] = *bytes;
@@ -54,7 +40,7 @@ fn u16_of(total: usize, bytes: &mut &[u8]) -> Result<u16, EventFault>
     Ok(BigEndian::read_u16(all))
 }
 
-fn u32_of(total: usize, bytes: &mut &[u8]) -> Result<u32, EventFault>
+fn u32_of(total: usize, bytes: &mut &[u8]) -> Result<u32, EventFlaw>
     ensures { Gives (λ n. n) result bytes.new.now (number_at 4 total bytes.old.now) }
 {
     let all: &[u8] = *bytes;
@@ -66,7 +52,7 @@ fn u32_of(total: usize, bytes: &mut &[u8]) -> Result<u32, EventFault>
 }
 
 #[tactic(auto, unfolding(crate::specs::Reading::marker_at))]
-fn marker_of(total: usize, bytes: &mut &[u8]) -> Result<u16, EventFault>
+fn marker_of(total: usize, bytes: &mut &[u8]) -> Result<u16, EventFlaw>
     ensures { Gives (λ n. n) result bytes.new.now (marker_at total bytes.old.now) }
 {
     let left = bytes.len();
@@ -78,7 +64,7 @@ fn marker_of(total: usize, bytes: &mut &[u8]) -> Result<u16, EventFault>
 }
 
 #[tactic(auto, unfolding(crate::specs::Reading::gl_at))]
-fn gl_of(total: usize, bytes: &mut &[u8]) -> Result<GlBit, EventFault>
+fn gl_of(total: usize, bytes: &mut &[u8]) -> Result<GlBit, EventFlaw>
     ensures { Gives (λ n. n) result bytes.new.now (gl_at total bytes.old.now) }
 {
     let left = bytes.len();
@@ -90,7 +76,7 @@ fn gl_of(total: usize, bytes: &mut &[u8]) -> Result<GlBit, EventFault>
 }
 
 #[tactic(auto, unfolding(crate::specs::Reading::event_number_at))]
-fn event_number_of(number: usize, total: usize, bytes: &mut &[u8]) -> Result<u32, EventFault>
+fn event_number_of(number: usize, total: usize, bytes: &mut &[u8]) -> Result<u32, EventFlaw>
     ensures { Gives (λ n. n) result bytes.new.now (event_number_at number total bytes.old.now) }
 {
     let left = bytes.len();
@@ -102,7 +88,7 @@ fn event_number_of(number: usize, total: usize, bytes: &mut &[u8]) -> Result<u32
 }
 
 #[tactic(auto, unfolding(crate::specs::Reading::missed_at))]
-fn missed_of(cycles: u32, total: usize, bytes: &mut &[u8]) -> Result<u16, EventFault>
+fn missed_of(cycles: u32, total: usize, bytes: &mut &[u8]) -> Result<u16, EventFlaw>
     ensures { Gives (λ n. n) result bytes.new.now (missed_at cycles total bytes.old.now) }
 {
     let left = bytes.len();
@@ -114,7 +100,7 @@ fn missed_of(cycles: u32, total: usize, bytes: &mut &[u8]) -> Result<u16, EventF
 }
 
 #[tactic(auto, unfolding(crate::specs::Reading::count_at))]
-fn count_of(total: usize, bytes: &mut &[u8]) -> Result<u16, EventFault>
+fn count_of(total: usize, bytes: &mut &[u8]) -> Result<u16, EventFlaw>
     ensures { Gives (λ n. n) result bytes.new.now (count_at total bytes.old.now) }
 {
     let left = bytes.len();
@@ -126,7 +112,7 @@ fn count_of(total: usize, bytes: &mut &[u8]) -> Result<u16, EventFault>
 }
 
 #[tactic(auto, unfolding(crate::specs::Reading::word_at))]
-fn word_of(total: usize, bytes: &mut &[u8]) -> Result<Word24, EventFault>
+fn word_of(total: usize, bytes: &mut &[u8]) -> Result<Word24, EventFlaw>
     ensures { Gives (λ n. n) result bytes.new.now (word_at total bytes.old.now) }
 {
     let left = bytes.len();
@@ -138,7 +124,7 @@ fn word_of(total: usize, bytes: &mut &[u8]) -> Result<Word24, EventFault>
 }
 
 #[tactic(auto, unfolding(crate::specs::Reading::usage_at))]
-fn usage_of(version: Version, total: usize, bytes: &mut &[u8]) -> Result<Option<Usage>, EventFault>
+fn usage_of(version: Version, total: usize, bytes: &mut &[u8]) -> Result<Option<Usage>, EventFlaw>
     ensures { Gives (λ u. u) result bytes.new.now (usage_at version total bytes.old.now) }
 {
     match version {
@@ -151,60 +137,67 @@ fn usage_of(version: Version, total: usize, bytes: &mut &[u8]) -> Result<Option<
     }
 }
 
-fn words_of(
-    alloc: Global,
-    count: u16,
-    total: usize,
-    bytes: &mut &[u8],
-) -> Result<Vec<Word24>, EventFault>
-    ensures { Gives (λ v. v.items) result bytes.new.now (words_at count total bytes.old.now) }
-{
-    let mut words = Vec::new(alloc);
-    for _ in 0..count {
-        let word = word_of(total, bytes)?;
-        words.push(word)?;
-    }
-    Ok(words)
-}
-
+/// Reads the fields of a record up to its words.
 #[tactic(auto, unfolding(crate::specs::Reading::record_at))]
-fn record_of(
-    alloc: Global,
+pub fn head_of(
     version: Version,
     number: usize,
     total: usize,
     bytes: &mut &[u8],
-) -> Result<Event, EventFault>
-    ensures { Gives entry_of result bytes.new.now (record_at version number total bytes.old.now) }
+) -> Result<EventHead, EventFlaw>
+    ensures { GivesHead total result bytes.new.now (record_at version number total bytes.old.now) }
 {
     marker_of(total, bytes)?;
     let gl = gl_of(total, bytes)?;
     event_number_of(number, total, bytes)?;
     let usage = usage_of(version, total, bytes)?;
     let count = count_of(total, bytes)?;
-    let words = words_of(alloc, count, total, bytes)?;
-    Ok(Event { gl, usage, words })
+    Ok(EventHead {
+        gl,
+        usage,
+        words: usize::from(count),
+    })
 }
 
-fn records_of(
-    alloc: Global,
-    version: Version,
-    total: usize,
-    bytes: &[u8],
-) -> Result<Vec<Event>, EventFault>
-    ensures { GivesAll (λ v. entries_of v.items) result (records_at (length bytes.now) version 1 total bytes.now) }
+// Reads words and keeps none.
+fn pass_words(count: usize, total: usize, bytes: &mut &[u8]) -> Result<(), EventFlaw>
+    ensures { Passes result bytes.new.now (words_at count total bytes.old.now) }
 {
-    let mut events = Vec::new(alloc);
+    for _ in 0..count {
+        word_of(total, bytes)?;
+    }
+    Ok(())
+}
+
+// Reads a record and keeps nothing of it.
+fn pass_record(
+    version: Version,
+    number: usize,
+    total: usize,
+    bytes: &mut &[u8],
+) -> Result<(), EventFlaw>
+    ensures { Passes result bytes.new.now (record_at version number total bytes.old.now) }
+{
+    let head = head_of(version, number, total, bytes)?;
+    pass_words(head.words, total, bytes)
+}
+
+/// Reads the records of a file of `total` bytes to its end, and keeps nothing of them.
+pub fn pass_records(version: Version, total: usize, bytes: &[u8]) -> Result<(), EventFlaw>
+    ensures { PassesAll result (records_at (length bytes.now) version 1 total bytes.now) }
+{
+    let mut number = 0;
     let mut rest = bytes;
     while !rest.is_empty() {
-        let event = record_of(alloc, version, events.len() + 1, total, &mut rest)?;
-        events.push(event)?;
+        number += 1;
+        pass_record(version, number, total, &mut rest)?;
     }
-    Ok(events)
+    Ok(())
 }
 
+/// Reads the header of a file of `total` bytes.
 #[tactic(auto, unfolding(crate::specs::Reading::header_at))]
-fn header_of(total: usize, bytes: &mut &[u8]) -> Result<Version, EventFault>
+pub fn header_of(total: usize, bytes: &mut &[u8]) -> Result<Version, EventFlaw>
     ensures { Gives (λ v. v) result bytes.new.now (header_at total bytes.old.now) }
 {
     let all: &[u8] = *bytes;
@@ -217,14 +210,4 @@ fn header_of(total: usize, bytes: &mut &[u8]) -> Result<Version, EventFault>
     } else {
         Err(broken(total, all.len(), EventRule::WrongHeader))
     }
-}
-
-#[tactic(auto, unfolding(crate::specs::Reading::file_at))]
-fn file_of(alloc: Global, bytes: &[u8]) -> Result<(Version, Vec<Event>), EventFault>
-    ensures { GivesAll (λ f. (f.0, entries_of f.1.items)) result (file_at bytes.now) }
-{
-    let mut rest = bytes;
-    let version = header_of(bytes.len(), &mut rest)?;
-    let events = records_of(alloc, version, bytes.len(), rest)?;
-    Ok((version, events))
 }

@@ -33,3 +33,14 @@ drop-none (x ∷ xs) (suc i) le =
 -- after the events
 pub event_lines-none : (es : List Entry) (number i : ℕ) (last : List ℕ) → length es ≤ i → event_lines number (drop i es) ++ last ≡ last
 event_lines-none es number i last le = ap (λ (l : List Entry). event_lines number l ++ last) (drop-none es i le)
+
+-- the first of the events that are left, and the others
+pub event_lines-first : (es others : List Entry) (read after number : ℕ) (e : Entry) (last : List ℕ) → es ≡ e ∷ others → number ≡ after → after ≡ read + 1
+    → event_lines (read + 1) es ++ last ≡ event_line number e ++ (event_lines (after + 1) others ++ last)
+event_lines-first es others read after number e last some same next =
+    let line = event_line number e in
+    let here : read + 1 ≡ number = sym (same ∙ next) in
+    ap (λ (l : List Entry). event_lines (read + 1) l ++ last) some
+    ∙ ap (λ (n : ℕ). (event_line n e ++ event_lines (n + 1) others) ++ last) here
+    ∙ ap (λ (n : ℕ). (line ++ event_lines (n + 1) others) ++ last) same
+    ∙ append_assoc line (event_lines (after + 1) others) last

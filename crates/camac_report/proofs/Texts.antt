@@ -1,6 +1,7 @@
 -- Texts one after another.
 use Rattle.std.proofs.Common.{◌≡◌, ℕ, ◌+◌, ◌-◌, ◌<◌, ◌≤◌, List, [], ◌∷◌, ◌++◌, length, get_or, drop, Option, ap, sym, ◌∙◌, zero, suc, append_assoc, append-nil, add-one, subst, arith}
-use Rattle.std.specs.Prelude.{Result, Ok, Err}
+use Rattle.std.specs.Prelude.{Some, Result, Ok, Err, slice_get}
+use Rattle.std.proofs.lemmas.Option.{slice_get_within, get_or_from_slice_get}
 use Rattle.std.specs.List.{flat_map, range_with_len}
 use Rattle.std.specs.Io.KnownBytes.{Appends}
 use Rattle.std.proofs.KnownBytes.{Appends-trans}
@@ -62,3 +63,7 @@ pub flat_map-next : {X : Type 0} (f : X → List ℕ) (xs : List X) (i : ℕ) (x
     → flat_map f (drop i xs) ≡ line ++ flat_map f (drop (i + 1) xs)
 flat_map-next f xs i x line lt is text =
     flat_map-drop f xs i x lt is ∙ ap (λ (l : List ℕ). l ++ flat_map f (drop (suc i) xs)) (sym text) ∙ ap (λ (j : ℕ). line ++ flat_map f (drop j xs)) (sym (add-one i))
+
+-- the same of an element that was found
+pub flat_map-found : (f : ℕ → List ℕ) (xs : List ℕ) (i x : ℕ) (line : List ℕ) → slice_get xs i ≡ Some x → line ≡ f x → flat_map f (drop i xs) ≡ line ++ flat_map f (drop (i + 1) xs)
+flat_map-found f xs i x line at text = flat_map-next f xs i x line (slice_get_within xs i x at) (sym (get_or_from_slice_get xs i x x at)) text

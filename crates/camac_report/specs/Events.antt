@@ -10,9 +10,12 @@ abbrev pub usage_text : Option Usage → List ℕ
 usage_text None = []
 usage_text (Some u) = codes " cycles " ++ decimal u.cycles ++ codes " missed " ++ decimal u.missed
 
--- the line up to the words
+-- the line of an event up to its words
+abbrev pub start_text : ℕ → ℕ → Option Usage → ℕ → List ℕ
+start_text number gl usage words = codes "event " ++ decimal number ++ codes " gl " ++ decimal gl ++ usage_text usage ++ codes " words " ++ decimal words
+
 abbrev pub event_start : ℕ → Entry → List ℕ
-event_start number e = codes "event " ++ decimal number ++ codes " gl " ++ decimal e.gl ++ usage_text e.usage ++ codes " words " ++ decimal (length e.words)
+event_start number e = start_text number e.gl e.usage (length e.words)
 
 -- a word after a space
 abbrev pub word_text : ℕ → List ℕ

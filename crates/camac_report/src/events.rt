@@ -1,16 +1,17 @@
 // The lines of an event file.
 
-ghost use Rattle.std.specs.Prelude.{◌≡◌, ◌≤◌, ◌<◌, ◌+◌, ◌||◌, ◌++◌, length, is_err, Some};
+ghost use Rattle.std.specs.Prelude.{◌≡◌, ◌≤◌, ◌<◌, ◌+◌, ◌||◌, ◌++◌, length, drop, is_err, Some};
 ghost use Rattle.std.specs.List.{flat_map};
 ghost use Rattle.camac_event.specs.Spelling.{entry_of};
-ghost use Rattle.camac_report.specs.Events.{usage_text, event_start, word_text, event_line, last_line, events_text};
+ghost use Rattle.camac_event.specs.Found.{entry_in};
+ghost use Rattle.camac_report.specs.Events.{usage_text, start_text, word_text, event_line, last_line, events_text};
 ghost use Rattle.camac_word.specs.Watched.{inner_of, has_failed};
 ghost use Rattle.camac_word.specs.Writing.{Writes};
 
 use crate::digits::hex_word;
 use crate::line::Line;
-use camac_event::{Event, Events, Usage};
-use camac_word::{Watched, Word24, WriteFault};
+use camac_event::{Event, EventFile, EventRecord, EventWords, Events, Usage};
+use camac_word::{GlBit, Watched, Word24, WriteFault};
 use std::io::Write;
 
 /// Writes a list of events: of each a line of its number from 1, its GL bit, its usage in version Two, and its words; then a line of how
@@ -25,6 +26,21 @@ pub fn write_events<W: Write>(out: &mut Watched<W>, events: &Events) -> Result<(
     out.write_text(line_of_number(events.len()).as_bytes())
 }
 
+/// Writes the events of a file as `write_events` writes those of a list, and takes no memory.
+pub fn write_event_file<W: Write>(
+    out: &mut Watched<W>,
+    file: &EventFile<'_>,
+) -> Result<(), WriteFault>
+    ensures text { Writes (W.contents (inner_of out.old)) (W.contents (inner_of out.new)) result (events_text file.now.events) }
+    ensures failed { has_failed out.new ≡ (has_failed out.old || is_err result) }
+{
+    let mut records = file.records();
+    'records: while let Some(record) = records.next() {
+        write_record(out, &record)?;
+    }
+    out.write_text(line_of_number(records.read()).as_bytes())
+}
+
 fn write_event<W: Write>(
     out: &mut Watched<W>,
     number: usize,
@@ -34,25 +50,43 @@ fn write_event<W: Write>(
     ensures failed { has_failed out.new ≡ (has_failed out.old || is_err result) }
 {
     let mut line = Line::new();
-    push_start(&mut line, number, event);
+    push_start(&mut line, number, event.gl, event.usage, event.words.len());
     out.write_text(line.as_bytes())?;
     write_words(out, &event.words)?;
     out.write_text(b"\n")
 }
 
-fn push_start(line: &mut Line, number: usize, event: &Event)
+fn write_record<W: Write>(out: &mut Watched<W>, record: &EventRecord<'_>) -> Result<(), WriteFault>
+    ensures text { Writes (W.contents (inner_of out.old)) (W.contents (inner_of out.new)) result (event_line record.now.number (entry_in record.now)) }
+    ensures failed { has_failed out.new ≡ (has_failed out.old || is_err result) }
+{
+    let mut line = Line::new();
+    push_start(
+        &mut line,
+        record.number,
+        record.gl,
+        record.usage,
+        record.words.len(),
+    );
+    out.write_text(line.as_bytes())?;
+    write_file_words(out, &record.words)?;
+    out.write_text(b"\n")
+}
+
+/// Puts the line up to the words, of which `words` is the number.
+fn push_start(line: &mut Line, number: usize, gl: GlBit, usage: Option<Usage>, words: usize)
     requires { length line.old ≤ 40 }
-    ensures { line.new ≡ line.old ++ event_start number (entry_of event.now) }
+    ensures { line.new ≡ line.old ++ start_text number gl usage words }
 {
     line.push_str("event ");
     line.push_number(number);
     line.push_str(" gl ");
-    line.push_number(event.gl.get());
-    if let Some(usage) = event.usage {
+    line.push_number(gl.get());
+    if let Some(usage) = usage {
         push_usage(line, usage);
     }
     line.push_str(" words ");
-    line.push_number(event.words.len());
+    line.push_number(words);
 }
 
 fn push_usage(line: &mut Line, usage: Usage)
@@ -74,6 +108,39 @@ fn write_words<W: Write>(out: &mut Watched<W>, words: &[Word24]) -> Result<(), W
         out.write_text(&spaced(*word))?;
     }
     Ok(())
+}
+
+/// The words of a file that are written at once.
+const TOGETHER: usize = 32;
+
+fn write_file_words<W: Write>(
+    out: &mut Watched<W>,
+    words: &EventWords<'_>,
+) -> Result<(), WriteFault>
+    ensures text { Writes (W.contents (inner_of out.old)) (W.contents (inner_of out.new)) result (flat_map word_text words.now) }
+    ensures failed { has_failed out.new ≡ (has_failed out.old || is_err result) }
+{
+    let mut from = 0;
+    'pieces: while from < words.len() {
+        let to = from + TOGETHER.min(words.len() - from);
+        out.write_text(line_of_words(words, from, to).as_bytes())?;
+        from = to;
+    }
+    Ok(())
+}
+
+/// The words between these two places.
+fn line_of_words(words: &EventWords<'_>, from: usize, to: usize) -> Line
+    requires order { from ≤ to }
+    requires few { to ≤ from + TOGETHER }
+    requires within { to ≤ length words.now }
+    ensures { flat_map word_text (drop from words.now) ≡ result ++ flat_map word_text (drop to words.now) }
+{
+    let mut line = Line::new();
+    'words: for i in from..to {
+        line.push_bytes(&spaced(words.get(i).unwrap()));
+    }
+    line
 }
 
 // A word after a space.

@@ -17,7 +17,7 @@ mod verdict;
 pub use code::{AnswerCode, CheckCode, CodeText, EventCode, LinkCode, PlanCode, TextCode};
 pub use cycle::write_cycle;
 pub use end::write_end;
-pub use events::write_events;
+pub use events::{write_event_file, write_events};
 pub use headings::write_headings;
 pub use item::{write_item, write_items};
 pub use line::{LONGEST_LINE, Line};
