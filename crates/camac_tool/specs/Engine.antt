@@ -66,13 +66,6 @@ Checks tale left plan plan' a b o p (Err fault.TooLong) =
     ⊎ ((says : Result Layout PlanRule) × Says left plan plan' says × ChecksIf tale says a b o p (Err fault.TooLong))
 Checks tale left plan plan' a b o p r = (says : Result Layout PlanRule) × Says left plan plan' says × ChecksIf tale says a b o p r
 
--- what was written of an event file's bytes, unless memory was refused
-abbrev pub ListsEvents : List ℕ → (o p : Option (List ℕ)) → Result Outcome ToolFault → Type 0
-ListsEvents bytes o p (Ok outcome) = Shows (report_events (file_at bytes)) o p (Ok outcome)
-ListsEvents bytes o p (Err fault.Write) = Shows (report_events (file_at bytes)) o p (Err fault.Write)
-ListsEvents bytes o p (Err fault.Memory) = Keeps o p
-ListsEvents bytes o p (Err _) = ⊥
-
 -- What was read of an event file, and written: its lines or its refusal, and nothing after a fault before them.
 abbrev pub ShowsEvents : (a b : Option (List ℕ)) → (o p : Option (List ℕ)) → Result Outcome ToolFault → Type 0
 ShowsEvents a b o p (Ok outcome) = (bytes : List ℕ) × WasRead EVENTS_LIMIT a b bytes × Shows (report_events (file_at bytes)) o p (Ok outcome)

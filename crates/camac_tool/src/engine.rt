@@ -1,10 +1,11 @@
 // The engines: from the bytes of their inputs to the bytes of their output.
 
 ghost use Rattle.std.specs.Prelude.{◌≡◌, ◌||◌};
-ghost use Rattle.camac_tool.specs.Engine.{Checks, ChecksOn, ListsEvents, ShowsEvents, ShowsPlan, Shows, is_write_fault};
+ghost use Rattle.camac_event.specs.Reading.{file_at};
+ghost use Rattle.camac_tool.specs.Engine.{Checks, ChecksOn, ShowsEvents, ShowsPlan, Shows, is_write_fault};
 ghost use Rattle.camac_tool.specs.Plan.{plan_failed};
 ghost use Rattle.camac_tool.specs.Reading.{is_read_fault};
-ghost use Rattle.camac_tool.specs.Report.{refused, report, report_of};
+ghost use Rattle.camac_tool.specs.Report.{refused, report, report_events, report_of};
 ghost use Rattle.camac_word.specs.Watched.{inner_of, has_failed};
 
 use crate::codes::{event_code, plan_code};
@@ -14,8 +15,8 @@ use crate::outcome::Outcome;
 use crate::plan::{PlanSource, read_plan};
 use crate::reading::{EVENTS_LIMIT, TEXT_LIMIT, read_whole};
 use camac_branch::Plan;
-use camac_event::{EventFault, decode};
-use camac_report::{Refusal, write_events, write_plan, write_refusal, write_verdict};
+use camac_event::EventFile;
+use camac_report::{Refusal, write_event_file, write_plan, write_refusal, write_verdict};
 use camac_word::Watched;
 use std::alloc::Global;
 use std::io::{Read, Write};
@@ -97,7 +98,7 @@ pub fn refuse<W: Write>(out: &mut Watched<W>, refusal: Refusal) -> Result<Outcom
 }
 
 /// Lists an event file of either version: its lines, or the line of its refusal, are written to `out`. Nothing is written before a fault
-/// but one of the writer, which leaves a prefix of the text.
+/// but one of the writer, which leaves a prefix of the text. No memory is taken but the file's bytes.
 pub fn engine_events<R: Read, W: Write>(
     alloc: Global,
     input: &mut Watched<R>,
@@ -108,29 +109,24 @@ pub fn engine_events<R: Read, W: Write>(
     ensures in_failed { has_failed input.new ≡ (has_failed input.old || is_read_fault result) }
 {
     let bytes = read_whole(alloc, input, EVENTS_LIMIT)?;
-    list_events(alloc, &bytes, out)
+    list_events(&bytes, out)
 }
 
-fn list_events<W: Write>(
-    alloc: Global,
-    bytes: &[u8],
-    out: &mut Watched<W>,
-) -> Result<Outcome, ToolFault>
-    ensures lists { ListsEvents bytes.now (W.contents (inner_of out.old)) (W.contents (inner_of out.new)) result }
+fn list_events<W: Write>(bytes: &[u8], out: &mut Watched<W>) -> Result<Outcome, ToolFault>
+    ensures shows { Shows (report_events (file_at bytes.now)) (W.contents (inner_of out.old)) (W.contents (inner_of out.new)) result }
     ensures failed { has_failed out.new ≡ (has_failed out.old || is_write_fault result) }
 {
-    match decode(alloc, bytes) {
-        Ok(events) => {
-            write_events(out, &events)?;
+    match EventFile::new(bytes) {
+        Ok(file) => {
+            write_event_file(out, &file)?;
             Ok(Outcome::Good)
         }
-        Err(EventFault::Broken { rule, offset }) => refuse(
+        Err(flaw) => refuse(
             out,
             Refusal::Event {
-                code: event_code(rule),
-                byte: offset,
+                code: event_code(flaw.rule),
+                byte: flaw.offset,
             },
         ),
-        Err(EventFault::OutOfMemory) => Err(ToolFault::Memory),
     }
 }
