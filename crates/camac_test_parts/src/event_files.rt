@@ -1,8 +1,8 @@
 //! The worked event files of both versions, and each call that takes memory.
 
 use camac_event::{
-    EventBuffer, EventFault, EventRule, Events, Usage, Version, decode, encode, write_header,
-    write_record,
+    EventBuffer, EventFault, EventFile, EventFlaw, EventRule, Events, Usage, Version, decode,
+    encode, write_header, write_record,
 };
 use camac_word::{GlBit, Watched, Word24};
 use std::alloc::Global;
@@ -77,6 +77,38 @@ fn event_file_two(rt: HostRuntime) -> Result<(), Fail> {
     });
     assert_eq!(rt; (event.gl.get(), event.usage), (3, usage));
     assert_eq!(rt; event.words.as_slice(), [word(0xfff)?].as_slice());
+    Ok(())
+}
+
+#[test]
+fn event_file_two_in_place(rt: HostRuntime) -> Result<(), Fail> {
+    let file = EventFile::new(&TWO).ok().ok_or("file")?;
+    assert_eq!(rt; file.version(), Version::Two);
+    let mut records = file.records();
+    let record = records.next().ok_or("event 1")?;
+    let usage = Some(Usage {
+        cycles: 3,
+        missed: 0,
+    });
+    assert_eq!(rt;
+        (record.number, record.gl.get(), record.usage),
+        (1, 3, usage)
+    );
+    assert_eq!(rt; record.words.len(), 1);
+    assert_eq!(rt; record.words.get(0), Some(word(0xfff)?));
+    assert_eq!(rt; record.words.get(1), None);
+    assert!(rt; records.next().is_none());
+    assert_eq!(rt; records.read(), 1);
+    Ok(())
+}
+
+#[test]
+fn event_file_in_place_cut(rt: HostRuntime) -> Result<(), Fail> {
+    let want = EventFlaw {
+        rule: EventRule::Truncated,
+        offset: 24,
+    };
+    assert_eq!(rt; EventFile::new(cut(&TWO, 27)?).err(), Some(want));
     Ok(())
 }
 

@@ -1,9 +1,10 @@
 // Each line of the program, as the library writes it.
 
 use crate::judged::{straight_line, straight_line_log};
+use camac_event::EventFile;
 use camac_report::{
-    write_cycle, write_end, write_events, write_headings, write_item, write_items, write_plan,
-    write_request, write_unlocks, write_verdict,
+    write_cycle, write_end, write_event_file, write_events, write_headings, write_item,
+    write_items, write_plan, write_request, write_unlocks, write_verdict,
 };
 use camac_run::{End, Item, Wanted, requests_are_safe};
 use camac_word::{CrateNo, Watched};
@@ -73,6 +74,17 @@ fn lines_of_an_event_file(rt: HostRuntime) -> Result<(), Fail> {
     let mut out = Watched::new(Vec::new(rt.alloc()));
     write_events(&mut out, &log.events)?;
     let want = b"event 1 gl 3 cycles 3 missed 0 words 1 000fff\nevents 1\n";
+    assert_eq!(rt; out.into_inner().as_slice(), want.as_slice());
+    Ok(())
+}
+
+#[test]
+fn lines_of_an_event_file_in_place(rt: HostRuntime) -> Result<(), Fail> {
+    let bytes = b"CAMACEV1\xca\x4d\x00\x03\x00\x00\x00\x01\x00\x02\x00\x00\x0f\xff\x00\x12\x34\x56";
+    let file = EventFile::new(bytes).ok().ok_or("an event file")?;
+    let mut out = Watched::new(Vec::new(rt.alloc()));
+    write_event_file(&mut out, &file)?;
+    let want = b"event 1 gl 3 words 2 000fff 123456\nevents 1\n";
     assert_eq!(rt; out.into_inner().as_slice(), want.as_slice());
     Ok(())
 }
