@@ -43,6 +43,20 @@ pub overflow_add-whole : goal.overflow_add-whole
 overflow_add-whole c = omega arith
 """
 
+ABOVE = """\
+#![tactic(auto)]
+
+ghost use Rattle.std.specs.Prelude.{◌≡◌, ◌/◌};
+
+use sample::half;
+
+pub fn same(n: u32) -> u32
+    ensures { result ≡ n / 2 }
+{
+    half(n)
+}
+"""
+
 BODIES = {
     "half_is_a_third": [("    n / 2", "    n / 3")],
     "half_of_nothing": [("    n / 2", "    nothing / 2")],
@@ -64,7 +78,9 @@ class Tries(unittest.TestCase):
     def setUpClass(cls):
         cls.room = tempfile.TemporaryDirectory(prefix="wrong-bodies-test-")
         crate = f"{cls.room.name}/crates/sample"
-        write(f"{cls.room.name}/crates.txt", "sample: # one crate\n")
+        write(f"{cls.room.name}/crates.txt", "sample: # one crate\nabove: sample\n")
+        write(f"{cls.room.name}/crates/above/src/lib.rt", ABOVE)
+        write(f"{cls.room.name}/crates/above/wrong-bodies/same_is_all.edit", "file: src/lib.rt\nold:     half(n)\nnew:     n\n")
         write(f"{crate}/src/lib.rt", SOURCE)
         write(f"{crate}/proofs/sum/Answers.antt", ANSWERS)
         for name, pairs in BODIES.items():
@@ -84,10 +100,16 @@ class Tries(unittest.TestCase):
         cls.room.cleanup()
 
     @classmethod
-    def run_tool(cls, *words):
+    def start_tool(cls, *words):
         environment = {**os.environ, "CAMAC_TOP": cls.room.name}
         command = [sys.executable, f"{TOP}/wrong_bodies", *words]
-        return subprocess.run(command, env=environment, capture_output=True, text=True)
+        return subprocess.Popen(command, env=environment, stdout=subprocess.PIPE, stderr=subprocess.PIPE, text=True)
+
+    @classmethod
+    def run_tool(cls, *words):
+        tool = cls.start_tool(*words)
+        stdout, stderr = tool.communicate()
+        return subprocess.CompletedProcess(tool.args, tool.returncode, stdout, stderr)
 
     def said(self, name):
         return self.lines[f"sample/{name}"]
@@ -111,7 +133,7 @@ class Tries(unittest.TestCase):
         self.assertRegex(self.said("old_text_twice"), "^NOT REFUSED FOR ITSELF: BAD EDIT: .* 2 times, and not once")
 
     def test_the_last_line_counts_and_the_status_is_1(self):
-        self.assertEqual(self.whole.stdout.rstrip("\n").rpartition("\n")[2], "2 refused, 4 not")
+        self.assertEqual(self.whole.stdout.rstrip("\n").rpartition("\n")[2], "3 refused, 4 not")
         self.assertEqual(self.whole.returncode, 1)
 
     def test_one_body_alone(self):
@@ -124,8 +146,28 @@ class Tries(unittest.TestCase):
         self.assertIn("sample/half_is_a_third: half\n", ran.stdout)
         self.assertEqual(ran.returncode, 0)
 
+    def test_beside_the_proofs_a_crate_is_tried_once_those_below_it_are_proved(self):
+        log = f"{self.room.name}/log"
+        write(log, "rt: other proved\n")
+        tool = self.start_tool("--during", log, "above", "sample/half_is_a_third")
+        first = tool.stdout.readline()
+        with open(log, "a", encoding="utf-8") as it:
+            it.write("rt: sample proved\nrt: above proved\n2 passed, 0 failed\n")
+        rest = tool.communicate()[0]
+        self.assertRegex(first, "^sample/half_is_a_third: refused: ")
+        self.assertRegex(rest, "^above/same_is_all: refused: .*\n2 refused, 0 not\n$")
+        self.assertEqual(tool.returncode, 0)
+
+    def test_beside_proofs_that_fail_nothing_is_shown(self):
+        log = f"{self.room.name}/log"
+        write(log, "rt: sample proved\n1 passed, 1 failed\n")
+        ran = self.run_tool("--during", log)
+        self.assertEqual(ran.returncode, 2)
+        self.assertEqual(ran.stdout, "0 refused, 1 not\n")
+        self.assertIn("rt ci failed", ran.stderr)
+
     def test_what_is_not_there_is_told_by_status_2(self):
-        for words in (["nobody"], ["sample/nobody"], ["--nothing"], ["--jobs", "0"], ["--changed", "nothing"]):
+        for words in (["nobody"], ["sample/nobody"], ["--nothing"], ["--jobs", "0"], ["--changed", "nothing"], ["--during", "/no/log"]):
             ran = self.run_tool(*words)
             self.assertEqual(ran.returncode, 2, words)
             self.assertEqual(ran.stdout, "0 refused, 1 not\n", words)
