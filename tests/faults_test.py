@@ -108,6 +108,18 @@ int open(const char *path, int flags, ...) {
 EINTR, EIO, NOTHING = 4, 5, 0
 HEADER, RECORD = EVENT_FILE[:8], EVENT_FILE[8:]
 SECOND_RECORD = RECORD[:4] + bytes([0, 0, 0, 2]) + RECORD[8:]
+LOCKOUT = b"""cdlam adc 1 1 5 12
+var v k i t
+service adc within 6 cycles event 100 words {
+cdreg r 1 1 5 0
+lock 1 {
+  cfsa 0 r -> v
+  cfsa 0 r -> v
+  cfsa 0 r -> v
+  cfsa 0 r -> v
+}
+}
+"""
 LINES, ASKED = LISTING.splitlines(True), REQUESTS.splitlines(True)
 Call = collections.namedtuple("Call", "name place asked answer bytes")
 
@@ -165,7 +177,7 @@ class InTurn(Logged):
     def expect_states(self, line, states, given=None):
         """When an answer is read after so many whole lines, the listing and the event file hold this; at the end the last of these."""
         answers = "in" if given else "answers"
-        for piece in (0, 1, 7, 19, 20, 21, 40):
+        for piece in (0, 1, 2, 7, 19, 20, 21, 40):
             with self.subTest(line=line, piece=piece):
                 ran = self.ran(line, given, piece=piece)
                 held = collections.defaultdict(bytes)
@@ -188,6 +200,13 @@ class InTurn(Logged):
         pair, file = LINES[0] + LINES[1], EVENT_FILE + SECOND_RECORD
         states = [(b"", HEADER), (LINES[0], HEADER), (pair, EVENT_FILE), (pair + LINES[0], EVENT_FILE), (pair * 2, file)]
         self.expect_states("run plan.toml straight.script answers e", [*states, (pair * 2 + b"ended events 2\n", file)])
+
+    def test_run_in_a_lock(self):
+        (self.room / "locked.script").write_bytes(LOCKOUT)
+        (self.room / "answers").write_bytes(DEMAND + b"0 0 000000 2 000000\n1 1 000abc 0 000000\n1 1 000abc 1 000000\n")
+        lines = [b"demand 000004 adc\n", b"lock 1 wait 2\n", b"cycle 1 5 0 0 in 000abc x1 q1 wait 0\n", b"overrun 1 wait 1 events 0\n"]
+        states = [(b"".join(lines[:n]), HEADER) for n in range(5)]
+        self.expect_states("run plan.toml locked.script answers e", [*states, states[-1]])
 
     def test_live_run(self):
         asked = [b"".join(ASKED[:n]) for n in (1, 2, 3)]

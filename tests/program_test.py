@@ -122,6 +122,7 @@ class Usage(Case):
     def test_words_that_clap_refuses(self):
         tried = [[], ["chekc"], ["--frob"], ["plan"], ["check", "@sample"], ["run", "a", "b", "c"], ["drive", "a", "b"], ["events"]]
         tried += [["plan", "a", "b"], ["events", "a", "b"], ["check", "a", "b", "c"], ["plan", "--frob"], ["plan", "--version"]]
+        tried += [["run", "a", "b", "c", "d", "e"], ["drive", "a", "b", "c", "d"]]
         for words in tried:
             status, out, err = self.call(*words)
             self.assertEqual((status, out), (2, b""), words)
@@ -129,9 +130,15 @@ class Usage(Case):
             self.assertIn(b"Usage: camac", err, words)
 
     def test_standard_input_twice(self):
-        for line in ("check @in @in", "explain @in @in", "bounds @in @in", "run @in @in a e", "run @in s @in e", "run @sample @in @in e"):
-            self.assertEqual(self.call(*line.split()), (2, b"", TWICE), line)
+        for words in ("check @in @in", "explain @in @in", "bounds @in @in", "run @in @in a e", "run @in s @in e", "run @sample @in @in e", "run @in @in @in e", "drive @in s e", "drive @sample @in e"):
+            self.assertEqual(self.call(*words.split()), (2, b"", TWICE), words)
             self.assertFalse((self.room / "e").exists())
+
+    def test_standard_input_once(self):
+        """These words are a job, which ends as its files do. The last word of run and drive is the name of an output."""
+        for words in ("plan @in", "check @in none", "check none @in", "run @in none none e", "run none @in none e", "run none none @in e", "run none none none @in", "run none none @in @in", "drive none none @in", "events @in"):
+            status, _, err = self.call(*words.split())
+            self.assertIn((status, err), [(0, b""), (1, b""), (3, READ)], words)
 
     def test_words_of_outputs_are_file_names(self):
         self.assertEqual(self.call("run", "@sample", "straight.script", "@in", "@in", given=ANSWERS), (0, LISTING, b""))
@@ -235,6 +242,22 @@ class Files(Case):
         self.assertEqual(self.call("events", "@in", given=EVENT_FILE + bytes(16_777_217 - 28)), (3, b"", TOO_LONG))
         given = EVENT_FILE + bytes(16_777_216 - 28)
         self.assertEqual(self.call("events", "@in", given=given), (1, b"refused V2 byte 28: marker\n", b""))
+
+    def test_endless_inputs(self):
+        """One byte past the limit is read, and no end of the input is waited for."""
+        for words, limit in (("plan @in", 1 << 20), ("check @sample @in", 1 << 20), ("run @sample @in answers e", 1 << 20), ("events @in", 1 << 24)):
+            piped = {it: subprocess.PIPE for it in ("stdin", "stdout", "stderr")}
+            with subprocess.Popen([PROGRAM, *words.split()], cwd=self.room, **piped) as ran:
+                ran.stdin.write(b" " * (limit + 1))
+                ran.stdin.flush()
+                self.assertEqual((ran.wait(60), ran.stdout.read(), ran.stderr.read()), (3, b"", TOO_LONG), words)
+        self.assertEqual(self.file("e"), b"")
+
+    def test_endless_answers(self):
+        (self.room / "answers").write_bytes(b"0 0 000000 0 000000\n" * 1_000_001)
+        status, out, err = self.call("run", "@sample", "straight.script", "answers", "e")
+        self.assertEqual((status, err, self.file("e")), (1, b"", b"CAMACEV2"))
+        self.assertTrue(out == b"demand 000000 -\n" * 1_000_000 + b"refused A4 line 1000001: too many answers\n")
 
     def test_files_of_the_shell(self):
         line = '"$camac" check <(cat plan.toml) <(cat straight.script)'

@@ -197,6 +197,31 @@ TWICE = [
     ("{ f = 8, a = 12 }", "{ f = 8, a = 12 }, { f = 0, a = 11 }", "P8: declared twice"),
     ('type = "REG"', 'type = "REG"\ngl = 3', "P9: GL bit twice"),
 ]
+FIELDS = [
+    ("{ f = 8,", "{ f = 32,", "P4: value out of range"),
+    ('name = "ADC"', 'name = "a b"', "P4: value out of range"),
+    ("a = 12, to = 15", "a = 12, to = 11", "P4: value out of range"),
+    ("probe = true", "probe = true, width = 12", "P4: value out of range"),
+]
+
+# The begin of a service, what stands there many times, how often, and what is said of it.
+SERVICE = "cdlam adc 1 1 5 12\nvar v\nservice adc within 100 cycles event 100 words {"
+REPEATED = [
+    ("cdlam adc 1 1 5 12\n", "service adc within 1 cycles event 0 words {}\n", 25, "S6 line 26: limit passed"),
+    ("cdlam adc 1 1 5 12\n", "service adc within 1 cycles event 0 words {}\n", 24, "L3 line 3: two services on one station"),
+    ("cdlam adc 1 1 5 12\nservice adc within 1 cycles event 1 words {", "\nput 1", 4097, "S6 line 4099: limit passed"),
+    ("cdlam adc 1 1 5 12\nservice adc within 1 cycles event 1 words {", "\nput 1", 4096, "S2 line 4098: unexpected token"),
+    (f"{SERVICE}\n  v = ", "(", 16, "S6 line 4: limit passed"),
+    (f"{SERVICE}\n  v = ", "1+", 33, "S6 line 4: limit passed"),
+    (f"{SERVICE}\n  v = ", "1+", 32, "S2 line 4: unexpected token"),
+    (f"{SERVICE}\n  if q", " and x", 16, "S6 line 4: limit passed"),
+    (f"{SERVICE}\n  if q", " and x", 15, "S2 line 4: unexpected token"),
+    (f"{SERVICE}\n  if q", 14 * " and q" + " and w", 1, "S5 line 4: name not declared"),
+    (SERVICE, "\nif q {", 16, "S6 line 19: limit passed"),
+    (SERVICE, "\nif q {", 15, "S2 line 18: unexpected token"),
+    ("table g =", " 1", 1025, "S6 line 1: limit passed"),
+    ("var", "".join(f" {tens}{ones}" for tens in "abcdefgh" for ones in "01234567") + "\ni0", 1, "S6 line 2: limit passed"),
+]
 
 
 class NoRows(Playing):
@@ -225,10 +250,37 @@ class NoRows(Playing):
     def test_plan_faults_of_what_is_twice(self):
         self.expect_refused_plans(TWICE)
 
+    def test_plan_field_faults(self):
+        self.expect_refused_plans(FIELDS)
+
+    def test_plan_field_faults_of_many_types(self):
+        types = [f'[[type]]\ncommands = []\nname = "T{number}"\n' for number in range(65)]
+        self.expect("plan", 1, b"refused P4: value out of range\n", PLAN="".join(types).encode())
+        lines = [b"buffer 4096\n", *(f"type T{number} commands 0 probes 0\n".encode() for number in range(64))]
+        self.expect("plan", 0, b"".join(lines), PLAN="".join(types[:64]).encode())
+
+    def test_parse_faults_of_limits(self):
+        for begin, piece, times, refusal in REPEATED:
+            with self.subTest(piece=piece, times=times):
+                self.expect("check", 1, f"refused {refusal}\n".encode(), SCRIPT=(begin + times * piece).encode())
+        self.expect("check", 0, b"accepted\n", SCRIPT=b"table g =" + 1024 * b" 1")
+
+    def test_last_answer_without_its_end(self):
+        """The digits may be of either case."""
+        plan = '[[type]]\nname = "A"\ncommands = [ { f = 0, a = 0 } ]\n[[crate]]\nnumber = 1\nwaits = 15\n'
+        plan += 'station = [ { n = 5, type = "A", gl = 3 } ]\n'
+        script = STRAIGHT_LINE.inputs["SCRIPT"].replace(b"within 3", b"within 16")
+        answers = b"0 0 000000 0 000004\n1 0 00ABcd F 800000"
+        listed = b"demand 000004 adc\ncycle 1 5 0 0 in 00abcd x1 q0 wait 15\nended events 1\n"
+        events = event_file(["gl 3 cycles 16 missed 0 words 00abcd"])
+        self.assertEqual(self.play("run", {"PLAN": plan.encode(), "SCRIPT": script, "ANSWERS": answers}), (0, listed, events))
+        self.assertEqual(self.play("run", {"PLAN": plan.encode(), "SCRIPT": script, "ANSWERS": answers + b"\n"}), (0, listed, events))
+
     def test_no_final_line_feed(self):
         self.expect("plan", 1, b"refused P4: value out of range\n", PLAN=b"buffer = 0")
         self.expect("plan", 1, b"refused P3: missing key or wrong kind\n", PLAN=b'buffer = "4"')
         self.expect("check", 1, b"refused P1: not TOML\n", PLAN=b"=", SCRIPT=b"!")
+        self.expect("check", 1, b"refused S2 line 1: unexpected token\n", SCRIPT=b"table g =")
         self.expect("check", 1, b"refused S1 line 1: bad byte\n", SCRIPT=b"!")
         answers = ROWS["drive"]["live_refused_script"][0].inputs["ANSWERS"]
         self.assertEqual(self.play("drive", {"SCRIPT": b"!", "ANSWERS": answers}), (1, b"refused S1 line 1: bad byte\n", b""))
@@ -242,6 +294,7 @@ class NoRows(Playing):
         self.expect("check", 1, b"refused S1 line 1: bad byte\n", SCRIPT=b"\x00\xff")
         self.expect("check", 1, b"refused S1 line 2: bad byte\n", SCRIPT=b"var v\n\x80")
         self.expect("check", 0, b"accepted\n", SCRIPT=b"# \xff\x00\n")
+        self.expect("plan", 1, b"refused P1: not TOML\n", PLAN=b"\xff")
 
     def test_script_fault_of_a_limit(self):
         script = "".join(f"var v{tens}{ones}\n" for tens in "abcdefg" for ones in "abcdefghij")
@@ -275,17 +328,15 @@ class EventFiles(Playing):
         """The file with one byte for another is refused."""
         self.expect_refused(file[:place] + bytes([byte]) + file[place + 1 :], refusal)
 
-    def expect_truncated(self, file):
-        """Each prefix of the file that is cut inside its record is truncated."""
-        for front in range(9, len(file)):
-            (self.room / "file").write_bytes(file[:front])
-            status, printed = self.call("events", "file")
-            self.assertEqual(status, 1)
-            self.assertRegex(printed, rb"\Arefused V7 byte \d+: truncated\n\Z")
+    def expect_truncated(self, file, fields):
+        """Each prefix of the file that ends inside one of the fields, which begin at these bytes, is refused there."""
+        for first, after in zip(fields, [*fields[1:], len(file)]):
+            for front in range(max(first, 9), after):
+                self.expect_refused(file[:front], f"V7 byte {first}: truncated")
 
     def test_event_file_one(self):
         self.expect_listing(FILE_ONE, b"event 1 gl 3 words 1 000fff\nevents 1\n")
-        self.expect_truncated(FILE_ONE)
+        self.expect_truncated(FILE_ONE, [8, 10, 12, 16, 18])
         self.expect_listing(b"CAMACEV1", b"events 0\n")
         self.expect_refused(b"CAMACEV", "V1 byte 0: header")
         self.expect_changed(FILE_ONE, 18, 1, "V6 byte 18: word")
@@ -295,8 +346,9 @@ class EventFiles(Playing):
         self.expect_listing(FILE_TWO, b"event 1 gl 3 cycles 3 missed 0 words 1 000fff\nevents 1\n")
 
     def test_event_file_two_faults(self):
-        self.expect_truncated(FILE_TWO)
+        self.expect_truncated(FILE_TWO, [8, 10, 12, 16, 20, 22, 24])
         self.expect_listing(b"CAMACEV2", b"events 0\n")
+        self.expect_refused(b"CAMACEV", "V1 byte 0: header")
         self.expect_changed(FILE_TWO, 21, 4, "V9 byte 20: X count")
         self.expect_changed(FILE_TWO, 24, 1, "V6 byte 24: word")
         self.expect_refused(FILE_TWO + FILE_TWO[8:], "V4 byte 32: event number")

@@ -1,10 +1,13 @@
 #!/usr/bin/env python3
 """Tests of ./wrong_bodies, on a repository of one small crate that is made for them."""
+import importlib.machinery
+import importlib.util
 import os
 import subprocess
 import sys
 import tempfile
 import unittest
+from unittest import mock
 
 TOP = os.path.dirname(os.path.dirname(os.path.realpath(__file__)))
 
@@ -62,6 +65,7 @@ BODIES = {
     "half_of_nothing": [("    n / 2", "    nothing / 2")],
     "weak_is_half": [("    n\n", "    n / 2\n")],
     "sum_renamed": [("let whole = ", "let total = "), ("    whole\n", "    total\n")],
+    "sum_of_sums": [("half(n) + half(n)", "half(n) + half(n) + 0")],
     "sum_and_one": [("let whole = ", "let total = "), ("    whole\n", "    total + 1\n")],
     "old_text_twice": [("half(n)", "half(0)")],
 }
@@ -73,10 +77,17 @@ def write(path, text):
         it.write(text)
 
 
-class Tries(unittest.TestCase):
+class Tool(unittest.TestCase):
+    """A folder of its own for the repository, and for what is kept."""
+
     @classmethod
     def setUpClass(cls):
         cls.room = tempfile.TemporaryDirectory(prefix="wrong-bodies-test-")
+        cls.addClassCleanup(cls.room.cleanup)
+        cls.make()
+
+    @classmethod
+    def make(cls):
         crate = f"{cls.room.name}/crates/sample"
         write(f"{cls.room.name}/crates.txt", "sample: # one crate\nabove: sample\n")
         write(f"{cls.room.name}/crates/above/src/lib.rt", ABOVE)
@@ -92,16 +103,10 @@ class Tries(unittest.TestCase):
         text = SOURCE.replace("    n\n", "    n + 0\n")
         write(f"{crate}/src/lib.rt", text)
         write(f"{crate}/wrong-bodies/weak_is_half.edit", "file: src/lib.rt\nold: n + 0\nnew: n / 2\n")
-        cls.whole = cls.run_tool()
-        cls.lines = {it.partition(": ")[0]: it.partition(": ")[2] for it in cls.whole.stdout.split("\n")}
-
-    @classmethod
-    def tearDownClass(cls):
-        cls.room.cleanup()
 
     @classmethod
     def start_tool(cls, *words):
-        environment = {**os.environ, "CAMAC_TOP": cls.room.name}
+        environment = {**os.environ, "CAMAC_TOP": cls.room.name, "XDG_CACHE_HOME": f"{cls.room.name}/cache"}
         command = [sys.executable, f"{TOP}/wrong_bodies", *words]
         return subprocess.Popen(command, env=environment, stdout=subprocess.PIPE, stderr=subprocess.PIPE, text=True)
 
@@ -111,6 +116,14 @@ class Tries(unittest.TestCase):
         stdout, stderr = tool.communicate()
         return subprocess.CompletedProcess(tool.args, tool.returncode, stdout, stderr)
 
+
+class Tries(Tool):
+    @classmethod
+    def setUpClass(cls):
+        super().setUpClass()
+        cls.whole = cls.run_tool()
+        cls.lines = {it.partition(": ")[0]: it.partition(": ")[2] for it in cls.whole.stdout.split("\n")}
+
     def said(self, name):
         return self.lines[f"sample/{name}"]
 
@@ -119,6 +132,9 @@ class Tries(unittest.TestCase):
 
     def test_a_body_that_its_contract_lets_through_is_found(self):
         self.assertEqual(self.said("weak_is_half"), "NOT REFUSED FOR ITSELF: its function is still proved")
+
+    def test_a_body_that_means_the_same_is_found(self):
+        self.assertEqual(self.said("sum_of_sums"), "NOT REFUSED FOR ITSELF: its function is still proved")
 
     def test_a_body_that_does_not_compile_is_no_refusal(self):
         self.assertRegex(self.said("half_of_nothing"), "^NOT REFUSED FOR ITSELF: does not compile: ")
@@ -133,13 +149,26 @@ class Tries(unittest.TestCase):
         self.assertRegex(self.said("old_text_twice"), "^NOT REFUSED FOR ITSELF: BAD EDIT: .* 2 times, and not once")
 
     def test_the_last_line_counts_and_the_status_is_1(self):
-        self.assertEqual(self.whole.stdout.rstrip("\n").rpartition("\n")[2], "3 refused, 4 not")
+        self.assertEqual(self.whole.stdout.rstrip("\n").rpartition("\n")[2], "3 refused, 5 not")
         self.assertEqual(self.whole.returncode, 1)
 
     def test_one_body_alone(self):
-        ran = self.run_tool("sample/half_is_a_third")
-        self.assertEqual(ran.stdout.rstrip("\n").rpartition("\n")[2], "1 refused, 0 not")
+        ran = self.run_tool("--anew", "sample/half_is_a_third")
+        self.assertRegex(ran.stdout, "^sample/half_is_a_third: refused: .*\n1 refused, 0 not\n$")
         self.assertEqual(ran.returncode, 0)
+
+    def test_what_was_refused_before_is_not_tried_again(self):
+        ran = self.run_tool()
+        kept = [it for it in ran.stdout.split("\n") if ": refused: before: " in it]
+        names = [it.partition(": ")[0] for it in kept]
+        self.assertEqual(names, ["sample/half_is_a_third", "sample/sum_and_one", "above/same_is_all"])
+        for line in kept:
+            self.assertIn(line.replace("before: ", ""), self.whole.stdout)
+        told = "3 of them were refused before, over the same sources: --anew tries them again\n3 refused, 5 not\n"
+        self.assertTrue(ran.stdout.endswith(told))
+        for name in ("weak_is_half", "sum_of_sums", "half_of_nothing", "sum_renamed", "old_text_twice"):
+            self.assertIn(f"sample/{name}: {self.said(name)}\n", ran.stdout)
+        self.assertEqual(ran.returncode, 1)
 
     def test_the_list_names_the_functions(self):
         ran = self.run_tool("--list")
@@ -149,10 +178,10 @@ class Tries(unittest.TestCase):
     def test_beside_the_proofs_a_crate_is_tried_once_those_below_it_are_proved(self):
         log = f"{self.room.name}/log"
         write(log, "rt: other proved\n")
-        tool = self.start_tool("--during", log, "above", "sample/half_is_a_third")
+        tool = self.start_tool("--anew", "--during", log, "above", "sample/half_is_a_third")
         first = tool.stdout.readline()
         with open(log, "a", encoding="utf-8") as it:
-            it.write("rt: sample proved\nrt: above proved\n2 passed, 0 failed\n")
+            it.write("rt: sample is kept: an earlier run proved it\nrt: above proved\n2 passed, 0 failed\n")
         rest = tool.communicate()[0]
         self.assertRegex(first, "^sample/half_is_a_third: refused: ")
         self.assertRegex(rest, "^above/same_is_all: refused: .*\n2 refused, 0 not\n$")
@@ -171,6 +200,108 @@ class Tries(unittest.TestCase):
             ran = self.run_tool(*words)
             self.assertEqual(ran.returncode, 2, words)
             self.assertEqual(ran.stdout, "0 refused, 1 not\n", words)
+
+
+class Kept(Tool):
+    """Which refusals are used again, without a prover."""
+
+    @classmethod
+    def setUpClass(cls):
+        super().setUpClass()
+        loader = importlib.machinery.SourceFileLoader("wrong_bodies", f"{TOP}/wrong_bodies")
+        cls.module = importlib.util.module_from_spec(importlib.util.spec_from_loader(loader.name, loader))
+        with mock.patch.object(sys, "dont_write_bytecode", True):
+            loader.exec_module(cls.module)
+        cls.module.TOP = cls.room.name
+
+    def setUp(self):
+        cache = tempfile.TemporaryDirectory(dir=self.room.name)
+        self.addCleanup(cache.cleanup)
+        self.cache = cache.name
+
+    def refusals(self):
+        with mock.patch.dict(os.environ, XDG_CACHE_HOME=self.cache):
+            return self.module.Refusals()
+
+    def total(self, crate="sample", name="half_is_a_third"):
+        """The sum of all that decides the verdict on a body."""
+        crate = self.module.crates()[crate]
+        body = next(it for it in self.module.bodies_of(crate, False) if it.name == name)
+        return self.refusals().sums(crate, [body])[body]
+
+    def files(self):
+        return [it.path for it in os.scandir(f"{self.cache}/camac/wrong-bodies")]
+
+    def test_a_refusal_is_read_as_it_was_written(self):
+        total = self.total()
+        self.assertIsNone(self.refusals().why(total))
+        self.refusals().keep(total, "a goal is open\nand more")
+        self.assertEqual(self.refusals().why(total), "a goal is open")
+        self.assertIsNone(self.refusals().why(self.total("above", "same_is_all")))
+
+    def expect_other_sums(self, file, sums, same=()):
+        """Another text in a file makes other sums, and these same ones."""
+        before = {it: self.total(*it) for it in [*sums, *same]}
+        with open(f"{self.room.name}/{file}", encoding="utf-8") as it:
+            text = it.read()
+        write(f"{self.room.name}/{file}", f"{text}\n")
+        after = {it: self.total(*it) for it in before}
+        write(f"{self.room.name}/{file}", text)
+        self.assertEqual([it for it in before if before[it] != after[it]], [*sums])
+
+    def test_a_source_a_library_below_or_a_body_that_differs(self):
+        half, third, above = ("sample", "weak_is_half"), ("sample", "half_is_a_third"), ("above", "same_is_all")
+        self.expect_other_sums("crates/sample/src/lib.rt", [half, third, above])
+        self.expect_other_sums("crates/sample/proofs/sum/Answers.antt", [half, third, above])
+        self.expect_other_sums("crates/above/src/lib.rt", [above], [half, third])
+        self.expect_other_sums("crates/sample/wrong-bodies/half_is_a_third.edit", [third], [half, above])
+
+    def test_a_new_file_and_another_use(self):
+        total = self.total("above", "same_is_all")
+        write(f"{self.room.name}/crates/sample/specs/New.antt", "")
+        self.assertNotEqual(self.total("above", "same_is_all"), total)
+        os.remove(f"{self.room.name}/crates/sample/specs/New.antt")
+        self.assertEqual(self.total("above", "same_is_all"), total)
+        write(f"{self.room.name}/crates.txt", "sample: arrayvec\nabove: sample\n")
+        self.assertNotEqual(self.total("above", "same_is_all"), total)
+        write(f"{self.room.name}/crates.txt", "sample: # one crate\nabove: sample\n")
+
+    def test_another_toolchain(self):
+        total = self.total()
+        with mock.patch.object(self.module, "toolchain", lambda: "another"):
+            self.assertNotEqual(self.total(), total)
+
+    def test_a_damaged_file_counts_for_nothing(self):
+        total = self.total()
+        for damage in (lambda it: it[:-1], lambda it: it[:9], lambda it: b"", lambda it: b"x" + it, lambda it: it + b"\n", lambda it: b"\xff" + it[1:]):
+            self.refusals().keep(total, "a goal is open")
+            (file,) = self.files()
+            with open(file, "rb") as it:
+                text = it.read()
+            with open(file, "wb") as it:
+                it.write(damage(text))
+            self.assertIsNone(self.refusals().why(total))
+
+    def test_a_file_under_another_name_counts_for_nothing(self):
+        self.refusals().keep(self.total(), "a goal is open")
+        other = self.total("above", "same_is_all")
+        (file,) = self.files()
+        os.rename(file, f"{os.path.dirname(file)}/{other}")
+        self.assertIsNone(self.refusals().why(other))
+
+    def test_old_files_are_removed(self):
+        self.refusals().keep(self.total(), "a goal is open")
+        (file,) = self.files()
+        os.utime(file, (0, 0))
+        self.refusals()
+        self.assertEqual(self.files(), [])
+
+    def test_nothing_is_kept_where_no_folder_can_be_made(self):
+        write(f"{self.cache}/file", "")
+        with mock.patch.dict(os.environ, XDG_CACHE_HOME=f"{self.cache}/file"):
+            refusals = self.module.Refusals()
+        refusals.keep(self.total(), "a goal is open")
+        self.assertIsNone(refusals.why(self.total()))
 
 
 if __name__ == "__main__":

@@ -6,7 +6,7 @@ ghost use Rattle.camac_answer.specs.Answers.{stage_of, given_by, text_of, left_o
 
 use crate::fault::{AnswerFault, AnswerRule};
 use crate::filling::{LINE, fill};
-use crate::line::{answer_of, line_length};
+use crate::line::first_answer;
 use camac_branch::Answer;
 use camac_word::Watched;
 use std::alloc::Global;
@@ -48,7 +48,7 @@ fn judge(given: u32, bytes: &[u8]) -> Result<Option<Answer>, AnswerFault>
             line: LINES + 1,
         });
     }
-    match answer_of(&bytes[..line_length(bytes)]) {
+    match first_answer(bytes) {
         Ok(answer) => Ok(Some(answer)),
         Err(rule) => Err(AnswerFault::Broken {
             rule,

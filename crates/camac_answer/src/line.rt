@@ -1,11 +1,10 @@
 // The answer that a line spells.
 
-ghost use Rattle.std.specs.Prelude.{◌≡◌, ◌≤◌, ◌<◌, ◌^◌, length, IfOk};
-ghost use Rattle.byteorder.specs.Endian.{big_number};
-ghost use Rattle.camac_answer.specs.Lines.{first_line, bit_at, word_at, wait_at, has_shape as is_shaped, fields_answer, line_answer};
+ghost use Rattle.std.specs.Prelude.{◌≡◌, ◌≤◌, ◌<◌, ◌^◌, ◌*◌, length, IfOk};
+ghost use Rattle.camac_answer.specs.Lines.{first_line, bit_at, word_at, digit_number, pair_number, wait_at, has_shape as is_shaped, fields_answer, line_answer};
 
 use crate::fault::AnswerRule;
-use byteorder::{BigEndian, ByteOrder};
+use crate::filling::LINE;
 use camac_branch::Answer;
 use camac_word::Word24;
 
@@ -17,6 +16,7 @@ pub(crate) fn line_length(bytes: &[u8]) -> usize
 }
 
 // The bit that a byte spells.
+#[inline(always)]
 fn bit_of(byte: u8) -> Result<bool, AnswerRule>
     ensures { result ≡ bit_at byte }
 {
@@ -28,27 +28,62 @@ fn bit_of(byte: u8) -> Result<bool, AnswerRule>
 }
 
 // The word that six digits spell.
+#[inline(always)]
 fn word_of(digits: &[u8]) -> Result<Word24, AnswerRule>
+    requires { length digits.now ≡ 6 }
     ensures { result ≡ word_at digits.now }
 {
-    let mut bytes = [0; 3];
-    match hex::decode_to_slice(digits, &mut bytes) {
-        Ok(()) => Ok(word_in(&bytes)),
-        Err(_) => Err(AnswerRule::BadDigit),
+    let high = pair_of(digits[0], digits[1]);
+    let middle = pair_of(digits[2], digits[3]);
+    let low = pair_of(digits[4], digits[5]);
+    let number = high * 0x10000 + middle * 0x100 + low;
+    if number >= u64::from(NO) {
+        return Err(AnswerRule::BadDigit);
     }
-}
-
-// The word of three bytes, the highest first.
-fn word_in(bytes: &[u8; 3]) -> Word24
-    ensures { result ≡ big_number 3 bytes.now }
-{
-    match Word24::new(BigEndian::read_u24(bytes)) {
-        Some(word) => word,
+    match Word24::new(number as u32) {
+        Some(word) => Ok(word),
         None => unreachable!(),
     }
 }
 
+// What two digits spell, or more than six digits do.
+#[inline(always)]
+fn pair_of(high: u8, low: u8) -> u64
+    ensures value { result ≡ pair_number high low }
+    ensures most { result ≤ 17 * 2 ^ 24 }
+{
+    u64::from(value_of(high)) * 16 + u64::from(value_of(low))
+}
+
+// What a digit spells, or more than six digits do.
+#[inline(always)]
+fn value_of(digit: u8) -> u32
+    ensures value { result ≡ digit_number digit }
+    ensures most { result ≤ 2 ^ 24 }
+{
+    VALUES[digit as usize]
+}
+
+// What stands in the table for a byte that is no digit: more than six digits spell.
+const NO: u32 = 1 << 24;
+
+// What each byte spells as a hexadecimal digit.
+static VALUES: [u32; 256] = [
+    NO, NO, NO, NO, NO, NO, NO, NO, NO, NO, NO, NO, NO, NO, NO, NO, NO, NO, NO, NO, NO, NO, NO, NO,
+    NO, NO, NO, NO, NO, NO, NO, NO, NO, NO, NO, NO, NO, NO, NO, NO, NO, NO, NO, NO, NO, NO, NO, NO,
+    0, 1, 2, 3, 4, 5, 6, 7, 8, 9, NO, NO, NO, NO, NO, NO, NO, 10, 11, 12, 13, 14, 15, NO, NO, NO,
+    NO, NO, NO, NO, NO, NO, NO, NO, NO, NO, NO, NO, NO, NO, NO, NO, NO, NO, NO, NO, NO, NO, NO, 10,
+    11, 12, 13, 14, 15, NO, NO, NO, NO, NO, NO, NO, NO, NO, NO, NO, NO, NO, NO, NO, NO, NO, NO, NO,
+    NO, NO, NO, NO, NO, NO, NO, NO, NO, NO, NO, NO, NO, NO, NO, NO, NO, NO, NO, NO, NO, NO, NO, NO,
+    NO, NO, NO, NO, NO, NO, NO, NO, NO, NO, NO, NO, NO, NO, NO, NO, NO, NO, NO, NO, NO, NO, NO, NO,
+    NO, NO, NO, NO, NO, NO, NO, NO, NO, NO, NO, NO, NO, NO, NO, NO, NO, NO, NO, NO, NO, NO, NO, NO,
+    NO, NO, NO, NO, NO, NO, NO, NO, NO, NO, NO, NO, NO, NO, NO, NO, NO, NO, NO, NO, NO, NO, NO, NO,
+    NO, NO, NO, NO, NO, NO, NO, NO, NO, NO, NO, NO, NO, NO, NO, NO, NO, NO, NO, NO, NO, NO, NO, NO,
+    NO, NO, NO, NO, NO, NO, NO, NO, NO, NO, NO, NO, NO, NO,
+];
+
 // The wait that a digit spells.
+#[inline(always)]
 fn wait_of(digit: u8) -> Result<u8, AnswerRule>
     ensures value { result ≡ wait_at digit }
     ensures in_range { IfOk result (λ w. w ≤ 15) }
@@ -84,8 +119,22 @@ fn fields_of(line: &[u8]) -> Result<Answer, AnswerRule>
     }
 }
 
-/// The answer of a line without its LF.
-pub(crate) fn answer_of(line: &[u8]) -> Result<Answer, AnswerRule>
+/// The answer of the first line of these bytes.
+pub(crate) fn first_answer(bytes: &[u8]) -> Result<Answer, AnswerRule>
+    ensures { result ≡ line_answer (first_line bytes.now) }
+{
+    // What spells an answer has no LF in it.
+    if bytes.len() == LINE
+        && bytes[LINE - 1] == b'\n'
+        && let Ok(answer) = answer_of(&bytes[..LINE - 1])
+    {
+        return Ok(answer);
+    }
+    answer_of(&bytes[..line_length(bytes)])
+}
+
+// The answer of a line without its LF.
+fn answer_of(line: &[u8]) -> Result<Answer, AnswerRule>
     ensures { result ≡ line_answer line.now }
 {
     if has_shape(line) {

@@ -6,7 +6,7 @@ use Rattle.std.proofs.lemmas.Bool.{leb-true, lt-leb, le-leb, cases_lt}
 use Rattle.camac_func.specs.Class.{class_of}
 use Rattle.camac_func.specs.declared.code.FunctionClass.TheVariants.{Read, Write, Control}
 use Rattle.camac_lang.specs.declared.word.WordSize.{WordSize}
-use Rattle.camac_lang.specs.Tree.{Expression, Move, no_data, into, from, Statement, assign, set_register, single, address_scan, q_stop, q_repeat, put, crate_call, lam_call, choose, choose_else, count, repeat, locked, call, Block, done, next, Procedure, Service}
+use Rattle.camac_lang.specs.Tree.{Expression, Move, no_data, into, from, Statement, assign, set_register, single, address_scan, q_stop, q_repeat, put, crate_call, lam_call, choose, choose_else, for_, while_, locked, call, Block, done, next, Procedure, Service}
 use Rattle.camac_esone.specs.Calls.{lam_function}
 use Rattle.camac_branch.specs.Plan.{crate_waits}
 use Rattle.camac_model.specs.Fine.{Bounds, annotated}
@@ -159,14 +159,14 @@ mutual
       go_cut (if_reached unreached ways.fails (accept_block (by_code context) around b)) (if_reached unreached ways.fails (accept_block (by_rules context) around b)) _ _
       (if_reached_cut ways.fails (accept_block (by_code context) around b) (accept_block (by_rules context) around b) (λ q. block_cut context around b q))
       (λ second. ap (λ c. Ok (verdict (join first.after second.after) c)) (choice_cut first.costs second.costs))))
-  statement_cut context around (count line x e1 e2 keeps body) k =
+  statement_cut context around (for_ line x e1 e2 keeps body) k =
       go_same (for_limits around line x e1 e2 keeps k) _ _ (λ l.
       go_cut (if_reached unreached (for_head x l keeps body k) (accept_block (by_code context) (with_fixed x around) body)) (if_reached unreached (for_head x l keeps body k) (accept_block (by_rules context) (with_fixed x around) body)) _ _
       (if_reached_cut (for_head x l keeps body k) (accept_block (by_code context) (with_fixed x around) body) (accept_block (by_rules context) (with_fixed x around) body) (λ q. block_cut context (with_fixed x around) body q))
       (λ turn.
       go_same (required (keeps_hold_after keeps turn.after) KeepFailsAfterTurn line) _ _ (λ _.
       ap (λ c. Ok (verdict (for_after x l keeps body k) c)) (loop_cut (turns_between l) turn.costs))))
-  statement_cut context around (repeat line test most m keeps body) k =
+  statement_cut context around (while_ line test most m keeps body) k =
       go_same (while_head line most m keeps body k) _ _ (λ top.
       go_same (split line test top) _ _ (λ arms.
       go_cut (if_reached unreached arms.holds (accept_block (by_code context) around body)) (if_reached unreached arms.holds (accept_block (by_rules context) around body)) _ _

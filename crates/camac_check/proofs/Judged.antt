@@ -14,14 +14,7 @@ use Rattle.camac_model.proofs.Headline.{fine_services_run}
 use Rattle.camac_check_rules.specs.Accept.{accept}
 use Rattle.camac_check_rules.specs.Laws.{EventsFit}
 use Rattle.camac_check_rules.proofs.Accepted.{accepted_fine, accepted_procedures_fine, accepted_within}
-use Rattle.camac_check.specs.Checked.{CheckedScript, IsChecked}
-
--- as many bounds as services
-pub fine_count : (plan : Layout) (script : Script) (ks : List Bounds) (vs : List Service) → AreFine plan script ks vs → length ks ≡ length vs
-fine_count plan script [] [] h = refl
-fine_count plan script [] (v ∷ vs) h = absurd h
-fine_count plan script (k ∷ ks) [] h = absurd h
-fine_count plan script (k ∷ ks) (v ∷ vs) h = let e = fine_count plan script ks vs h.1 in omega arith
+use Rattle.camac_check_result.specs.Checked.{CheckedScript, IsChecked}
 
 pub or_else_parts : (o p : Option LinkFault) → or_else o p ≡ None → (o ≡ None) × (p ≡ None)
 or_else_parts None p e = (refl, e)

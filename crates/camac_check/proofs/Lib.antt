@@ -3,7 +3,6 @@ pub mod Lams
 pub mod Capped
 pub mod Judged
 pub mod Blocks
-pub mod Fitting
 pub mod Needs
 pub mod Heading
 pub mod Relinked

@@ -1,6 +1,5 @@
 pub mod Gives
 pub mod Ends
-pub mod Checked
-pub mod Kinds
+pub mod Judges
 pub mod Faults
 pub mod Least

@@ -7,13 +7,13 @@ ghost use Rattle.camac_lang.specs.Headings.{annotate};
 ghost use Rattle.camac_check.specs.Gives.{Gives, by_code, by_rules, rules_before};
 ghost use Rattle.camac_check.specs.Least.{Finds, event_fits, most, service_needs};
 
-use crate::checked::Bounds;
 use crate::context::Context;
 use crate::fault::LeastFault;
 use crate::procedure::at_entry;
 use crate::statement::accept_block;
 use camac_branch::Plan;
 use camac_check_known::{Around, CheckFault, Costs, Facts};
+use camac_check_result::Bounds;
 use camac_check_rules::CheckRule;
 use camac_lang::{Item, Procedure, Script, Service};
 use camac_names::LinkRule;

@@ -1,42 +1,42 @@
 // The rules of crate calls and LAM calls, and of the crate that a lock takes.
 
 ghost use Rattle.std.specs.Prelude.{◌≡◌, ◌&&◌, not};
-ghost use Rattle.camac_esone.specs.Calls.{lam_function};
 ghost use Rattle.camac_lang.specs.View.{expression_of};
 ghost use Rattle.camac_check_rules.specs.Addresses.{is_among};
 ghost use Rattle.camac_check_rules.specs.Calls.{is_crate, crate_rule, lam_region, lam_rule, lock_rule};
 ghost use Rattle.camac_check_rules.specs.Refusal.{given};
 ghost use Rattle.camac_check.specs.Gives.{Gives, by_code, verdict_of};
 
-use crate::context::Context;
+use crate::context::{Context, Place};
 use crate::cycle::one_cycle;
 use crate::statement::Findings;
 use camac_check_known::{
     Around, CheckFault, Facts, Region, command_widths, is_crate, range_of, required,
 };
 use camac_check_rules::CheckRule;
+use camac_esone::lam_function;
 use camac_lang::{Expr, LamCall};
 use camac_range::Range;
-use camac_word::Function;
-use std::alloc::Global;
 
 /// Checks a crate call.
 #[tactic(auto, unfolding(camac_check_rules::specs::Refusal::go_on))]
 pub fn crate_call(
-    alloc: Global,
-    context: &Context,
-    around: &Around,
+    place: &Place,
     line: u32,
     crate_no: &Expr,
-    known: &Facts,
+    known: Facts,
 ) -> Result<Findings, CheckFault>
-    ensures { Gives verdict_of result (crate_rule (by_code context.now) around.now line (expression_of crate_no.now) known.now) }
+    ensures { Gives verdict_of result (crate_rule (by_code place.now.context.now) place.now.around.now line (expression_of crate_no.now) known) }
 {
     let crates = range_of(line, crate_no, known.ranges())?;
-    required(is_crate(context.plan, crates), CheckRule::CrateUnfit, line)?;
+    required(
+        is_crate(place.context.plan, crates),
+        CheckRule::CrateUnfit,
+        line,
+    )?;
     Ok(Findings {
-        known: Some(known.try_clone(alloc)?),
-        costs: one_cycle(context, around, crates),
+        known: Some(known),
+        costs: one_cycle(place.context, place.around, crates),
     })
 }
 
@@ -70,21 +70,19 @@ fn is_free(context: &Context, around: &Around, crates: Range) -> bool
 /// Checks a LAM call.
 #[tactic(auto, unfolding(camac_check_rules::specs::Refusal::go_on))]
 pub fn lam_call(
-    alloc: Global,
-    context: &Context,
-    around: &Around,
+    place: &Place,
     line: u32,
     call: LamCall,
     lam: usize,
-    known: &Facts,
+    known: Facts,
 ) -> Result<Findings, CheckFault>
-    ensures { Gives verdict_of result (lam_rule (by_code context.now) around.now line call lam known.now) }
+    ensures { Gives verdict_of result (lam_rule (by_code place.now.context.now) place.now.around.now line call lam known) }
 {
-    let at = address_of(context, lam, line)?;
-    let _widths = command_widths(context.plan, line, function_of(call), at)?;
+    let at = address_of(place.context, lam, line)?;
+    let _widths = command_widths(place.context.plan, line, lam_function(call), at)?;
     Ok(Findings {
-        known: Some(known.try_clone(alloc)?),
-        costs: one_cycle(context, around, at.crates()),
+        known: Some(known),
+        costs: one_cycle(place.context, place.around, at.crates()),
     })
 }
 
@@ -103,20 +101,5 @@ fn address_of(context: &Context, lam: usize, line: u32) -> Result<Region, CheckF
             rule: CheckRule::StationNotInstalled,
             line,
         }),
-    }
-}
-
-fn function_of(call: LamCall) -> Function
-    ensures { result ≡ lam_function call }
-{
-    let function = match call {
-        LamCall::Enable => 26,
-        LamCall::Disable => 24,
-        LamCall::Clear => 10,
-        LamCall::Test => 8,
-    };
-    match Function::new(function) {
-        Some(function) => function,
-        None => unreachable!(),
     }
 }

@@ -12,7 +12,7 @@ ghost use Rattle.camac_check_rules.specs.Known.{region_at};
 ghost use Rattle.camac_check_rules.specs.Refusal.{given};
 ghost use Rattle.camac_check.specs.Gives.{Gives, by_code, verdict_of};
 
-use crate::context::Context;
+use crate::context::{Context, Place};
 use crate::statement::Findings;
 use camac_check_known::{
     Around, CheckFault, Costs, Facts, Region, command_widths, cycle_cost, range_of, required,
@@ -22,108 +22,95 @@ use camac_func::{FunctionClass, class};
 use camac_lang::{Expr, Move, WordSize};
 use camac_range::Range;
 use camac_word::Function;
-use std::alloc::Global;
 
 /// Checks a single action.
 pub fn single(
-    alloc: Global,
-    context: &Context,
-    around: &Around,
+    place: &Place,
     line: u32,
     size: WordSize,
     f: Function,
     register: usize,
     moved: &Move,
-    known: &Facts,
+    known: Facts,
 ) -> Result<Findings, CheckFault>
-    ensures { Gives verdict_of result (single_rule (by_code context.now) around.now line size f register (move_of moved.now) known.now) }
+    ensures { Gives verdict_of result (single_rule (by_code place.now.context.now) place.now.around.now line size f register (move_of moved.now) known) }
 {
     match moved {
-        Move::NoData => control(alloc, context, around, line, f, register, known),
-        Move::Into(variable) => read(
-            alloc, context, around, line, size, f, register, *variable, known,
-        ),
-        Move::From(value) => write(
-            alloc, context, around, line, size, f, register, value, known,
-        ),
+        Move::NoData => control(place, line, f, register, known),
+        Move::Into(variable) => read(place, line, size, f, register, *variable, known),
+        Move::From(value) => write(place, line, size, f, register, value, known),
     }
 }
 
 // A cycle without data.
 #[tactic(auto, unfolding(camac_check_rules::specs::Refusal::go_on))]
 fn control(
-    alloc: Global,
-    context: &Context,
-    around: &Around,
+    place: &Place,
     line: u32,
     f: Function,
     register: usize,
-    known: &Facts,
+    known: Facts,
 ) -> Result<Findings, CheckFault>
-    ensures { Gives verdict_of result (control_rule (by_code context.now) around.now line f register known.now) }
+    ensures { Gives verdict_of result (control_rule (by_code place.now.context.now) place.now.around.now line f register known) }
 {
-    let g = addresses_of(known, register, line)?;
-    let _widths = command_widths(context.plan, line, f, g)?;
+    let g = addresses_of(&known, register, line)?;
+    let _widths = command_widths(place.context.plan, line, f, g)?;
     required(is_control(f), CheckRule::WrongDirection, line)?;
     Ok(Findings {
-        known: Some(known.try_clone(alloc)?),
-        costs: one_cycle(context, around, g.crates()),
+        known: Some(known),
+        costs: one_cycle(place.context, place.around, g.crates()),
     })
 }
 
 // A read.
 #[tactic(auto, unfolding(camac_check_rules::specs::Refusal::go_on))]
 fn read(
-    alloc: Global,
-    context: &Context,
-    around: &Around,
+    place: &Place,
     line: u32,
     size: WordSize,
     f: Function,
     register: usize,
     variable: usize,
-    known: &Facts,
+    known: Facts,
 ) -> Result<Findings, CheckFault>
-    ensures { Gives verdict_of result (read_rule (by_code context.now) around.now line size f register variable known.now) }
+    ensures { Gives verdict_of result (read_rule (by_code place.now.context.now) place.now.around.now line size f register variable known) }
 {
     required(
-        around.may_write(variable),
+        place.around.may_write(variable),
         CheckRule::LoopVariableAssigned,
         line,
     )?;
-    let g = addresses_of(known, register, line)?;
-    let widths = command_widths(context.plan, line, f, g)?;
+    let g = addresses_of(&known, register, line)?;
+    let widths = command_widths(place.context.plan, line, f, g)?;
     required(is_read(f), CheckRule::WrongDirection, line)?;
     let word = words_of(size, widths.hi());
     Ok(Findings {
-        known: Some(known.with_range(alloc, variable, word)?),
-        costs: one_cycle(context, around, g.crates()),
+        known: Some(known.put_range(variable, word)?),
+        costs: one_cycle(place.context, place.around, g.crates()),
     })
 }
 
 // A write.
 #[tactic(auto, unfolding(camac_check_rules::specs::Refusal::go_on))]
 fn write(
-    alloc: Global,
-    context: &Context,
-    around: &Around,
+    place: &Place,
     line: u32,
     size: WordSize,
     f: Function,
     register: usize,
     value: &Expr,
-    known: &Facts,
+    known: Facts,
 ) -> Result<Findings, CheckFault>
-    ensures { Gives verdict_of result (write_rule (by_code context.now) around.now line size f register (expression_of value.now) known.now) }
+    ensures { Gives verdict_of result (write_rule (by_code place.now.context.now) place.now.around.now line size f register (expression_of value.now) known) }
 {
     let v = range_of(line, value, known.ranges())?;
-    let g = addresses_of(known, register, line)?;
-    let widths = command_widths(context.plan, line, f, g)?;
+    let g = addresses_of(&known, register, line)?;
+    let widths = command_widths(place.context.plan, line, f, g)?;
     required(is_write(f), CheckRule::WrongDirection, line)?;
     required(fits(size, v, widths), CheckRule::ValueTooWide, line)?;
     Ok(Findings {
-        known: Some(known.try_clone(alloc)?),
-        costs: one_cycle(context, around, g.crates()),
+        known: Some(known),
+        costs: one_cycle(place.context, place.around, g.crates()),
     })
 }
 

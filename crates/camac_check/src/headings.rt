@@ -8,11 +8,11 @@ ghost use Rattle.camac_check.specs.Gives.{by_rules};
 ghost use Rattle.camac_check.specs.Least.{Finds, AreHeadings, Heads, after_procedures, least, least_from, procedure_needs, service_needs};
 
 use crate::accept::{procedure_within, service_needs};
-use crate::checked::{Bounds, Checked};
 use crate::context::Context;
 use crate::fault::LeastFault;
 use crate::judge::check;
 use camac_branch::Plan;
+use camac_check_result::{Bounds, Checked};
 use camac_lang::{Item, Script};
 use camac_names::resolve;
 use std::alloc::Global;

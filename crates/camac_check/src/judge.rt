@@ -1,11 +1,12 @@
 // The check of a linked script.
 
 ghost use Rattle.std.specs.Prelude.{IfOk};
-ghost use Rattle.camac_check.specs.Checked.{IsChecked, Judges};
+ghost use Rattle.camac_check_result.specs.Checked.{IsChecked};
+ghost use Rattle.camac_check.specs.Judges.{Judges};
 
 use crate::accept::accept_script;
-use crate::checked::Checked;
 use camac_check_known::CheckFault;
+use camac_check_result::Checked;
 use camac_names::Linked;
 use std::alloc::Global;
 
@@ -19,5 +20,5 @@ pub fn check(alloc: Global, linked: Linked) -> Result<Checked, CheckFault>
     linked.plan().is_plan();
     let _order = linked.script().order();
     let bounds = accept_script(alloc, linked.plan(), linked.script())?;
-    Ok(Checked { linked, bounds })
+    Ok(Checked::new(linked, bounds))
 }

@@ -3,11 +3,9 @@
 
 mod accept;
 mod calls;
-mod checked;
 mod context;
 mod cycle;
 mod fault;
-mod fits;
 mod headings;
 mod judge;
 mod procedure;
@@ -15,7 +13,8 @@ mod statement;
 mod transfer;
 
 pub use camac_check_known::CheckFault;
-pub use checked::{Bounds, Checked};
+pub use camac_check_result::{Bounds, Checked};
+pub use camac_check_rules::CheckRule;
 pub use context::Context;
 pub use fault::LeastFault;
 pub use headings::least;

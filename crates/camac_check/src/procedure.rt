@@ -23,9 +23,9 @@ pub fn call(
     line: u32,
     procedure: usize,
     arguments: &[Expr],
-    known: &Facts,
+    known: Facts,
 ) -> Result<Findings, CheckFault>
-    ensures { Gives verdict_of result (call_rule (by_code context.now) line procedure (map expression_of arguments.now) known.now) }
+    ensures { Gives verdict_of result (call_rule (by_code context.now) line procedure (map expression_of arguments.now) known) }
 {
     let ranges = ranges_of(alloc, line, arguments, known.ranges())?;
     let called = procedure_at(context.procedures, procedure, line)?;
@@ -35,7 +35,7 @@ pub fn call(
         line,
     )?;
     Ok(Findings {
-        known: Some(known.try_clone(alloc)?),
+        known: Some(known),
         costs: Costs::of_call(called.cycles, called.words, called.steps),
     })
 }

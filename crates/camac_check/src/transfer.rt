@@ -4,11 +4,11 @@ ghost use Rattle.std.specs.Prelude.{◌≡◌, ◌&&◌, IfOk};
 ghost use Rattle.camac_func.specs.Class.{class_of};
 ghost use Rattle.camac_lang.specs.View.{expression_of};
 ghost use Rattle.camac_check_rules.specs.Cycles.{same_class};
-ghost use Rattle.camac_check_rules.specs.Transfers.{has_sub_addresses, scan_verdict, scan_rule, block_class, event_words, block_region, block_verdict, q_stop_rule, repeat_cycles, q_repeat_rule};
+ghost use Rattle.camac_check_rules.specs.Transfers.{has_sub_addresses, scan_verdict, scan_rule, block_class, event_words, block_region, block_verdict, q_stop_rule, q_repeat_cycles, q_repeat_rule};
 ghost use Rattle.camac_check_rules.specs.Windows.{window_of, is_installed, is_declared};
 ghost use Rattle.camac_check.specs.Gives.{Gives, by_code, verdict_of};
 
-use crate::context::Context;
+use crate::context::Place;
 use crate::cycle::{addresses_of, is_read, is_write};
 use crate::statement::Findings;
 use camac_branch::Plan;
@@ -21,46 +21,51 @@ use camac_check_transfers::{Window, has_sub_addresses, has_words, is_one_crate, 
 use camac_lang::Expr;
 use camac_range::Range;
 use camac_word::Function;
-use std::alloc::{AllocError, Global};
+use std::alloc::AllocError;
 
-/// Checks an address scan.
+/// A block transfer: its function, its register, the table that a write takes its words from, and the variable that counts its words.
+#[derive(Clone, Copy)]
+pub struct BlockTransfer {
+    pub f: Function,
+    pub register: usize,
+    pub table: Option<usize>,
+    pub tally: usize,
+}
+
+/// Checks an address scan between two registers.
 #[tactic(auto, unfolding(camac_check_rules::specs::Refusal::go_on))]
 pub fn scan(
-    alloc: Global,
-    context: &Context,
-    around: &Around,
+    place: &Place,
     line: u32,
     f: Function,
-    first: usize,
-    last: usize,
+    ends: (usize, usize),
     max: &Expr,
     tally: usize,
-    known: &Facts,
+    known: Facts,
 ) -> Result<Findings, CheckFault>
-    ensures { Gives verdict_of result (scan_rule (by_code context.now) around.now line f first last (expression_of max.now) tally known.now) }
+    ensures { Gives verdict_of result (scan_rule (by_code place.now.context.now) place.now.around.now line f ends.0 ends.1 (expression_of max.now) tally known) }
 {
     let most = range_of(line, max, known.ranges())?;
     required(
-        around.may_write(tally),
+        place.around.may_write(tally),
         CheckRule::LoopVariableAssigned,
         line,
     )?;
-    let g = addresses_of(known, first, line)?;
-    let h = addresses_of(known, last, line)?;
+    let g = addresses_of(&known, ends.0, line)?;
+    let h = addresses_of(&known, ends.1, line)?;
     required(is_one_crate(g, h), CheckRule::ScanCratesDiffer, line)?;
     required(
-        is_installed(context.plan, g, h),
+        is_installed(place.context.plan, g, h),
         CheckRule::StationNotInstalled,
         line,
     )?;
     required(
-        is_declared(context.plan, f, g, h),
+        is_declared(place.context.plan, f, g, h),
         CheckRule::CommandNotDeclared,
         line,
     )?;
     required(is_read(f), CheckRule::WrongDirection, line)?;
-    let found = scan_findings(alloc, context, around, g, h, most.hi(), tally, known)?;
-    Ok(found)
+    Ok(scan_findings(place, g, h, most.hi(), tally, known)?)
 }
 
 // Whether each station between two registers is installed.
@@ -79,23 +84,24 @@ fn is_declared(plan: &Plan, f: Function, g: Region, h: Region) -> bool
 
 // What a scan of at most so many words between two registers leaves and costs.
 fn scan_findings(
-    alloc: Global,
-    context: &Context,
-    around: &Around,
+    place: &Place,
     g: Region,
     h: Region,
     most: u32,
     tally: usize,
-    known: &Facts,
+    known: Facts,
 ) -> Result<Findings, AllocError>
-    ensures { IfOk result (λ f. verdict_of f ≡ scan_verdict (by_code context.now) around.now (window_of g h) most tally known.now) }
+    ensures { IfOk result (λ f. verdict_of f ≡ scan_verdict (by_code place.now.context.now) place.now.around.now (window_of g h) most tally known) }
 {
     let window = Window::between(g, h);
     let kept = window.kept(most);
-    let each = cycle_cost(context.plan, around, Range::only(window.crate_no()));
-    let copy = known.try_clone(alloc)?;
+    let each = cycle_cost(
+        place.context.plan,
+        place.around,
+        Range::only(window.crate_no()),
+    );
     Ok(Findings {
-        known: Some(copy.put_range(tally, between(0, kept))?),
+        known: Some(known.put_range(tally, between(0, kept))?),
         costs: Costs::of_transfer(window.cycles(most), each, u64::from(kept)),
     })
 }
@@ -103,64 +109,47 @@ fn scan_findings(
 /// Checks a block transfer up to the first Q=0.
 #[tactic(auto, unfolding(camac_check_rules::specs::Refusal::go_on))]
 pub fn q_stop(
-    alloc: Global,
-    context: &Context,
-    around: &Around,
+    place: &Place,
     line: u32,
-    f: Function,
-    register: usize,
-    table: Option<usize>,
+    transfer: BlockTransfer,
     max: &Expr,
-    tally: usize,
-    known: &Facts,
+    known: Facts,
 ) -> Result<Findings, CheckFault>
-    ensures { Gives verdict_of result (q_stop_rule (by_code context.now) around.now line f register table (expression_of max.now) tally known.now) }
+    ensures { Gives verdict_of result (q_stop_rule (by_code place.now.context.now) place.now.around.now line transfer.f transfer.register transfer.table (expression_of max.now) transfer.tally known) }
 {
     let most = range_of(line, max, known.ranges())?.hi();
-    let g = block_region(
-        context, around, line, f, register, table, most, tally, known,
-    )?;
-    Ok(block_findings(alloc, context, around, table, most, most, tally, g, known)?)
+    let g = block_region(place, line, transfer, most, &known)?;
+    Ok(block_findings(place, transfer, most, most, g, known)?)
 }
 
 /// Checks a block transfer that repeats cycles with Q=0.
 #[tactic(auto, unfolding(camac_check_rules::specs::Refusal::go_on))]
 pub fn q_repeat(
-    alloc: Global,
-    context: &Context,
-    around: &Around,
+    place: &Place,
     line: u32,
-    f: Function,
-    register: usize,
-    table: Option<usize>,
+    transfer: BlockTransfer,
     max: &Expr,
     limit: &Expr,
-    tally: usize,
-    known: &Facts,
+    known: Facts,
 ) -> Result<Findings, CheckFault>
-    ensures { Gives verdict_of result (q_repeat_rule (by_code context.now) around.now line f register table (expression_of max.now) (expression_of limit.now) tally known.now) }
+    ensures { Gives verdict_of result (q_repeat_rule (by_code place.now.context.now) place.now.around.now line transfer.f transfer.register transfer.table (expression_of max.now) (expression_of limit.now) transfer.tally known) }
 {
     let most = range_of(line, max, known.ranges())?.hi();
     let cycles = range_of(line, limit, known.ranges())?.hi();
-    let g = block_region(
-        context, around, line, f, register, table, most, tally, known,
-    )?;
+    let g = block_region(place, line, transfer, most, &known)?;
     let kept = most.min(cycles);
     Ok(block_findings(
-        alloc,
-        context,
-        around,
-        table,
-        repeat_cycles(most, cycles),
+        place,
+        transfer,
+        q_repeat_cycles(most, cycles),
         kept,
-        tally,
         g,
         known,
     )?)
 }
 
-fn repeat_cycles(most: u32, limit: u32) -> u32
-    ensures { result ≡ repeat_cycles most limit }
+fn q_repeat_cycles(most: u32, limit: u32) -> u32
+    ensures { result ≡ q_repeat_cycles most limit }
 {
     if most == 0 { 0 } else { limit }
 }
@@ -168,33 +157,34 @@ fn repeat_cycles(most: u32, limit: u32) -> u32
 // The addresses of a block transfer of at most so many words.
 #[tactic(auto, unfolding(camac_check_rules::specs::Refusal::go_on))]
 fn block_region(
-    context: &Context,
-    around: &Around,
+    place: &Place,
     line: u32,
-    f: Function,
-    register: usize,
-    table: Option<usize>,
+    transfer: BlockTransfer,
     most: u32,
-    tally: usize,
     known: &Facts,
 ) -> Result<Region, CheckFault>
-    ensures { Gives (λ g. g) result (block_region (by_code context.now) around.now line f register table most tally known.now) }
+    ensures { Gives (λ g. g) result (block_region (by_code place.now.context.now) place.now.around.now line transfer.f transfer.register transfer.table most transfer.tally known.now) }
 {
+    let tables = place.context.tables;
     required(
-        around.may_write(tally),
+        place.around.may_write(transfer.tally),
         CheckRule::LoopVariableAssigned,
         line,
     )?;
-    let g = addresses_of(known, register, line)?;
-    let widths = command_widths(context.plan, line, f, g)?;
-    required(is_block_class(table, f), CheckRule::WrongDirection, line)?;
+    let g = addresses_of(known, transfer.register, line)?;
+    let widths = command_widths(place.context.plan, line, transfer.f, g)?;
     required(
-        has_words(context.tables, table, most),
+        is_block_class(transfer.table, transfer.f),
+        CheckRule::WrongDirection,
+        line,
+    )?;
+    required(
+        has_words(tables, transfer.table, most),
         CheckRule::CountAboveTable,
         line,
     )?;
     required(
-        words_fit(context.tables, table, widths.lo()),
+        words_fit(tables, transfer.table, widths.lo()),
         CheckRule::ValueTooWide,
         line,
     )?;
@@ -213,23 +203,20 @@ fn is_block_class(table: Option<usize>, f: Function) -> bool
 
 // What a block transfer of at most so many cycles, that keeps at most so many words, leaves and costs.
 fn block_findings(
-    alloc: Global,
-    context: &Context,
-    around: &Around,
-    table: Option<usize>,
+    place: &Place,
+    transfer: BlockTransfer,
     cycles: u32,
     kept: u32,
-    tally: usize,
     g: Region,
-    known: &Facts,
+    known: Facts,
 ) -> Result<Findings, AllocError>
-    ensures { IfOk result (λ f. verdict_of f ≡ block_verdict (by_code context.now) around.now table cycles kept tally g known.now) }
+    ensures { IfOk result (λ f. verdict_of f ≡ block_verdict (by_code place.now.context.now) place.now.around.now transfer.table cycles kept transfer.tally g known) }
 {
-    let each = cycle_cost(context.plan, around, g.crates());
-    let copy = known.try_clone(alloc)?;
+    let each = cycle_cost(place.context.plan, place.around, g.crates());
+    let words = event_words(transfer.table, kept);
     Ok(Findings {
-        known: Some(copy.put_range(tally, between(0, kept))?),
-        costs: Costs::of_transfer(u64::from(cycles), each, event_words(table, kept)),
+        known: Some(known.put_range(transfer.tally, between(0, kept))?),
+        costs: Costs::of_transfer(u64::from(cycles), each, words),
     })
 }
 

@@ -25,22 +25,17 @@ pub struct Branches {
 /// is looked at where all earlier ones hold.
 #[cycle(split)]
 #[tactic(auto, unfolding(camac_check_rules::specs::Refusal::go_on))]
-pub fn split(
-    alloc: Global,
-    line: u32,
-    parts: &[Part],
-    known: &Facts,
-) -> Result<Branches, CheckFault>
-    ensures { Gives branches_of result (split line (map part_of parts.now) known.now) }
+pub fn split(alloc: Global, line: u32, parts: &[Part], known: Facts) -> Result<Branches, CheckFault>
+    ensures { Gives branches_of result (split line (map part_of parts.now) known) }
 {
     match parts {
         [] => Ok(Branches {
-            holds: Some(known.try_clone(alloc)?),
+            holds: Some(known),
             fails: None,
         }),
         [part, rest @ ..] => {
             let first = split_part(alloc, line, part, known)?;
-            let others = split_reached(alloc, line, rest, &first.holds)?;
+            let others = split_reached(alloc, line, rest, first.holds)?;
             Ok(Branches {
                 holds: others.holds,
                 fails: join(alloc, first.fails, others.fails)?,
@@ -56,9 +51,9 @@ fn split_reached(
     alloc: Global,
     line: u32,
     parts: &[Part],
-    known: &Option<Facts>,
+    known: Option<Facts>,
 ) -> Result<Branches, CheckFault>
-    ensures { Gives branches_of result (if_reached (branches None None) known.now (split line (map part_of parts.now))) }
+    ensures { Gives branches_of result (if_reached (branches None None) known (split line (map part_of parts.now))) }
 {
     match known {
         None => Ok(Branches {
@@ -70,8 +65,8 @@ fn split_reached(
 }
 
 #[tactic(auto, unfolding(camac_check_rules::specs::Refusal::go_on))]
-fn split_part(alloc: Global, line: u32, part: &Part, known: &Facts) -> Result<Branches, CheckFault>
-    ensures { Gives branches_of result (split_part line (part_of part.now) known.now) }
+fn split_part(alloc: Global, line: u32, part: &Part, known: Facts) -> Result<Branches, CheckFault>
+    ensures { Gives branches_of result (split_part line (part_of part.now) known) }
 {
     match part {
         Part::Plain(test) => split_test(alloc, line, test, known),
@@ -86,20 +81,24 @@ fn split_part(alloc: Global, line: u32, part: &Part, known: &Facts) -> Result<Br
 }
 
 #[tactic(auto, unfolding(camac_check_rules::specs::Refusal::go_on))]
-fn split_test(alloc: Global, line: u32, test: &Test, known: &Facts) -> Result<Branches, CheckFault>
-    ensures { Gives branches_of result (split_test line (test_of test.now) known.now) }
+fn split_test(alloc: Global, line: u32, test: &Test, known: Facts) -> Result<Branches, CheckFault>
+    ensures { Gives branches_of result (split_test line (test_of test.now) known) }
 {
     match test {
-        Test::Q | Test::X => Ok(Branches {
-            holds: Some(known.try_clone(alloc)?),
-            fails: Some(known.try_clone(alloc)?),
-        }),
+        Test::Q | Test::X => {
+            let other = known.try_clone(alloc)?;
+            Ok(Branches {
+                holds: Some(known),
+                fails: Some(other),
+            })
+        }
         Test::Compare(a, comparison, b) => {
             let r = range_of(line, a, known.ranges())?;
             let s = range_of(line, b, known.ranges())?;
+            let other = known.try_clone(alloc)?;
             Ok(Branches {
-                holds: assume(alloc, a, *comparison, b, r, s, known)?,
-                fails: assume(alloc, a, comparison.opposite(), b, r, s, known)?,
+                holds: assume(a, *comparison, b, r, s, known)?,
+                fails: assume(a, comparison.opposite(), b, r, s, other)?,
             })
         }
     }
@@ -107,15 +106,14 @@ fn split_test(alloc: Global, line: u32, test: &Test, known: &Facts) -> Result<Br
 
 // What is known where a comparison holds of expressions in these ranges.
 fn assume(
-    alloc: Global,
     a: &Expr,
     comparison: Cmp,
     b: &Expr,
     r: Range,
     s: Range,
-    known: &Facts,
+    known: Facts,
 ) -> Result<Option<Facts>, AllocError>
-    ensures { IfOk result (λ k. k ≡ assume (expression_of a.now) comparison (expression_of b.now) r s known.now) }
+    ensures { IfOk result (λ k. k ≡ assume (expression_of a.now) comparison (expression_of b.now) r s known) }
 {
     let Some(left) = narrow(comparison, r, s) else {
         return Ok(None);
@@ -123,26 +121,21 @@ fn assume(
     let Some(right) = narrow(comparison.turned(), s, r) else {
         return Ok(None);
     };
-    match refine(alloc, sole_variable(a), left, known)? {
+    match refine(sole_variable(a), left, known)? {
         None => Ok(None),
-        Some(refined) => refine(alloc, sole_variable(b), right, &refined),
+        Some(refined) => refine(sole_variable(b), right, refined),
     }
 }
 
 // What is known where a variable, if there is one, is in a range too.
-fn refine(
-    alloc: Global,
-    variable: Option<usize>,
-    range: Range,
-    known: &Facts,
-) -> Result<Option<Facts>, AllocError>
-    ensures { IfOk result (λ k. k ≡ refine variable range known.now) }
+fn refine(variable: Option<usize>, range: Range, known: Facts) -> Result<Option<Facts>, AllocError>
+    ensures { IfOk result (λ k. k ≡ refine variable range known) }
 {
     match variable {
-        None => Ok(Some(known.try_clone(alloc)?)),
+        None => Ok(Some(known)),
         Some(x) => match range_in(known.ranges(), x).meet(range) {
             None => Ok(None),
-            Some(left) => Ok(Some(known.with_range(alloc, x, left)?)),
+            Some(left) => Ok(Some(known.put_range(x, left)?)),
         },
     }
 }

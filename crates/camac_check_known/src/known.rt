@@ -141,40 +141,6 @@ impl Facts {
         })
     }
 
-    /// A copy in which a variable has another range.
-    pub fn with_range(
-        &self,
-        alloc: Global,
-        variable: usize,
-        range: Range,
-    ) -> Result<Self, AllocError>
-        ensures { IfOk result (λ k. k ≡ with_range variable range self.now) }
-    {
-        let mut ranges = Vec::from_slice(alloc, &self.ranges)?;
-        set_range(&mut ranges, variable, range)?;
-        Ok(Facts {
-            ranges,
-            registers: Vec::from_slice(alloc, &self.registers)?,
-        })
-    }
-
-    /// A copy in which a register holds other addresses.
-    pub fn with_register(
-        &self,
-        alloc: Global,
-        register: usize,
-        region: Region,
-    ) -> Result<Self, AllocError>
-        ensures { IfOk result (λ k. k ≡ with_region register region self.now) }
-    {
-        let mut registers = Vec::from_slice(alloc, &self.registers)?;
-        set_register(&mut registers, register, Some(region))?;
-        Ok(Facts {
-            ranges: Vec::from_slice(alloc, &self.ranges)?,
-            registers,
-        })
-    }
-
     /// The same, but for the range of a variable.
     pub fn put_range(self, variable: usize, range: Range) -> Result<Self, AllocError>
         ensures { IfOk result (λ k. k ≡ with_range variable range self) }
@@ -184,20 +150,27 @@ impl Facts {
         Ok(facts)
     }
 
-    /// The same with any number in a variable.
-    pub fn forget_variable(self, variable: usize) -> Result<Self, AllocError>
-        ensures { IfOk result (λ k. k ≡ forget_variable variable self) }
-    {
-        self.put_range(variable, between(0, u32::MAX))
-    }
-
-    /// The same, but that a register may be unset.
-    pub fn forget_register(self, register: usize) -> Result<Self, AllocError>
-        ensures { IfOk result (λ k. k ≡ forget_register register self) }
+    /// The same, but for the addresses of a register.
+    pub fn put_region(self, register: usize, region: Region) -> Result<Self, AllocError>
+        ensures { IfOk result (λ k. k ≡ with_region register region self) }
     {
         let mut facts = self;
-        set_register(&mut facts.registers, register, None)?;
+        set_register(&mut facts.registers, register, Some(region))?;
         Ok(facts)
+    }
+
+    /// Leaves any number in a variable. All else stays.
+    pub fn forget_variable(&mut self, variable: usize) -> Result<(), AllocError>
+        ensures { OnOk result (self.new ≡ forget_variable variable self.old) }
+    {
+        set_range(&mut self.ranges, variable, between(0, u32::MAX))
+    }
+
+    /// From here on a register may be unset. All else stays.
+    pub fn forget_register(&mut self, register: usize) -> Result<(), AllocError>
+        ensures { OnOk result (self.new ≡ forget_register register self.old) }
+    {
+        set_register(&mut self.registers, register, None)
     }
 }
 

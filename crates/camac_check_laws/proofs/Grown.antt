@@ -3,7 +3,7 @@ use Rattle.std.proofs.Common.{◌≡◌, ℕ, zero, suc, List, [], ◌∷◌, ma
 use Rattle.std.specs.Prelude.{slice_get, take, unwrap_or}
 use Rattle.camac_lang.specs.declared.word.WordSize.{WordSize}
 use Rattle.camac_lang.specs.Headings.{annotate}
-use Rattle.camac_lang.specs.Tree.{Move, no_data, into, from, Statement, assign, set_register, single, address_scan, q_stop, q_repeat, put, crate_call, lam_call, choose, choose_else, count, repeat, locked, call, Block, done, next, Procedure, Script}
+use Rattle.camac_lang.specs.Tree.{Move, no_data, into, from, Statement, assign, set_register, single, address_scan, q_stop, q_repeat, put, crate_call, lam_call, choose, choose_else, for_, while_, locked, call, Block, done, next, Procedure, Script}
 use Rattle.camac_range.specs.Interval.{Interval}
 use Rattle.camac_branch.specs.Plan.{crate_waits}
 use Rattle.camac_model.specs.Fine.{annotated}
@@ -100,12 +100,12 @@ mutual
       go_grown (if_reached unreached ways.fails (accept_block (calling c ps) around b)) (if_reached unreached ways.fails (accept_block (calling c qs) around b)) _ _
       (if_reached_grown ways.fails (accept_block (calling c ps) around b) (accept_block (calling c qs) around b) (λ q. block_lower c ps qs h around b q))
       (λ after' x' y' second. (refl, choice_grown x y x' y' first second))))
-  statement_lower c ps qs h around (count line x e1 e2 keeps body) k =
+  statement_lower c ps qs h around (for_ line x e1 e2 keeps body) k =
       go_same (for_limits around line x e1 e2 keeps k) _ _ (λ l.
       go_grown (if_reached unreached (for_head x l keeps body k) (accept_block (calling c ps) (with_fixed x around) body)) (if_reached unreached (for_head x l keeps body k) (accept_block (calling c qs) (with_fixed x around) body)) _ _
       (if_reached_grown (for_head x l keeps body k) (accept_block (calling c ps) (with_fixed x around) body) (accept_block (calling c qs) (with_fixed x around) body) (λ q. block_lower c ps qs h (with_fixed x around) body q))
       (λ after a b turn. go_same (required (keeps_hold_after keeps after) KeepFailsAfterTurn line) _ _ (λ _. (refl, loop_grown (turns_between l) a b turn))))
-  statement_lower c ps qs h around (repeat line test most m keeps body) k =
+  statement_lower c ps qs h around (while_ line test most m keeps body) k =
       go_same (while_head line most m keeps body k) _ _ (λ top.
       go_same (split line test top) _ _ (λ arms.
       go_grown (if_reached unreached arms.holds (accept_block (calling c ps) around body)) (if_reached unreached arms.holds (accept_block (calling c qs) around body)) _ _

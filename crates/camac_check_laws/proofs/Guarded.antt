@@ -2,14 +2,14 @@
 use Rattle.std.proofs.Common.{◌≡◌, ◌≢◌, ℕ, zero, suc, ◌+◌, ◌-◌, List, [], ◌∷◌, ◌++◌, Option, Some, None, Bool, true, false, refl, ap, ◌∙◌}
 use Rattle.std.specs.Prelude.{slice_get}
 use Rattle.camac_crate.specs.Lock.{permitted}
-use Rattle.camac_lang.specs.Tree.{Condition, Parameter, Procedure, Statement, assign, set_register, single, address_scan, q_stop, q_repeat, put, crate_call, lam_call, choose, choose_else, count, repeat, locked, call, Block, done, next, Script}
+use Rattle.camac_lang.specs.Tree.{Condition, Parameter, Procedure, Statement, assign, set_register, single, address_scan, q_stop, q_repeat, put, crate_call, lam_call, choose, choose_else, for_, while_, locked, call, Block, done, next, Script}
 use Rattle.camac_branch.specs.Branch.{Answer}
 use Rattle.camac_branch.specs.Plan.{Layout, crate_waits}
 use Rattle.camac_model.specs.State.{State, stepped}
 use Rattle.camac_model.specs.Behaviour.{lock_taken, Behaviour, does, ends, stops, wrong, stop_of, Action, then_do, given, decide, unless_wrong}
 use Rattle.camac_model.specs.Value.{value, values, truth}
 use Rattle.camac_model.specs.Cycle.{if_permitted, next_answer, after_lock, take_lock, release}
-use Rattle.camac_model.specs.Meaning.{Context, counted, count_turns, count_from, turns, entered, returned, enter, effect, block_meaning, bare, context, routines_with}
+use Rattle.camac_model.specs.Meaning.{Context, counted, for_turns, for_from, turns, entered, returned, enter, effect, block_meaning, bare, context, routines_with}
 use Rattle.camac_check_laws.specs.Calls.{guarded, begins_in_ranges, guarded_routines, guarded_context, GuardsOnlyStop}
 
 abbrev pub IsRight : {A : Type 0} → Behaviour A → Type 0
@@ -44,14 +44,14 @@ decide_same None a a' b b' s h g = λ r. refl
 decide_same (Some true) a a' b b' s h g = h
 decide_same (Some false) a a' b b' s h g = g
 
-counts_same : (k n x v last : ℕ) (body body' : Action) → SameAction body body' → SameAction (count_turns k n x v last body) (count_turns k n x v last body')
+counts_same : (k n x v last : ℕ) (body body' : Action) → SameAction body body' → SameAction (for_turns k n x v last body) (for_turns k n x v last body')
 counts_same zero n x v last body body' h s = λ r. refl
 counts_same (suc k) zero x v last body body' h s = λ r. refl
 counts_same (suc k) (suc n) x v last body body' h s =
-    then_same (body (counted x v s)) (body' (counted x v s)) (count_turns k n x (v + 1) last body) (count_turns k n x (v + 1) last body') (h (counted x v s))
+    then_same (body (counted x v s)) (body' (counted x v s)) (for_turns k n x (v + 1) last body) (for_turns k n x (v + 1) last body') (h (counted x v s))
     (counts_same k n x (v + 1) last body body' h)
 
-count_same : (k n x v last : ℕ) (body body' : Action) → SameAction body body' → SameAction (count_from k n x v last body) (count_from k n x v last body')
+count_same : (k n x v last : ℕ) (body body' : Action) → SameAction body body' → SameAction (for_from k n x v last body) (for_from k n x v last body')
 count_same zero n x v last body body' h s = λ r. refl
 count_same (suc k) n x v last body body' h s = counts_same (suc k) n x v last body body' h s
 
@@ -135,13 +135,13 @@ module _ (c : Context) (fs gs : List (ℕ → Action)) (alike : Alike fs gs) (n 
         decide_same (truth test s.variables s.q s.x) (block_meaning (calling c fs) n a) (block_meaning (calling c gs) n a) ends ends s (block_same a s) (λ r. refl)
     statement_same (choose_else line test a b) s =
         decide_same (truth test s.variables s.q s.x) (block_meaning (calling c fs) n a) (block_meaning (calling c gs) n a) (block_meaning (calling c fs) n b) (block_meaning (calling c gs) n b) s (block_same a s) (block_same b s)
-    statement_same (count line x e1 e2 keeps body) s =
-        let turn : List (ℕ → Action) → ℕ → ℕ → Action = λ hs v w. count_from (w + 1 - v) n x v w (block_meaning (calling c hs) n body) in
+    statement_same (for_ line x e1 e2 keeps body) s =
+        let turn : List (ℕ → Action) → ℕ → ℕ → Action = λ hs v w. for_from (w + 1 - v) n x v w (block_meaning (calling c hs) n body) in
         let last : List (ℕ → Action) → ℕ → Action = λ hs v. given (value e2 s.variables) (turn hs v) in
         given_same (value e1 s.variables) (last fs) (last gs) s (λ v.
         given_same (value e2 s.variables) (turn fs v) (turn gs v) s (λ w.
         count_same (w + 1 - v) n x v w (block_meaning (calling c fs) n body) (block_meaning (calling c gs) n body) (λ t. block_same body t) s))
-    statement_same (repeat line test most m keeps body) s =
+    statement_same (while_ line test most m keeps body) s =
         turns_same n test (block_meaning (calling c fs) n body) (block_meaning (calling c gs) n body) (λ t. block_same body t) s
     statement_same (locked line e body) s =
         let held : List (ℕ → Action) → ℕ → Action = λ hs d u. then_do (block_meaning (calling c hs) n body u) (release d) in

@@ -17,7 +17,7 @@ use Rattle.camac_check_rules.specs.Laws.{EventsFit}
 use Rattle.camac_check_rules.specs.Procedures.{at_entry}
 use Rattle.camac_check_rules.specs.Statements.{accept_block}
 use Rattle.camac_check_rules.specs.Accept.{at_start, within, accept_procedure, accept_service, with_procedure, accept_items, bare, accept}
-use Rattle.camac_check.specs.Checked.{CheckedScript}
+use Rattle.camac_check_result.specs.Checked.{CheckedScript}
 use Rattle.camac_check.specs.Least.{Finds, Headed, and_then, checked, event_fits, least, least_items, least_unannotated, linked, most, needing, procedure_first, procedure_needs, service_first, service_needing, service_needs}
 use Rattle.camac_check.specs.declared.fault.LeastFault.{LeastFault}
 use Rattle.camac_check.specs.declared.fault.LeastFault.TheVariants.{OutOfMemory, Link, Check}

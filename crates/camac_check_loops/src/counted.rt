@@ -39,45 +39,41 @@ impl Limits {
         (u64::from(self.last.hi()) + 1).saturating_sub(u64::from(self.first.lo()))
     }
 
-    /// What is known where the body begins, if there may be a turn.
-    pub fn head(
+    /// What is known in the loop and after it, from what is known before it. Without a turn all stays.
+    pub fn facts(
         self,
         alloc: Global,
         variable: usize,
         keeps: &[Keep],
         body: &[Stmt],
-        known: &Facts,
-    ) -> Result<Option<Facts>, AllocError>
+        known: Facts,
+    ) -> Result<LoopFacts, AllocError>
         requires { IsTrue (are_ordered (map keep_of keeps.now)) }
-        ensures { IfOk result (λ h. h ≡ for_head variable self (map keep_of keeps.now) (statements_of body.now) known.now) }
+        ensures head { IfOk result (λ p. p.head ≡ for_head variable self (map keep_of keeps.now) (statements_of body.now) known) }
+        ensures after { IfOk result (λ p. Some p.after ≡ for_after variable self (map keep_of keeps.now) (statements_of body.now) known) }
     {
         if self.last.hi() < self.first.lo() {
-            return Ok(None);
+            return Ok(LoopFacts {
+                head: None,
+                after: known,
+            });
         }
-        let top = head(alloc, body, keeps, known)?;
         let values = between(self.first.lo(), self.last.hi());
-        Ok(Some(top.put_range(variable, values)?))
+        let left = range_in(known.ranges(), variable).hull(values);
+        let top = head(body, keeps, known)?;
+        let copy = top.try_clone(alloc)?;
+        Ok(LoopFacts {
+            head: Some(copy.put_range(variable, values)?),
+            after: top.put_range(variable, left)?,
+        })
     }
+}
 
-    /// What is known after the loop. Without a turn all stays.
-    pub fn after(
-        self,
-        alloc: Global,
-        variable: usize,
-        keeps: &[Keep],
-        body: &[Stmt],
-        known: &Facts,
-    ) -> Result<Facts, AllocError>
-        requires { IsTrue (are_ordered (map keep_of keeps.now)) }
-        ensures { IfOk result (λ k. Some k ≡ for_after variable self (map keep_of keeps.now) (statements_of body.now) known.now) }
-    {
-        if self.last.hi() < self.first.lo() {
-            return known.try_clone(alloc);
-        }
-        let top = head(alloc, body, keeps, known)?;
-        let values = between(self.first.lo(), self.last.hi());
-        top.put_range(variable, range_in(known.ranges(), variable).hull(values))
-    }
+/// What is known where the body of a `for` begins, if there may be a turn, and after the loop.
+#[derive(Drop)]
+pub struct LoopFacts {
+    pub head: Option<Facts>,
+    pub after: Facts,
 }
 
 /// The values of a `for` that may begin. E4, E17, E10 and E8, in this order.

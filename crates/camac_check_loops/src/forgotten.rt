@@ -1,6 +1,6 @@
 // What is forgotten at the head of a loop: the ranges of what its body writes, and the registers that it sets.
 
-ghost use Rattle.std.specs.Prelude.{◌≡◌, IfOk};
+ghost use Rattle.std.specs.Prelude.{◌≡◌, OnOk};
 ghost use Rattle.camac_lang.specs.View.{move_of, statement_of, statements_of};
 ghost use Rattle.camac_check_rules.specs.Writes.{forget, forget_block, forget_move};
 
@@ -8,21 +8,20 @@ use camac_check_known::Facts;
 use camac_lang::{Move, Stmt};
 use std::alloc::AllocError;
 
-/// What is known with any number in each variable that a block writes, and where each register that it sets may be unset.
+/// Leaves any number in each variable that a block writes, and each register that it sets may be unset from here on.
 #[cycle(forget)]
-pub fn forget_block(known: Facts, block: &[Stmt]) -> Result<Facts, AllocError>
-    ensures { IfOk result (λ k. k ≡ forget_block (statements_of block.now) known) }
+pub fn forget_block(known: &mut Facts, block: &[Stmt]) -> Result<(), AllocError>
+    ensures { OnOk result (known.new ≡ forget_block (statements_of block.now) known.old) }
 {
-    let mut left = known;
     'statements: for statement in block {
-        left = forget(left, statement)?;
+        forget(known, statement)?;
     }
-    Ok(left)
+    Ok(())
 }
 
 #[cycle(forget)]
-fn forget(known: Facts, statement: &Stmt) -> Result<Facts, AllocError>
-    ensures { IfOk result (λ k. k ≡ forget (statement_of statement.now) known) }
+fn forget(known: &mut Facts, statement: &Stmt) -> Result<(), AllocError>
+    ensures { OnOk result (known.new ≡ forget (statement_of statement.now) known.old) }
 {
     match statement {
         Stmt::Assign { variable, .. } => known.forget_variable(*variable),
@@ -31,30 +30,30 @@ fn forget(known: Facts, statement: &Stmt) -> Result<Facts, AllocError>
         Stmt::Scan { tally, .. } | Stmt::QStop { tally, .. } | Stmt::QRepeat { tally, .. } => {
             known.forget_variable(*tally)
         }
-        Stmt::Put { .. } | Stmt::CrateCall { .. } | Stmt::LamCall { .. } => Ok(known),
+        Stmt::Put { .. } | Stmt::CrateCall { .. } | Stmt::LamCall { .. } => Ok(()),
         Stmt::If { then, .. } => forget_block(known, then),
         Stmt::IfElse {
             then,
             otherwise,
             ..
         } => {
-            let first = forget_block(known, then)?;
-            forget_block(first, otherwise)
+            forget_block(known, then)?;
+            forget_block(known, otherwise)
         }
         Stmt::For { variable, body, .. } => {
-            let inner = forget_block(known, body)?;
-            inner.forget_variable(*variable)
+            forget_block(known, body)?;
+            known.forget_variable(*variable)
         }
         Stmt::While { body, .. } | Stmt::Lock { body, .. } => forget_block(known, body),
-        Stmt::Call { .. } => Ok(known),
+        Stmt::Call { .. } => Ok(()),
     }
 }
 
-fn forget_move(known: Facts, moved: &Move) -> Result<Facts, AllocError>
-    ensures { IfOk result (λ k. k ≡ forget_move (move_of moved.now) known) }
+fn forget_move(known: &mut Facts, moved: &Move) -> Result<(), AllocError>
+    ensures { OnOk result (known.new ≡ forget_move (move_of moved.now) known.old) }
 {
     match moved {
         Move::Into(variable) => known.forget_variable(*variable),
-        Move::NoData | Move::From(_) => Ok(known),
+        Move::NoData | Move::From(_) => Ok(()),
     }
 }

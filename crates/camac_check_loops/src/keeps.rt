@@ -14,7 +14,7 @@ use camac_check_known::{CheckFault, Facts, between, range_in, required};
 use camac_check_rules::CheckRule;
 use camac_lang::{Keep, Stmt};
 use camac_range::Range;
-use std::alloc::{AllocError, Global};
+use std::alloc::AllocError;
 
 /// E8 on this line, unless each kept variable is in its range, which then has a number.
 #[tactic(auto, unfolding(camac_check_rules::specs::Refusal::required))]
@@ -74,16 +74,12 @@ fn keeps_hold_after(keeps: &[Keep], known: &Option<Facts>) -> bool
 }
 
 /// What is known where each turn of a body begins.
-pub fn head(
-    alloc: Global,
-    body: &[Stmt],
-    keeps: &[Keep],
-    known: &Facts,
-) -> Result<Facts, AllocError>
+pub fn head(body: &[Stmt], keeps: &[Keep], known: Facts) -> Result<Facts, AllocError>
     requires { IsTrue (are_ordered (map keep_of keeps.now)) }
-    ensures { IfOk result (λ h. h ≡ head (statements_of body.now) (map keep_of keeps.now) known.now) }
+    ensures { IfOk result (λ h. h ≡ head (statements_of body.now) (map keep_of keeps.now) known) }
 {
-    let left = forget_block(known.try_clone(alloc)?, body)?;
+    let mut left = known;
+    forget_block(&mut left, body)?;
     with_keeps(left, keeps)
 }
 

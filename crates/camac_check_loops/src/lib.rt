@@ -7,6 +7,6 @@ mod keeps;
 mod repeated;
 mod written;
 
-pub use counted::{Limits, for_limits};
+pub use counted::{Limits, LoopFacts, for_limits};
 pub use keeps::keeps_after;
 pub use repeated::{turn_bound, while_head};

@@ -13,20 +13,18 @@ use crate::written::fall_of;
 use camac_check_known::{CheckFault, Facts, between, range_in, required};
 use camac_check_rules::CheckRule;
 use camac_lang::{Keep, Stmt};
-use std::alloc::Global;
 
 /// What is known at the head of a `while` of at most so many turns that may begin. E7, E10 and E8, in this order.
 #[tactic(auto, unfolding(camac_check_rules::specs::Refusal::go_on))]
 pub fn while_head(
-    alloc: Global,
     line: u32,
     most: u32,
     measure: usize,
     keeps: &[Keep],
     body: &[Stmt],
-    known: &Facts,
+    known: Facts,
 ) -> Result<Facts, CheckFault>
-    ensures { Gives (λ k. k) result (while_head line most measure (map keep_of keeps.now) (statements_of body.now) known.now) }
+    ensures { Gives (λ k. k) result (while_head line most measure (map keep_of keeps.now) (statements_of body.now) known) }
 {
     let fall = fall_at(measure, body, line)?;
     let greatest = range_in(known.ranges(), measure).hi();
@@ -35,8 +33,8 @@ pub fn while_head(
         CheckRule::TooManyTurns,
         line,
     )?;
-    keeps_at_entry(keeps, known, line)?;
-    let top = head(alloc, body, keeps, known)?;
+    keeps_at_entry(keeps, &known, line)?;
+    let top = head(body, keeps, known)?;
     Ok(top.put_range(measure, between(0, greatest))?)
 }
 

@@ -10,7 +10,7 @@ use Rattle.camac_range.specs.Interval.{Interval}
 use Rattle.camac_func.specs.Class.{class_of}
 use Rattle.camac_func.specs.declared.data.DataMove.TheVariants as moved
 use Rattle.camac_branch.specs.Address.{Address}
-use Rattle.camac_esone.specs.Transfers.{tally, stop_wanted, repeat_wanted}
+use Rattle.camac_esone.specs.Transfers.{tally, q_stop_wanted, q_repeat_wanted}
 use Rattle.camac_esone.proofs.Parts.{tally_more, tally_most}
 use Rattle.camac_esone.proofs.StopLists as stop
 use Rattle.camac_esone.proofs.RepeatLists as repeats
@@ -21,7 +21,7 @@ use Rattle.camac_model.specs.Meaning.{transfer_to, sent, effect}
 use Rattle.camac_check_rules.specs.Known.{Region, region_at, Facts}
 use Rattle.camac_check_rules.specs.Costs.{Verdict}
 use Rattle.camac_check_rules.specs.Cycles.{may_write, same_class}
-use Rattle.camac_check_rules.specs.Transfers.{block_class, reaches_to, has_words, words_fit, event_words, block_region, block_verdict, q_stop_rule, repeat_cycles, q_repeat_rule}
+use Rattle.camac_check_rules.specs.Transfers.{block_class, reaches_to, has_words, words_fit, event_words, block_region, block_verdict, q_stop_rule, q_repeat_cycles, q_repeat_rule}
 use Rattle.camac_check_rules.proofs.Allows.{Allows, allowed, then_allowed, required_allowed, given_allowed}
 use Rattle.camac_check_rules.proofs.Stores.{Place, around_of, InRegion}
 use Rattle.camac_check_rules.proofs.Values.{range_each}
@@ -111,7 +111,7 @@ module _ (c : Setting) (narrow : HasWidths c.plan) (around : Place) (f r : ℕ) 
   abbrev Stops : ℕ → List Bool → Type 0
   Stops m qs = length qs ≤ m
 
-  stop_bounded : (at : Address) (m : ℕ) → InRegion g at → m ≤ most → m ≤ greatest → IsBounded c.plan f data'.table (stop_wanted at m) g.crates most most (event_words t most) (Stops m)
+  stop_bounded : (at : Address) (m : ℕ) → InRegion g at → m ≤ most → m ≤ greatest → IsBounded c.plan f data'.table (q_stop_wanted at m) g.crates most most (event_words t most) (Stops m)
   stop_bounded at m inside le small = record {
     first = omega arith;
     each = λ qs to j e.
@@ -129,18 +129,18 @@ module _ (c : Setting) (narrow : HasWidths c.plan) (around : Place) (f r : ℕ) 
     words : tally qs ≤ m
     cycles : length qs ≤ l
 
-  some_cycles : (n limit : ℕ) → 0 < n → repeat_cycles n limit ≡ limit
+  some_cycles : (n limit : ℕ) → 0 < n → q_repeat_cycles n limit ≡ limit
   some_cycles n limit pos = cond_both (nat_eq n 0) 0 limit (λ z. z ≡ limit) (λ e. absurd (let none = eqb-true n 0 e in omega arith)) (λ e. refl)
 
-  repeat_bounded : (at : Address) (m l limit : ℕ) → InRegion g at → m ≤ most → m ≤ greatest → l ≤ limit → IsBounded c.plan f data'.table (repeat_wanted at m l) g.crates (repeat_cycles most limit) (min most limit) (event_words t (min most limit)) (Repeats m l)
+  repeat_bounded : (at : Address) (m l limit : ℕ) → InRegion g at → m ≤ most → m ≤ greatest → l ≤ limit → IsBounded c.plan f data'.table (q_repeat_wanted at m l) g.crates (q_repeat_cycles most limit) (min most limit) (event_words t (min most limit)) (Repeats m l)
   repeat_bounded at m l limit inside le small le' = record {
     first = record { words = omega arith; cycles = omega arith };
     each = λ qs to j e.
         let h = repeats.wanted_goes_on at to m l qs e in
         let fewer : tally qs < m = h.0.fewer in
         let room : length qs < l = h.0.room in
-        let all : repeat_cycles most limit ≡ limit = some_cycles most limit (omega arith) in
-        goes_on (repeat_cycles most limit) (Repeats m l) qs to (subst (InRegion g) (sym h.1) inside) (omega arith) (omega arith)
+        let all : q_repeat_cycles most limit ≡ limit = some_cycles most limit (omega arith) in
+        goes_on (q_repeat_cycles most limit) (Repeats m l) qs to (subst (InRegion g) (sym h.1) inside) (omega arith) (omega arith)
         (λ q. let long : length (qs ++ q ∷ []) ≡ length qs + 1 = length-append qs (q ∷ []) in
         let more = tally_more qs q in
         record { words = omega arith; cycles = omega arith });
@@ -160,11 +160,11 @@ stop_sound c narrow around line f r t e x k =
           let table = data' c narrow around f r t most.hi x k g may in
           let a = address_of (region_at k.registers r) (s.registers r) g may.set (i.registers r) in
           let m = value_of (value e s.variables) most (gives s.variables i.variables) in
-          let go : Address → ℕ → Action = λ at n. transfer_to c.plan f table.table (stop_wanted at n) x in
-          with_given c.plan around v.after v.costs s (stepped s) (sent (of c) t) (λ o. given (s.registers r) (λ at. given (value e s.variables) (λ n. transfer_to c.plan f o (stop_wanted at n) x))) table.table table.is
+          let go : Address → ℕ → Action = λ at n. transfer_to c.plan f table.table (q_stop_wanted at n) x in
+          with_given c.plan around v.after v.costs s (stepped s) (sent (of c) t) (λ o. given (s.registers r) (λ at. given (value e s.variables) (λ n. transfer_to c.plan f o (q_stop_wanted at n) x))) table.table table.is
           (with_given c.plan around v.after v.costs s (stepped s) (s.registers r) (λ at. given (value e s.variables) (go at)) a.at a.is
           (with_given c.plan around v.after v.costs s (stepped s) (value e s.variables) (go a.at) m.number m.is
-          (transfer_sound c.plan narrow around k f table.table (stop_wanted a.at m.number) x g.crates most.hi most.hi (event_words t most.hi) (Stops c narrow around f r t most.hi x k g may m.number)
+          (transfer_sound c.plan narrow around k f table.table (q_stop_wanted a.at m.number) x g.crates most.hi most.hi (event_words t most.hi) (Stops c narrow around f r t most.hi x k g may m.number)
           (stop_bounded c narrow around f r t most.hi x k g may a.at m.number a.inside m.fits.within.high m.fits.small) may.may s i)));
     })))
 
@@ -174,18 +174,18 @@ repeat_sound c narrow around line f r t e1 e2 x k =
     then_allowed (range_each line e2 k.ranges) (λ limit gives_l.
     then_allowed (region_allowed c around line f r t most.hi x k) (λ g may. allowed (record {
       each = λ n le s i.
-          let cycles : ℕ = repeat_cycles most.hi limit.hi in
+          let cycles : ℕ = q_repeat_cycles most.hi limit.hi in
           let kept : ℕ = min most.hi limit.hi in
           let v : Verdict = block_verdict (seen c) (around_of around) t cycles kept x g k in
           let table = data' c narrow around f r t most.hi x k g may in
           let a = address_of (region_at k.registers r) (s.registers r) g may.set (i.registers r) in
           let m = value_of (value e1 s.variables) most (gives_m s.variables i.variables) in
           let l = value_of (value e2 s.variables) limit (gives_l s.variables i.variables) in
-          let go : Address → ℕ → ℕ → Action = λ at n o. transfer_to c.plan f table.table (repeat_wanted at n o) x in
-          with_given c.plan around v.after v.costs s (stepped s) (sent (of c) t) (λ o. given (s.registers r) (λ at. given (value e1 s.variables) (λ n. given (value e2 s.variables) (λ p. transfer_to c.plan f o (repeat_wanted at n p) x)))) table.table table.is
+          let go : Address → ℕ → ℕ → Action = λ at n o. transfer_to c.plan f table.table (q_repeat_wanted at n o) x in
+          with_given c.plan around v.after v.costs s (stepped s) (sent (of c) t) (λ o. given (s.registers r) (λ at. given (value e1 s.variables) (λ n. given (value e2 s.variables) (λ p. transfer_to c.plan f o (q_repeat_wanted at n p) x)))) table.table table.is
           (with_given c.plan around v.after v.costs s (stepped s) (s.registers r) (λ at. given (value e1 s.variables) (λ n. given (value e2 s.variables) (go at n))) a.at a.is
           (with_given c.plan around v.after v.costs s (stepped s) (value e1 s.variables) (λ n. given (value e2 s.variables) (go a.at n)) m.number m.is
           (with_given c.plan around v.after v.costs s (stepped s) (value e2 s.variables) (go a.at m.number) l.number l.is
-          (transfer_sound c.plan narrow around k f table.table (repeat_wanted a.at m.number l.number) x g.crates cycles kept (event_words t kept) (Repeats c narrow around f r t most.hi x k g may m.number l.number)
+          (transfer_sound c.plan narrow around k f table.table (q_repeat_wanted a.at m.number l.number) x g.crates cycles kept (event_words t kept) (Repeats c narrow around f r t most.hi x k g may m.number l.number)
           (repeat_bounded c narrow around f r t most.hi x k g may a.at m.number l.number limit.hi a.inside m.fits.within.high m.fits.small l.fits.within.high) may.may s i))));
     }))))

@@ -2,7 +2,7 @@
 use Rattle.std.proofs.Common.{◌≡◌, ℕ, zero, suc, ◌+◌, ◌-◌, ◌<◌, ◌≤◌, Bool, true, false, List, Some, None, refl, ◌∙◌, subst, arith}
 use Rattle.std.specs.Prelude.{◌||◌, nat_eq, nat_lt, if◌then◌else◌}
 use Rattle.std.proofs.lemmas.Bool.{leb-true, ltb-true, or_right, or_parts}
-use Rattle.camac_lang.specs.Tree.{Expression, Keep, Block, count}
+use Rattle.camac_lang.specs.Tree.{Expression, Keep, Block, for_}
 use Rattle.camac_range.specs.Number.{greatest}
 use Rattle.camac_range.specs.Interval.{IsWithin, hull}
 use Rattle.camac_range.proofs.Within.{hull_left, hull_right}
@@ -10,7 +10,7 @@ use Rattle.camac_branch.specs.Plan.{Layout}
 use Rattle.camac_model.specs.State.{State, stepped, with_variable}
 use Rattle.camac_model.specs.Behaviour.{Action, given}
 use Rattle.camac_model.specs.Value.{value}
-use Rattle.camac_model.specs.Meaning.{counted, count_from, effect, block_meaning}
+use Rattle.camac_model.specs.Meaning.{counted, for_from, effect, block_meaning}
 use Rattle.camac_model.specs.Fine.{Bounds}
 use Rattle.camac_model.proofs.Rules.{counts_meet_within}
 use Rattle.camac_check_rules.specs.Known.{Facts, Known, range_at, with_range}
@@ -108,7 +108,7 @@ module _ (plan : Layout) (around : Place) (x : ℕ) (body : Block) (qs : List Ke
           untouched = λ y among. e.untouched y (or_right (nat_eq y x) (is_among y around.fixed) among) ∙ (written_other around x next t.variables h.may y among ∙ g.untouched y among);
         }
 
-    counting : (m n : ℕ) → m ≡ w + 1 - v → m ≤ n → Between around Written body qs s (stepped s) → Sound plan around (After x body qs k l) Costs s (count_from m n x v w run (stepped s))
+    counting : (m n : ℕ) → m ≡ w + 1 - v → m ≤ n → Between around Written body qs s (stepped s) → Sound plan around (After x body qs k l) Costs s (for_from m n x v w run (stepped s))
     counting zero n is le b = record {
       reaches = inside_narrowed around (head body qs k) (stepped s) x (hull (range_at k.ranges x) (values_between l))
           (inside_head around body qs k s (stepped s) i (record { same = record { variables = λ y e. refl; registers = λ r e. refl }; small = b.small; locks = b.locks; kept = b.kept }))
@@ -147,15 +147,15 @@ module _ (plan : Layout) (around : Place) (x : ℕ) (body : Block) (qs : List Ke
 -- a `for`, with and without a turn that can be
 module _ (c : Setting) (around : Place) (line x : ℕ) (e1 e2 : Expression) (qs : List Keep) (body : Block) (k : Facts) (l : Limits) (turn : Verdict) (m : MayCount around x e1 e2 qs k l) (keep : keeps_hold_after qs turn.after ≡ true) where
   abbrev Run : ℕ → Action
-  Run n s = effect (of c) n (count line x e1 e2 qs body) (stepped s)
+  Run n s = effect (of c) n (for_ line x e1 e2 qs body) (stepped s)
 
   -- the values of the limits, and all turns by them
-  valued : (n : ℕ) (after : Known) (s : State) → Inside around k s → ((v w : ℕ) → Fits l.first v → Fits l.last w → Sound c.plan around after (loop_costs (turns_between l) turn.costs) s (count_from (w + 1 - v) n x v w (block_meaning (of c) n body) (stepped s))) → Sound c.plan around after (loop_costs (turns_between l) turn.costs) s (Run n s)
+  valued : (n : ℕ) (after : Known) (s : State) → Inside around k s → ((v w : ℕ) → Fits l.first v → Fits l.last w → Sound c.plan around after (loop_costs (turns_between l) turn.costs) s (for_from (w + 1 - v) n x v w (block_meaning (of c) n body) (stepped s))) → Sound c.plan around after (loop_costs (turns_between l) turn.costs) s (Run n s)
   valued n after s i h =
       let d : Bounds = loop_costs (turns_between l) turn.costs in
       let a = value_of (value e1 s.variables) l.first (m.first s i) in
       let b = value_of (value e2 s.variables) l.last (m.last s i) in
-      let second : ℕ → ℕ → Action = λ v w. count_from (w + 1 - v) n x v w (block_meaning (of c) n body) in
+      let second : ℕ → ℕ → Action = λ v w. for_from (w + 1 - v) n x v w (block_meaning (of c) n body) in
       with_given c.plan around after d s (stepped s) (value e1 s.variables) (λ v. given (value e2 s.variables) (second v)) a.number a.is
       (with_given c.plan around after d s (stepped s) (value e2 s.variables) (second a.number) b.number b.is (h a.number b.number a.fits b.fits))
 
@@ -163,7 +163,7 @@ module _ (c : Setting) (around : Place) (line x : ℕ) (e1 e2 : Expression) (qs 
   no_turn lt = record {
     each = λ n le s i. valued n (Some k) s i (λ v w f g.
         let none : 0 ≡ w + 1 - v = omega (arith, f.within, g.within) in
-        subst (λ j. Sound c.plan around (Some k) (loop_costs (turns_between l) turn.costs) s (count_from j n x v w (block_meaning (of c) n body) (stepped s))) none
+        subst (λ j. Sound c.plan around (Some k) (loop_costs (turns_between l) turn.costs) s (for_from j n x v w (block_meaning (of c) n body) (stepped s))) none
         (record {
           reaches = record { variables = i.variables; registers = i.registers; locks = i.locks };
           paid = paid_begun (turns_between l) turn.costs s;

@@ -4,21 +4,21 @@ use Rattle.std.specs.Prelude.{◌||◌, nat_eq, slice_get}
 use Rattle.std.proofs.lemmas.Bool.{or_parts, cond_both, cond-false}
 use Rattle.camac_lang.specs.declared.word.WordSize.{WordSize}
 use Rattle.camac_lang.specs.declared.word.WordSize.TheVariants.{Full}
-use Rattle.camac_lang.specs.Tree.{Move, no_data, into, from, Statement, assign, set_register, single, address_scan, q_stop, q_repeat, put, crate_call, lam_call, choose, choose_else, count, repeat, locked, call, Block, done, next}
+use Rattle.camac_lang.specs.Tree.{Move, no_data, into, from, Statement, assign, set_register, single, address_scan, q_stop, q_repeat, put, crate_call, lam_call, choose, choose_else, for_, while_, locked, call, Block, done, next}
 use Rattle.camac_func.specs.declared.data.DataMove.{DataMove}
 use Rattle.camac_func.specs.declared.data.DataMove.TheVariants as moved
 use Rattle.camac_branch.specs.Address.{Address, address}
 use Rattle.camac_branch.specs.Allowed.{width}
 use Rattle.camac_branch.specs.Branch.{Reply, Answer, reply_to}
 use Rattle.camac_branch.specs.Plan.{Layout, crate_waits}
-use Rattle.camac_esone.specs.Transfers.{Wanted, stop_wanted, repeat_wanted, scan_wanted, tally}
+use Rattle.camac_esone.specs.Transfers.{Wanted, q_stop_wanted, q_repeat_wanted, scan_wanted, tally}
 use Rattle.camac_model.specs.State.{State, stepped, set_at, with_variable, with_register, with_word}
 use Rattle.camac_model.specs.Behaviour.{Piece, Behaviour, does, ends, stops, Stop, Action, then_do, given, unless_wrong}
 use Rattle.camac_model.specs.Moments.{Meets}
 use Rattle.camac_model.specs.Value.{value, values, truth}
 use Rattle.camac_model.specs.Cycle.{cycle, after_cycle, sized, kept, after_lock, take_lock, release}
 use Rattle.camac_model.specs.Transfer.{keep_word}
-use Rattle.camac_model.specs.Meaning.{Context, crate_address, crate_function, lam_function, fits_size, act, transfer_to, sent, counted, count_from, enter, effect, block_meaning}
+use Rattle.camac_model.specs.Meaning.{Context, crate_address, crate_function, lam_function, fits_size, act, transfer_to, sent, counted, for_from, enter, effect, block_meaning}
 use Rattle.camac_model.proofs.Rules.{then_meets, given_meets, decide_meets, unless_meets, cycle_meets, lock_meets, enter_meets, transfer_meets, turns_meet, counts_meet}
 use Rattle.camac_check_rules.specs.Writes.{reads_into, writes, block_writes}
 
@@ -36,8 +36,8 @@ abbrev mutual
   sets (lam_call line which l) r = false
   sets (choose line test a) r = block_sets a r
   sets (choose_else line test a b) r = block_sets a r || block_sets b r
-  sets (count line x e1 e2 keeps body) r = block_sets body r
-  sets (repeat line test most m keeps body) r = block_sets body r
+  sets (for_ line x e1 e2 keeps body) r = block_sets body r
+  sets (while_ line test most m keeps body) r = block_sets body r
   sets (locked line e body) r = block_sets body r
   sets (call line p es) r = false
 
@@ -170,21 +170,21 @@ module _ (c : Context) (n : ℕ) where
     statement_leaves (q_stop line f r t max x) s =
         let w : ℕ → Bool = writes (q_stop line f r t max x) in
         let g : ℕ → Bool = sets (q_stop line f r t max x) in
-        let second : Option (List ℕ) → Address → ℕ → Action = λ table at l. transfer_to c.plan f table (stop_wanted at l) x in
+        let second : Option (List ℕ) → Address → ℕ → Action = λ table at l. transfer_to c.plan f table (q_stop_wanted at l) x in
         let first : Option (List ℕ) → Address → Action = λ table at. given (value max s.variables) (second table at) in
         given_leaves w g s (sent c t) (λ table. given (s.registers r) (first table)) (λ table.
         given_leaves w g s (s.registers r) (first table) (λ at.
-        given_leaves w g s (value max s.variables) (second table at) (λ l. transfer_leaves w g s c.plan f table (stop_wanted at l) x (λ y e. e))))
+        given_leaves w g s (value max s.variables) (second table at) (λ l. transfer_leaves w g s c.plan f table (q_stop_wanted at l) x (λ y e. e))))
     statement_leaves (q_repeat line f r t max limit x) s =
         let w : ℕ → Bool = writes (q_repeat line f r t max limit x) in
         let g : ℕ → Bool = sets (q_repeat line f r t max limit x) in
-        let third : Option (List ℕ) → Address → ℕ → ℕ → Action = λ table at l m. transfer_to c.plan f table (repeat_wanted at l m) x in
+        let third : Option (List ℕ) → Address → ℕ → ℕ → Action = λ table at l m. transfer_to c.plan f table (q_repeat_wanted at l m) x in
         let second : Option (List ℕ) → Address → ℕ → Action = λ table at l. given (value limit s.variables) (third table at l) in
         let first : Option (List ℕ) → Address → Action = λ table at. given (value max s.variables) (second table at) in
         given_leaves w g s (sent c t) (λ table. given (s.registers r) (first table)) (λ table.
         given_leaves w g s (s.registers r) (first table) (λ at.
         given_leaves w g s (value max s.variables) (second table at) (λ l.
-        given_leaves w g s (value limit s.variables) (third table at l) (λ m. transfer_leaves w g s c.plan f table (repeat_wanted at l m) x (λ y e. e)))))
+        given_leaves w g s (value limit s.variables) (third table at l) (λ m. transfer_leaves w g s c.plan f table (q_repeat_wanted at l m) x (λ y e. e)))))
     statement_leaves (put line e) s =
         given_leaves (writes (put line e)) (sets (put line e)) s (value e s.variables) (λ v t. ends (with_word v t)) (λ v. record { variables = λ y e. refl; registers = λ r e. refl })
     statement_leaves (crate_call line which e) s =
@@ -208,24 +208,24 @@ module _ (c : Context) (n : ℕ) where
         (λ y f. (or_parts (block_writes a y) (block_writes b y) f).0) (λ r f. (or_parts (block_sets a r) (block_sets b r) f).0) (same_self w g s) (block_leaves a s))
         (λ e. leaves_from (block_writes b) (block_sets b) w g s s (block_meaning c n b s)
         (λ y f. (or_parts (block_writes a y) (block_writes b y) f).1) (λ r f. (or_parts (block_sets a r) (block_sets b r) f).1) (same_self w g s) (block_leaves b s))
-    statement_leaves (count line x e1 e2 keeps body) s =
-        let w : ℕ → Bool = writes (count line x e1 e2 keeps body) in
+    statement_leaves (for_ line x e1 e2 keeps body) s =
+        let w : ℕ → Bool = writes (for_ line x e1 e2 keeps body) in
         let g : ℕ → Bool = block_sets body in
-        let second : ℕ → ℕ → Action = λ first last. count_from (last + 1 - first) n x first last (block_meaning c n body) in
+        let second : ℕ → ℕ → Action = λ first last. for_from (last + 1 - first) n x first last (block_meaning c n body) in
         given_leaves w g s (value e1 s.variables) (λ first. given (value e2 s.variables) (second first)) (λ first.
         given_leaves w g s (value e2 s.variables) (second first) (λ last. counting (λ t. block_leaves body t) (last + 1 - first) first last))
       where
-        counting : ((t : State) → Leaves (block_writes body) (block_sets body) t (block_meaning c n body t)) → (m first last : ℕ) → Leaves (writes (count line x e1 e2 keeps body)) (block_sets body) s (count_from m n x first last (block_meaning c n body) s)
-        counting each zero first last = same_self (writes (count line x e1 e2 keeps body)) (block_sets body) s
+        counting : ((t : State) → Leaves (block_writes body) (block_sets body) t (block_meaning c n body t)) → (m first last : ℕ) → Leaves (writes (for_ line x e1 e2 keeps body)) (block_sets body) s (for_from m n x first last (block_meaning c n body) s)
+        counting each zero first last = same_self (writes (for_ line x e1 e2 keeps body)) (block_sets body) s
         counting each (suc m) first last =
-            let w : ℕ → Bool = writes (count line x e1 e2 keeps body) in
+            let w : ℕ → Bool = writes (for_ line x e1 e2 keeps body) in
             let g : ℕ → Bool = block_sets body in
             counts_meet step AnyPiece AnyStop (Left w g s) x last (block_meaning c n body) (λ u k v t. Same w g s t) (λ u k v t i. tt)
             (λ u k v t i. leaves_from (block_writes body) g w g s (counted x v t) (block_meaning c n body (counted x v t))
             (λ y f. (or_parts (nat_eq y x) (block_writes body y) f).1) (λ r f. f)
             (same_counted w g x v s t (same_written w g x v s t (λ y f. (or_parts (nat_eq y x) (block_writes body y) f).0) i)) (each (counted x v t)))
             (λ u v t i. same_written w g x last s t (λ y f. (or_parts (nat_eq y x) (block_writes body y) f).0) i) (suc m) n tt first s (same_self w g s)
-    statement_leaves (repeat line test most m keeps body) s =
+    statement_leaves (while_ line test most m keeps body) s =
         let w : ℕ → Bool = block_writes body in
         let g : ℕ → Bool = block_sets body in
         turns_meet step AnyPiece AnyStop (Left w g s) test (block_meaning c n body) (λ u k t. Same w g s t) (λ u k t i e. tt) (λ u t i e. tt)

@@ -4,7 +4,7 @@ use Rattle.std.specs.Prelude.{◌||◌, not, option_and_then}
 use Rattle.std.proofs.lemmas.Bool.{and_parts, not-true, false≢true}
 use Rattle.camac_lang.specs.Expressions.{Scope, expression_fits}
 use Rattle.camac_lang.specs.Tests.{unless_broken}
-use Rattle.camac_lang.specs.Tree.{Statement, assign, set_register, single, address_scan, q_stop, q_repeat, put, crate_call, lam_call, choose, choose_else, count, repeat, locked, call, Block, done, next}
+use Rattle.camac_lang.specs.Tree.{Statement, assign, set_register, single, address_scan, q_stop, q_repeat, put, crate_call, lam_call, choose, choose_else, for_, while_, locked, call, Block, done, next}
 use Rattle.camac_lang.specs.Statements.{head_fits, begun, after, after_block}
 
 abbrev mutual
@@ -20,8 +20,8 @@ abbrev mutual
   has_lock (lam_call line which l) = false
   has_lock (choose line test a) = block_has_lock a
   has_lock (choose_else line test a b) = block_has_lock a || block_has_lock b
-  has_lock (count line x e1 e2 qs body) = block_has_lock body
-  has_lock (repeat line test most m qs body) = block_has_lock body
+  has_lock (for_ line x e1 e2 qs body) = block_has_lock body
+  has_lock (while_ line test most m qs body) = block_has_lock body
   has_lock (locked line e body) = true
   has_lock (call line p es) = false
 
@@ -61,11 +61,11 @@ module _ (c : Scope) (in_procedure : c.is_procedure ≡ true) where
         let p = found (λ k. after_block c k b) (option_and_then (λ k. after_block c k a) (begun c seen (choose_else line test a b))) n h in
         let q = found (λ k. after_block c k a) (begun c seen (choose_else line test a b)) p.0 p.1 in
         both_false (block_has_lock a) (block_has_lock b) (block_lockless a q.0 p.0 q.2) (block_lockless b p.0 n p.2)
-    statement_lockless (count line x e1 e2 qs body) seen n h =
-        let p = found (λ k. after_block c k body) (begun c seen (count line x e1 e2 qs body)) n h in
+    statement_lockless (for_ line x e1 e2 qs body) seen n h =
+        let p = found (λ k. after_block c k body) (begun c seen (for_ line x e1 e2 qs body)) n h in
         block_lockless body p.0 n p.2
-    statement_lockless (repeat line test most m qs body) seen n h =
-        let p = found (λ k. after_block c k body) (begun c seen (repeat line test most m qs body)) n h in
+    statement_lockless (while_ line test most m qs body) seen n h =
+        let p = found (λ k. after_block c k body) (begun c seen (while_ line test most m qs body)) n h in
         block_lockless body p.0 n p.2
     statement_lockless (locked line e body) seen n h =
         let p = found (λ k. after_block c k body) (begun c seen (locked line e body)) n h in

@@ -4,7 +4,7 @@ use Rattle.camac_lang.specs.declared.word.WordSize.TheVariants.{Full}
 use Rattle.camac_lang.specs.declared.word.CrateCall.TheVariants.{TestInhibit}
 use Rattle.std.specs.Prelude.{◌++◌}
 use Rattle.camac_range.specs.declared.comparison.Cmp.TheVariants.{Less, More, AtLeast}
-use Rattle.camac_lang.specs.Tree.{Expression, add, subtract, remainder, group, number, variable, plain, negated, flag_q, compare, Part, no_data, into, Statement, assign, set_register, single, put, crate_call, choose, count, repeat, Script}
+use Rattle.camac_lang.specs.Tree.{Expression, add, subtract, remainder, group, number, variable, plain, negated, flag_q, compare, Part, no_data, into, Statement, assign, set_register, single, put, crate_call, choose, for_, while_, Script}
 use Rattle.camac_lang.specs.View.{block_of}
 use Rattle.camac_model.specs.Sample.{sample_plan, script, register, with_r, r, v, k, i}
 use Rattle.camac_check_rules.specs.declared.rule.CheckRule.TheVariants.{StationNotInstalled, RegisterUnset, MeasureBroken, KeepFailsAtEntry, KeepFailsAfterTurn, TooManyTurns, TooManyWords, TooManyCycles, TooManySteps, WordTooWide, LoopVariableAssigned, ValueOutOfRange}
@@ -20,7 +20,7 @@ body ss = script 100 100 with_r ss
 -- loop-over-stations
 abbrev stations_to : ℕ → Script
 stations_to n =
-    body (count 4 i (number 5) (number n) []
+    body (for_ 4 i (number 5) (number n) []
     (block_of (set_register 4 r (number 1) (variable i) (number 0) ∷ single 4 Full 0 r (into v) ∷ [])) ∷ [])
 
 station_seven : accept sample_plan (stations_to 7) ≡ Err (broken StationNotInstalled 4)
@@ -33,7 +33,7 @@ station_six = refl
 
 -- for-too-long, longest-for, empty-for, loop-variable-assigned
 abbrev from_to : ℕ → ℕ → List Statement → Script
-from_to m n ss = body (count 4 i (number m) (number n) [] (block_of ss) ∷ [])
+from_to m n ss = body (for_ 4 i (number m) (number n) [] (block_of ss) ∷ [])
 
 for_too_long : accept sample_plan (from_to 0 65535 []) ≡ Err (broken TooManyTurns 4)
 unfolding go_on required given if_reached
@@ -51,19 +51,19 @@ loop_variable_written : accept sample_plan (from_to 1 2 (assign 4 i (number 3) �
 unfolding go_on required given if_reached
 loop_variable_written = refl
 
-loop_variable_of_two : accept sample_plan (from_to 1 2 (count 5 i (number 1) (number 2) [] (block_of []) ∷ [])) ≡ Err (broken LoopVariableAssigned 5)
+loop_variable_of_two : accept sample_plan (from_to 1 2 (for_ 5 i (number 1) (number 2) [] (block_of []) ∷ [])) ≡ Err (broken LoopVariableAssigned 5)
 unfolding go_on required given if_reached
 loop_variable_of_two = refl
 
 -- after a loop its variable may be what it was, and is not fixed any more
 after_a_loop :
-    accept sample_plan (body (assign 4 i (number 9) ∷ count 5 i (number 1) (number 2) [] (block_of []) ∷ put 6 (add (variable i) (number 16777206)) ∷ []))
+    accept sample_plan (body (assign 4 i (number 9) ∷ for_ 5 i (number 1) (number 2) [] (block_of []) ∷ put 6 (add (variable i) (number 16777206)) ∷ []))
     ≡ Ok (costs 0 1 5 ∷ [])
 unfolding go_on required given if_reached
 after_a_loop = refl
 
 after_a_loop_too_wide :
-    accept sample_plan (body (assign 4 i (number 9) ∷ count 5 i (number 1) (number 2) [] (block_of []) ∷ put 6 (add (variable i) (number 16777207)) ∷ []))
+    accept sample_plan (body (assign 4 i (number 9) ∷ for_ 5 i (number 1) (number 2) [] (block_of []) ∷ put 6 (add (variable i) (number 16777207)) ∷ []))
     ≡ Err (broken WordTooWide 6)
 unfolding go_on required given if_reached
 after_a_loop_too_wide = refl
@@ -81,13 +81,13 @@ written_then_read = refl
 
 -- a register that a turn sets is unset where the next begins, and after the loop
 set_in_a_turn :
-    accept sample_plan (body (register r 5 0 ∷ count 5 i (number 1) (number 2) [] (block_of (single 6 Full 0 r (into v) ∷ register r 5 0 ∷ [])) ∷ []))
+    accept sample_plan (body (register r 5 0 ∷ for_ 5 i (number 1) (number 2) [] (block_of (single 6 Full 0 r (into v) ∷ register r 5 0 ∷ [])) ∷ []))
     ≡ Err (broken RegisterUnset 6)
 unfolding go_on required given if_reached
 set_in_a_turn = refl
 
 set_in_the_loop_alone :
-    accept sample_plan (body (count 4 i (number 1) (number 2) [] (block_of (register r 5 0 ∷ [])) ∷ single 5 Full 0 r (into v) ∷ []))
+    accept sample_plan (body (for_ 4 i (number 1) (number 2) [] (block_of (register r 5 0 ∷ [])) ∷ single 5 Full 0 r (into v) ∷ []))
     ≡ Err (broken RegisterUnset 5)
 unfolding go_on required given if_reached
 set_in_the_loop_alone = refl
@@ -95,7 +95,7 @@ set_in_the_loop_alone = refl
 -- a kept range
 abbrev keeping : ℕ → ℕ → Statement → Script
 keeping low high s =
-    body (assign 4 v (number 3) ∷ count 5 i (number 1) (number 4) (record { variable = v; low = low; high = high } ∷ []) (block_of (put 6 (variable v) ∷ s ∷ [])) ∷
+    body (assign 4 v (number 3) ∷ for_ 5 i (number 1) (number 4) (record { variable = v; low = low; high = high } ∷ []) (block_of (put 6 (variable v) ∷ s ∷ [])) ∷
     put 7 (variable v) ∷ [])
 
 kept : accept sample_plan (keeping 0 9 (assign 6 v (remainder (add (variable v) (number 7)) 10))) ≡ Ok (costs 0 5 15 ∷ [])
@@ -116,13 +116,13 @@ kept_by_no_number = refl
 
 -- without a turn the keeps are tested at entry all the same, after the number of turns
 keep_without_a_turn :
-    accept sample_plan (body (count 5 i (number 2) (number 1) (record { variable = v; low = 1; high = 9 } ∷ []) (block_of []) ∷ []))
+    accept sample_plan (body (for_ 5 i (number 2) (number 1) (record { variable = v; low = 1; high = 9 } ∷ []) (block_of []) ∷ []))
     ≡ Err (broken KeepFailsAtEntry 5)
 unfolding go_on required given if_reached
 keep_without_a_turn = refl
 
 turns_before_keeps :
-    accept sample_plan (body (count 5 i (number 0) (number 65535) (record { variable = v; low = 1; high = 9 } ∷ []) (block_of []) ∷ []))
+    accept sample_plan (body (for_ 5 i (number 0) (number 65535) (record { variable = v; low = 1; high = 9 } ∷ []) (block_of []) ∷ []))
     ≡ Err (broken TooManyTurns 5)
 unfolding go_on required given if_reached
 turns_before_keeps = refl
@@ -130,7 +130,7 @@ turns_before_keeps = refl
 -- fifteen-loops
 abbrev nested : ℕ → List Statement → List Statement
 nested zero ss = ss
-nested (suc n) ss = count 4 n (number 1) (number 65535) [] (block_of (nested n ss)) ∷ []
+nested (suc n) ss = for_ 4 n (number 1) (number 65535) [] (block_of (nested n ss)) ∷ []
 
 abbrev fifteen : List Statement → Script
 fifteen ss = script 4294967295 4096 [] (nested 15 ss)
@@ -157,7 +157,7 @@ above_0 x = plain (compare (variable x) More (number 0))
 abbrev poll : ℕ → List Statement → Script
 poll most more =
     script 30 0 with_r (register r 6 0 ∷ assign 5 k (number 10) ∷
-    repeat 6 (above_0 k ∷ negated flag_q ∷ []) most k [] (block_of (single 6 Full 27 r no_data ∷ less_one ∷ more)) ∷ [])
+    while_ 6 (above_0 k ∷ negated flag_q ∷ []) most k [] (block_of (single 6 Full 27 r no_data ∷ less_one ∷ more)) ∷ [])
 
 poll_accepted : accept sample_plan (poll 10 []) ≡ Ok (costs 30 0 33 ∷ [])
 unfolding go_on required given if_reached
@@ -181,7 +181,7 @@ poll_turns_past_limit = refl
 
 -- the measure falls by k, a literal from 1, brackets aside
 abbrev falling : ℕ → Expression → Script
-falling most e = body (assign 4 k (number 10) ∷ repeat 5 (plain (compare (variable k) AtLeast (number 3)) ∷ []) most k [] (block_of (assign 6 k e ∷ [])) ∷ [])
+falling most e = body (assign 4 k (number 10) ∷ while_ 5 (plain (compare (variable k) AtLeast (number 3)) ∷ []) most k [] (block_of (assign 6 k e ∷ [])) ∷ [])
 
 falls_by_three : accept sample_plan (falling 3 (group (subtract (group (variable k)) (group (number 3))))) ≡ Ok (costs 0 0 8 ∷ [])
 unfolding go_on required given if_reached
@@ -210,7 +210,7 @@ up = assign 5 i (add (variable i) (number 1))
 abbrev keeping_i : List Statement → Statement → Script
 keeping_i first s =
     body (first ++ (assign 4 k (number 20) ∷
-    repeat 5 (above_0 k ∷ []) 20 k (record { variable = i; low = 0; high = 11 } ∷ []) (block_of (less_one ∷ s ∷ [])) ∷ []))
+    while_ 5 (above_0 k ∷ []) 20 k (record { variable = i; low = 0; high = 11 } ∷ []) (block_of (less_one ∷ s ∷ [])) ∷ []))
 
 keep_passed : accept sample_plan (keeping_i [] up) ≡ Err (broken KeepFailsAfterTurn 5)
 unfolding go_on required given if_reached
@@ -227,33 +227,33 @@ keep_at_entry = refl
 -- while-condition-overflow: the condition is tested in the head
 while_condition_overflow :
     accept sample_plan (body (assign 4 k (number 2) ∷
-    repeat 5 (above_0 k ∷ plain (compare (add (variable v) (number 1)) More (number 0)) ∷ []) 2 k [] (block_of (less_one ∷ assign 5 v (number 4294967295) ∷ [])) ∷ []))
+    while_ 5 (above_0 k ∷ plain (compare (add (variable v) (number 1)) More (number 0)) ∷ []) 2 k [] (block_of (less_one ∷ assign 5 v (number 4294967295) ∷ [])) ∷ []))
     ≡ Err (broken ValueOutOfRange 5)
 unfolding go_on required given if_reached
 while_condition_overflow = refl
 
 -- a condition that never holds: no turn, whatever is annotated
-never_a_turn : accept sample_plan (body (repeat 5 (above_0 k ∷ []) 7 k [] (block_of (less_one ∷ put 6 (number 16777216) ∷ [])) ∷ [])) ≡ Ok (costs 0 0 1 ∷ [])
+never_a_turn : accept sample_plan (body (while_ 5 (above_0 k ∷ []) 7 k [] (block_of (less_one ∷ put 6 (number 16777216) ∷ [])) ∷ [])) ≡ Ok (costs 0 0 1 ∷ [])
 unfolding go_on required given if_reached
 never_a_turn = refl
 
 -- after a loop its condition does not hold
 after_while :
-    accept sample_plan (body (assign 4 k (number 20000000) ∷ repeat 5 (above_0 k ∷ []) 3 k [] (block_of (assign 6 k (subtract (variable k) (number 16777215)) ∷ [])) ∷ []))
+    accept sample_plan (body (assign 4 k (number 20000000) ∷ while_ 5 (above_0 k ∷ []) 3 k [] (block_of (assign 6 k (subtract (variable k) (number 16777215)) ∷ [])) ∷ []))
     ≡ Err (broken ValueOutOfRange 6)
 unfolding go_on required given if_reached
 after_while = refl
 
 put_after_while :
     accept sample_plan (body (assign 4 k (number 20000000) ∷
-    repeat 5 (plain (compare (variable k) AtLeast (number 16777215)) ∷ []) 2 k [] (block_of (assign 6 k (subtract (variable k) (number 16777215)) ∷ [])) ∷ put 7 (variable k) ∷ []))
+    while_ 5 (plain (compare (variable k) AtLeast (number 16777215)) ∷ []) 2 k [] (block_of (assign 6 k (subtract (variable k) (number 16777215)) ∷ [])) ∷ put 7 (variable k) ∷ []))
     ≡ Ok (costs 0 1 7 ∷ [])
 unfolding go_on required given if_reached
 put_after_while = refl
 
 -- the measure of a `while` can't be the variable of a `for` around it
 measure_of_a_for :
-    accept sample_plan (body (count 4 k (number 1) (number 2) [] (block_of (repeat 5 (above_0 k ∷ []) 2 k [] (block_of (less_one ∷ [])) ∷ [])) ∷ []))
+    accept sample_plan (body (for_ 4 k (number 1) (number 2) [] (block_of (while_ 5 (above_0 k ∷ []) 2 k [] (block_of (less_one ∷ [])) ∷ [])) ∷ []))
     ≡ Err (broken LoopVariableAssigned 6)
 unfolding go_on required given if_reached
 measure_of_a_for = refl

@@ -2,7 +2,7 @@
 use Rattle.std.proofs.Common.{◌≡◌, ℕ, List, [], ◌∷◌, Ok, Err, refl}
 use Rattle.std.specs.Prelude.{codes}
 use Rattle.camac_lang.specs.declared.word.WordSize.TheVariants.{Full}
-use Rattle.camac_lang.specs.Tree.{subtract, add, number, variable, into, Procedure, Statement, assign, set_register, single, put, count, locked, call, Script}
+use Rattle.camac_lang.specs.Tree.{subtract, add, number, variable, into, Procedure, Statement, assign, set_register, single, put, for_, locked, call, Script}
 use Rattle.camac_lang.specs.View.{block_of}
 use Rattle.camac_model.specs.Sample.{sample_plan, script_of, opening, register, with_r, r, v, i}
 use Rattle.camac_check_rules.specs.declared.rule.CheckRule.TheVariants.{CommandNotDeclared, ValueOutOfRange, RegisterUnset, TooManyWords, TooManyCycles, WordTooWide, TooManySteps, ArgumentOutOfRange}
@@ -105,7 +105,7 @@ registers_are_its_own = refl
 
 -- in a loop
 calls_in_a_loop :
-    accept sample_plan (calling (get 0 11 3 1 3) 36 12 (count 7 i (number 0) (number 11) [] (block_of (call 8 0 (variable i ∷ []) ∷ [])) ∷ []))
+    accept sample_plan (calling (get 0 11 3 1 3) 36 12 (for_ 7 i (number 0) (number 11) [] (block_of (call 8 0 (variable i ∷ []) ∷ [])) ∷ []))
     ≡ Ok (costs 36 12 61 ∷ [])
 unfolding go_on required given if_reached
 calls_in_a_loop = refl

@@ -3,7 +3,7 @@ use Rattle.std.proofs.Common.{◌≡◌, ℕ, zero, suc, ◌+◌, ◌*◌, ◌/�
 use Rattle.std.specs.Prelude.{nat_le}
 use Rattle.std.proofs.Math.Nat.{div-lt_iff_lt-mul}
 use Rattle.std.proofs.lemmas.Bool.{and_parts, leb-true}
-use Rattle.camac_lang.specs.Tree.{Condition, Keep, Block, repeat}
+use Rattle.camac_lang.specs.Tree.{Condition, Keep, Block, while_}
 use Rattle.camac_range.specs.Interval.{interval}
 use Rattle.camac_branch.specs.Branch.{Answer}
 use Rattle.camac_branch.specs.Plan.{Layout}
@@ -200,7 +200,7 @@ bound_small : (holds : Known) (most : ℕ) → turn_bound holds most ≤ most
 bound_small None most = omega arith
 bound_small (Some q) most = omega arith
 
-pub while_sound : (c : Setting) (around : Place) (line : ℕ) (test : Condition) (most m : ℕ) (qs : List Keep) (body : Block) (k top : Facts) (arms : Branches) (turn : Verdict) → MayRepeat most m qs body k top → ((s : State) → Inside around top s → Decides around (truth test s.variables s.q s.x) arms s) → SoundFor c.plan around arms.holds (λ n. block_meaning (of c) n body) turn → keeps_hold_after qs turn.after ≡ true → SoundFor c.plan around (Some k) (λ n s. effect (of c) n (repeat line test most m qs body) (stepped s)) (verdict arms.fails (loop_costs (turn_bound arms.holds most) turn.costs))
+pub while_sound : (c : Setting) (around : Place) (line : ℕ) (test : Condition) (most m : ℕ) (qs : List Keep) (body : Block) (k top : Facts) (arms : Branches) (turn : Verdict) → MayRepeat most m qs body k top → ((s : State) → Inside around top s → Decides around (truth test s.variables s.q s.x) arms s) → SoundFor c.plan around arms.holds (λ n. block_meaning (of c) n body) turn → keeps_hold_after qs turn.after ≡ true → SoundFor c.plan around (Some k) (λ n s. effect (of c) n (while_ line test most m qs body) (stepped s)) (verdict arms.fails (loop_costs (turn_bound arms.holds most) turn.costs))
 while_sound c around line test most m qs body k top arms turn may d h keep = record {
   each = λ n le s i.
       let last : ℕ = (range_at k.ranges m).hi in

@@ -1,7 +1,7 @@
 -- What the rules accept of statements runs safely: one induction over statements.
 use Rattle.std.proofs.Common.{◌≡◌, ℕ, ◌+◌, ◌≤◌, [], ◌∷◌, ◌++◌, length, length-append, Option, Some, None, Bool, true, false, refl, arith, ap}
 use Rattle.std.proofs.lemmas.Bool.{leb-true, or_right}
-use Rattle.camac_lang.specs.Tree.{Expression, Statement, assign, set_register, single, address_scan, q_stop, q_repeat, put, crate_call, lam_call, choose, choose_else, count, repeat, locked, call, Block, done, next}
+use Rattle.camac_lang.specs.Tree.{Expression, Statement, assign, set_register, single, address_scan, q_stop, q_repeat, put, crate_call, lam_call, choose, choose_else, for_, while_, locked, call, Block, done, next}
 use Rattle.camac_branch.specs.Address.{address}
 use Rattle.camac_branch.specs.Plan.{Layout}
 use Rattle.camac_model.specs.State.{State, stepped, with_variable, with_register, with_word}
@@ -143,11 +143,11 @@ mutual
   statement_sound c narrow serves around (address_scan line f r1 r2 max x) may k = scan_sound c narrow around line f r1 r2 max x k
   statement_sound c narrow serves around (q_stop line f r t max x) may k = stop_sound c narrow around line f r t max x k
   statement_sound c narrow serves around (q_repeat line f r t max limit x) may k = repeat_sound c narrow around line f r t max limit x k
-  statement_sound c narrow serves around (count line x e1 e2 keeps body) may k =
+  statement_sound c narrow serves around (for_ line x e1 e2 keeps body) may k =
       then_allowed (limits_allowed around line x e1 e2 keeps k) (λ l m.
       then_allowed (reached_sound c (fixing x around) body (for_head x l keeps body k) (λ q. block_sound c narrow serves (fixing x around) body may q)) (λ turn h.
       required_allowed _ line (λ keep. allows (for_sound c around line x e1 e2 keeps body k l turn m keep h))))
-  statement_sound c narrow serves around (repeat line test most m keeps body) may k =
+  statement_sound c narrow serves around (while_ line test most m keeps body) may k =
       then_allowed (head_allowed line most m keeps body k) (λ top begins.
       then_allowed (split_each around line test top) (λ arms d.
       then_allowed (reached_sound c around body arms.holds (λ q. block_sound c narrow serves around body may q)) (λ turn h.

@@ -2,7 +2,7 @@
 use Rattle.std.proofs.Common.{◌≡◌, ℕ, List, [], ◌∷◌, Option, Some, None, Result, Ok, Err, refl}
 use Rattle.camac_range.specs.Interval.{interval, only}
 use Rattle.camac_range.specs.declared.comparison.Cmp.TheVariants.{More}
-use Rattle.camac_lang.specs.Tree.{Expression, number, variable, subtract, plain, compare, assign, address_scan, q_stop, count, repeat, Script}
+use Rattle.camac_lang.specs.Tree.{Expression, number, variable, subtract, plain, compare, assign, address_scan, q_stop, for_, while_, Script}
 use Rattle.camac_lang.specs.View.{block_of}
 use Rattle.std.specs.Prelude.{codes}
 use Rattle.camac_model.specs.Fine.{Bounds}
@@ -170,14 +170,14 @@ tally_not_below = refl
 -- a tally is no measure, and can't be the variable of a `for` around
 poll_tally :
     accept sample_plan (script 100 100 with_r (register r 6 0 ∷ assign 5 k (number 10) ∷
-    repeat 6 (plain (compare (variable k) More (number 0)) ∷ []) 10 k []
+    while_ 6 (plain (compare (variable k) More (number 0)) ∷ []) 10 k []
     (block_of (assign 6 k (subtract (variable k) (number 1)) ∷ q_stop 6 0 r None (number 1) k ∷ [])) ∷ []))
     ≡ Err (broken MeasureBroken 6)
 unfolding go_on required given if_reached
 poll_tally = refl
 
 for_tally :
-    accept sample_plan (script 100 100 with_r (register r 5 0 ∷ count 4 i (number 1) (number 2) [] (block_of (q_stop 5 0 r None (number 1) i ∷ [])) ∷ []))
+    accept sample_plan (script 100 100 with_r (register r 5 0 ∷ for_ 4 i (number 1) (number 2) [] (block_of (q_stop 5 0 r None (number 1) i ∷ [])) ∷ []))
     ≡ Err (broken LoopVariableAssigned 5)
 unfolding go_on required given if_reached
 for_tally = refl

@@ -1,6 +1,6 @@
 -- The rules of all statements: what is known after each and what it can cost, or the first rule that it breaks.
 use Rattle.std.specs.Prelude.{ℕ, Some, Result, Ok, nat_le, unwrap_or}
-use Rattle.camac_lang.specs.Tree.{Expression, Statement, assign, set_register, single, address_scan, q_stop, q_repeat, put, crate_call, lam_call, choose, choose_else, count, repeat, locked, call, Block, done, next}
+use Rattle.camac_lang.specs.Tree.{Expression, Statement, assign, set_register, single, address_scan, q_stop, q_repeat, put, crate_call, lam_call, choose, choose_else, for_, while_, locked, call, Block, done, next}
 use Rattle.camac_branch.specs.Plan.{crate_waits}
 use Rattle.camac_check_rules.specs.declared.rule.CheckRule.TheVariants.{WordTooWide, LoopVariableAssigned}
 use Rattle.camac_check_rules.specs.Fault.{Fault}
@@ -63,9 +63,9 @@ abbrev mutual
   accept_statement c around (put line e) k = put_rule line e k
   accept_statement c around (crate_call line which e) k = crate_rule c around line e k
   accept_statement c around (lam_call line which l) k = lam_rule c around line which l k
-  accept_statement c around (count line x e1 e2 keeps body) k =
+  accept_statement c around (for_ line x e1 e2 keeps body) k =
       for_rule c around line x e1 e2 keeps body (accept_block c (with_fixed x around) body) k
-  accept_statement c around (repeat line test most m keeps body) k = while_rule c line test most m keeps body (accept_block c around body) k
+  accept_statement c around (while_ line test most m keeps body) k = while_rule c line test most m keeps body (accept_block c around body) k
   accept_statement c around (call line p es) k = call_rule c line p es k
 
   -- a list costs the sum

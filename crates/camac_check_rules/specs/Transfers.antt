@@ -91,8 +91,8 @@ q_stop_rule c around line f r t e x k = do
   Ok (block_verdict c around t most.hi most.hi x g k)
 
 -- where no word is wanted there is no cycle
-abbrev pub repeat_cycles : ℕ → ℕ → ℕ
-repeat_cycles most limit = if nat_eq most 0 then 0 else limit
+abbrev pub q_repeat_cycles : ℕ → ℕ → ℕ
+q_repeat_cycles most limit = if nat_eq most 0 then 0 else limit
 
 abbrev pub q_repeat_rule :
     Context → Around → ℕ → ℕ → ℕ → Option ℕ → Expression → Expression → ℕ → Facts → Result Verdict Fault
@@ -100,4 +100,4 @@ q_repeat_rule c around line f r t e1 e2 x k = do
   most ← range_of line e1 k.ranges
   limit ← range_of line e2 k.ranges
   g ← block_region c around line f r t most.hi x k
-  Ok (block_verdict c around t (repeat_cycles most.hi limit.hi) (min most.hi limit.hi) x g k)
+  Ok (block_verdict c around t (q_repeat_cycles most.hi limit.hi) (min most.hi limit.hi) x g k)

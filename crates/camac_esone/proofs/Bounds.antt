@@ -4,7 +4,7 @@ use Rattle.std.specs.Prelude.{min, nat_lt, nat_eq, nat_le, ◌&&◌}
 use Rattle.std.proofs.lemmas.Bool.{and_parts, or_cases, ltb-true, leb-true, eqb-true, cond_both}
 use Rattle.std.proofs.lemmas.List.{append-nil, length-append}
 use Rattle.camac_branch.specs.Address.{Address}
-use Rattle.camac_esone.specs.Transfers.{Wanted, tally, next_station, successor, address_after, is_by, stop_wanted, repeat_wanted, scan_wanted}
+use Rattle.camac_esone.specs.Transfers.{Wanted, tally, next_station, successor, address_after, is_by, q_stop_wanted, q_repeat_wanted, scan_wanted}
 use Rattle.camac_esone.specs.Lists.{Cycle, replies}
 use Rattle.camac_esone.specs.Laws.{IsDriven}
 use Rattle.camac_esone.specs.Bounds.{place, addresses, StopIsBounded, RepeatIsBounded, ScanIsBounded, ScanIsWithinAddresses}
@@ -33,7 +33,7 @@ bounded_from wanted left falls (c ∷ rest) before h =
 pub bounded : (wanted : Wanted) (left : List Bool → ℕ) → FallsAlways wanted left → (cycles : List Cycle) → IsDriven wanted cycles → length cycles ≤ left []
 bounded wanted left falls cycles h = let all = bounded_from wanted left falls cycles [] h in omega arith
 
-pub stop_left_falls : (at : Address) (max : ℕ) → FallsAlways (stop_wanted at max) (λ qs. max - length qs)
+pub stop_left_falls : (at : Address) (max : ℕ) → FallsAlways (q_stop_wanted at max) (λ qs. max - length qs)
 stop_left_falls at max qs q to e =
     let g = (stop.wanted_goes_on at to max qs e).0 in
     let parts = length-append qs (q ∷ []) in
@@ -41,12 +41,12 @@ stop_left_falls at max qs q to e =
 
 pub stop_bounded : StopIsBounded
 stop_bounded at max cycles h =
-    let count = bounded (stop_wanted at max) (λ qs. max - length qs) (stop_left_falls at max) cycles h in
+    let count = bounded (q_stop_wanted at max) (λ qs. max - length qs) (stop_left_falls at max) cycles h in
     let words = tally_most (replies cycles) in
     let same = length-replies cycles in
     record { count = omega arith; tally = omega arith }
 
-pub repeat_left_falls : (at : Address) (max limit : ℕ) → FallsAlways (repeat_wanted at max limit) (λ qs. limit - length qs)
+pub repeat_left_falls : (at : Address) (max limit : ℕ) → FallsAlways (q_repeat_wanted at max limit) (λ qs. limit - length qs)
 repeat_left_falls at max limit qs q to e =
     let g = (repeat.wanted_goes_on at to max limit qs e).0 in
     let parts = length-append qs (q ∷ []) in

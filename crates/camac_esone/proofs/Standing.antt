@@ -2,7 +2,7 @@
 use Rattle.std.proofs.Common.{◌≡◌, ◌+◌, Bool, List, [], ◌∷◌, ◌++◌, refl, sym, ap, ◌∙◌, Option, Some, None, inl, inr, append_assoc}
 use Rattle.std.proofs.lemmas.List.{append-nil}
 use Rattle.camac_branch.specs.Address.{Address}
-use Rattle.camac_esone.specs.Transfers.{Wanted, tally, stop_wanted, repeat_wanted, scan_wanted}
+use Rattle.camac_esone.specs.Transfers.{Wanted, tally, q_stop_wanted, q_repeat_wanted, scan_wanted}
 use Rattle.camac_esone.specs.Lists.{Cycle, replies}
 use Rattle.camac_esone.specs.Laws.{IsDriven, GivesExactly}
 use Rattle.camac_esone.specs.Progress.{Left, Continues, StandsAt, with_cycle, AddsCycle, LeadsOn}
@@ -46,11 +46,11 @@ leads_on wanted IsList left cycles (Some at) g e h = λ q.
     ]
 
 pub leads_along_stop : (left : Left) (next : Option Address) → left.wanted [] ≡ next → LeadsAlongStop left next
-leads_along_stop left next e at max cycles h = leads_on (stop_wanted at max) _ left cycles next (stop_gives at max) e h
+leads_along_stop left next e at max cycles h = leads_on (q_stop_wanted at max) _ left cycles next (stop_gives at max) e h
 
 pub leads_along_repeat : (left : Left) (next : Option Address) → left.wanted [] ≡ next → LeadsAlongRepeat left next
 leads_along_repeat left next e at max limit cycles h =
-    leads_on (repeat_wanted at max limit) _ left cycles next (repeat_gives at max limit) e h
+    leads_on (q_repeat_wanted at max limit) _ left cycles next (repeat_gives at max limit) e h
 
 pub leads_along_scan : (left : Left) (next : Option Address) → left.wanted [] ≡ next → LeadsAlongScan left next
 leads_along_scan left next e first last max cycles h =

@@ -1,7 +1,7 @@
 -- How many cycles a transfer makes at most, and how many of them with Q=1.
 use Rattle.std.specs.Prelude.{ℕ, ◌+◌, ◌-◌, ◌*◌, ◌≤◌, List, length, min}
 use Rattle.camac_branch.specs.Address.{Address}
-use Rattle.camac_esone.specs.Transfers.{tally, stop_wanted, repeat_wanted, scan_wanted}
+use Rattle.camac_esone.specs.Transfers.{tally, q_stop_wanted, q_repeat_wanted, scan_wanted}
 use Rattle.camac_esone.specs.Lists.{Cycle, replies}
 use Rattle.camac_esone.specs.Laws.{IsDriven}
 
@@ -23,11 +23,11 @@ abbrev pub addresses : Address → Address → ℕ
 addresses first last = 16 * last.station + min 15 last.sub_address + 1 - place first
 
 abbrev pub StopIsBounded : Type 0
-StopIsBounded = (at : Address) (max : ℕ) (cycles : List Cycle) → IsDriven (stop_wanted at max) cycles → IsUpTo max max cycles
+StopIsBounded = (at : Address) (max : ℕ) (cycles : List Cycle) → IsDriven (q_stop_wanted at max) cycles → IsUpTo max max cycles
 
 abbrev pub RepeatIsBounded : Type 0
 RepeatIsBounded =
-    (at : Address) (max limit : ℕ) (cycles : List Cycle) → IsDriven (repeat_wanted at max limit) cycles → IsUpTo limit max cycles
+    (at : Address) (max limit : ℕ) (cycles : List Cycle) → IsDriven (q_repeat_wanted at max limit) cycles → IsUpTo limit max cycles
 
 -- A scan leaves a station at each Q=0.
 abbrev pub ScanIsBounded : Type 0

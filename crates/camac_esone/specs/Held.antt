@@ -1,7 +1,7 @@
 -- What each of the three transfers holds in progress, and what is left of it then.
 use Rattle.std.specs.Prelude.{ℕ, List, Option}
 use Rattle.camac_branch.specs.Address.{Address}
-use Rattle.camac_esone.specs.Transfers.{stop_wanted, repeat_wanted, scan_wanted}
+use Rattle.camac_esone.specs.Transfers.{q_stop_wanted, q_repeat_wanted, scan_wanted}
 use Rattle.camac_esone.specs.Lists.{Cycle, IsStopList, IsRepeatList, IsScanList}
 use Rattle.camac_esone.specs.Progress.{Left, StandsAt, LeadsOn}
 
@@ -25,11 +25,11 @@ pub record ScanHeld : Type 0 where
   pub words : ℕ
   pub tally : ℕ
 
-abbrev pub stop_left : StopHeld → Left
-stop_left h = record { wanted = stop_wanted h.at h.cycles; tally = h.tally }
+abbrev pub q_stop_left : StopHeld → Left
+q_stop_left h = record { wanted = q_stop_wanted h.at h.cycles; tally = h.tally }
 
-abbrev pub repeat_left : RepeatHeld → Left
-repeat_left h = record { wanted = repeat_wanted h.at h.words h.cycles; tally = h.tally }
+abbrev pub q_repeat_left : RepeatHeld → Left
+q_repeat_left h = record { wanted = q_repeat_wanted h.at h.words h.cycles; tally = h.tally }
 
 abbrev pub scan_left : ScanHeld → Left
 scan_left h = record { wanted = scan_wanted h.at h.last h.words; tally = h.tally }
@@ -37,11 +37,11 @@ scan_left h = record { wanted = scan_wanted h.at h.last h.words; tally = h.tally
 -- At all cycles at which it stands, a transfer leads on along its lists.
 abbrev pub LeadsAlongStop : Left → Option Address → Type 0
 LeadsAlongStop left next =
-    (at : Address) (max : ℕ) (cycles : List Cycle) → StandsAt (stop_wanted at max) left cycles → LeadsOn (IsStopList at max) cycles next
+    (at : Address) (max : ℕ) (cycles : List Cycle) → StandsAt (q_stop_wanted at max) left cycles → LeadsOn (IsStopList at max) cycles next
 
 abbrev pub LeadsAlongRepeat : Left → Option Address → Type 0
 LeadsAlongRepeat left next =
-    (at : Address) (max limit : ℕ) (cycles : List Cycle) → StandsAt (repeat_wanted at max limit) left cycles
+    (at : Address) (max limit : ℕ) (cycles : List Cycle) → StandsAt (q_repeat_wanted at max limit) left cycles
     → LeadsOn (IsRepeatList at max limit) cycles next
 
 abbrev pub LeadsAlongScan : Left → Option Address → Type 0

@@ -23,12 +23,12 @@ when true at = Some at
 when false at = None
 
 -- Q-stop: up to the first Q=0, at most max cycles
-abbrev pub stop_wanted : Address → ℕ → Wanted
-stop_wanted at max qs = when (all_true qs && nat_lt (length qs) max) at
+abbrev pub q_stop_wanted : Address → ℕ → Wanted
+q_stop_wanted at max qs = when (all_true qs && nat_lt (length qs) max) at
 
 -- Q-repeat: until max replies had Q=1, at most limit cycles
-abbrev pub repeat_wanted : Address → ℕ → ℕ → Wanted
-repeat_wanted at max limit qs = when (nat_lt (tally qs) max && nat_lt (length qs) limit) at
+abbrev pub q_repeat_wanted : Address → ℕ → ℕ → Wanted
+q_repeat_wanted at max limit qs = when (nat_lt (tally qs) max && nat_lt (length qs) limit) at
 
 -- the next station
 abbrev pub next_station : Address → Address

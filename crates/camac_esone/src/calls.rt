@@ -27,19 +27,28 @@ pub fn crate_call(call: CrateCall, c: CrateNo) -> Command
     command(Address { c: c.get(), n, a }, f)
 }
 
-/// The command of a LAM call, at the LAM's address (ESONE's CCLM, CCLC, CTLM): F26 and F24 enable and disable, F10 clears, F8 tests
-/// (EUR 4100, IEEE 583).
+/// The command of a LAM call, at the LAM's address (ESONE's CCLM, CCLC, CTLM).
 pub fn lam_call(call: LamCall, at: Address) -> Command
     requires { IsOnBranch at }
     ensures { result ≡ command_at at (lam_function call) DataMove.None }
 {
-    let f = match call {
+    command(at, lam_function(call).get())
+}
+
+/// The function of a LAM call: F26 enables, F24 disables, F10 clears, F8 tests (EUR 4100, IEEE 583).
+pub fn lam_function(call: LamCall) -> Function
+    ensures { result ≡ lam_function call }
+{
+    let function = match call {
         LamCall::Enable => 26,
         LamCall::Disable => 24,
         LamCall::Clear => 10,
         LamCall::Test => 8,
     };
-    command(at, f)
+    match Function::new(function) {
+        Some(function) => function,
+        None => unreachable!(),
+    }
 }
 
 // A command that moves no data.

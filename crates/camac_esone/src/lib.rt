@@ -10,6 +10,6 @@ mod q_stop;
 
 pub use address::Address;
 pub use address_scan::Scan;
-pub use calls::{crate_call, lam_call};
+pub use calls::{crate_call, lam_call, lam_function};
 pub use q_repeat::QRepeat;
 pub use q_stop::QStop;

@@ -1,9 +1,9 @@
 // Q-repeat (ESONE's CFUBR).
 
 ghost use Rattle.std.specs.Prelude.{◌≡◌, ◌∷◌, [], IsSome};
-ghost use Rattle.camac_esone.specs.Held.{repeat_left, LeadsAlongRepeat};
+ghost use Rattle.camac_esone.specs.Held.{q_repeat_left, LeadsAlongRepeat};
 ghost use Rattle.camac_esone.specs.Progress.{Continues, StandsAt, AddsCycle, IsTally};
-ghost use Rattle.camac_esone.specs.Transfers.{repeat_wanted};
+ghost use Rattle.camac_esone.specs.Transfers.{q_repeat_wanted};
 
 use crate::address::Address;
 use std::marker::Model;
@@ -37,7 +37,7 @@ impl QRepeat {
     /// The transfer before its first cycle; with a `max` or `limit` of 0 there is none.
     pub fn new(address: Address, max: u32, limit: u32) -> Self
         ensures held { result ≡ record { at = address; words = max; cycles = limit; tally = 0 } }
-        ensures stands { StandsAt (repeat_wanted address max limit) (repeat_left result) [] }
+        ensures stands { StandsAt (q_repeat_wanted address max limit) (q_repeat_left result) [] }
     {
         QRepeat {
             address,
@@ -49,8 +49,8 @@ impl QRepeat {
 
     /// Where the next cycle goes, or none at the end.
     pub fn next(&self) -> Option<Address>
-        ensures wanted { result ≡ (repeat_left self.now).wanted [] }
-        ensures list { LeadsAlongRepeat (repeat_left self.now) result }
+        ensures wanted { result ≡ (q_repeat_left self.now).wanted [] }
+        ensures list { LeadsAlongRepeat (q_repeat_left self.now) result }
     {
         if self.words > 0 && self.cycles > 0 {
             Some(self.address)
@@ -61,9 +61,9 @@ impl QRepeat {
 
     /// Takes the Q of the cycle that `next` asked for.
     pub fn take(&mut self, q: bool)
-        requires { IsSome ((repeat_left self.old).wanted []) }
-        ensures continues { Continues (repeat_left self.old) q (repeat_left self.new) }
-        ensures stands { AddsCycle (repeat_left self.old) q (repeat_left self.new) }
+        requires { IsSome ((q_repeat_left self.old).wanted []) }
+        ensures continues { Continues (q_repeat_left self.old) q (q_repeat_left self.new) }
+        ensures stands { AddsCycle (q_repeat_left self.old) q (q_repeat_left self.new) }
     {
         self.cycles -= 1;
         if q {
@@ -75,7 +75,7 @@ impl QRepeat {
     /// How many cycles had Q=1.
     pub fn tally(&self) -> u32
         ensures held { result ≡ self.now.tally }
-        ensures replies { IsTally (repeat_left self.now) result }
+        ensures replies { IsTally (q_repeat_left self.now) result }
     {
         self.tally
     }
@@ -83,7 +83,7 @@ impl QRepeat {
     /// The number of the table word that the next cycle sends, from 0: after Q=0 the same again.
     pub fn index(&self) -> usize
         ensures held { result ≡ self.now.tally }
-        ensures replies { IsTally (repeat_left self.now) result }
+        ensures replies { IsTally (q_repeat_left self.now) result }
     {
         self.tally as usize
     }

@@ -1,9 +1,9 @@
 // Q-stop (ESONE's CFUBC).
 
 ghost use Rattle.std.specs.Prelude.{◌≡◌, ◌∷◌, [], IsSome};
-ghost use Rattle.camac_esone.specs.Held.{stop_left, LeadsAlongStop};
+ghost use Rattle.camac_esone.specs.Held.{q_stop_left, LeadsAlongStop};
 ghost use Rattle.camac_esone.specs.Progress.{Continues, StandsAt, AddsCycle, IsTally};
-ghost use Rattle.camac_esone.specs.Transfers.{stop_wanted};
+ghost use Rattle.camac_esone.specs.Transfers.{q_stop_wanted};
 
 use crate::address::Address;
 use std::marker::Model;
@@ -34,7 +34,7 @@ impl QStop {
     /// The transfer before its first cycle; with a `max` of 0 there is none.
     pub fn new(address: Address, max: u32) -> Self
         ensures held { result ≡ record { at = address; cycles = max; tally = 0 } }
-        ensures stands { StandsAt (stop_wanted address max) (stop_left result) [] }
+        ensures stands { StandsAt (q_stop_wanted address max) (q_stop_left result) [] }
     {
         QStop {
             address,
@@ -45,8 +45,8 @@ impl QStop {
 
     /// Where the next cycle goes, or none at the end.
     pub fn next(&self) -> Option<Address>
-        ensures wanted { result ≡ (stop_left self.now).wanted [] }
-        ensures list { LeadsAlongStop (stop_left self.now) result }
+        ensures wanted { result ≡ (q_stop_left self.now).wanted [] }
+        ensures list { LeadsAlongStop (q_stop_left self.now) result }
     {
         if self.cycles > 0 {
             Some(self.address)
@@ -57,9 +57,9 @@ impl QStop {
 
     /// Takes the Q of the cycle that `next` asked for.
     pub fn take(&mut self, q: bool)
-        requires { IsSome ((stop_left self.old).wanted []) }
-        ensures continues { Continues (stop_left self.old) q (stop_left self.new) }
-        ensures stands { AddsCycle (stop_left self.old) q (stop_left self.new) }
+        requires { IsSome ((q_stop_left self.old).wanted []) }
+        ensures continues { Continues (q_stop_left self.old) q (q_stop_left self.new) }
+        ensures stands { AddsCycle (q_stop_left self.old) q (q_stop_left self.new) }
     {
         if q {
             self.cycles -= 1;
@@ -72,7 +72,7 @@ impl QStop {
     /// How many cycles had Q=1.
     pub fn tally(&self) -> u32
         ensures held { result ≡ self.now.tally }
-        ensures replies { IsTally (stop_left self.now) result }
+        ensures replies { IsTally (q_stop_left self.now) result }
     {
         self.tally
     }
@@ -80,7 +80,7 @@ impl QStop {
     /// The number of the table word that the next cycle sends, from 0.
     pub fn index(&self) -> usize
         ensures held { result ≡ self.now.tally }
-        ensures replies { IsTally (stop_left self.now) result }
+        ensures replies { IsTally (q_stop_left self.now) result }
     {
         self.tally as usize
     }

@@ -35,11 +35,13 @@ abbrev pub usage_fields : Option Usage → List ℕ
 usage_fields None = []
 usage_fields (Some u) = big_bytes 4 u.cycles ++ big_bytes 2 u.missed
 
--- an event under its number: marker, GL number, event number, usage, count of words, words
+-- what stands before the words of an event: marker, GL number, event number, usage, count of words
+abbrev pub head_of : ℕ → ℕ → Option Usage → ℕ → List ℕ
+head_of number gl usage words = big_bytes 2 0xCA4D ++ big_bytes 2 gl ++ big_bytes 4 number ++ usage_fields usage ++ big_bytes 2 words
+
+-- an event under its number
 abbrev pub record_of : ℕ → Entry → List ℕ
-record_of number e =
-    big_bytes 2 0xCA4D ++ big_bytes 2 e.gl ++ big_bytes 4 number ++ usage_fields e.usage
-    ++ big_bytes 2 (length e.words) ++ flat_map (big_bytes 4) e.words
+record_of number e = head_of number e.gl e.usage (length e.words) ++ flat_map (big_bytes 4) e.words
 
 -- the events, numbered one after the other
 abbrev pub records_from : ℕ → List Entry → List ℕ

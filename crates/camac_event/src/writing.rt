@@ -4,7 +4,7 @@ ghost use Rattle.std.specs.Prelude.{◌≡◌, ◌≤◌, ◌<◌, ◌+◌, ◌*
 ghost use Rattle.std.specs.List.{flat_map};
 ghost use Rattle.arrayvec.specs.ArrayVec.{array_vec_len};
 ghost use Rattle.byteorder.specs.Endian.{big_bytes};
-ghost use Rattle.camac_event.specs.Spelling.{entry_of, entries_of, records_from, header, usage_fields, record_of, spelling};
+ghost use Rattle.camac_event.specs.Spelling.{entry_of, entries_of, records_from, header, usage_fields, head_of, record_of, spelling};
 ghost use Rattle.camac_event.specs.declared.event.Version.TheVariants.{Two};
 ghost use Rattle.camac_word.specs.Watched.{inner_of, has_failed};
 ghost use Rattle.camac_word.specs.Writing.{Writes};
@@ -49,12 +49,7 @@ pub fn write_record<W: Write>(
     ensures failed { has_failed out.new ≡ (has_failed out.old || is_err result) }
 {
     let mut layout = PieceBytes::new();
-    lay_u16(&mut layout, 0xCA4D);
-    lay_u16(&mut layout, gl.get() as u16);
-    lay_u32(&mut layout, number);
-    lay_u32(&mut layout, usage.cycles);
-    lay_u16(&mut layout, usage.missed);
-    lay_u16(&mut layout, words.len() as u16);
+    lay_head(&mut layout, number, gl, Some(usage), words.len());
     write_words(out, &mut layout, words)
 }
 
@@ -78,32 +73,12 @@ fn write_words<W: Write>(
     out.write_text(layout)
 }
 
-fn put_u16(out: &mut Vec<u8>, n: u16) -> Result<(), AllocError>
-    ensures { OnOk result (out.new.items ≡ out.old.items ++ big_bytes 2 n) }
-{
-    let mut field = [0; 2];
-    BigEndian::write_u16(&mut field, n);
-    out.extend_from_slice(&field)
-}
-
 fn put_u32(out: &mut Vec<u8>, n: u32) -> Result<(), AllocError>
     ensures { OnOk result (out.new.items ≡ out.old.items ++ big_bytes 4 n) }
 {
     let mut field = [0; 4];
     BigEndian::write_u32(&mut field, n);
     out.extend_from_slice(&field)
-}
-
-fn put_usage(out: &mut Vec<u8>, usage: Option<Usage>) -> Result<(), AllocError>
-    ensures { OnOk result (out.new.items ≡ out.old.items ++ usage_fields usage) }
-{
-    match usage {
-        None => Ok(()),
-        Some(usage) => {
-            put_u32(out, usage.cycles)?;
-            put_u16(out, usage.missed)
-        }
-    }
 }
 
 fn put_words(out: &mut Vec<u8>, words: &[Word24]) -> Result<(), AllocError>
@@ -119,11 +94,9 @@ fn put_record(out: &mut Vec<u8>, number: u32, event: &Event) -> Result<(), Alloc
     requires { length event.now.words.items ≤ 4096 }
     ensures { OnOk result (out.new.items ≡ out.old.items ++ record_of number (entry_of event.now)) }
 {
-    put_u16(out, 0xCA4D)?;
-    put_u16(out, event.gl.get() as u16)?;
-    put_u32(out, number)?;
-    put_usage(out, event.usage)?;
-    put_u16(out, event.words.len() as u16)?;
+    let mut head = PieceBytes::new();
+    lay_head(&mut head, number, event.gl, event.usage, event.words.len());
+    out.extend_from_slice(&head)?;
     put_words(out, &event.words)
 }
 
@@ -154,6 +127,30 @@ const PIECE: usize = 18 + 4 * 56;
 
 /// A piece of a record while it is laid out.
 type PieceBytes = ArrayVec<u8, PIECE>;
+
+// Lays out a record up to its words, of which `words` is the number.
+fn lay_head(out: &mut PieceBytes, number: u32, gl: GlBit, usage: Option<Usage>, words: usize)
+    requires room { array_vec_len out.old + 18 ≤ PIECE }
+    requires words { words ≤ 4096 }
+    ensures { out.new.items ≡ out.old.items ++ head_of number gl usage words }
+{
+    lay_u16(out, 0xCA4D);
+    lay_u16(out, gl.get() as u16);
+    lay_u32(out, number);
+    lay_usage(out, usage);
+    lay_u16(out, words as u16);
+}
+
+fn lay_usage(out: &mut PieceBytes, usage: Option<Usage>)
+    requires { array_vec_len out.old + 6 ≤ PIECE }
+    ensures items { out.new.items ≡ out.old.items ++ usage_fields usage }
+    ensures len { array_vec_len out.new ≤ array_vec_len out.old + 6 }
+{
+    if let Some(usage) = usage {
+        lay_u32(out, usage.cycles);
+        lay_u16(out, usage.missed);
+    }
+}
 
 fn lay_u16(out: &mut PieceBytes, n: u16)
     requires { array_vec_len out.old + 2 ≤ PIECE }

@@ -4,5 +4,4 @@
 mod advice;
 mod explanation;
 
-pub use advice::{Advice, check_advice, link_advice, plan_advice, text_advice};
 pub use explanation::{explain_plan, explain_script};

@@ -6,10 +6,10 @@ use crate::names::{Body, quoted};
 use crate::transfers::{block_case, least_width, region_case, scan_case};
 use crate::values::{greatest_of, numbers_of, out_of_range};
 use camac_branch::Plan;
-use camac_check::Context;
+use camac_check::{CheckRule, Context};
 use camac_check_known::{Around, Facts, Region};
-use camac_check_rules::CheckRule;
-use camac_lang::{Expr, Lam, LamCall, Move, Stmt, WordSize};
+use camac_esone::lam_function;
+use camac_lang::{Expr, Lam, Move, Stmt, WordSize};
 use camac_range::Range;
 use camac_word::Function;
 
@@ -159,7 +159,7 @@ fn command_case(
             region_case(
                 context.plan,
                 rule,
-                function_of(*call)?,
+                lam_function(*call),
                 region,
                 "moves no data",
             )
@@ -255,15 +255,6 @@ fn region_of(lam: &Lam) -> Region {
         Range::only(lam.station),
         Range::only(lam.sub_address.get()),
     )
-}
-
-fn function_of(call: LamCall) -> Option<Function> {
-    Function::new(match call {
-        LamCall::Enable => 26,
-        LamCall::Disable => 24,
-        LamCall::Clear => 10,
-        LamCall::Test => 8,
-    })
 }
 
 /// What a `lock` breaks.

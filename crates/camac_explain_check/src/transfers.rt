@@ -4,8 +4,8 @@ use crate::addresses::{Window, missing_between, not_declared, not_declared_in, n
 use crate::case::CheckCase;
 use crate::values::greatest_of;
 use camac_branch::Plan;
+use camac_check::CheckRule;
 use camac_check_known::{CheckFault, Facts, Region, command_widths};
-use camac_check_rules::CheckRule;
 use camac_lang::{Expr, Table};
 use camac_word::Function;
 

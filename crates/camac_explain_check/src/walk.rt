@@ -7,10 +7,9 @@ use crate::names::Body;
 use crate::statement::{lock_case, statement_case};
 use crate::values::{numbers_of, out_of_range_in};
 use camac_branch::Plan;
-use camac_check::{CheckFault, Context, accept_block, accept_statement};
+use camac_check::{CheckFault, CheckRule, Context, accept_block, accept_statement};
 use camac_check_known::{Around, Costs, Facts, split};
 use camac_check_loops::{for_limits, while_head};
-use camac_check_rules::CheckRule;
 use camac_lang::{Cond, Item, Keep, Parameter, Procedure, Script, Service, Stmt};
 use camac_range::Range;
 use camac_text::{TextFault, parse};
@@ -250,7 +249,12 @@ fn refused_case(
     rule: CheckRule,
 ) -> Result<Option<CheckCase>, AllocError> {
     match statement {
-        Stmt::If { line, test, then } => match split(alloc, *line, &test.parts, known) {
+        Stmt::If { line, test, then } => match split(
+            alloc,
+            *line,
+            &test.parts,
+            known.try_clone(alloc)?,
+        ) {
             Ok(ways) => reached_case(alloc, walk, around, then, ways.holds, rule),
             Err(fault) => condition_case(fault, test, known),
         },
@@ -259,7 +263,7 @@ fn refused_case(
             test,
             then,
             otherwise,
-        } => match split(alloc, *line, &test.parts, known) {
+        } => match split(alloc, *line, &test.parts, known.try_clone(alloc)?) {
             Ok(ways) => match reached_case(alloc, walk, around, then, ways.holds, rule)? {
                 Some(case) => Ok(Some(case)),
                 None => reached_case(alloc, walk, around, otherwise, ways.fails, rule),
@@ -339,8 +343,8 @@ fn for_entry(
     match for_limits(around, *line, *variable, from, to, keeps, known) {
         Ok(limits) => {
             let inside = around.with_fixed(alloc, *variable)?;
-            let top = limits.head(alloc, *variable, keeps, body, known)?;
-            Ok(Entry::Into(inside, top))
+            let facts = limits.facts(alloc, *variable, keeps, body, known.try_clone(alloc)?)?;
+            Ok(Entry::Into(inside, facts.head))
         }
         Err(CheckFault::OutOfMemory) => Err(AllocError),
         Err(CheckFault::Broken { rule, .. }) => Ok(Entry::Refused(match rule {
@@ -368,8 +372,15 @@ fn while_top(
     else {
         return Ok(Top::Refused(None));
     };
-    match while_head(alloc, *line, *turns, *measure, keeps, body, known) {
-        Ok(top) => match split(alloc, *line, &test.parts, &top) {
+    match while_head(
+        *line,
+        *turns,
+        *measure,
+        keeps,
+        body,
+        known.try_clone(alloc)?,
+    ) {
+        Ok(top) => match split(alloc, *line, &test.parts, top.try_clone(alloc)?) {
             Ok(ways) => Ok(Top::Known(ways.holds)),
             Err(fault) => Ok(Top::Refused(condition_case(fault, test, &top)?)),
         },

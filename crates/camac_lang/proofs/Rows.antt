@@ -6,7 +6,7 @@ use Rattle.camac_lang.specs.Example.{adc, adc_service, straight_line}
 use Rattle.camac_lang.specs.declared.word.WordSize.TheVariants.{Full}
 use Rattle.camac_lang.specs.declared.word.LamCall.TheVariants.{Clear}
 use Rattle.camac_lang.specs.Scope.{is_well_formed}
-use Rattle.camac_lang.specs.Tree.{Text, Expression, number, variable, group, add, subtract, multiply, divide, plain, flag_q, into, Statement, done, assign, set_register, single, q_stop, put, lam_call, choose, count, repeat, locked, call, Table, Lam, Procedure, Service, Item, next_table, next_lam, next_variables, next_procedure, next_service, Script}
+use Rattle.camac_lang.specs.Tree.{Text, Expression, number, variable, group, add, subtract, multiply, divide, plain, flag_q, into, Statement, done, assign, set_register, single, q_stop, put, lam_call, choose, for_, while_, locked, call, Table, Lam, Procedure, Service, Item, next_table, next_lam, next_variables, next_procedure, next_service, Script}
 use Rattle.camac_lang.specs.View.{block_of}
 
 abbrev served : List Text → List Statement → Service
@@ -77,7 +77,7 @@ by_zero = refl
 
 abbrev counting : ℕ → ℕ → ℕ → Statement
 counting x low high =
-    count 4 0 (number 0) (number 3) (record { variable = x; low = low; high = high } ∷ []) done
+    for_ 4 0 (number 0) (number 3) (record { variable = x; low = low; high = high } ∷ []) done
 
 kept : fits [] (counting 1 0 4294967295 ∷ []) ≡ true
 unfolding is_well_formed
@@ -112,7 +112,7 @@ function_32 : fits (codes "r" ∷ []) (set 0 ∷ single 5 Full 32 0 (into 0) ∷
 unfolding is_well_formed
 function_32 = refl
 
-turns_too_large : fits [] (repeat 4 (plain flag_q ∷ []) 4294967296 0 [] done ∷ []) ≡ false
+turns_too_large : fits [] (while_ 4 (plain flag_q ∷ []) 4294967296 0 [] done ∷ []) ≡ false
 unfolding is_well_formed
 turns_too_large = refl
 

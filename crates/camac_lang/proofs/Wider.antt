@@ -6,7 +6,7 @@ use Rattle.camac_lang.specs.Depth.{inner_depth, statement_depth, depth_of, expre
 use Rattle.camac_lang.specs.Expressions.{Callable, Scope, refers, is_grouped, operators, expression_fits, test_fits, part_fits, condition_fits}
 use Rattle.camac_lang.specs.Statements.{keeps_fit, table_fits, move_fits, head_fits, begun, after, after_block}
 use Rattle.camac_lang.specs.Tests.{each, has, most, is_number, is_function, are_distinct}
-use Rattle.camac_lang.specs.Tree.{Expression, number, variable, group, add, subtract, multiply, divide, remainder, Test, flag_q, flag_x, compare, Part, plain, negated, Condition, Move, no_data, into, from, Keep, Statement, assign, set_register, single, address_scan, q_stop, q_repeat, put, crate_call, lam_call, choose, choose_else, count, repeat, locked, call, Block, done, next}
+use Rattle.camac_lang.specs.Tree.{Expression, number, variable, group, add, subtract, multiply, divide, remainder, Test, flag_q, flag_x, compare, Part, plain, negated, Condition, Move, no_data, into, from, Keep, Statement, assign, set_register, single, address_scan, q_stop, q_repeat, put, crate_call, lam_call, choose, choose_else, for_, while_, locked, call, Block, done, next}
 use Rattle.camac_lang.proofs.Options.{Implies, unless_parts, then_parts, unless_implies, then_implies, and_implies, and_keeps}
 
 -- a scope that has all that another has
@@ -95,10 +95,10 @@ module _ (c d : Scope) (wide : IsWider c d) where
   head_wider seen (lam_call line k l) = below l c.lams d.lams wide.lams
   head_wider seen (choose line t a) = condition_wider t
   head_wider seen (choose_else line t a b) = condition_wider t
-  head_wider seen (count line x e1 e2 ks body) =
+  head_wider seen (for_ line x e1 e2 ks body) =
       and_implies _ _ _ _ (variable_wider x) (and_implies _ _ _ _ (expression_wider e1)
       (and_implies _ _ _ _ (expression_wider e2) (keeps_wider x ks)))
-  head_wider seen (repeat line t turns x ks body) =
+  head_wider seen (while_ line t turns x ks body) =
       and_implies _ _ _ _ (condition_wider t) (and_keeps (is_number turns) _ _ (and_implies _ _ _ _ (variable_wider x) (keeps_wider x ks)))
   head_wider seen (locked line e body) = and_implies _ _ _ _ kind_wider (expression_wider e)
   head_wider seen (call line p es) =
@@ -117,8 +117,8 @@ module _ (c d : Scope) (wide : IsWider c d) where
     statement_wider seen (choose line t a) = inner_wider seen (choose line t a) a (λ k. block_wider k a)
     statement_wider seen (choose_else line t a b) =
         then_implies (λ k. after_block c k b) (λ k. after_block d k b) (option_and_then (λ k. after_block c k a) (begun c seen (choose_else line t a b))) (option_and_then (λ k. after_block d k a) (begun d seen (choose_else line t a b))) (inner_wider seen (choose_else line t a b) a (λ k. block_wider k a)) (λ k. block_wider k b)
-    statement_wider seen (count line x e1 e2 ks body) = inner_wider seen (count line x e1 e2 ks body) body (λ k. block_wider k body)
-    statement_wider seen (repeat line t turns x ks body) = inner_wider seen (repeat line t turns x ks body) body (λ k. block_wider k body)
+    statement_wider seen (for_ line x e1 e2 ks body) = inner_wider seen (for_ line x e1 e2 ks body) body (λ k. block_wider k body)
+    statement_wider seen (while_ line t turns x ks body) = inner_wider seen (while_ line t turns x ks body) body (λ k. block_wider k body)
     statement_wider seen (locked line e body) = inner_wider seen (locked line e body) body (λ k. block_wider k body)
     statement_wider seen s = begun_wider seen s
 
@@ -141,7 +141,7 @@ module _ (c d : Scope) (wide : IsWider c d) where
   inner_depth_wider : (n : ℕ) (o : Option ℕ) (b : Block) → SameDepth b → option_and_then (λ k. after_block c k b) o ≡ Some n → inner_depth c.callables b ≡ inner_depth d.callables b
   inner_depth_wider n o b ih h = let p = then_parts (λ k. after_block c k b) o n h in ih p.0 n p.2
 
-  -- calls count the same depth in the wider scope
+  -- calls for_ the same depth in the wider scope
   mutual
     pub statement_depth_wider : (seen n : ℕ) (s : Statement) → after c seen s ≡ Some n → statement_depth c.callables s ≡ statement_depth d.callables s
     statement_depth_wider seen n (choose line t a) h =
@@ -152,10 +152,10 @@ module _ (c d : Scope) (wide : IsWider c d) where
         let e : inner_depth c.callables a ≡ inner_depth d.callables a = inner_depth_wider p.0 (begun c seen (choose_else line t a b)) a (λ i m. block_depth_wider i m a) p.1 in
         let g : inner_depth c.callables b ≡ inner_depth d.callables b = block_depth_wider p.0 n b p.2 in
         rw (e, g) refl
-    statement_depth_wider seen n (count line x e1 e2 ks body) h =
-        ap (λ k. max (expression_depth e1) (max (expression_depth e2) (suc k))) (inner_depth_wider n (begun c seen (count line x e1 e2 ks body)) body (λ i m. block_depth_wider i m body) h)
-    statement_depth_wider seen n (repeat line t turns x ks body) h =
-        ap (λ k. max (most part_depth t) (suc k)) (inner_depth_wider n (begun c seen (repeat line t turns x ks body)) body (λ i m. block_depth_wider i m body) h)
+    statement_depth_wider seen n (for_ line x e1 e2 ks body) h =
+        ap (λ k. max (expression_depth e1) (max (expression_depth e2) (suc k))) (inner_depth_wider n (begun c seen (for_ line x e1 e2 ks body)) body (λ i m. block_depth_wider i m body) h)
+    statement_depth_wider seen n (while_ line t turns x ks body) h =
+        ap (λ k. max (most part_depth t) (suc k)) (inner_depth_wider n (begun c seen (while_ line t turns x ks body)) body (λ i m. block_depth_wider i m body) h)
     statement_depth_wider seen n (locked line e body) h =
         ap (λ k. max (expression_depth e) (suc k)) (inner_depth_wider n (begun c seen (locked line e body)) body (λ i m. block_depth_wider i m body) h)
     statement_depth_wider seen n (call line p es) h =

@@ -8,7 +8,7 @@ use Rattle.camac_range.specs.contracts.comparison.Cmp as comparison
 use Rattle.camac_lang.specs.contracts.word.CrateCall as crate_call_word
 use Rattle.camac_lang.specs.contracts.word.LamCall as lam_call_word
 use Rattle.camac_lang.specs.contracts.word.WordSize as word_size
-use Rattle.camac_lang.specs.Tree.{Text, Expression, number, variable, group, add, subtract, multiply, divide, remainder, Test, flag_q, flag_x, compare, Part, plain, negated, Move, no_data, into, from, Keep, Statement, assign, set_register, single, address_scan, q_stop, q_repeat, put, crate_call, lam_call, choose, choose_else, count, repeat, locked, call, Block, done, next, Table, Lam, Parameter, Procedure, Service, Item, next_table, next_lam, next_variables, next_procedure, next_service, Script}
+use Rattle.camac_lang.specs.Tree.{Text, Expression, number, variable, group, add, subtract, multiply, divide, remainder, Test, flag_q, flag_x, compare, Part, plain, negated, Move, no_data, into, from, Keep, Statement, assign, set_register, single, address_scan, q_stop, q_repeat, put, crate_call, lam_call, choose, choose_else, for_, while_, locked, call, Block, done, next, Table, Lam, Parameter, Procedure, Service, Item, next_table, next_lam, next_variables, next_procedure, next_service, Script}
 
 -- the number at the front of a code
 abbrev pub tag : Gv → ℕ
@@ -143,8 +143,8 @@ abbrev mutual
   statement_code (lam_call x0 x1 x2) = gcons (gnum 8) (gcons (gnum x0) (gcons (lam_call_word.the_row.coded.code x1) (gcons (gnum x2) gnil)))
   statement_code (choose x0 x1 x2) = gcons (gnum 9) (gcons (gnum x0) (gcons (condition_coded.code x1) (gcons (block_code x2) gnil)))
   statement_code (choose_else x0 x1 x2 x3) = gcons (gnum 10) (gcons (gnum x0) (gcons (condition_coded.code x1) (gcons (block_code x2) (gcons (block_code x3) gnil))))
-  statement_code (count x0 x1 x2 x3 x4 x5) = gcons (gnum 11) (gcons (gnum x0) (gcons (gnum x1) (gcons (expression_coded.code x2) (gcons (expression_coded.code x3) (gcons (keeps_coded.code x4) (gcons (block_code x5) gnil))))))
-  statement_code (repeat x0 x1 x2 x3 x4 x5) = gcons (gnum 12) (gcons (gnum x0) (gcons (condition_coded.code x1) (gcons (gnum x2) (gcons (gnum x3) (gcons (keeps_coded.code x4) (gcons (block_code x5) gnil))))))
+  statement_code (for_ x0 x1 x2 x3 x4 x5) = gcons (gnum 11) (gcons (gnum x0) (gcons (gnum x1) (gcons (expression_coded.code x2) (gcons (expression_coded.code x3) (gcons (keeps_coded.code x4) (gcons (block_code x5) gnil))))))
+  statement_code (while_ x0 x1 x2 x3 x4 x5) = gcons (gnum 12) (gcons (gnum x0) (gcons (condition_coded.code x1) (gcons (gnum x2) (gcons (gnum x3) (gcons (keeps_coded.code x4) (gcons (block_code x5) gnil))))))
   statement_code (locked x0 x1 x2) = gcons (gnum 13) (gcons (gnum x0) (gcons (expression_coded.code x1) (gcons (block_code x2) gnil)))
   statement_code (call x0 x1 x2) = gcons (gnum 14) (gcons (gnum x0) (gcons (gnum x1) (gcons (expressions_coded.code x2) gnil)))
 
@@ -197,13 +197,13 @@ mutual
       let h2 : block_code x2 ≡ block_code y2 = cc in
       let h3 : block_code x3 ≡ block_code y3 = cc in
       cc (condition_coded.inj x1 y1 h1, same_block x2 y2 h2, same_block x3 y3 h3)
-  same_statement (count x0 x1 x2 x3 x4 x5) (count y0 y1 y2 y3 y4 y5) e =
+  same_statement (for_ x0 x1 x2 x3 x4 x5) (for_ y0 y1 y2 y3 y4 y5) e =
       let h2 : expression_coded.code x2 ≡ expression_coded.code y2 = cc in
       let h3 : expression_coded.code x3 ≡ expression_coded.code y3 = cc in
       let h4 : keeps_coded.code x4 ≡ keeps_coded.code y4 = cc in
       let h5 : block_code x5 ≡ block_code y5 = cc in
       cc (expression_coded.inj x2 y2 h2, expression_coded.inj x3 y3 h3, keeps_coded.inj x4 y4 h4, same_block x5 y5 h5)
-  same_statement (repeat x0 x1 x2 x3 x4 x5) (repeat y0 y1 y2 y3 y4 y5) e =
+  same_statement (while_ x0 x1 x2 x3 x4 x5) (while_ y0 y1 y2 y3 y4 y5) e =
       let h1 : condition_coded.code x1 ≡ condition_coded.code y1 = cc in
       let h4 : keeps_coded.code x4 ≡ keeps_coded.code y4 = cc in
       let h5 : block_code x5 ≡ block_code y5 = cc in

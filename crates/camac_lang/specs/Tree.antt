@@ -74,9 +74,9 @@ mutual
     choose : (line : ℕ) → Condition → Block → Statement
     choose_else : (line : ℕ) → Condition → Block → Block → Statement
     -- `for`: variable, first and last value, kept ranges, body
-    count : (line : ℕ) → ℕ → Expression → Expression → List Keep → Block → Statement
+    for_ : (line : ℕ) → ℕ → Expression → Expression → List Keep → Block → Statement
     -- `while`: condition, annotated turns, measure, kept ranges, body
-    repeat : (line : ℕ) → Condition → ℕ → ℕ → List Keep → Block → Statement
+    while_ : (line : ℕ) → Condition → ℕ → ℕ → List Keep → Block → Statement
     -- `lock`: crate, body
     locked : (line : ℕ) → Expression → Block → Statement
     -- procedure, arguments

@@ -2,15 +2,20 @@
 #![tactic(auto)]
 
 mod copy;
+mod depth;
 mod headings;
 mod laws;
+pub mod limits;
 mod name;
+mod room;
 mod script;
 mod tree;
 mod word;
 
+pub use depth::Callable;
 pub use laws::{limits_hold, procedures_stand, registers_grow, services_stand};
 pub use name::Name;
+pub use room::fits;
 pub use script::{Item, Lam, Parameter, Procedure, Script, Service, Table};
 pub use tree::{Cond, Divisor, Expr, Keep, Move, Part, Stmt, Test};
 pub use word::{CrateCall, LamCall, WordSize};

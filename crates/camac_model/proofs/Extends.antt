@@ -16,7 +16,7 @@ use Rattle.camac_model.specs.Behaviour.{Behaviour, does, ends, stops, Stop, shor
 use Rattle.camac_model.specs.Value.{value, truth}
 use Rattle.camac_model.specs.Cycle.{if_permitted, next_answer, after_cycle, make_cycle, cycle, kept, sized, after_lock, take_lock}
 use Rattle.camac_model.specs.Transfer.{transfer_data, keep_word, request, transfer}
-use Rattle.camac_model.specs.Meaning.{fits_size, act, transfer_to, counted, count_turns, count_from, turns, entered, returned, enter}
+use Rattle.camac_model.specs.Meaning.{fits_size, act, transfer_to, counted, for_turns, for_from, turns, entered, returned, enter}
 use Rattle.camac_model.specs.Laws.{longer, Extends, SameEnd}
 
 -- which stops are open, how many turns are allowed before and after, and the answers that are added
@@ -155,15 +155,15 @@ module _ (open' : Stop → Bool) (bs : List Answer) where
   enter_extends body body' h vs s =
       then_extends (SameEnd bs) (body (entered vs s)) (body' (longer bs (entered vs s))) (λ t. ends (returned s t)) (λ t. ends (returned (longer bs s) t)) (h (entered vs s)) (λ t. refl)
 
-  counts_extend : (i n m : ℕ) → Further open' n m bs → (x v last : ℕ) (body body' : Action) → ((t : State) → Goes (body t) (body' (longer bs t))) → (s : State) → Goes (count_turns i n x v last body s) (count_turns i m x v last body' (longer bs s))
+  counts_extend : (i n m : ℕ) → Further open' n m bs → (x v last : ℕ) (body body' : Action) → ((t : State) → Goes (body t) (body' (longer bs t))) → (s : State) → Goes (for_turns i n x v last body s) (for_turns i m x v last body' (longer bs s))
   counts_extend zero n m k x v last body body' h s = refl
-  counts_extend (suc i) zero m k x v last body body' h s = λ e. ap (λ j. count_turns (suc i) j x v last body' (longer bs s)) (sym (k.same_turns e))
+  counts_extend (suc i) zero m k x v last body body' h s = λ e. ap (λ j. for_turns (suc i) j x v last body' (longer bs s)) (sym (k.same_turns e))
   counts_extend (suc i) (suc n) zero k x v last body body' h s = let le = k.turns in absurd (omega arith)
   counts_extend (suc i) (suc n) (suc m) k x v last body body' h s =
-      then_extends (SameEnd bs) (body (counted x v s)) (body' (longer bs (counted x v s))) (count_turns i n x (v + 1) last body) (count_turns i m x (v + 1) last body') (h (counted x v s))
+      then_extends (SameEnd bs) (body (counted x v s)) (body' (longer bs (counted x v s))) (for_turns i n x (v + 1) last body) (for_turns i m x (v + 1) last body') (h (counted x v s))
       (counts_extend i n m (fewer n m k) x (v + 1) last body body' h)
 
-  pub count_extends : (i n m : ℕ) → Further open' n m bs → (x v last : ℕ) (body body' : Action) → ((t : State) → Goes (body t) (body' (longer bs t))) → (s : State) → Goes (count_from i n x v last body s) (count_from i m x v last body' (longer bs s))
+  pub count_extends : (i n m : ℕ) → Further open' n m bs → (x v last : ℕ) (body body' : Action) → ((t : State) → Goes (body t) (body' (longer bs t))) → (s : State) → Goes (for_from i n x v last body s) (for_from i m x v last body' (longer bs s))
   count_extends zero n m k x v last body body' h s = refl
   count_extends (suc i) n m k x v last body body' h s = counts_extend (suc i) n m k x v last body body' h s
 

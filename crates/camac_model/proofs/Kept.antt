@@ -3,20 +3,20 @@ use Rattle.std.proofs.Common.{◌≡◌, ℕ, zero, suc, ◌+◌, ◌-◌, List,
 use Rattle.std.specs.Prelude.{slice_get, nat_eq, if◌then◌else◌}
 use Rattle.camac_lang.specs.declared.word.WordSize.{WordSize}
 use Rattle.camac_lang.specs.declared.word.WordSize.TheVariants.{Full}
-use Rattle.camac_lang.specs.Tree.{Condition, Move, no_data, into, from, Statement, assign, set_register, single, address_scan, q_stop, q_repeat, put, crate_call, lam_call, choose, choose_else, count, repeat, locked, call, Block, done, next, Script}
+use Rattle.camac_lang.specs.Tree.{Condition, Move, no_data, into, from, Statement, assign, set_register, single, address_scan, q_stop, q_repeat, put, crate_call, lam_call, choose, choose_else, for_, while_, locked, call, Block, done, next, Script}
 use Rattle.camac_func.specs.declared.data.DataMove.{DataMove}
 use Rattle.camac_func.specs.declared.data.DataMove.TheVariants as moved
 use Rattle.camac_branch.specs.Address.{Address, address}
 use Rattle.camac_branch.specs.Allowed.{width}
 use Rattle.camac_branch.specs.Branch.{Reply, Answer, reply_to}
 use Rattle.camac_branch.specs.Plan.{Layout, crate_waits}
-use Rattle.camac_esone.specs.Transfers.{Wanted, tally, stop_wanted, repeat_wanted, scan_wanted}
+use Rattle.camac_esone.specs.Transfers.{Wanted, tally, q_stop_wanted, q_repeat_wanted, scan_wanted}
 use Rattle.camac_model.specs.State.{State, Variables, Registers, stepped, with_variable, with_register, with_word}
 use Rattle.camac_model.specs.Behaviour.{Piece, cycled, lock_taken, lock_released, ends, Stop, Action, then_do, given, unless_wrong}
 use Rattle.camac_model.specs.Value.{value, values, truth}
 use Rattle.camac_model.specs.Cycle.{after_cycle, cycle, sized, kept, after_lock, take_lock, after_release, release}
 use Rattle.camac_model.specs.Transfer.{keep_word}
-use Rattle.camac_model.specs.Meaning.{Context, crate_address, crate_function, lam_function, fits_size, act, transfer_to, sent, counted, count_from, turns, entered, returned, enter, effect, block_meaning, context}
+use Rattle.camac_model.specs.Meaning.{Context, crate_address, crate_function, lam_function, fits_size, act, transfer_to, sent, counted, for_from, turns, entered, returned, enter, effect, block_meaning, context}
 use Rattle.camac_model.proofs.Contexts.{AllRoutines, script_block}
 use Rattle.camac_model.proofs.Rules.{Meets, then_meets, given_meets, decide_meets, unless_meets, cycle_meets, lock_meets, transfer_meets, turns_meet, counts_meet}
 
@@ -90,7 +90,7 @@ module _ {X : Type 0} (step : X → Piece → X) (S : X → Piece → Type 0) (I
         turns_meet step S Still I c body (λ y _ t. I y t) (λ y _ t j _. j) (λ y t j _. j)
         (λ y _ t j _. h y (stepped t) (k.on_step y t j)) (λ y _ t j _. j) n x s i
 
-    count_keeps : (i n v first last : ℕ) (body : Action) → Keeps body → Keeps (count_from i n v first last body)
+    count_keeps : (i n v first last : ℕ) (body : Action) → Keeps body → Keeps (for_from i n v first last body)
     count_keeps zero n v first last body h x s j = j
     count_keeps (suc i) n v first last body h x s j =
         counts_meet step S Still I v last body (λ y _ _ t. I y t) (λ y _ _ t j. j)
@@ -136,19 +136,19 @@ module _ {X : Type 0} (step : X → Piece → X) (S : X → Piece → Type 0) (I
             given_keeps (value max s.variables) (third a b) x s i (λ l _.
             unless_meets step S Still I x (nat_eq a.crate_no b.crate_no) (go a b l) s (λ _. i) (λ _. transfer_keeps c.plan f None (scan_wanted a b l) v x s i))))
         statement_keeps (q_stop line f r g max v) x s i =
-            let second : Option (List ℕ) → Address → ℕ → Action = λ table at l. transfer_to c.plan f table (stop_wanted at l) v in
+            let second : Option (List ℕ) → Address → ℕ → Action = λ table at l. transfer_to c.plan f table (q_stop_wanted at l) v in
             let first : Option (List ℕ) → Address → Action = λ table at. given (value max s.variables) (second table at) in
             given_keeps (sent c g) (λ table. given (s.registers r) (first table)) x s i (λ table _.
             given_keeps (s.registers r) (first table) x s i (λ at _.
-            given_keeps (value max s.variables) (second table at) x s i (λ l _. transfer_keeps c.plan f table (stop_wanted at l) v x s i)))
+            given_keeps (value max s.variables) (second table at) x s i (λ l _. transfer_keeps c.plan f table (q_stop_wanted at l) v x s i)))
         statement_keeps (q_repeat line f r g max limit v) x s i =
-            let third : Option (List ℕ) → Address → ℕ → ℕ → Action = λ table at l l'. transfer_to c.plan f table (repeat_wanted at l l') v in
+            let third : Option (List ℕ) → Address → ℕ → ℕ → Action = λ table at l l'. transfer_to c.plan f table (q_repeat_wanted at l l') v in
             let second : Option (List ℕ) → Address → ℕ → Action = λ table at l. given (value limit s.variables) (third table at l) in
             let first : Option (List ℕ) → Address → Action = λ table at. given (value max s.variables) (second table at) in
             given_keeps (sent c g) (λ table. given (s.registers r) (first table)) x s i (λ table _.
             given_keeps (s.registers r) (first table) x s i (λ at _.
             given_keeps (value max s.variables) (second table at) x s i (λ l _.
-            given_keeps (value limit s.variables) (third table at l) x s i (λ l' _. transfer_keeps c.plan f table (repeat_wanted at l l') v x s i))))
+            given_keeps (value limit s.variables) (third table at l) x s i (λ l' _. transfer_keeps c.plan f table (q_repeat_wanted at l l') v x s i))))
         statement_keeps (put line e) x s i =
             given_keeps (value e s.variables) (λ w t. ends (with_word w t)) x s i (λ w _. k.on_word x w s i)
         statement_keeps (crate_call line op e) x s i =
@@ -159,12 +159,12 @@ module _ {X : Type 0} (step : X → Piece → X) (S : X → Piece → Type 0) (I
             decide_meets step S Still I x (truth test s.variables s.q s.x) (block_meaning c n a) ends s (λ _. i) (λ _. block_keeps a x s i) (λ _. i)
         statement_keeps (choose_else line test a b) x s i =
             decide_meets step S Still I x (truth test s.variables s.q s.x) (block_meaning c n a) (block_meaning c n b) s (λ _. i) (λ _. block_keeps a x s i) (λ _. block_keeps b x s i)
-        statement_keeps (count line v e1 e2 keeps body) x s i =
-            let second : ℕ → ℕ → Action = λ first last. count_from (last + 1 - first) n v first last (block_meaning c n body) in
+        statement_keeps (for_ line v e1 e2 keeps body) x s i =
+            let second : ℕ → ℕ → Action = λ first last. for_from (last + 1 - first) n v first last (block_meaning c n body) in
             given_keeps (value e1 s.variables) (λ first. given (value e2 s.variables) (second first)) x s i (λ first _.
             given_keeps (value e2 s.variables) (second first) x s i (λ last _.
             count_keeps (last + 1 - first) n v first last (block_meaning c n body) (λ y t j. block_keeps body y t j) x s i))
-        statement_keeps (repeat line test turns' measure keeps body) x s i =
+        statement_keeps (while_ line test turns' measure keeps body) x s i =
             turns_keep n test (block_meaning c n body) (λ y t j. block_keeps body y t j) x s i
         statement_keeps (locked line e body) x s i =
             let held : ℕ → Action = λ d u. then_do (block_meaning c n body u) (release d) in

@@ -4,7 +4,7 @@ use Rattle.std.proofs.lemmas.Bool.{eqb-true}
 use Rattle.std.specs.Prelude.{nat_eq, if◌then◌else◌, slice_get}
 use Rattle.camac_lang.specs.declared.word.WordSize.{WordSize}
 use Rattle.camac_lang.specs.declared.word.WordSize.TheVariants.{Full}
-use Rattle.camac_lang.specs.Tree.{Condition, Move, no_data, into, from, Statement, assign, set_register, single, address_scan, q_stop, q_repeat, put, crate_call, lam_call, choose, choose_else, count, repeat, locked, call, Block, done, next}
+use Rattle.camac_lang.specs.Tree.{Condition, Move, no_data, into, from, Statement, assign, set_register, single, address_scan, q_stop, q_repeat, put, crate_call, lam_call, choose, choose_else, for_, while_, locked, call, Block, done, next}
 use Rattle.camac_func.specs.declared.data.DataMove.{DataMove}
 use Rattle.camac_func.specs.declared.data.DataMove.TheVariants as moved
 use Rattle.camac_branch.specs.Address.{Address, address}
@@ -14,13 +14,13 @@ use Rattle.camac_crate.specs.Controller.{controller}
 use Rattle.camac_crate.specs.State as crate_state
 use Rattle.camac_branch.specs.Branch.{Branch, CrateNow, Reply, effect_in, branch_after, with_crate, with_lock, reply_to}
 use Rattle.camac_branch.specs.Plan.{Layout, crate_waits}
-use Rattle.camac_esone.specs.Transfers.{Wanted, tally, stop_wanted, repeat_wanted, scan_wanted}
+use Rattle.camac_esone.specs.Transfers.{Wanted, tally, q_stop_wanted, q_repeat_wanted, scan_wanted}
 use Rattle.camac_model.specs.State.{State, stepped, fresh, with_variable, with_register, with_word}
 use Rattle.camac_model.specs.Behaviour.{Piece, Behaviour, does, ends, stops, Stop, Action, then_do, given, unless_wrong}
 use Rattle.camac_model.specs.Value.{value, values, truth}
 use Rattle.camac_model.specs.Cycle.{after_cycle, cycle, sized, kept, after_lock, take_lock, release}
 use Rattle.camac_model.specs.Transfer.{keep_word}
-use Rattle.camac_model.specs.Meaning.{Context, crate_address, crate_function, lam_function, fits_size, act, transfer_to, sent, counted, count_from, turns, entered, enter, effect, block_meaning, context}
+use Rattle.camac_model.specs.Meaning.{Context, crate_address, crate_function, lam_function, fits_size, act, transfer_to, sent, counted, for_from, turns, entered, enter, effect, block_meaning, context}
 use Rattle.camac_model.specs.Laws.{EndsWith, NoneLocked, ServicesUnlock}
 use Rattle.camac_model.proofs.Contexts.{AllRoutines, script_block}
 use Rattle.camac_model.proofs.Rules.{Meets, then_meets, weaker, given_meets, decide_meets, unless_meets, cycle_meets, lock_meets, enter_meets, after_one, transfer_meets, turns_meet, counts_meet}
@@ -118,7 +118,7 @@ turns_leave n c body h s =
     turns_meet step AnyPiece AnyStop (Keeps s) c body (λ _ _ t. SameLocks s.branch t.branch) (λ _ _ _ _ _. tt) (λ _ _ _ _. tt)
     (λ _ _ t i _. weaker step AnyPiece AnyStop (Keeps (stepped t)) (Keeps s) tt (body (stepped t)) (h (stepped t)) (λ _ u g. further s.branch t.branch u.branch i g)) (λ _ _ t i _. i) n tt s (same s.branch)
 
-counts_leave : (k n x v last : ℕ) (body : Action) → ((t : State) → Leaves t (body t)) → (s : State) → Leaves s (count_from k n x v last body s)
+counts_leave : (k n x v last : ℕ) (body : Action) → ((t : State) → Leaves t (body t)) → (s : State) → Leaves s (for_from k n x v last body s)
 counts_leave zero n x v last body h s = same s.branch
 counts_leave (suc k) n x v last body h s =
     counts_meet step AnyPiece AnyStop (Keeps s) x last body (λ _ _ _ t. SameLocks s.branch t.branch) (λ _ _ _ _ _. tt)
@@ -150,19 +150,19 @@ module _ (c : Context) (routines : AllRoutines LeavesWithin c) (n : ℕ) where
         given_leaves s (value max s.variables) (third a b) (λ l _.
         unless_meets step AnyPiece AnyStop (Keeps s) tt (nat_eq a.crate_no b.crate_no) (go a b l) s (λ _. tt) (λ _. transfer_leaves c.plan f None (scan_wanted a b l) x s))))
     statement_leaves (q_stop line f r g max x) s =
-        let second : Option (List ℕ) → Address → ℕ → Action = λ table at l. transfer_to c.plan f table (stop_wanted at l) x in
+        let second : Option (List ℕ) → Address → ℕ → Action = λ table at l. transfer_to c.plan f table (q_stop_wanted at l) x in
         let first : Option (List ℕ) → Address → Action = λ table at. given (value max s.variables) (second table at) in
         given_leaves s (sent c g) (λ table. given (s.registers r) (first table)) (λ table _.
         given_leaves s (s.registers r) (first table) (λ at _.
-        given_leaves s (value max s.variables) (second table at) (λ l _. transfer_leaves c.plan f table (stop_wanted at l) x s)))
+        given_leaves s (value max s.variables) (second table at) (λ l _. transfer_leaves c.plan f table (q_stop_wanted at l) x s)))
     statement_leaves (q_repeat line f r g max limit x) s =
-        let third : Option (List ℕ) → Address → ℕ → ℕ → Action = λ table at l l'. transfer_to c.plan f table (repeat_wanted at l l') x in
+        let third : Option (List ℕ) → Address → ℕ → ℕ → Action = λ table at l l'. transfer_to c.plan f table (q_repeat_wanted at l l') x in
         let second : Option (List ℕ) → Address → ℕ → Action = λ table at l. given (value limit s.variables) (third table at l) in
         let first : Option (List ℕ) → Address → Action = λ table at. given (value max s.variables) (second table at) in
         given_leaves s (sent c g) (λ table. given (s.registers r) (first table)) (λ table _.
         given_leaves s (s.registers r) (first table) (λ at _.
         given_leaves s (value max s.variables) (second table at) (λ l _.
-        given_leaves s (value limit s.variables) (third table at l) (λ l' _. transfer_leaves c.plan f table (repeat_wanted at l l') x s))))
+        given_leaves s (value limit s.variables) (third table at l) (λ l' _. transfer_leaves c.plan f table (q_repeat_wanted at l l') x s))))
     statement_leaves (put line e) s = given_leaves s (value e s.variables) (λ v t. ends (with_word v t)) (λ v _. same s.branch)
     statement_leaves (crate_call line op e) s =
         given_leaves s (value e s.variables) (λ d. act c.plan (crate_address op d) (crate_function op) Full no_data) (λ d _. act_leaves c.plan (crate_address op d) (crate_function op) Full no_data s)
@@ -172,11 +172,11 @@ module _ (c : Context) (routines : AllRoutines LeavesWithin c) (n : ℕ) where
         decide_meets step AnyPiece AnyStop (Keeps s) tt (truth test s.variables s.q s.x) (block_meaning c n a) ends s (λ _. tt) (λ _. block_leaves a s) (λ _. same s.branch)
     statement_leaves (choose_else line test a b) s =
         decide_meets step AnyPiece AnyStop (Keeps s) tt (truth test s.variables s.q s.x) (block_meaning c n a) (block_meaning c n b) s (λ _. tt) (λ _. block_leaves a s) (λ _. block_leaves b s)
-    statement_leaves (count line x e1 e2 keeps body) s =
-        let second : ℕ → ℕ → Action = λ v w. count_from (w + 1 - v) n x v w (block_meaning c n body) in
+    statement_leaves (for_ line x e1 e2 keeps body) s =
+        let second : ℕ → ℕ → Action = λ v w. for_from (w + 1 - v) n x v w (block_meaning c n body) in
         given_leaves s (value e1 s.variables) (λ v. given (value e2 s.variables) (second v)) (λ v _.
         given_leaves s (value e2 s.variables) (second v) (λ w _. counts_leave (w + 1 - v) n x v w (block_meaning c n body) (λ t. block_leaves body t) s))
-    statement_leaves (repeat line test m k keeps body) s = turns_leave n test (block_meaning c n body) (λ t. block_leaves body t) s
+    statement_leaves (while_ line test m k keeps body) s = turns_leave n test (block_meaning c n body) (λ t. block_leaves body t) s
     statement_leaves (locked line e body) s =
         let held : ℕ → Action = λ d u. then_do (block_meaning c n body u) (release d) in
         let go : ℕ → ℕ → Action = λ d waits t. take_lock d waits (t.branch d).locked (held d) t in

@@ -2,16 +2,16 @@
 use Rattle.std.proofs.Common.{◌≡◌, ℕ, ◌+◌, ◌-◌, List, [], Option, None, Bool, false, refl}
 use Rattle.std.specs.Prelude.{slice_get, nat_eq}
 use Rattle.camac_lang.specs.declared.word.WordSize.TheVariants.{Full}
-use Rattle.camac_lang.specs.Tree.{no_data, Statement, assign, set_register, single, address_scan, q_stop, q_repeat, put, crate_call, lam_call, choose, choose_else, count, repeat, locked, call, Block, done, next, Script}
+use Rattle.camac_lang.specs.Tree.{no_data, Statement, assign, set_register, single, address_scan, q_stop, q_repeat, put, crate_call, lam_call, choose, choose_else, for_, while_, locked, call, Block, done, next, Script}
 use Rattle.camac_branch.specs.Address.{Address, address}
 use Rattle.camac_branch.specs.Branch.{Answer}
 use Rattle.camac_branch.specs.Plan.{Layout, crate_waits}
-use Rattle.camac_esone.specs.Transfers.{stop_wanted, repeat_wanted, scan_wanted}
+use Rattle.camac_esone.specs.Transfers.{q_stop_wanted, q_repeat_wanted, scan_wanted}
 use Rattle.camac_model.specs.State.{State, stepped, with_word, with_variable, with_register}
 use Rattle.camac_model.specs.Behaviour.{ends, Stop, short, Action, then_do, given, unless_wrong}
 use Rattle.camac_model.specs.Value.{value, values, truth}
 use Rattle.camac_model.specs.Cycle.{take_lock, after_release, release}
-use Rattle.camac_model.specs.Meaning.{Context, crate_address, crate_function, lam_function, act, transfer_to, sent, count_from, enter, effect, block_meaning, context}
+use Rattle.camac_model.specs.Meaning.{Context, crate_address, crate_function, lam_function, act, transfer_to, sent, for_from, enter, effect, block_meaning, context}
 use Rattle.camac_model.specs.Laws.{longer, Extends, SameEnd}
 use Rattle.camac_model.proofs.Contexts.{AllRoutines, script_block}
 use Rattle.camac_model.proofs.Extends.{Further, Goes, then_extends, given_extends, decide_extends, unless_extends, act_extends, transfer_to_extends, count_extends, turns_extend, lock_extends, enter_extends}
@@ -48,19 +48,19 @@ module _ (open' : Stop → Bool) (n m : ℕ) (bs : List Answer) (k : Further ope
           given_extends open' bs (value max s.variables) (third a b) (third a b) s (λ l _.
           unless_extends open' bs (nat_eq a.crate_no b.crate_no) (go a b l) (go a b l) s (transfer_to_extends open' bs closed c.plan f None (scan_wanted a b l) x s))))
       statement_extends (q_stop line f r g max x) s =
-          let second : Option (List ℕ) → Address → ℕ → Action = λ table at l. transfer_to c.plan f table (stop_wanted at l) x in
+          let second : Option (List ℕ) → Address → ℕ → Action = λ table at l. transfer_to c.plan f table (q_stop_wanted at l) x in
           let first : Option (List ℕ) → Address → Action = λ table at. given (value max s.variables) (second table at) in
           given_extends open' bs (sent c g) (λ table. given (s.registers r) (first table)) (λ table. given (s.registers r) (first table)) s (λ table _.
           given_extends open' bs (s.registers r) (first table) (first table) s (λ at _.
-          given_extends open' bs (value max s.variables) (second table at) (second table at) s (λ l _. transfer_to_extends open' bs closed c.plan f table (stop_wanted at l) x s)))
+          given_extends open' bs (value max s.variables) (second table at) (second table at) s (λ l _. transfer_to_extends open' bs closed c.plan f table (q_stop_wanted at l) x s)))
       statement_extends (q_repeat line f r g max limit x) s =
-          let third : Option (List ℕ) → Address → ℕ → ℕ → Action = λ table at l l'. transfer_to c.plan f table (repeat_wanted at l l') x in
+          let third : Option (List ℕ) → Address → ℕ → ℕ → Action = λ table at l l'. transfer_to c.plan f table (q_repeat_wanted at l l') x in
           let second : Option (List ℕ) → Address → ℕ → Action = λ table at l. given (value limit s.variables) (third table at l) in
           let first : Option (List ℕ) → Address → Action = λ table at. given (value max s.variables) (second table at) in
           given_extends open' bs (sent c g) (λ table. given (s.registers r) (first table)) (λ table. given (s.registers r) (first table)) s (λ table _.
           given_extends open' bs (s.registers r) (first table) (first table) s (λ at _.
           given_extends open' bs (value max s.variables) (second table at) (second table at) s (λ l _.
-          given_extends open' bs (value limit s.variables) (third table at l) (third table at l) s (λ l' _. transfer_to_extends open' bs closed c.plan f table (repeat_wanted at l l') x s))))
+          given_extends open' bs (value limit s.variables) (third table at l) (third table at l) s (λ l' _. transfer_to_extends open' bs closed c.plan f table (q_repeat_wanted at l l') x s))))
       statement_extends (put line e) s =
           given_extends open' bs (value e s.variables) (λ v t. ends (with_word v t)) (λ v t. ends (with_word v t)) s (λ v _. refl)
       statement_extends (crate_call line op e) s =
@@ -73,13 +73,13 @@ module _ (open' : Stop → Bool) (n m : ℕ) (bs : List Answer) (k : Further ope
           decide_extends open' bs (truth test s.variables s.q s.x) (block_meaning c n a) (block_meaning c m a) ends ends s (block_extends a s) refl
       statement_extends (choose_else line test a b) s =
           decide_extends open' bs (truth test s.variables s.q s.x) (block_meaning c n a) (block_meaning c m a) (block_meaning c n b) (block_meaning c m b) s (block_extends a s) (block_extends b s)
-      statement_extends (count line x e1 e2 keeps body) s =
-          let second : ℕ → ℕ → ℕ → Action = λ n' v w. count_from (w + 1 - v) n' x v w (block_meaning c n' body) in
+      statement_extends (for_ line x e1 e2 keeps body) s =
+          let second : ℕ → ℕ → ℕ → Action = λ n' v w. for_from (w + 1 - v) n' x v w (block_meaning c n' body) in
           let first : ℕ → ℕ → Action = λ n' v. given (value e2 s.variables) (second n' v) in
           given_extends open' bs (value e1 s.variables) (first n) (first m) s (λ v _.
           given_extends open' bs (value e2 s.variables) (second n v) (second m v) s (λ w _.
           count_extends open' bs (w + 1 - v) n m k x v w (block_meaning c n body) (block_meaning c m body) (λ t. block_extends body t) s))
-      statement_extends (repeat line test turns' measure keeps body) s =
+      statement_extends (while_ line test turns' measure keeps body) s =
           turns_extend open' bs n m k test (block_meaning c n body) (block_meaning c m body) (λ t. block_extends body t) s
       statement_extends (locked line e body) s =
           let held : ℕ → ℕ → Action = λ n' d u. then_do (block_meaning c n' body u) (release d) in

@@ -3,20 +3,20 @@ use Rattle.std.proofs.Common.{◌<◌, ◌≤◌, length, arith, ◌≡◌, ℕ,
 use Rattle.std.specs.Prelude.{nat_eq, if◌then◌else◌, slice_get}
 use Rattle.camac_lang.specs.declared.word.WordSize.{WordSize}
 use Rattle.camac_lang.specs.declared.word.WordSize.TheVariants.{Full}
-use Rattle.camac_lang.specs.Tree.{Condition, Move, no_data, into, from, Statement, assign, set_register, single, address_scan, q_stop, q_repeat, put, crate_call, lam_call, choose, choose_else, count, repeat, locked, call, Block, done, next}
+use Rattle.camac_lang.specs.Tree.{Condition, Move, no_data, into, from, Statement, assign, set_register, single, address_scan, q_stop, q_repeat, put, crate_call, lam_call, choose, choose_else, for_, while_, locked, call, Block, done, next}
 use Rattle.camac_func.specs.declared.data.DataMove.{DataMove}
 use Rattle.camac_func.specs.declared.data.DataMove.TheVariants as moved
 use Rattle.camac_branch.specs.Address.{Address, address}
 use Rattle.camac_branch.specs.Allowed.{width}
 use Rattle.camac_branch.specs.Branch.{Reply, Answer, reply_to}
 use Rattle.camac_branch.specs.Plan.{Layout, crate_waits}
-use Rattle.camac_esone.specs.Transfers.{Wanted, tally, stop_wanted, repeat_wanted, scan_wanted}
+use Rattle.camac_esone.specs.Transfers.{Wanted, tally, q_stop_wanted, q_repeat_wanted, scan_wanted}
 use Rattle.camac_model.specs.State.{State, stepped, fresh, with_variable, with_register, with_word}
 use Rattle.camac_model.specs.Behaviour.{Piece, Behaviour, does, ends, stops, Stop, short, overrun, wrong, more, Action, then_do, given, unless_wrong}
 use Rattle.camac_model.specs.Value.{value, values, truth}
 use Rattle.camac_model.specs.Cycle.{after_cycle, cycle, sized, kept, after_lock, take_lock, release}
 use Rattle.camac_model.specs.Transfer.{keep_word}
-use Rattle.camac_model.specs.Meaning.{Context, crate_address, crate_function, lam_function, fits_size, act, transfer_to, sent, counted, count_from, turns, entered, enter, effect, block_meaning, context}
+use Rattle.camac_model.specs.Meaning.{Context, crate_address, crate_function, lam_function, fits_size, act, transfer_to, sent, counted, for_from, turns, entered, enter, effect, block_meaning, context}
 use Rattle.camac_model.specs.Laws.{ShortOnlyOf, ServicesShort}
 use Rattle.camac_model.proofs.Contexts.{AllRoutines, script_block}
 use Rattle.camac_model.proofs.Rules.{keeps_answers, Meets, then_meets, given_meets, decide_meets, unless_meets, cycle_meets, lock_meets, enter_meets, transfer_meets, turns_meet, counts_meet}
@@ -106,7 +106,7 @@ module _ (total : ℕ) where
       turns_meet step AnyPiece AtStop AtEnd c body (λ _ _ t. Spent t) (λ _ _ _ _ _. tt) (λ _ _ _ _. tt)
       (λ _ _ t j _. h (stepped t) (ready_spent (stepped t) (spent_step t j))) (λ _ _ t j _. j) n tt s i
 
-  counts_spend : (k n x v last : ℕ) (body : Action) → ((t : State) → Spent t → Spends (body t)) → (s : State) → Spent s → Spends (count_from k n x v last body s)
+  counts_spend : (k n x v last : ℕ) (body : Action) → ((t : State) → Spent t → Spends (body t)) → (s : State) → Spent s → Spends (for_from k n x v last body s)
   counts_spend zero n x v last body h s i = i
   counts_spend (suc k) n x v last body h s i =
       counts_meet step AnyPiece AtStop AtEnd x last body (λ _ _ _ t. Spent t) (λ _ _ _ _ _. tt)
@@ -138,19 +138,19 @@ module _ (total : ℕ) where
           given_spends s (value max s.variables) (third a b) (λ l _.
           unless_meets step AnyPiece AtStop AtEnd tt (nat_eq a.crate_no b.crate_no) (go a b l) s (λ _. tt) (λ _. transfer_spends c.plan f None (scan_wanted a b l) x s i))))
       statement_spends (q_stop line f r g max x) s i =
-          let second : Option (List ℕ) → Address → ℕ → Action = λ table at l. transfer_to c.plan f table (stop_wanted at l) x in
+          let second : Option (List ℕ) → Address → ℕ → Action = λ table at l. transfer_to c.plan f table (q_stop_wanted at l) x in
           let first : Option (List ℕ) → Address → Action = λ table at. given (value max s.variables) (second table at) in
           given_spends s (sent c g) (λ table. given (s.registers r) (first table)) (λ table _.
           given_spends s (s.registers r) (first table) (λ at _.
-          given_spends s (value max s.variables) (second table at) (λ l _. transfer_spends c.plan f table (stop_wanted at l) x s i)))
+          given_spends s (value max s.variables) (second table at) (λ l _. transfer_spends c.plan f table (q_stop_wanted at l) x s i)))
       statement_spends (q_repeat line f r g max limit x) s i =
-          let third : Option (List ℕ) → Address → ℕ → ℕ → Action = λ table at l l'. transfer_to c.plan f table (repeat_wanted at l l') x in
+          let third : Option (List ℕ) → Address → ℕ → ℕ → Action = λ table at l l'. transfer_to c.plan f table (q_repeat_wanted at l l') x in
           let second : Option (List ℕ) → Address → ℕ → Action = λ table at l. given (value limit s.variables) (third table at l) in
           let first : Option (List ℕ) → Address → Action = λ table at. given (value max s.variables) (second table at) in
           given_spends s (sent c g) (λ table. given (s.registers r) (first table)) (λ table _.
           given_spends s (s.registers r) (first table) (λ at _.
           given_spends s (value max s.variables) (second table at) (λ l _.
-          given_spends s (value limit s.variables) (third table at l) (λ l' _. transfer_spends c.plan f table (repeat_wanted at l l') x s i))))
+          given_spends s (value limit s.variables) (third table at l) (λ l' _. transfer_spends c.plan f table (q_repeat_wanted at l l') x s i))))
       statement_spends (put line e) s i = given_spends s (value e s.variables) (λ v t. ends (with_word v t)) (λ v _. ready_spent s i)
       statement_spends (crate_call line op e) s i =
           given_spends s (value e s.variables) (λ d. act c.plan (crate_address op d) (crate_function op) Full no_data) (λ d _. act_spends c.plan (crate_address op d) (crate_function op) Full no_data s i)
@@ -160,11 +160,11 @@ module _ (total : ℕ) where
           decide_meets step AnyPiece AtStop AtEnd tt (truth test s.variables s.q s.x) (block_meaning c n a) ends s (λ _. tt) (λ _. block_spends a s (ready_spent s i)) (λ _. ready_spent s i)
       statement_spends (choose_else line test a b) s i =
           decide_meets step AnyPiece AtStop AtEnd tt (truth test s.variables s.q s.x) (block_meaning c n a) (block_meaning c n b) s (λ _. tt) (λ _. block_spends a s (ready_spent s i)) (λ _. block_spends b s (ready_spent s i))
-      statement_spends (count line x e1 e2 keeps body) s i =
-          let second : ℕ → ℕ → Action = λ v w. count_from (w + 1 - v) n x v w (block_meaning c n body) in
+      statement_spends (for_ line x e1 e2 keeps body) s i =
+          let second : ℕ → ℕ → Action = λ v w. for_from (w + 1 - v) n x v w (block_meaning c n body) in
           given_spends s (value e1 s.variables) (λ v. given (value e2 s.variables) (second v)) (λ v _.
           given_spends s (value e2 s.variables) (second v) (λ w _. counts_spend (w + 1 - v) n x v w (block_meaning c n body) (λ t j. block_spends body t j) s (ready_spent s i)))
-      statement_spends (repeat line test m k keeps body) s i = turns_spend n test (block_meaning c n body) (λ t j. block_spends body t j) s (ready_spent s i)
+      statement_spends (while_ line test m k keeps body) s i = turns_spend n test (block_meaning c n body) (λ t j. block_spends body t j) s (ready_spent s i)
       statement_spends (locked line e body) s i =
           let held : ℕ → Action = λ d u. then_do (block_meaning c n body u) (release d) in
           let go : ℕ → ℕ → Action = λ d waits t. take_lock d waits (t.branch d).locked (held d) t in

@@ -8,7 +8,7 @@ use Rattle.camac_branch.specs.Address.{Address}
 use Rattle.camac_branch.specs.Allowed.{width}
 use Rattle.camac_branch.specs.Branch.{Answer, Reply, reply_to}
 use Rattle.camac_branch.specs.Plan.{Layout}
-use Rattle.camac_esone.specs.Transfers.{Wanted, tally, stop_wanted, repeat_wanted, scan_wanted}
+use Rattle.camac_esone.specs.Transfers.{Wanted, tally, q_stop_wanted, q_repeat_wanted, scan_wanted}
 use Rattle.camac_esone.specs.Lists.{Cycle, replies, IsStopList, IsRepeatList, IsScanList}
 use Rattle.camac_esone.specs.Laws.{IsDriven, IsDrivenToEnd, IsDrivenSoFar, GivesExactly}
 use Rattle.camac_esone.proofs.Parts.{replies-append, each_more, each_none}
@@ -143,10 +143,10 @@ module _ (plan : Layout) (f : ℕ) (table : Option (List ℕ)) (wanted : Wanted)
       }
 
 pub stops_are_q_stop : StopsAreQStop
-stops_are_q_stop plan f table x s at max = is_transfer plan f table (stop_wanted at max) x s (IsStopList at max) (stop_gives at max)
+stops_are_q_stop plan f table x s at max = is_transfer plan f table (q_stop_wanted at max) x s (IsStopList at max) (stop_gives at max)
 
 pub repeats_are_q_repeat : RepeatsAreQRepeat
-repeats_are_q_repeat plan f table x s at max limit = is_transfer plan f table (repeat_wanted at max limit) x s (IsRepeatList at max limit) (repeat_gives at max limit)
+repeats_are_q_repeat plan f table x s at max limit = is_transfer plan f table (q_repeat_wanted at max limit) x s (IsRepeatList at max limit) (repeat_gives at max limit)
 
 pub scans_are_scan : ScansAreScan
 scans_are_scan plan f table x s first last max = is_transfer plan f table (scan_wanted first last max) x s (IsScanList first last max) (scan_gives first last max)

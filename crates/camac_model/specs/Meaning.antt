@@ -5,13 +5,13 @@
 use Rattle.std.specs.Prelude.{ℕ, zero, suc, ◌+◌, ◌-◌, List, [], ◌∷◌, ◌++◌, Option, Some, None, Bool, true, option_map, nat_eq, nat_le, map, slice_get, unwrap_or}
 use Rattle.camac_lang.specs.declared.word.WordSize.{WordSize}
 use Rattle.camac_lang.specs.declared.word.WordSize.TheVariants.{Full, Short}
-use Rattle.camac_lang.specs.Tree.{Condition, Move, no_data, into, from, Statement, assign, set_register, single, address_scan, q_stop, q_repeat, put, crate_call, lam_call, choose, choose_else, count, repeat, locked, call, Block, done, next, Lam, Procedure, Script}
+use Rattle.camac_lang.specs.Tree.{Condition, Move, no_data, into, from, Statement, assign, set_register, single, address_scan, q_stop, q_repeat, put, crate_call, lam_call, choose, choose_else, for_, while_, locked, call, Block, done, next, Lam, Procedure, Script}
 use Rattle.camac_func.specs.declared.data.DataMove.TheVariants as moved
 use Rattle.camac_branch.specs.Address.{Address, address}
 use Rattle.camac_branch.specs.Allowed.{width}
 use Rattle.camac_branch.specs.Plan.{Layout, crate_waits}
 pub use Rattle.camac_esone.specs.Calls.{crate_address, crate_function, lam_function}
-use Rattle.camac_esone.specs.Transfers.{Wanted, stop_wanted, repeat_wanted, scan_wanted, tally}
+use Rattle.camac_esone.specs.Transfers.{Wanted, q_stop_wanted, q_repeat_wanted, scan_wanted, tally}
 use Rattle.camac_model.specs.State.{State, Variables, stepped, with_variable, with_register, with_word}
 use Rattle.camac_model.specs.Behaviour.{ends, stops, more, Action, then_do, given, decide, unless_wrong}
 use Rattle.camac_model.specs.Value.{value, values, truth}
@@ -53,15 +53,15 @@ abbrev pub counted : ℕ → ℕ → State → State
 counted x v s = stepped (with_variable x v s)
 
 -- k further turns of a `for`, from v up to the last
-abbrev pub count_turns : ℕ → ℕ → ℕ → ℕ → ℕ → Action → Action
-count_turns zero n x v last body s = ends (with_variable x last s)
-count_turns (suc k) zero x v last body s = stops more s
-count_turns (suc k) (suc n) x v last body s = then_do (body (counted x v s)) (count_turns k n x (v + 1) last body)
+abbrev pub for_turns : ℕ → ℕ → ℕ → ℕ → ℕ → Action → Action
+for_turns zero n x v last body s = ends (with_variable x last s)
+for_turns (suc k) zero x v last body s = stops more s
+for_turns (suc k) (suc n) x v last body s = then_do (body (counted x v s)) (for_turns k n x (v + 1) last body)
 
 -- a `for` of k turns; without a turn the variable stays
-abbrev pub count_from : ℕ → ℕ → ℕ → ℕ → ℕ → Action → Action
-count_from zero n x v last body s = ends s
-count_from (suc k) n x v last body s = count_turns (suc k) n x v last body s
+abbrev pub for_from : ℕ → ℕ → ℕ → ℕ → ℕ → Action → Action
+for_from zero n x v last body s = ends s
+for_from (suc k) n x v last body s = for_turns (suc k) n x v last body s
 
 -- at most n turns of a `while`
 abbrev pub turns : ℕ → Condition → Action → Action
@@ -97,19 +97,19 @@ abbrev mutual
       unless_wrong (nat_eq first.crate_no last.crate_no) (transfer_to c.plan f None (scan_wanted first last m) x)))) s
   effect c n (q_stop line f r g max x) s =
       given (sent c g) (λ table. given (s.registers r) (λ at. given (value max s.variables) (λ m.
-      transfer_to c.plan f table (stop_wanted at m) x))) s
+      transfer_to c.plan f table (q_stop_wanted at m) x))) s
   effect c n (q_repeat line f r g max limit x) s =
       given (sent c g) (λ table. given (s.registers r) (λ at. given (value max s.variables) (λ m. given (value limit s.variables) (λ l.
-      transfer_to c.plan f table (repeat_wanted at m l) x)))) s
+      transfer_to c.plan f table (q_repeat_wanted at m l) x)))) s
   effect c n (put line e) s = given (value e s.variables) (λ v t. ends (with_word v t)) s
   effect c n (crate_call line k e) s =
       given (value e s.variables) (λ v. act c.plan (crate_address k v) (crate_function k) Full no_data) s
   effect c n (lam_call line k l) s = given (slice_get c.lams l) (λ at. act c.plan at (lam_function k) Full no_data) s
   effect c n (choose line test a) s = decide (truth test s.variables s.q s.x) (block_meaning c n a) ends s
   effect c n (choose_else line test a b) s = decide (truth test s.variables s.q s.x) (block_meaning c n a) (block_meaning c n b) s
-  effect c n (count line x e1 e2 keeps body) s =
-      given (value e1 s.variables) (λ v. given (value e2 s.variables) (λ w. count_from (w + 1 - v) n x v w (block_meaning c n body))) s
-  effect c n (repeat line test m k keeps body) s = turns n test (block_meaning c n body) s
+  effect c n (for_ line x e1 e2 keeps body) s =
+      given (value e1 s.variables) (λ v. given (value e2 s.variables) (λ w. for_from (w + 1 - v) n x v w (block_meaning c n body))) s
+  effect c n (while_ line test m k keeps body) s = turns n test (block_meaning c n body) s
   effect c n (locked line e body) s =
       given (value e s.variables) (λ k. given (crate_waits c.plan k) (λ waits t.
       take_lock k waits (t.branch k).locked (λ u. then_do (block_meaning c n body u) (release k)) t)) s

@@ -1,4 +1,5 @@
 pub mod EventLines
 pub mod HeadingLines
 pub mod Lines
+pub mod Pairs
 pub mod Texts

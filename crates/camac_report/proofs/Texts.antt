@@ -1,5 +1,5 @@
 -- Texts one after another.
-use Rattle.std.proofs.Common.{◌≡◌, ℕ, ◌+◌, ◌-◌, ◌<◌, ◌≤◌, List, [], ◌∷◌, ◌++◌, length, get_or, drop, Option, ap, sym, ◌∙◌, zero, suc, append_assoc, append-nil, add-one, subst, arith}
+use Rattle.std.proofs.Common.{◌≡◌, ℕ, ◌+◌, ◌-◌, ◌<◌, ◌≤◌, List, [], ◌∷◌, ◌++◌, length, get_or, drop, refl, Option, ap, sym, ◌∙◌, zero, suc, append_assoc, append-nil, add-one, subst, arith}
 use Rattle.std.specs.Prelude.{Some, Result, Ok, Err, slice_get}
 use Rattle.std.proofs.lemmas.Option.{slice_get_within, get_or_from_slice_get}
 use Rattle.std.specs.List.{flat_map, range_with_len}
@@ -64,6 +64,31 @@ pub flat_map-next : {X : Type 0} (f : X → List ℕ) (xs : List X) (i : ℕ) (x
 flat_map-next f xs i x line lt is text =
     flat_map-drop f xs i x lt is ∙ ap (λ (l : List ℕ). l ++ flat_map f (drop (suc i) xs)) (sym text) ∙ ap (λ (j : ℕ). line ++ flat_map f (drop j xs)) (sym (add-one i))
 
+-- the same under other names
+pub under_way_as : (text rest renamed : List ℕ) (a b c : Option (List ℕ)) → IsUnderWay text rest a b → rest ≡ renamed → b ≡ c → IsUnderWay text renamed a c
+under_way_as text rest renamed a b c so_far same new =
+    subst (λ (o : Option (List ℕ)). IsUnderWay text renamed a o) new (subst (λ (l : List ℕ). IsUnderWay text l a b) same so_far)
+
+-- an element's text was laid behind others
+pub laid_next : (f : ℕ → List ℕ) (xs : List ℕ) (i x : ℕ) (old line new : List ℕ) → i < length xs → x ≡ get_or xs i x → line ≡ f x → new ≡ old ++ line
+    → old ++ flat_map f (drop i xs) ≡ new ++ flat_map f (drop (i + 1) xs)
+laid_next f xs i x old line new lt is text laid =
+    ap (λ (l : List ℕ). old ++ l) (flat_map-next f xs i x line lt is text) ∙ sym (append_assoc old line (flat_map f (drop (i + 1) xs)))
+    ∙ ap (λ (l : List ℕ). l ++ flat_map f (drop (i + 1) xs)) (sym laid)
+
 -- the same of an element that was found
-pub flat_map-found : (f : ℕ → List ℕ) (xs : List ℕ) (i x : ℕ) (line : List ℕ) → slice_get xs i ≡ Some x → line ≡ f x → flat_map f (drop i xs) ≡ line ++ flat_map f (drop (i + 1) xs)
-flat_map-found f xs i x line at text = flat_map-next f xs i x line (slice_get_within xs i x at) (sym (get_or_from_slice_get xs i x x at)) text
+pub laid_found : (f : ℕ → List ℕ) (xs : List ℕ) (i x : ℕ) (old line new : List ℕ) → slice_get xs i ≡ Some x → line ≡ f x → new ≡ old ++ line
+    → old ++ flat_map f (drop i xs) ≡ new ++ flat_map f (drop (i + 1) xs)
+laid_found f xs i x old line new at text laid = laid_next f xs i x old line new (slice_get_within xs i x at) (sym (get_or_from_slice_get xs i x x at)) text laid
+
+flat_map-none : (f : ℕ → List ℕ) (xs : List ℕ) (i : ℕ) → length xs ≤ i → flat_map f (drop i xs) ≡ []
+flat_map-none f [] zero le = refl
+flat_map-none f [] (suc i) le = refl
+flat_map-none f (x ∷ xs) zero le = absurd (omega (arith, le))
+flat_map-none f (x ∷ xs) (suc i) le =
+    let less : length xs ≤ i = omega (arith, le) in
+    flat_map-none f xs i less
+
+-- no element is left
+pub laid_all : (f : ℕ → List ℕ) (xs : List ℕ) (i : ℕ) (old : List ℕ) → length xs ≤ i → old ++ flat_map f (drop i xs) ≡ old
+laid_all f xs i old le = ap (λ (l : List ℕ). old ++ l) (flat_map-none f xs i le) ∙ append-nil old

@@ -1,6 +1,6 @@
 // The line of a dataway cycle.
 
-ghost use Rattle.std.specs.Prelude.{◌≡◌, ◌≤◌, ◌+◌, ◌||◌, ◌++◌, length, is_err};
+ghost use Rattle.std.specs.Prelude.{◌≡◌, ◌≤◌, ◌+◌, ◌||◌, ◌++◌, length, is_err, codes};
 ghost use Rattle.camac_branch.specs.Address.{address};
 ghost use Rattle.camac_report.specs.Items.{bit_text, command_text, move_text, cycle_text};
 ghost use Rattle.camac_word.specs.Watched.{inner_of, has_failed};
@@ -32,12 +32,9 @@ pub fn push_cycle(line: &mut Line, cycle: &CycleDone)
 {
     push_command(line, &cycle.command);
     push_move(line, cycle.command.mv, cycle.reply);
-    line.push_str(" x");
-    line.push_str(bit(cycle.reply.x));
-    line.push_str(" q");
-    line.push_str(bit(cycle.reply.q));
+    line.push_str(reply_bits(cycle.reply));
     line.push_str(" wait ");
-    line.push_number(cycle.wait);
+    line.push_small(cycle.wait);
     line.push_str("\n");
 }
 
@@ -48,13 +45,13 @@ pub fn push_command(line: &mut Line, command: &Command)
     ensures short { length line.new ≤ length line.old + 50 }
 {
     line.push_str("cycle ");
-    line.push_number(command.c.get());
+    line.push_small(command.c.get() as u8);
     line.push_str(" ");
-    line.push_number(command.n.get());
+    line.push_small(command.n.get() as u8);
     line.push_str(" ");
-    line.push_number(command.a.get());
+    line.push_small(command.a.get() as u8);
     line.push_str(" ");
-    line.push_number(command.f.get());
+    line.push_small(command.f.get() as u8);
     line.push_str(" ");
 }
 
@@ -76,9 +73,15 @@ fn push_move(line: &mut Line, moves: DataMove, reply: Reply)
     }
 }
 
-fn bit(is_set: bool) -> &'static str
-    ensures text { result.now ≡ bit_text is_set }
-    ensures short { length result.now ≡ 1 }
+// The reply's X and Q.
+fn reply_bits(reply: Reply) -> &'static str
+    ensures text { result.now ≡ codes " x" ++ bit_text reply.x ++ codes " q" ++ bit_text reply.q }
+    ensures short { length result.now ≡ 6 }
 {
-    if is_set { "1" } else { "0" }
+    match (reply.x, reply.q) {
+        (false, false) => " x0 q0",
+        (false, true) => " x0 q1",
+        (true, false) => " x1 q0",
+        (true, true) => " x1 q1",
+    }
 }

@@ -1,6 +1,6 @@
 // The lines of an event file.
 
-ghost use Rattle.std.specs.Prelude.{◌≡◌, ◌≤◌, ◌<◌, ◌+◌, ◌||◌, ◌++◌, length, drop, is_err, Some};
+ghost use Rattle.std.specs.Prelude.{◌≡◌, ◌≤◌, ◌<◌, ◌+◌, ◌||◌, ◌++◌, length, is_err, codes, Some};
 ghost use Rattle.std.specs.List.{flat_map};
 ghost use Rattle.camac_event.specs.Spelling.{entry_of};
 ghost use Rattle.camac_event.specs.Found.{entry_in};
@@ -9,7 +9,7 @@ ghost use Rattle.camac_word.specs.Watched.{inner_of, has_failed};
 ghost use Rattle.camac_word.specs.Writing.{Writes};
 
 use crate::digits::hex_word;
-use crate::line::Line;
+use crate::line::{LONGEST_LINE, Line};
 use camac_event::{Event, EventFile, EventRecord, EventWords, Events, Usage};
 use camac_word::{GlBit, Watched, Word24, WriteFault};
 use std::io::Write;
@@ -51,9 +51,7 @@ fn write_event<W: Write>(
 {
     let mut line = Line::new();
     push_start(&mut line, number, event.gl, event.usage, event.words.len());
-    out.write_text(line.as_bytes())?;
-    write_words(out, &event.words)?;
-    out.write_text(b"\n")
+    write_words(out, &mut line, &event.words)
 }
 
 fn write_record<W: Write>(out: &mut Watched<W>, record: &EventRecord<'_>) -> Result<(), WriteFault>
@@ -68,20 +66,19 @@ fn write_record<W: Write>(out: &mut Watched<W>, record: &EventRecord<'_>) -> Res
         record.usage,
         record.words.len(),
     );
-    out.write_text(line.as_bytes())?;
-    write_file_words(out, &record.words)?;
-    out.write_text(b"\n")
+    write_file_words(out, &mut line, &record.words)
 }
 
 /// Puts the line up to the words, of which `words` is the number.
 fn push_start(line: &mut Line, number: usize, gl: GlBit, usage: Option<Usage>, words: usize)
     requires { length line.old ≤ 40 }
-    ensures { line.new ≡ line.old ++ start_text number gl usage words }
+    ensures text { line.new ≡ line.old ++ start_text number gl usage words }
+    ensures short { length line.new ≤ length line.old + 100 }
 {
     line.push_str("event ");
     line.push_number(number);
     line.push_str(" gl ");
-    line.push_number(gl.get());
+    line.push_small(gl.get() as u8);
     if let Some(usage) = usage {
         push_usage(line, usage);
     }
@@ -100,48 +97,50 @@ fn push_usage(line: &mut Line, usage: Usage)
     line.push_number(usage.missed);
 }
 
-fn write_words<W: Write>(out: &mut Watched<W>, words: &[Word24]) -> Result<(), WriteFault>
-    ensures text { Writes (W.contents (inner_of out.old)) (W.contents (inner_of out.new)) result (flat_map word_text words.now) }
+// Writes the line, and the words and an LF after it, in as few pieces as there is room for.
+fn write_words<W: Write>(
+    out: &mut Watched<W>,
+    line: &mut Line,
+    words: &[Word24],
+) -> Result<(), WriteFault>
+    requires room { length line.old < LONGEST_LINE }
+    ensures text { Writes (W.contents (inner_of out.old)) (W.contents (inner_of out.new)) result (line.old ++ flat_map word_text words.now ++ codes "\n") }
     ensures failed { has_failed out.new ≡ (has_failed out.old || is_err result) }
 {
     'words: for word in words {
-        out.write_text(&spaced(*word))?;
+        if line.len() >= LAST_WORD {
+            out.write_text(line.as_bytes())?;
+            line.clear();
+        }
+        line.push_bytes(&spaced(*word));
     }
-    Ok(())
+    line.push_str("\n");
+    out.write_text(line.as_bytes())
 }
 
-/// The words of a file that are written at once.
-const TOGETHER: usize = 32;
-
+// The same of the words of a file.
 fn write_file_words<W: Write>(
     out: &mut Watched<W>,
+    line: &mut Line,
     words: &EventWords<'_>,
 ) -> Result<(), WriteFault>
-    ensures text { Writes (W.contents (inner_of out.old)) (W.contents (inner_of out.new)) result (flat_map word_text words.now) }
+    requires room { length line.old < LONGEST_LINE }
+    ensures text { Writes (W.contents (inner_of out.old)) (W.contents (inner_of out.new)) result (line.old ++ flat_map word_text words.now ++ codes "\n") }
     ensures failed { has_failed out.new ≡ (has_failed out.old || is_err result) }
 {
-    let mut from = 0;
-    'pieces: while from < words.len() {
-        let to = from + TOGETHER.min(words.len() - from);
-        out.write_text(line_of_words(words, from, to).as_bytes())?;
-        from = to;
-    }
-    Ok(())
-}
-
-/// The words between these two places.
-fn line_of_words(words: &EventWords<'_>, from: usize, to: usize) -> Line
-    requires order { from ≤ to }
-    requires few { to ≤ from + TOGETHER }
-    requires within { to ≤ length words.now }
-    ensures { flat_map word_text (drop from words.now) ≡ result ++ flat_map word_text (drop to words.now) }
-{
-    let mut line = Line::new();
-    'words: for i in from..to {
+    'words: for i in 0..words.len() {
+        if line.len() >= LAST_WORD {
+            out.write_text(line.as_bytes())?;
+            line.clear();
+        }
         line.push_bytes(&spaced(words.get(i).unwrap()));
     }
-    line
+    line.push_str("\n");
+    out.write_text(line.as_bytes())
 }
+
+/// Where a line has no more room for a word and an LF.
+const LAST_WORD: usize = LONGEST_LINE - 7;
 
 // A word after a space.
 fn spaced(word: Word24) -> [u8; 7]

@@ -9,7 +9,7 @@ ghost use Rattle.camac_word.specs.Writing.{Writes};
 use crate::cycle::push_cycle;
 use crate::line::Line;
 use crate::verdict::lam_name;
-use camac_check::Checked;
+use camac_check_result::Checked;
 use camac_lang::Script;
 use camac_run_machine::Item;
 use camac_word::{CrateNo, Watched, Word24, WriteFault};
@@ -101,9 +101,9 @@ fn push_lock(line: &mut Line, c: CrateNo, wait: u8)
     ensures short { length line.new ≤ length line.old + 80 }
 {
     line.push_str("lock ");
-    line.push_number(c.get());
+    line.push_small(c.get() as u8);
     line.push_str(" wait ");
-    line.push_number(wait);
+    line.push_small(wait);
     line.push_str("\n");
 }
 
@@ -113,7 +113,7 @@ fn push_unlock(line: &mut Line, c: CrateNo)
     ensures short { length line.new ≤ length line.old + 18 }
 {
     line.push_str("unlock ");
-    line.push_number(c.get());
+    line.push_small(c.get() as u8);
     line.push_str("\n");
 }
 

@@ -14,7 +14,7 @@ mod refusal;
 mod request;
 mod verdict;
 
-pub use code::{AnswerCode, CheckCode, CodeText, EventCode, LinkCode, PlanCode, TextCode};
+pub use code::Code;
 pub use cycle::write_cycle;
 pub use end::write_end;
 pub use events::{write_event_file, write_events};

@@ -1,6 +1,6 @@
 // An output line while it is laid out.
 
-ghost use Rattle.std.specs.Prelude.{◌≡◌, ◌≤◌, ◌+◌, ◌++◌, [], length};
+ghost use Rattle.std.specs.Prelude.{◌≡◌, ◌≤◌, ◌+◌, ◌++◌, [], length, decimal};
 ghost use Rattle.camac_report.specs.Digits.{hex_word};
 
 use crate::digits::hex_word;
@@ -66,6 +66,22 @@ impl Line {
         self.push_str(buffer.format(number));
     }
 
+    /// Puts the number at the end, in decimal. It is quick where the number has one digit or two.
+    #[inline(always)]
+    pub fn push_small(&mut self, number: u8)
+        requires room { length self.old + 3 ≤ LONGEST_LINE }
+        ensures bytes { self.new ≡ self.old ++ decimal number }
+        ensures len { length self.new ≤ length self.old + 3 }
+    {
+        if number < 10 {
+            self.push_bytes(&[b'0' + number]);
+        } else if number < 100 {
+            self.push_bytes(&[b'0' + number / 10, b'0' + number % 10]);
+        } else {
+            self.push_number(number);
+        }
+    }
+
     /// Puts the word at the end, in six hexadecimal digits.
     pub fn push_word(&mut self, word: Word24)
         requires room { length self.old + 6 ≤ LONGEST_LINE }
@@ -73,6 +89,21 @@ impl Line {
         ensures len { length self.new ≡ length self.old + 6 }
     {
         self.push_bytes(&hex_word(word));
+    }
+
+    /// How many bytes it has.
+    pub fn len(&self) -> usize
+        ensures value { result ≡ length self.now }
+        ensures fits { result ≤ LONGEST_LINE }
+    {
+        self.bytes.len()
+    }
+
+    /// Forgets what is in it.
+    pub fn clear(&mut self)
+        ensures { self.new ≡ [] }
+    {
+        self.bytes.clear();
     }
 
     pub fn as_bytes(&self) -> &[u8]

@@ -1,32 +1,56 @@
 // The line of a refusal.
 
-ghost use Rattle.std.specs.Prelude.{◌≡◌, ◌≤◌, ◌||◌, length, is_err};
-ghost use Rattle.camac_report.specs.Refusal.{refusal_text, refused_at, refused_whole};
+ghost use Rattle.std.specs.Prelude.{◌≡◌, ◌≤◌, ◌+◌, ◌||◌, ◌++◌, length, is_err, decimal};
+ghost use Rattle.camac_report.specs.Refusal.{code_of, place_of, refusal_text};
 ghost use Rattle.camac_word.specs.Watched.{inner_of, has_failed};
 ghost use Rattle.camac_word.specs.Writing.{Writes};
 
 use crate::code::{
-    AnswerCode, CheckCode, CodeText, EventCode, LONGEST_MEANING, LONGEST_NAME, LinkCode, PlanCode,
-    TextCode,
+    Code, LONGEST_MEANING, LONGEST_NAME, answer_code, check_code, event_code, link_code, plan_code,
+    text_code,
 };
 use crate::line::Line;
+use camac_answer::AnswerRule;
+use camac_check_rules::CheckRule;
+use camac_event::EventFlaw;
+use camac_names::LinkRule;
+use camac_plan::PlanRule;
+use camac_text_tokens::TextRule;
 use camac_word::{Watched, WriteFault};
 use std::io::Write;
 
 /// Why an input was refused, and where.
 #[derive(Clone, Copy, Debug, PartialEq, Eq)]
 pub enum Refusal {
-    Plan(PlanCode),
+    Plan(PlanRule),
     /// A script's text, at a line from 1.
-    Text { code: TextCode, line: u32 },
+    Text { rule: TextRule, line: u32 },
     /// A script on its plan, at a line from 1.
-    Link { code: LinkCode, line: u32 },
+    Link { rule: LinkRule, line: u32 },
     /// A linked script, at a line from 1.
-    Check { code: CheckCode, line: u32 },
+    Check { rule: CheckRule, line: u32 },
     /// A text of answers, at a line from 1.
-    Answer { code: AnswerCode, line: u32 },
-    /// An event file, at a byte from 0.
-    Event { code: EventCode, byte: usize },
+    Answer { rule: AnswerRule, line: u32 },
+    /// An event file, at an offset in bytes from 0.
+    Event(EventFlaw),
+}
+
+impl Refusal {
+    /// The code of the rule that is broken.
+    pub fn code(self) -> Code
+        ensures name { result.name.now ≡ (code_of self).0 }
+        ensures meaning { result.meaning.now ≡ (code_of self).1 }
+        ensures short { (length result.name.now ≤ LONGEST_NAME) × (length result.meaning.now ≤ LONGEST_MEANING) }
+    {
+        match self {
+            Refusal::Plan(rule) => plan_code(rule),
+            Refusal::Text { rule, .. } => text_code(rule),
+            Refusal::Link { rule, .. } => link_code(rule),
+            Refusal::Check { rule, .. } => check_code(rule),
+            Refusal::Answer { rule, .. } => answer_code(rule),
+            Refusal::Event(flaw) => event_code(flaw.rule),
+        }
+    }
 }
 
 /// Writes the line of a refusal. After a write fault a prefix of it was written.
@@ -40,41 +64,40 @@ pub fn write_refusal<W: Write>(out: &mut Watched<W>, refusal: Refusal) -> Result
 fn refusal_line(refusal: Refusal) -> Line
     ensures { result ≡ refusal_text refusal }
 {
+    let code = refusal.code();
+    let mut line = Line::new();
+    line.push_str("refused ");
+    line.push_str(code.name);
+    push_place(&mut line, refusal);
+    line.push_str(": ");
+    line.push_str(code.meaning);
+    line.push_str("\n");
+    line
+}
+
+// Puts the line or the byte of a refusal at the end.
+fn push_place(text: &mut Line, refusal: Refusal)
+    requires { length text.old ≤ 40 }
+    ensures text { text.new ≡ text.old ++ place_of refusal }
+    ensures short { length text.new ≤ length text.old + 40 }
+{
     match refusal {
-        Refusal::Plan(code) => whole(code.text()),
-        Refusal::Text { code, line } => at(code.text(), " line ", line as usize),
-        Refusal::Link { code, line } => at(code.text(), " line ", line as usize),
-        Refusal::Check { code, line } => at(code.text(), " line ", line as usize),
-        Refusal::Answer { code, line } => at(code.text(), " line ", line as usize),
-        Refusal::Event { code, byte } => at(code.text(), " byte ", byte),
+        Refusal::Plan(_) => {}
+        Refusal::Text { line, .. } => push_number(text, " line ", line as usize),
+        Refusal::Link { line, .. } => push_number(text, " line ", line as usize),
+        Refusal::Check { line, .. } => push_number(text, " line ", line as usize),
+        Refusal::Answer { line, .. } => push_number(text, " line ", line as usize),
+        Refusal::Event(flaw) => push_number(text, " byte ", flaw.offset),
     }
 }
 
-fn whole(code: CodeText) -> Line
-    requires { (length code.name.now ≤ LONGEST_NAME) × (length code.meaning.now ≤ LONGEST_MEANING) }
-    ensures { result ≡ refused_whole (code.name.now, code.meaning.now) }
+// Puts a word and a number at the end.
+fn push_number(text: &mut Line, word: &str, number: usize)
+    requires word { length word.now ≤ 6 }
+    requires room { length text.old ≤ 40 }
+    ensures text { text.new ≡ text.old ++ word.now ++ decimal number }
+    ensures short { length text.new ≤ length text.old + 40 }
 {
-    let mut line = Line::new();
-    line.push_str("refused ");
-    line.push_str(code.name);
-    line.push_str(": ");
-    line.push_str(code.meaning);
-    line.push_str("\n");
-    line
-}
-
-fn at(code: CodeText, place: &str, number: usize) -> Line
-    requires short { (length code.name.now ≤ LONGEST_NAME) × (length code.meaning.now ≤ LONGEST_MEANING) }
-    requires place { length place.now ≤ 6 }
-    ensures { result ≡ refused_at (code.name.now, code.meaning.now) place.now number }
-{
-    let mut line = Line::new();
-    line.push_str("refused ");
-    line.push_str(code.name);
-    line.push_str(place);
-    line.push_number(number);
-    line.push_str(": ");
-    line.push_str(code.meaning);
-    line.push_str("\n");
-    line
+    text.push_str(word);
+    text.push_number(number);
 }

@@ -52,7 +52,7 @@ fn push_request(line: &mut Line, wanted: Wanted)
         }
         Wanted::Lock(c) => {
             line.push_str("lock ");
-            line.push_number(c.get());
+            line.push_small(c.get() as u8);
             line.push_str("\n");
         }
     }

@@ -11,7 +11,7 @@ ghost use Rattle.camac_word.specs.Watched.{inner_of, has_failed};
 ghost use Rattle.camac_word.specs.Writing.{Writes};
 
 use crate::line::Line;
-use camac_check::{Bounds, Checked};
+use camac_check_result::{Bounds, Checked};
 use camac_lang::{Lam, Service};
 use camac_word::{GlBit, Watched, WriteFault};
 use std::io::Write;

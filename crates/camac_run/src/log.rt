@@ -13,9 +13,9 @@ ghost use Rattle.camac_run_machine.specs.Runner.{rest};
 use crate::items::Items;
 use crate::laws::runs_by_headline;
 use camac_branch::Answer;
-use camac_check::Checked;
+use camac_check_result::Checked;
 use camac_event::{Events, Usage, Version};
-use camac_run_machine::{End, Item, Progress, Runner};
+use camac_run_machine::{End, FullRunner, Item, Progress};
 use camac_word::{CrateNo, GlBit, Word24};
 use std::alloc::{AllocError, Global};
 
@@ -38,7 +38,7 @@ pub fn run(alloc: Global, checked: &Checked, answers: &[Answer]) -> Result<Log, 
 {
     runs_by_headline(checked);
     checked.fits_greatest();
-    let mut runner = Runner::<64, 16, 4096>::start(checked);
+    let mut runner = FullRunner::start(checked);
     let mut items = Items::new(alloc);
     let mut events = Events::new(alloc, Version::Two);
     'answers: for answer in answers {
@@ -97,7 +97,7 @@ fn add_event(
 }
 
 // How a run ends where no answer is left.
-fn end_of(runner: &Runner<'_, 64, 16, 4096>) -> End
+fn end_of(runner: &FullRunner<'_>) -> End
     ensures stop { stop_in result ≡ stop_of (rest runner.now []) }
     ensures quiet_items { items (rest runner.now []) ≡ [] }
     ensures quiet_events { events (rest runner.now []) ≡ [] }

@@ -11,7 +11,7 @@ use Rattle.camac_lang.specs.declared.word.WordSize.{WordSize}
 use Rattle.camac_lang.specs.declared.word.WordSize.TheVariants.{Full}
 use Rattle.camac_lang.specs.declared.tree.Stmt.{Stmt}
 use Rattle.camac_lang.specs.View.{statements_of}
-use Rattle.camac_lang.specs.Tree.{Expression, Condition, Block, done, Move, no_data, into, from, Statement, assign, set_register, single, address_scan, q_stop, q_repeat, put, crate_call, lam_call, choose, choose_else, count, repeat, locked, call}
+use Rattle.camac_lang.specs.Tree.{Expression, Condition, Block, done, Move, no_data, into, from, Statement, assign, set_register, single, address_scan, q_stop, q_repeat, put, crate_call, lam_call, choose, choose_else, for_, while_, locked, call}
 use Rattle.camac_branch.specs.Address.{Address, address}
 use Rattle.camac_branch.specs.Allowed.{width}
 use Rattle.camac_branch.specs.Branch.{Answer, Reply}
@@ -19,12 +19,12 @@ use Rattle.camac_branch.specs.Crates.{branch_of}
 use Rattle.camac_branch.specs.Plan.{Layout, crate_waits}
 use Rattle.camac_branch.specs.declared.answer.Command.{Command}
 use Rattle.camac_esone.specs.Calls.{command_at, crate_address, crate_function, lam_function}
-use Rattle.camac_esone.specs.Transfers.{Wanted, stop_wanted, repeat_wanted, scan_wanted, tally}
+use Rattle.camac_esone.specs.Transfers.{Wanted, q_stop_wanted, q_repeat_wanted, scan_wanted, tally}
 use Rattle.camac_model.specs.State.{State, Variables, Registers, stepped, set_at, with_variable, with_register, with_word}
 use Rattle.camac_model.specs.Behaviour.{ends, Action, then_do, given, decide, unless_wrong}
 use Rattle.camac_model.specs.Cycle.{cycle, sized, kept, take_lock, release}
 use Rattle.camac_model.specs.Fine.{IsWithin, most_turns}
-use Rattle.camac_model.specs.Meaning.{act, sent, transfer_to, entered, returned, enter, effect, block_meaning, fits_size, count_turns, count_from, turns}
+use Rattle.camac_model.specs.Meaning.{act, sent, transfer_to, entered, returned, enter, effect, block_meaning, fits_size, for_turns, for_from, turns}
 use Rattle.camac_model.specs.Safe.{IsSafe}
 use Rattle.camac_model.specs.Transfer.{transfer}
 use Rattle.camac_model.specs.Value.{value, values, truth}
@@ -239,11 +239,11 @@ module _ {V D C : ℕ} (h : Machine V D C) where
   lock_wants e body k is range opens can =
       record { wants = (can.0, (can.1, range.0, range.1, opens)); goes = λ answers. rw is refl }
 
-  count_steps : (j x v w : ℕ) (b : Block) (s : State) → IsFineHere h (then_do (count_from j most_turns x v w (block_meaning (context_in h.checked.now) most_turns b) s) (left_in h)) → IsWithin (bounds_of h) s
+  count_steps : (j x v w : ℕ) (b : Block) (s : State) → IsFineHere h (then_do (for_from j most_turns x v w (block_meaning (context_in h.checked.now) most_turns b) s) (left_in h)) → IsWithin (bounds_of h) s
   count_steps zero x v w b s fine = keeps s fine
   count_steps (suc j) x v w b s fine =
       keeps_counts plan (bounds_of h) h.checked.now.script b (suc j) most_turns x v w s
-      (fine_first plan (bounds_of h) (count_turns (suc j) most_turns x v w (block_meaning (context_in h.checked.now) most_turns b) s) (left_in h) (λ t f. keeps t f) fine)
+      (fine_first plan (bounds_of h) (for_turns (suc j) most_turns x v w (block_meaning (context_in h.checked.now) most_turns b) s) (left_in h) (λ t f. keeps t f) fine)
 
   -- a call of a procedure
   pub call_has : (p : ℕ) (es : List Expression) → Does (call 0 p es) → IsSome (values es (variables_here h))
@@ -309,32 +309,32 @@ module _ {V D C : ℕ} (h : Machine V D C) where
       transfer_steps f None (scan_wanted g1.0 g2.0 g3.0) x s refl g4.1
   begun (q_stop line f r t max x) to d fits fine =
       let s : State = stepped (state_of h []) in
-      let third : Option (List ℕ) → Address → ℕ → Action = λ table at m. transfer_to plan f table (stop_wanted at m) x in
+      let third : Option (List ℕ) → Address → ℕ → Action = λ table at m. transfer_to plan f table (q_stop_wanted at m) x in
       let second : Option (List ℕ) → Address → Action = λ table at. given (value max (variables_here h)) (third table at) in
       let g1 = fine_given plan (bounds_of h) (sent (context_in h.checked.now) t) (λ table. given (registers_here h r) (second table)) s (left_in h) (fine []) in
       let g2 = fine_given plan (bounds_of h) (registers_here h r) (second g1.0) s (left_in h) g1.2 in
       let g3 = fine_given plan (bounds_of h) (value max (variables_here h)) (third g1.0 g2.0) s (left_in h) g2.2 in
-      transfer_steps f g1.0 (stop_wanted g2.0 g3.0) x s refl g3.2
+      transfer_steps f g1.0 (q_stop_wanted g2.0 g3.0) x s refl g3.2
   begun (q_repeat line f r t max limit x) to d fits fine =
       let s : State = stepped (state_of h []) in
-      let fourth : Option (List ℕ) → Address → ℕ → ℕ → Action = λ table at m n. transfer_to plan f table (repeat_wanted at m n) x in
+      let fourth : Option (List ℕ) → Address → ℕ → ℕ → Action = λ table at m n. transfer_to plan f table (q_repeat_wanted at m n) x in
       let third : Option (List ℕ) → Address → ℕ → Action = λ table at m. given (value limit (variables_here h)) (fourth table at m) in
       let second : Option (List ℕ) → Address → Action = λ table at. given (value max (variables_here h)) (third table at) in
       let g1 = fine_given plan (bounds_of h) (sent (context_in h.checked.now) t) (λ table. given (registers_here h r) (second table)) s (left_in h) (fine []) in
       let g2 = fine_given plan (bounds_of h) (registers_here h r) (second g1.0) s (left_in h) g1.2 in
       let g3 = fine_given plan (bounds_of h) (value max (variables_here h)) (third g1.0 g2.0) s (left_in h) g2.2 in
       let g4 = fine_given plan (bounds_of h) (value limit (variables_here h)) (fourth g1.0 g2.0 g3.0) s (left_in h) g3.2 in
-      transfer_steps f g1.0 (repeat_wanted g2.0 g3.0 g4.0) x s refl g4.2
+      transfer_steps f g1.0 (q_repeat_wanted g2.0 g3.0 g4.0) x s refl g4.2
   begun (choose line test a) to d fits fine = choose_steps test a done (stepped (state_of h [])) (fine [])
   begun (choose_else line test a b) to d fits fine = choose_steps test a b (stepped (state_of h [])) (fine [])
-  begun (count line x e1 e2 ks body) to d fits fine =
+  begun (for_ line x e1 e2 ks body) to d fits fine =
       let s : State = stepped (state_of h []) in
       let b : Action = block_meaning (context_in h.checked.now) most_turns body in
-      let to : ℕ → Action = λ w. given (value e2 (variables_here h)) (λ u. count_from (u + 1 - w) most_turns x w u b) in
+      let to : ℕ → Action = λ w. given (value e2 (variables_here h)) (λ u. for_from (u + 1 - w) most_turns x w u b) in
       let g1 = fine_given plan (bounds_of h) (value e1 (variables_here h)) to s (left_in h) (fine []) in
-      let g2 = fine_given plan (bounds_of h) (value e2 (variables_here h)) (λ u. count_from (u + 1 - g1.0) most_turns x g1.0 u b) s (left_in h) g1.2 in
+      let g2 = fine_given plan (bounds_of h) (value e2 (variables_here h)) (λ u. for_from (u + 1 - g1.0) most_turns x g1.0 u b) s (left_in h) g1.2 in
       (count_steps (g2.0 + 1 - g1.0) x g1.0 g2.0 body s g2.2).steps
-  begun (repeat line test m k ks body) to d fits fine =
+  begun (while_ line test m k ks body) to d fits fine =
       let s : State = stepped (state_of h []) in
       let b : Action = block_meaning (context_in h.checked.now) most_turns body in
       (keeps_turns plan (bounds_of h) h.checked.now.script body test most_turns s

@@ -11,8 +11,8 @@ use Rattle.camac_lang.specs.Tree.{Service, Script}
 use Rattle.camac_lang.proofs.Places.{most_at}
 use Rattle.camac_lang.proofs.Standing.{services_stand}
 use Rattle.camac_branch.specs.Plan.{Layout}
-use Rattle.camac_check.specs.Checked.{CheckedScript, IsChecked}
-use Rattle.camac_size.specs.Fits.{fits}
+use Rattle.camac_check_result.specs.Checked.{CheckedScript, IsChecked}
+use Rattle.camac_lang.specs.Fits.{fits}
 use Rattle.camac_model.specs.Fine.{Bounds, IsFineService, AreFine}
 use Rattle.camac_model.specs.Headline.{IsWithinHeading, AreWithinHeadings}
 use Rattle.camac_model.specs.Value.{greatest}

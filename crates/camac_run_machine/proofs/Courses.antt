@@ -17,7 +17,7 @@ use Rattle.camac_branch.specs.declared.answer.CycleDone.{CycleDone}
 use Rattle.camac_branch.specs.declared.answer.Overrun.{Overrun}
 use Rattle.camac_esone.specs.Calls.{IsOnBranch}
 use Rattle.camac_esone.specs.Progress.{Left, Continues}
-use Rattle.camac_esone.specs.Transfers.{Wanted, stop_wanted, repeat_wanted, scan_wanted, tally}
+use Rattle.camac_esone.specs.Transfers.{Wanted, q_stop_wanted, q_repeat_wanted, scan_wanted, tally}
 use Rattle.camac_model.specs.State.{State, stepped, missed_with, with_variable}
 use Rattle.camac_model.specs.Behaviour.{does, ends, stops, overrun, Action, then_do, given, unless_wrong}
 use Rattle.camac_model.specs.Cycle.{cycle, after_cycle}
@@ -183,7 +183,7 @@ module _ {V D C : ℕ} (h : Machine V D C) where
   -- Q-stop
   module _ (f r : ℕ) (g : Option ℕ) (max : Expression) (x : ℕ) (fine : FineThen h (λ c. effect c most_turns (q_stop 0 f r g max x))) where
     abbrev stops_after : Option (List ℕ) → Address → ℕ → Action
-    stops_after table at m = transfer_to plan f table (stop_wanted at m) x
+    stops_after table at m = transfer_to plan f table (q_stop_wanted at m) x
 
     abbrev stops_at : Option (List ℕ) → Address → Action
     stops_at table at = given (value max (variables_here h)) (stops_after table at)
@@ -207,7 +207,7 @@ module _ {V D C : ℕ} (h : Machine V D C) where
             has_some (value max (variables_here h)) (stops_after table at)
             (known h (registers_here h r) at (stops_at table) [] is2 with_table)
 
-        pub stop_goes : (m : ℕ) → value max (variables_here h) ≡ Some m → (answers : List Answer) → effect (context_in h.checked.now) most_turns (q_stop 0 f r g max x) (state_of h answers) ≡ transfer_to plan f table (stop_wanted at m) x (state_of h answers)
+        pub stop_goes : (m : ℕ) → value max (variables_here h) ≡ Some m → (answers : List Answer) → effect (context_in h.checked.now) most_turns (q_stop 0 f r g max x) (state_of h answers) ≡ transfer_to plan f table (q_stop_wanted at m) x (state_of h answers)
         stop_goes m is3 answers =
             ap (λ o. given o stops_with (state_of h answers)) is1
             ∙ ap (λ o. given o (stops_at table) (state_of h answers)) is2
@@ -216,7 +216,7 @@ module _ {V D C : ℕ} (h : Machine V D C) where
   -- Q-repeat
   module _ (f r : ℕ) (g : Option ℕ) (max limit : Expression) (x : ℕ) (fine : FineThen h (λ c. effect c most_turns (q_repeat 0 f r g max limit x))) where
     abbrev repeats_up : Option (List ℕ) → Address → ℕ → ℕ → Action
-    repeats_up table at m n = transfer_to plan f table (repeat_wanted at m n) x
+    repeats_up table at m n = transfer_to plan f table (q_repeat_wanted at m n) x
 
     abbrev repeats_for : Option (List ℕ) → Address → ℕ → Action
     repeats_for table at m = given (value limit (variables_here h)) (repeats_up table at m)
@@ -250,7 +250,7 @@ module _ {V D C : ℕ} (h : Machine V D C) where
               has_some (value limit (variables_here h)) (repeats_up table at m)
               (known h (value max (variables_here h)) m (repeats_for table at) [] is3 at_address)
 
-          pub repeat_goes : (n : ℕ) → value limit (variables_here h) ≡ Some n → (answers : List Answer) → effect (context_in h.checked.now) most_turns (q_repeat 0 f r g max limit x) (state_of h answers) ≡ transfer_to plan f table (repeat_wanted at m n) x (state_of h answers)
+          pub repeat_goes : (n : ℕ) → value limit (variables_here h) ≡ Some n → (answers : List Answer) → effect (context_in h.checked.now) most_turns (q_repeat 0 f r g max limit x) (state_of h answers) ≡ transfer_to plan f table (q_repeat_wanted at m n) x (state_of h answers)
           repeat_goes n is4 answers =
               ap (λ o. given o repeats_with (state_of h answers)) is1
               ∙ ap (λ o. given o (repeats_at table) (state_of h answers)) is2

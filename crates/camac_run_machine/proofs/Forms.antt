@@ -2,7 +2,7 @@
 use Rattle.std.proofs.Common.{◌≡◌, ◌⊎◌, inl, inr, ℕ, Option, Vec, refl}
 use Rattle.std.specs.Prelude.{IsTrue, ◌||◌}
 use Rattle.std.specs.declared.alloc.Global.{Global}
-use Rattle.camac_check.specs.Kinds.{is_plain, is_cycle, is_transfer, is_choice, is_count, is_repeat}
+use Rattle.camac_lang.specs.Kinds.{is_plain, is_cycle, is_transfer, is_choice, is_for, is_while}
 use Rattle.camac_lang.specs.declared.tree.Cond.{Cond}
 use Rattle.camac_lang.specs.declared.tree.Expr.{Expr}
 use Rattle.camac_lang.specs.declared.tree.Keep.{Keep}
@@ -34,6 +34,6 @@ pub choice_is : (s : Stmt) → ((line : ℕ) × (c : Cond) × (a : Vec Stmt Glob
 choice_is s (inl (line, c, a, is)) = rw (is, choose_is line c a) refl
 choice_is s (inr (line, c, a, b, is)) = rw (is, choose_else_is line c a b) refl
 
-pub loop_is : (s : Stmt) → ((line x : ℕ) × (e f : Expr) × (keeps : Vec Keep Global) × (a : Vec Stmt Global) × (s ≡ rust.For line x e f keeps a)) ⊎ ((line : ℕ) × (t : Cond) × (most measure : ℕ) × (keeps : Vec Keep Global) × (a : Vec Stmt Global) × (s ≡ rust.While line t most measure keeps a)) → IsTrue (is_count (statement_of s) || is_repeat (statement_of s))
+pub loop_is : (s : Stmt) → ((line x : ℕ) × (e f : Expr) × (keeps : Vec Keep Global) × (a : Vec Stmt Global) × (s ≡ rust.For line x e f keeps a)) ⊎ ((line : ℕ) × (t : Cond) × (most measure : ℕ) × (keeps : Vec Keep Global) × (a : Vec Stmt Global) × (s ≡ rust.While line t most measure keeps a)) → IsTrue (is_for (statement_of s) || is_while (statement_of s))
 loop_is s (inl (line, x, e, f, keeps, a, is)) = rw (is, count_is line x e f keeps a) refl
 loop_is s (inr (line, t, most, measure, keeps, a, is)) = rw (is, repeat_is line t most measure keeps a) refl

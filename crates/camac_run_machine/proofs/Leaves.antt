@@ -2,7 +2,7 @@
 use Rattle.camac_run_machine.proofs.Scopes.{opens_written, room_written, variables_written}
 use Rattle.camac_run_machine.proofs.Loops.{fine_as, advances_as}
 use Rattle.camac_run_machine.specs.Within.{OwnerFits, outer, OpenFit}
-use Rattle.camac_model.specs.Meaning.{count_turns, turns, block_meaning}
+use Rattle.camac_model.specs.Meaning.{for_turns, turns, block_meaning}
 use Rattle.camac_model.specs.Fine.{most_turns}
 use Rattle.camac_model.specs.State.{Variables, with_variable}
 use Rattle.std.proofs.Common.{◌≡◌, ℕ, ◌+◌, ◌<◌, ◌≤◌, List, [], ◌∷◌, ◌++◌, length, length-append, true, false, refl, sym, ap, subst, ◌∙◌, arith, ◌-◌, suc}
@@ -160,24 +160,24 @@ module _ {V D C : ℕ} (h : Machine V D C) where
 
   -- a `for` goes on
   module _ (x v w n : ℕ) (b : Block) where
-    turn_next : v < w → (answers : List Answer) → owed (context_in h.checked.now) (counts x v w n b) (state_of h answers) ≡ count_turns (suc (w - (v + 1))) n x (v + 1) w (block_meaning (context_in h.checked.now) most_turns b) (state_of h answers)
+    turn_next : v < w → (answers : List Answer) → owed (context_in h.checked.now) (counts x v w n b) (state_of h answers) ≡ for_turns (suc (w - (v + 1))) n x (v + 1) w (block_meaning (context_in h.checked.now) most_turns b) (state_of h answers)
     unfolding owed
     turn_next lt answers =
         let e : w - v ≡ suc (w - (v + 1)) = omega (arith, lt) in
-        ap (λ k. count_turns k n x (v + 1) w (block_meaning (context_in h.checked.now) most_turns b) (state_of h answers)) e
+        ap (λ k. for_turns k n x (v + 1) w (block_meaning (context_in h.checked.now) most_turns b) (state_of h answers)) e
 
     turn_last : w ≤ v → (answers : List Answer) → owed (context_in h.checked.now) (counts x v w n b) (state_of h answers) ≡ ends (with_variable x w (state_of h answers))
     unfolding owed
     turn_last le answers =
         let e : w - v ≡ 0 = omega (arith, le) in
-        ap (λ k. count_turns k n x (v + 1) w (block_meaning (context_in h.checked.now) most_turns b) (state_of h answers)) e
+        ap (λ k. for_turns k n x (v + 1) w (block_meaning (context_in h.checked.now) most_turns b) (state_of h answers)) e
 
-    pub next_fine : v < w → FineThen h (λ c. owed c (counts x v w n b)) → FineThen h (λ c. count_turns (suc (w - (v + 1))) n x (v + 1) w (block_meaning c most_turns b))
-    next_fine lt fine = fine_as h (λ c. owed c (counts x v w n b)) (λ c. count_turns (suc (w - (v + 1))) n x (v + 1) w (block_meaning c most_turns b)) (turn_next lt) fine
+    pub next_fine : v < w → FineThen h (λ c. owed c (counts x v w n b)) → FineThen h (λ c. for_turns (suc (w - (v + 1))) n x (v + 1) w (block_meaning c most_turns b))
+    next_fine lt fine = fine_as h (λ c. owed c (counts x v w n b)) (λ c. for_turns (suc (w - (v + 1))) n x (v + 1) w (block_meaning c most_turns b)) (turn_next lt) fine
 
-    pub next_leaves : v < w → (new : Machine V D C) → Advances h (λ c. count_turns (suc (w - (v + 1))) n x (v + 1) w (block_meaning c most_turns b)) None new → Advances h (λ c. owed c (counts x v w n b)) None new
+    pub next_leaves : v < w → (new : Machine V D C) → Advances h (λ c. for_turns (suc (w - (v + 1))) n x (v + 1) w (block_meaning c most_turns b)) None new → Advances h (λ c. owed c (counts x v w n b)) None new
     next_leaves lt new k =
-        advances_as h (λ c. count_turns (suc (w - (v + 1))) n x (v + 1) w (block_meaning c most_turns b)) (λ c. owed c (counts x v w n b)) None new (λ answers. sym (turn_next lt answers)) k
+        advances_as h (λ c. for_turns (suc (w - (v + 1))) n x (v + 1) w (block_meaning c most_turns b)) (λ c. owed c (counts x v w n b)) None new (λ answers. sym (turn_next lt answers)) k
 
     pub last_leaves : w ≤ v → x < (reach h).variables → (new : Machine V D C) → new ≡ with_value h x w → HasRoom h → Advances h (λ c. owed c (counts x v w n b)) None new
     last_leaves le lt new same r = subst (λ m. Advances h (λ c. owed c (counts x v w n b)) None m) (sym same) (record {

@@ -5,13 +5,13 @@ use Rattle.std.specs.Borrow.{Bor}
 use Rattle.std.specs.Prelude.{IsSome}
 use Rattle.camac_lang.specs.declared.tree.Part as rust_part
 use Rattle.camac_lang.specs.declared.tree.Stmt.{Stmt}
-use Rattle.camac_lang.specs.Tree.{Expression, Condition, Block, count}
+use Rattle.camac_lang.specs.Tree.{Expression, Condition, Block, for_}
 use Rattle.camac_lang.specs.View.{part_of, statements_of}
 use Rattle.camac_branch.specs.Branch.{Answer}
 use Rattle.camac_model.specs.State.{State, Variables, stepped}
 use Rattle.camac_model.specs.Behaviour.{Behaviour, ends, stops, more, Action, then_do, given, decide}
 use Rattle.camac_model.specs.Fine.{IsWithin, most_turns}
-use Rattle.camac_model.specs.Meaning.{Context, counted, count_turns, count_from, turns, effect, block_meaning}
+use Rattle.camac_model.specs.Meaning.{Context, counted, for_turns, for_from, turns, effect, block_meaning}
 use Rattle.camac_model.specs.Value.{value, truth}
 use Rattle.camac_run_machine.specs.declared.machine.Frame.{Frame}
 use Rattle.camac_run_machine.specs.declared.machine.Machine.{Machine}
@@ -67,27 +67,27 @@ module _ {V D C : ℕ} (h : Machine V D C) where
   first_fine b f = fine_first h.checked.now.plan (bounds_of h) b (left_in h) keeps f
 
   -- a turn of a `for` is one of those left, and has room for its step
-  pub turn_fine : (x value last n : ℕ) (b : Block) → FineThen h (λ c. count_turns (suc (last - value)) n x value last (block_meaning c most_turns b)) → (0 < n) × (h.steps + 1 ≤ (bounds_of h).steps)
+  pub turn_fine : (x value last n : ℕ) (b : Block) → FineThen h (λ c. for_turns (suc (last - value)) n x value last (block_meaning c most_turns b)) → (0 < n) × (h.steps + 1 ≤ (bounds_of h).steps)
   turn_fine x value last zero b fine = absurd (fine []).0
   turn_fine x value last (suc n) b fine =
       let s : State = state_of h [] in
-      let f = first_fine (then_do (does_all b (counted x value s)) (count_turns (last - value) n x (value + 1) last (does_all b))) (fine []) in
-      let g = fine_first h.checked.now.plan (bounds_of h) (does_all b (counted x value s)) (count_turns (last - value) n x (value + 1) last (does_all b))
+      let f = first_fine (then_do (does_all b (counted x value s)) (for_turns (last - value) n x (value + 1) last (does_all b))) (fine []) in
+      let g = fine_first h.checked.now.plan (bounds_of h) (does_all b (counted x value s)) (for_turns (last - value) n x (value + 1) last (does_all b))
       (λ t k. keeps_counts h.checked.now.plan (bounds_of h) h.checked.now.script b (last - value) n x (value + 1) last t k) f in
       (omega arith, (keeps_block h.checked.now.plan (bounds_of h) h.checked.now.script most_turns b (counted x value s) g).steps)
 
   abbrev turning : ℕ → ℕ → ℕ → ℕ → Bor (List Stmt) → Frame
   turning x value last n body = record { rest = body; owner = For x value last n body }
 
-  turn_left : (x value last n : ℕ) (body : Bor (List Stmt)) (s : State) → left_of ctx (open_in h (turning x value last n body)) (counted x value s) ≡ count_turns (suc (last - value)) (suc n) x value last (does_all (statements_of body.now)) s
+  turn_left : (x value last n : ℕ) (body : Bor (List Stmt)) (s : State) → left_of ctx (open_in h (turning x value last n body)) (counted x value s) ≡ for_turns (suc (last - value)) (suc n) x value last (does_all (statements_of body.now)) s
   unfolding owed
   turn_left x value last n body s = refl
 
   turned : (x value last n : ℕ) (body : Bor (List Stmt)) (new : Machine V D C) → x < (reach h).variables → HasRoom h → new ≡ record (with_value h x value) { steps = h.steps + 1; frames = new.frames } → new.frames.items ≡ h.frames.items ++ turning x value last n body ∷ [] → HasRoom new
-      → Advances h (λ c. count_turns (suc (last - value)) (suc n) x value last (block_meaning c most_turns (statements_of body.now))) None new
+      → Advances h (λ c. for_turns (suc (last - value)) (suc n) x value last (block_meaning c most_turns (statements_of body.now))) None new
   turned x value last n body new lt r same pushed room =
       let f : Frame = turning x value last n body in
-      let A : Machine V D C → Type 0 = λ m. HasRoom m → Advances h (λ c. count_turns (suc (last - value)) (suc n) x value last (block_meaning c most_turns (statements_of body.now))) None m in
+      let A : Machine V D C → Type 0 = λ m. HasRoom m → Advances h (λ c. for_turns (suc (last - value)) (suc n) x value last (block_meaning c most_turns (statements_of body.now))) None m in
       let long : length new.frames.items ≡ length h.frames.items + 1 = ap length pushed ∙ length-append h.frames.items (f ∷ []) in
       subst A (sym same) (λ k. record {
         room = k;
@@ -106,28 +106,28 @@ module _ {V D C : ℕ} (h : Machine V D C) where
       }) room
 
   pub turn_advances : (x value last n : ℕ) (body : Bor (List Stmt)) (new : Machine V D C) → x < (reach h).variables → 0 < n → HasRoom h → new ≡ record (with_value h x value) { steps = h.steps + 1; frames = new.frames } → new.frames.items ≡ h.frames.items ++ turning x value last (n - 1) body ∷ [] → HasRoom new
-      → Advances h (λ c. count_turns (suc (last - value)) n x value last (block_meaning c most_turns (statements_of body.now))) None new
+      → Advances h (λ c. for_turns (suc (last - value)) n x value last (block_meaning c most_turns (statements_of body.now))) None new
   turn_advances x value last n body new lt some r same pushed room =
       let e : suc (n - 1) ≡ n = omega (arith, some) in
-      advances_as (λ c. count_turns (suc (last - value)) (suc (n - 1)) x value last (block_meaning c most_turns (statements_of body.now))) (λ c. count_turns (suc (last - value)) n x value last (block_meaning c most_turns (statements_of body.now))) None new
-      (λ answers. ap (λ j. count_turns (suc (last - value)) j x value last (does_all (statements_of body.now)) (state_of h answers)) e)
+      advances_as (λ c. for_turns (suc (last - value)) (suc (n - 1)) x value last (block_meaning c most_turns (statements_of body.now))) (λ c. for_turns (suc (last - value)) n x value last (block_meaning c most_turns (statements_of body.now))) None new
+      (λ answers. ap (λ j. for_turns (suc (last - value)) j x value last (does_all (statements_of body.now)) (state_of h answers)) e)
       (turned x value last (n - 1) body new lt r same pushed room)
 
   -- what a `for` comes to, by its first and last value
   module _ (x : ℕ) (e1 e2 : Expression) (b : Block) (v w : ℕ) (is1 : value e1 (variables_here h) ≡ Some v) (is2 : value e2 (variables_here h) ≡ Some w) where
-    from_to : (j : ℕ) → w + 1 - v ≡ j → (answers : List Answer) → effect ctx most_turns (count 0 x e1 e2 [] b) (state_of h answers) ≡ count_from j 65535 x v w (does_all b) (state_of h answers)
+    from_to : (j : ℕ) → w + 1 - v ≡ j → (answers : List Answer) → effect ctx most_turns (for_ 0 x e1 e2 [] b) (state_of h answers) ≡ for_from j 65535 x v w (does_all b) (state_of h answers)
     from_to j e answers =
         let s : State = state_of h answers in
-        let to : ℕ → Action = λ k. given (value e2 (variables_here h)) (λ u. count_from (u + 1 - k) most_turns x k u (does_all b)) in
+        let to : ℕ → Action = λ k. given (value e2 (variables_here h)) (λ u. for_from (u + 1 - k) most_turns x k u (does_all b)) in
         ap (λ o. given o to s) is1
-        ∙ ap (λ o. given o (λ u. count_from (u + 1 - v) most_turns x v u (does_all b)) s) is2
-        ∙ ap (λ k. count_from k most_turns x v w (does_all b) s) e
-        ∙ ap (λ n. count_from j n x v w (does_all b) s) turns_are
+        ∙ ap (λ o. given o (λ u. for_from (u + 1 - v) most_turns x v u (does_all b)) s) is2
+        ∙ ap (λ k. for_from k most_turns x v w (does_all b) s) e
+        ∙ ap (λ n. for_from j n x v w (does_all b) s) turns_are
 
-    pub count_goes : v ≤ w → (answers : List Answer) → effect ctx most_turns (count 0 x e1 e2 [] b) (state_of h answers) ≡ count_turns (suc (w - v)) 65535 x v w (does_all b) (state_of h answers)
+    pub count_goes : v ≤ w → (answers : List Answer) → effect ctx most_turns (for_ 0 x e1 e2 [] b) (state_of h answers) ≡ for_turns (suc (w - v)) 65535 x v w (does_all b) (state_of h answers)
     count_goes le answers = from_to (suc (w - v)) (omega (arith, le)) answers
 
-    pub count_none : w < v → (answers : List Answer) → effect ctx most_turns (count 0 x e1 e2 [] b) (state_of h answers) ≡ ends (state_of h answers)
+    pub count_none : w < v → (answers : List Answer) → effect ctx most_turns (for_ 0 x e1 e2 [] b) (state_of h answers) ≡ ends (state_of h answers)
     count_none lt answers = from_to zero (omega (arith, lt)) answers
 
   -- a `while`

@@ -8,12 +8,12 @@ use Rattle.camac_branch.specs.Plan.{Layout, crate_waits}
 use Rattle.camac_lang.specs.Depth.{callable, callables_after}
 use Rattle.camac_lang.specs.Expressions.{Callable}
 use Rattle.camac_lang.specs.Tests.{total}
-use Rattle.camac_lang.specs.Tree.{Statement, assign, set_register, single, address_scan, q_stop, q_repeat, put, crate_call, lam_call, choose, choose_else, count, repeat, locked, call, Block, done, next, Procedure, Script}
+use Rattle.camac_lang.specs.Tree.{Statement, assign, set_register, single, address_scan, q_stop, q_repeat, put, crate_call, lam_call, choose, choose_else, for_, while_, locked, call, Block, done, next, Procedure, Script}
 use Rattle.camac_lang.proofs.Places.{number_below}
 use Rattle.camac_model.specs.State.{State, stepped}
 use Rattle.camac_model.specs.Behaviour.{ends, Action, then_do, given, decide}
 use Rattle.camac_model.specs.Cycle.{take_lock, release}
-use Rattle.camac_model.specs.Meaning.{Context, count_from, turns, enter, effect, block_meaning, with_procedure, routines_with, bare, context}
+use Rattle.camac_model.specs.Meaning.{Context, for_from, turns, enter, effect, block_meaning, with_procedure, routines_with, bare, context}
 use Rattle.camac_model.specs.Value.{value, values, truth}
 use Rattle.camac_run_machine.specs.Within.{Reach, StatementFits, BlockFits}
 use Rattle.camac_run_machine.proofs.Services.{place}
@@ -151,9 +151,9 @@ module _ (c : Context) (rs : List (ℕ → Action)) (n : ℕ) (to : Reach) (same
     effect_same (choose_else line test a b) d fits s =
         ap (λ (go : Action). decide (truth test s.variables s.q s.x) go (block_meaning c n b) s) (block_same a (d - 1) fits.2)
         ∙ ap (λ (go : Action). decide (truth test s.variables s.q s.x) (block_meaning wider n a) go s) (block_same b (d - 1) fits.3)
-    effect_same (count line x e1 e2 keeps body) d fits s =
-        ap (λ (go : Action). given (value e1 s.variables) (λ v. given (value e2 s.variables) (λ w. count_from (w + 1 - v) n x v w go)) s) (block_same body (d - 1) fits.4)
-    effect_same (repeat line test m k keeps body) d fits s = ap (λ (go : Action). turns n test go s) (block_same body (d - 1) fits.2)
+    effect_same (for_ line x e1 e2 keeps body) d fits s =
+        ap (λ (go : Action). given (value e1 s.variables) (λ v. given (value e2 s.variables) (λ w. for_from (w + 1 - v) n x v w go)) s) (block_same body (d - 1) fits.4)
+    effect_same (while_ line test m k keeps body) d fits s = ap (λ (go : Action). turns n test go s) (block_same body (d - 1) fits.2)
     effect_same (locked line e body) d fits s =
         ap (λ (go : Action). given (value e s.variables) (λ k. given (crate_waits c.plan k) (λ waits t. take_lock k waits (t.branch k).locked (λ u. then_do (go u) (release k)) t)) s) (block_same body (d - 1) fits.2)
     effect_same (call line p es) d fits s =

@@ -8,8 +8,8 @@ use Rattle.camac_branch.specs.Crates.{branch_of}
 use Rattle.camac_branch.specs.Branch.{Answer}
 use Rattle.arrayvec.specs.ArrayVec.{ArrayVec}
 use Rattle.camac_branch.specs.declared.answer.Overrun.{Overrun}
-use Rattle.camac_check.specs.Checked.{CheckedScript, IsChecked}
-use Rattle.camac_size.specs.Fits.{fits}
+use Rattle.camac_check_result.specs.Checked.{CheckedScript, IsChecked}
+use Rattle.camac_lang.specs.Fits.{fits}
 use Rattle.camac_model.specs.State.{State}
 use Rattle.camac_model.specs.Behaviour.{Behaviour, ends, stops, short, Action, then_do}
 use Rattle.camac_model.specs.Fine.{IsFine, most_turns}

@@ -13,7 +13,7 @@ use Rattle.camac_lang.specs.declared.tree.Stmt.TheOpen.{Stmt-F}
 use Rattle.camac_lang.specs.declared.word.CrateCall.{CrateCall}
 use Rattle.camac_lang.specs.declared.word.LamCall.{LamCall}
 use Rattle.camac_lang.specs.declared.word.WordSize.{WordSize}
-use Rattle.camac_lang.specs.Tree.{Statement, assign, set_register, single, address_scan, q_stop, q_repeat, put, crate_call, lam_call, choose, choose_else, count, repeat, locked, call}
+use Rattle.camac_lang.specs.Tree.{Statement, assign, set_register, single, address_scan, q_stop, q_repeat, put, crate_call, lam_call, choose, choose_else, for_, while_, locked, call}
 use Rattle.camac_lang.specs.View.{condition_of, keep_of, expression_of, move_of, statement_of, statements_of, statement_step}
 
 pub assign_is : (line x : ℕ) (e : Expr) → statement_of (rust.Assign line x e) ≡ assign line x (expression_of e)
@@ -52,10 +52,10 @@ choose_else_is line c a b = ap statement_of (sym (rust.rolls-IfElse line c a b))
 pub lock_is : (line : ℕ) (e : Expr) (a : Vec Stmt Global) → statement_of (rust.Lock line e a) ≡ locked line (expression_of e) (statements_of a.items)
 lock_is line e a = ap statement_of (sym (rust.rolls-Lock line e a)) ∙ fold-roll-Stmt Statement statement_step (layer.Lock line e a)
 
-pub count_is : (line x : ℕ) (e f : Expr) (keeps : Vec Keep Global) (a : Vec Stmt Global) → statement_of (rust.For line x e f keeps a) ≡ count line x (expression_of e) (expression_of f) (map keep_of keeps.items) (statements_of a.items)
+pub count_is : (line x : ℕ) (e f : Expr) (keeps : Vec Keep Global) (a : Vec Stmt Global) → statement_of (rust.For line x e f keeps a) ≡ for_ line x (expression_of e) (expression_of f) (map keep_of keeps.items) (statements_of a.items)
 count_is line x e f keeps a = ap statement_of (sym (rust.rolls-For line x e f keeps a)) ∙ fold-roll-Stmt Statement statement_step (layer.For line x e f keeps a)
 
-pub repeat_is : (line : ℕ) (t : Cond) (most measure : ℕ) (keeps : Vec Keep Global) (a : Vec Stmt Global) → statement_of (rust.While line t most measure keeps a) ≡ repeat line (condition_of t) most measure (map keep_of keeps.items) (statements_of a.items)
+pub repeat_is : (line : ℕ) (t : Cond) (most measure : ℕ) (keeps : Vec Keep Global) (a : Vec Stmt Global) → statement_of (rust.While line t most measure keeps a) ≡ while_ line (condition_of t) most measure (map keep_of keeps.items) (statements_of a.items)
 repeat_is line t most measure keeps a = ap statement_of (sym (rust.rolls-While line t most measure keeps a)) ∙ fold-roll-Stmt Statement statement_step (layer.While line t most measure keeps a)
 
 pub call_is : (line p : ℕ) (es : Vec Expr Global) → statement_of (rust.Call line p es) ≡ call line p (map expression_of es.items)

@@ -3,7 +3,7 @@ use Rattle.std.specs.Prelude.{ℕ, List, [], ◌∷◌, ◌++◌, Option, Some, 
 use Rattle.std.specs.Borrow.{Bor}
 use Rattle.camac_func.specs.declared.data.DataMove.{DataMove}
 use Rattle.camac_branch.specs.Branch.{Reply}
-use Rattle.camac_esone.specs.Held.{stop_left, repeat_left, scan_left}
+use Rattle.camac_esone.specs.Held.{q_stop_left, q_repeat_left, scan_left}
 use Rattle.camac_esone.specs.Progress.{Left}
 use Rattle.camac_model.specs.Cycle.{kept}
 use Rattle.camac_model.specs.Transfer.{transfer_data}
@@ -12,8 +12,8 @@ use Rattle.camac_run_machine.specs.declared.transfer.Course.TheVariants.{Stop, R
 
 -- where its further cycles go, and its tally so far
 abbrev pub left_at : Course → Left
-left_at (Stop h) = stop_left h
-left_at (Repeat h) = repeat_left h
+left_at (Stop h) = q_stop_left h
+left_at (Repeat h) = q_repeat_left h
 left_at (Scan h) = scan_left h
 
 -- the words of a table from one on, where there is a table

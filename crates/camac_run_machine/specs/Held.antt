@@ -9,7 +9,7 @@ use Rattle.camac_branch.specs.Plan.{crate_waits}
 use Rattle.camac_branch.specs.declared.answer.CycleDone.{CycleDone}
 use Rattle.camac_branch.specs.declared.answer.Overrun.{Overrun}
 use Rattle.camac_branch.specs.declared.answer.Command.{Command}
-use Rattle.camac_check.specs.Checked.{CheckedScript}
+use Rattle.camac_check_result.specs.Checked.{CheckedScript}
 use Rattle.camac_model.specs.State.{State, Variables, Registers, missed_with}
 use Rattle.camac_model.specs.Behaviour.{Behaviour, does, stops, Piece, demanded, cycled, lock_taken, lock_released, overrun, Action, then_do}
 use Rattle.camac_model.specs.Fine.{Bounds, IsFine, most_turns}
@@ -17,7 +17,7 @@ use Rattle.camac_model.specs.Meaning.{Context, context}
 use Rattle.camac_model.specs.Run.{service_meaning}
 use Rattle.camac_model.specs.Value.{greatest}
 use Rattle.camac_run_machine.specs.Store.{variables_in, registers_in, held_at}
-use Rattle.camac_size.specs.Fits.{fits}
+use Rattle.camac_lang.specs.Fits.{fits}
 use Rattle.camac_run_machine.specs.Course.{left_at, words_sent, data_of}
 use Rattle.camac_run_machine.specs.Rest.{address_of, Want, makes, reads, locks, transfers, awaited, follows, Owner, nothing, releases, counts, repeats, returns, Open, rest_in, says}
 use Rattle.camac_run_machine.specs.Within.{Reach, reach_of, ScopeFits, Opens, OpenFit}

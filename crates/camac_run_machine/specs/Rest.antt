@@ -11,7 +11,7 @@ use Rattle.camac_model.specs.State.{State, with_variable}
 use Rattle.camac_model.specs.Behaviour.{Behaviour, does, ends, Action, then_do, given, event_left, lock_released}
 use Rattle.camac_model.specs.Cycle.{cycle, kept, take_lock, release}
 use Rattle.camac_model.specs.Fine.{most_turns}
-use Rattle.camac_model.specs.Meaning.{Context, count_turns, turns, block_meaning}
+use Rattle.camac_model.specs.Meaning.{Context, for_turns, turns, block_meaning}
 use Rattle.camac_model.specs.Run.{event_of, rounds}
 use Rattle.camac_model.specs.Transfer.{transfer}
 use Rattle.camac_run_machine.specs.Course.{left_at, words_from}
@@ -69,7 +69,7 @@ pub record Open : Type 0 where
 unfoldable pub owed : Context → Owner → Action
 owed c nothing s = ends s
 owed c (releases k) s = release k s
-owed c (counts x v last n body) s = count_turns (last - v) n x (v + 1) last (block_meaning c most_turns body) s
+owed c (counts x v last n body) s = for_turns (last - v) n x (v + 1) last (block_meaning c most_turns body) s
 owed c (repeats test n body) s = turns n test (block_meaning c most_turns body) s
 owed c (returns p vs rs) s = ends (record s { variables = variables_in vs; registers = registers_in rs })
 

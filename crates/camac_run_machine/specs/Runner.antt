@@ -4,7 +4,7 @@ use Rattle.camac_branch.specs.Address.{Address}
 use Rattle.camac_branch.specs.Branch.{Answer}
 use Rattle.camac_branch.specs.Crates.{Crates, branch_of}
 use Rattle.camac_branch.specs.declared.answer.Overrun.{Overrun}
-use Rattle.camac_check.specs.Checked.{CheckedScript, linked_of}
+use Rattle.camac_check_result.specs.Checked.{CheckedScript, linked_of}
 use Rattle.camac_event.specs.declared.event.Usage.{Usage}
 use Rattle.camac_model.specs.State.{State}
 use Rattle.camac_model.specs.Behaviour.{Behaviour, does, ends, stops, event_left, overrun as overruns, then_do}

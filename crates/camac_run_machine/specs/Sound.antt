@@ -3,8 +3,8 @@ use Rattle.std.specs.Prelude.{◌≡◌, ℕ, ◌<◌, ◌≤◌, List, [], leng
 use Rattle.camac_lang.specs.Scope.{is_well_formed}
 use Rattle.camac_branch.specs.Branch.{Answer}
 use Rattle.camac_branch.specs.declared.answer.Overrun.{Overrun}
-use Rattle.camac_check.specs.Checked.{IsChecked}
-use Rattle.camac_size.specs.Fits.{fits}
+use Rattle.camac_check_result.specs.Checked.{IsChecked}
+use Rattle.camac_lang.specs.Fits.{fits}
 use Rattle.camac_run_machine.specs.declared.machine.Machine.{Machine}
 use Rattle.camac_run_machine.specs.declared.machine.Wanting.{Wanting}
 use Rattle.camac_run_machine.specs.Held.{opens_in, want_of, stands, IsFineHere, HasRoom, IsWanting}

@@ -13,4 +13,4 @@ mod transfer;
 mod value;
 
 pub use item::{End, Item, Progress, Wanted};
-pub use runner::Runner;
+pub use runner::{FullRunner, Runner};

@@ -3,7 +3,7 @@
 ghost use Rattle.std.specs.Prelude.{◌≡◌, ◌+◌, ◌<◌, ◌≤◌, ◌^◌, List, [], length, true, Some, None, false, IsSome, IfNone, OnSome, if◌then◌else◌};
 ghost use Rattle.camac_branch.specs.Branch.{Answer};
 ghost use Rattle.camac_run_machine.specs.Held.{bounds_at};
-ghost use Rattle.camac_size.specs.Fits.{fits};
+ghost use Rattle.camac_lang.specs.Fits.{fits};
 ghost use Rattle.camac_model.specs.Behaviour.{stops, short, ends};
 ghost use Rattle.camac_model.specs.Run.{the_run};
 ghost use Rattle.camac_run_machine.specs.Runner.{state_in, rest, last_words_in, Progresses, steps_of, words_of};
@@ -14,8 +14,9 @@ use crate::machine::{Machine, Wanting};
 use crate::service::service_for;
 use arrayvec::ArrayVec;
 use camac_branch::{Answer, Overrun, demand};
-use camac_check::Checked;
+use camac_check_result::Checked;
 use camac_event::Usage;
+use camac_lang::limits;
 use camac_word::{GlBit, Word24};
 use std::marker::Model;
 
@@ -34,9 +35,17 @@ pub struct Runner<'a, const V: usize, const DEPTH: usize, const CAP: usize> {
     overrun: Option<Overrun>,
 }
 
+/// A runner with room for every script that is checked: the program's.
+pub type FullRunner<'a> = Runner<
+    'a,
+    { limits::VARIABLES },
+    { limits::DEPTH },
+    { limits::EVENT_WORDS },
+>;
+
 impl<'a, const V: usize, const DEPTH: usize, const CAP: usize> Model for Runner<'a, V, DEPTH, CAP> {
     ghost use Rattle.std.specs.Coded.{codes};
-    ghost use Rattle.camac_check.specs.Checked.{checked_coded};
+    ghost use Rattle.camac_check_result.specs.Checked.{checked_coded};
     ghost use Rattle.camac_run_machine.specs.Codes.{want_coded, open_coded};
     ghost use Rattle.camac_run_machine.specs.Runner.{Held};
     ghost use Rattle.camac_run_machine.specs.Sound.{held, IsSound};

@@ -1,7 +1,7 @@
-// Reads and writes that fail, each in turn, and a reader that never ends.
+// Reads and writes of `camac check` that fail, each in turn.
 
-use crate::engines::narrow;
-use camac_test_fixtures::fakes::{Broken, Endless, WhenFull};
+use crate::narrow::narrow;
+use camac_test_fixtures::fakes::{Broken, WhenFull};
 use camac_test_fixtures::scripts::{STRAIGHT_LINE, VERDICT};
 use camac_tool::{Outcome, PlanSource, ToolFault, engine_check, status};
 use camac_word::Watched;
@@ -56,17 +56,5 @@ fn reads_fail_each_in_turn(rt: HostRuntime) -> Result<(), Fail> {
         assert_eq!(rt; status(&answer), 3);
         assert!(rt; out.into_inner().is_empty());
     }
-    Ok(())
-}
-
-#[test]
-fn endless_inputs(rt: HostRuntime) -> Result<(), Fail> {
-    let mut plan = PlanSource::<&[u8]>::Sample;
-    let mut script = Watched::new(Endless { given: 0 });
-    let mut out = Watched::new(Vec::new(rt.alloc()));
-    let answer = engine_check(rt.alloc(), &mut plan, &mut script, &mut out);
-    assert_eq!(rt; answer, Err(ToolFault::TooLong));
-    assert_eq!(rt; script.into_inner().given, 1_048_577);
-    assert!(rt; out.into_inner().is_empty());
     Ok(())
 }

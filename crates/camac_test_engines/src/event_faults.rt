@@ -1,8 +1,8 @@
-// Reads and writes of `camac events` that fail, each in turn, and a file that is too long.
+// Reads and writes of `camac events` that fail, each in turn.
 
-use crate::engines::narrow;
 use crate::event_file::{FILE_ONE, FILE_TWO, LISTING_ONE, LISTING_TWO};
-use camac_test_fixtures::fakes::{Broken, Endless, WhenFull};
+use crate::narrow::narrow;
+use camac_test_fixtures::fakes::{Broken, WhenFull};
 use camac_tool::{Outcome, ToolFault, engine_events};
 use camac_word::Watched;
 use std::process::Abort;
@@ -53,16 +53,5 @@ fn reads_fail_each_in_turn(rt: HostRuntime) -> Result<(), Fail> {
         assert_eq!(rt; answer, Err(ToolFault::Read));
         assert!(rt; out.into_inner().is_empty());
     }
-    Ok(())
-}
-
-#[test]
-fn a_file_above_the_limit(rt: HostRuntime) -> Result<(), Fail> {
-    let mut input = Watched::new(Endless { given: 0 });
-    let mut out = Watched::new(Vec::new(rt.alloc()));
-    let answer = engine_events(rt.alloc(), &mut input, &mut out);
-    assert_eq!(rt; answer, Err(ToolFault::TooLong));
-    assert_eq!(rt; input.into_inner().given, 16_777_217);
-    assert!(rt; out.into_inner().is_empty());
     Ok(())
 }

@@ -2,13 +2,7 @@
 #![tactic(auto)]
 
 #[cfg(test)]
-mod changes;
-#[cfg(test)]
 mod check_faults;
-#[cfg(test)]
-mod endless;
-#[cfg(test)]
-mod engines;
 #[cfg(test)]
 mod event_faults;
 #[cfg(test)]
@@ -20,18 +14,16 @@ mod live;
 #[cfg(test)]
 mod log;
 #[cfg(test)]
+mod narrow;
+#[cfg(test)]
 mod once;
 #[cfg(test)]
 mod plan_faults;
-#[cfg(test)]
-mod plans;
 #[cfg(test)]
 mod run;
 #[cfg(test)]
 mod run_faults;
 #[cfg(test)]
 mod runner;
-#[cfg(test)]
-mod tree;
 #[cfg(test)]
 mod words;

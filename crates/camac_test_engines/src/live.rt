@@ -1,7 +1,7 @@
 // What `camac drive @sample` asks for, and what it leaves where a reader or writer fails.
 
-use crate::engines::narrow;
 use crate::event_file::FILE_TWO;
+use crate::narrow::narrow;
 use crate::run::{ANSWERS, NO_EVENTS};
 use camac_test_fixtures::fakes::{Broken, WhenFull};
 use camac_test_fixtures::scripts::STRAIGHT_LINE;
@@ -37,15 +37,6 @@ fn drive<R: Read + Drop>(
         &mut events,
     );
     (answer, requests.into_inner(), events.into_inner())
-}
-
-#[test]
-fn live_straight_line(rt: HostRuntime) -> Result<(), Fail> {
-    let (answer, requests, events) = drive(rt.alloc(), ANSWERS);
-    assert_eq!(rt; answer, Ok(Outcome::Good));
-    assert_eq!(rt; requests.as_slice(), REQUESTS);
-    assert_eq!(rt; events.as_slice(), FILE_TWO);
-    Ok(())
 }
 
 // A read fails: all that the answers before it call for was sent, the open request too.

@@ -1,8 +1,8 @@
-// Reads and writes of `camac plan` that fail, each in turn, and a reader that never ends.
+// Reads and writes of `camac plan` that fail, each in turn.
 
-use crate::engines::narrow;
-use crate::plans::{LISTING, SAMPLE};
-use camac_test_fixtures::fakes::{Broken, Endless, WhenFull};
+use crate::narrow::narrow;
+use camac_test_fixtures::fakes::{Broken, WhenFull};
+use camac_test_fixtures::plans::{LISTING, SAMPLE};
 use camac_tool::{Outcome, PlanSource, ToolFault, engine_plan, status};
 use camac_word::Watched;
 use std::process::Abort;
@@ -55,19 +55,5 @@ fn reads_fail_each_in_turn(rt: HostRuntime) -> Result<(), Fail> {
         assert_eq!(rt; status(&answer), 3);
         assert!(rt; out.into_inner().is_empty());
     }
-    Ok(())
-}
-
-#[test]
-fn endless_inputs(rt: HostRuntime) -> Result<(), Fail> {
-    let mut plan = PlanSource::Text(Watched::new(Endless { given: 0 }));
-    let mut out = Watched::new(Vec::new(rt.alloc()));
-    let answer = engine_plan(rt.alloc(), &mut plan, &mut out);
-    assert_eq!(rt; answer, Err(ToolFault::TooLong));
-    let PlanSource::Text(reader) = plan else {
-        return Err(Fail::from("the plan's text"));
-    };
-    assert_eq!(rt; reader.into_inner().given, 1_048_577);
-    assert!(rt; out.into_inner().is_empty());
     Ok(())
 }

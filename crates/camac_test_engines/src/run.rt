@@ -1,4 +1,4 @@
-// Scripts and answers of runs, and what they leave.
+// The answers of a run, and what they leave.
 
 use camac_check::{Checked, check};
 use camac_names::resolve;
@@ -29,31 +29,3 @@ ended events 1
 
 /// An event file without events.
 pub const NO_EVENTS: &[u8] = b"CAMACEV2";
-
-/// A crate is locked for four reads.
-pub const LOCKOUT: &[u8] = b"cdlam adc 1 1 5 12
-var v k i t
-service adc within 6 cycles event 100 words {
-cdreg r 1 1 5 0
-lock 1 {
-  cfsa 0 r -> v
-  cfsa 0 r -> v
-  cfsa 0 r -> v
-  cfsa 0 r -> v
-}
-}
-";
-
-/// Answers of which the last has a wait that the lock does not permit.
-pub const WAITING: &[u8] = b"0 0 000000 0 000004
-0 0 000000 2 000000
-1 1 000abc 0 000000
-1 1 000abc 1 000000
-";
-
-/// What they list.
-pub const OVERRUN: &[u8] = b"demand 000004 adc
-lock 1 wait 2
-cycle 1 5 0 0 in 000abc x1 q1 wait 0
-overrun 1 wait 1 events 0
-";

@@ -1,14 +1,13 @@
-// A run's reads and writes that fail, and answers without end.
+// A run's reads and writes that fail.
 
-use crate::engines::narrow;
 use crate::event_file::FILE_TWO;
-use crate::run::{ANSWERS, LISTING, LOCKOUT, NO_EVENTS, OVERRUN, WAITING};
-use camac_test_fixtures::fakes::{Broken, Endless, WhenFull};
+use crate::narrow::narrow;
+use crate::run::{ANSWERS, LISTING};
+use camac_test_fixtures::fakes::{Broken, WhenFull};
 use camac_test_fixtures::scripts::STRAIGHT_LINE;
 use camac_tool::{Outcome, PlanSource, ToolFault, engine_run};
 use camac_word::Watched;
 use std::alloc::Global;
-use std::io::{Read, Result as IoResult};
 use std::process::Abort;
 use std::test::Fail;
 
@@ -122,69 +121,5 @@ fn writers_take_a_byte_at_a_time(rt: HostRuntime) -> Result<(), Fail> {
     assert_eq!(rt; answer, Ok(Outcome::Good));
     assert_eq!(rt; out.as_slice(), LISTING);
     assert_eq!(rt; file.as_slice(), FILE_TWO);
-    Ok(())
-}
-
-#[test]
-fn endless_script(rt: HostRuntime) -> Result<(), Fail> {
-    let mut plan = PlanSource::<&[u8]>::Sample;
-    let mut script = Watched::new(Endless { given: 0 });
-    let mut answers = Watched::new(ANSWERS);
-    let mut out = Watched::new(Vec::new(rt.alloc()));
-    let mut events = Watched::new(Vec::new(rt.alloc()));
-    let answer = engine_run(
-        rt.alloc(),
-        &mut plan,
-        &mut script,
-        &mut answers,
-        &mut out,
-        &mut events,
-    );
-    assert_eq!(rt; answer, Err(ToolFault::TooLong));
-    assert!(rt; out.into_inner().is_empty());
-    assert!(rt; events.into_inner().is_empty());
-    Ok(())
-}
-
-// Gives its text in pieces of a size.
-#[derive(Drop)]
-struct Pieces<'a> {
-    text: &'a [u8],
-    size: usize,
-}
-
-impl Read for Pieces<'_> {
-    fn read(&mut self, buf: &mut [u8]) -> IoResult<usize> {
-        let text: &[u8] = self.text;
-        let taken = text.len().min(buf.len()).min(self.size);
-        buf[..taken].copy_from_slice(&text[..taken]);
-        self.text = &text[taken..];
-        Ok(taken)
-    }
-}
-
-#[test]
-fn answers_in_pieces(rt: HostRuntime) -> Result<(), Fail> {
-    for size in [1, 2, 7, 19, 20, 21] {
-        let mut plan = PlanSource::<&[u8]>::Sample;
-        let mut script = Watched::new(LOCKOUT);
-        let mut answers = Watched::new(Pieces {
-            text: WAITING,
-            size,
-        });
-        let mut out = Watched::new(Vec::new(rt.alloc()));
-        let mut events = Watched::new(Vec::new(rt.alloc()));
-        let answer = engine_run(
-            rt.alloc(),
-            &mut plan,
-            &mut script,
-            &mut answers,
-            &mut out,
-            &mut events,
-        );
-        assert_eq!(rt; answer, Ok(Outcome::Refused));
-        assert_eq!(rt; out.into_inner().as_slice(), OVERRUN);
-        assert_eq!(rt; events.into_inner().as_slice(), NO_EVENTS);
-    }
     Ok(())
 }

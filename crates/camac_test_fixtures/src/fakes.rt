@@ -22,20 +22,6 @@ impl Read for Broken<'_> {
     }
 }
 
-/// Gives spaces without end, and counts them.
-#[derive(Drop)]
-pub struct Endless {
-    pub given: usize,
-}
-
-impl Read for Endless {
-    fn read(&mut self, buf: &mut [u8]) -> Result<usize> {
-        buf.fill(b' ');
-        self.given = self.given.saturating_add(buf.len());
-        Ok(buf.len())
-    }
-}
-
 /// What a full writer answers.
 #[derive(Clone, Copy)]
 pub enum WhenFull {

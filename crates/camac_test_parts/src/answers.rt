@@ -1,4 +1,4 @@
-//! Answers that come in pieces, lines that are wrong, and reads that fail.
+// Answers that come in pieces, and reads that fail.
 
 use camac_answer::{AnswerFault, AnswerRule, Answers};
 use camac_branch::Answer;
@@ -55,34 +55,6 @@ fn answers_in_pieces(rt: HostRuntime) -> Result<(), Fail> {
         assert_eq!(rt; answers.next()?, Some(answer(true, true, 0x123fff, 2, 0)?));
         assert_eq!(rt; answers.next()?, None);
     }
-    Ok(())
-}
-
-#[test]
-fn last_line_without_its_end(rt: HostRuntime) -> Result<(), Fail> {
-    let mut reader = in_pieces("1 0 00ABcd F 800000", 20, false);
-    let mut answers = Answers::new(rt.alloc(), &mut reader)?;
-    assert_eq!(rt;
-        answers.next()?,
-        Some(answer(true, false, 0x00abcd, 15, 0x800000)?)
-    );
-    assert_eq!(rt; answers.next()?, None);
-    Ok(())
-}
-
-fn second_of(rt: &HostRuntime, text: &str) -> Result<Result<Option<Answer>, AnswerFault>, Fail> {
-    let mut reader = in_pieces(text, 20, false);
-    let mut answers = Answers::new(rt.alloc(), &mut reader)?;
-    answers.next()?;
-    Ok(answers.next())
-}
-
-#[test]
-fn bad_answer_line(rt: HostRuntime) -> Result<(), Fail> {
-    let shape = second_of(&rt, "0 0 000000 0 000004\n1 1 fffffff 0 000000\n")?;
-    assert_eq!(rt; shape, broken(AnswerRule::LineShape, 2));
-    let digit = second_of(&rt, "0 0 000000 0 000004\n1 1 00000g 0 000000\n")?;
-    assert_eq!(rt; digit, broken(AnswerRule::BadDigit, 2));
     Ok(())
 }
 

@@ -43,29 +43,6 @@ fn event_file_one(rt: HostRuntime) -> Result<(), Fail> {
 }
 
 #[test]
-fn event_file_one_cut(rt: HostRuntime) -> Result<(), Fail> {
-    let alloc = rt.alloc();
-    for (offset, first, end) in [
-        (8, 9, 10),
-        (10, 10, 12),
-        (12, 12, 16),
-        (16, 16, 18),
-        (18, 18, 22),
-    ] {
-        for len in first..end {
-            assert_eq!(rt;
-                fault(alloc, cut(&ONE, len)?),
-                broken(EventRule::Truncated, offset),
-                "cut to {len}"
-            );
-        }
-    }
-    assert_eq!(rt; decode(alloc, &ONE[..8])?.len(), 0);
-    assert_eq!(rt; fault(alloc, &ONE[..7]), broken(EventRule::WrongHeader, 0));
-    Ok(())
-}
-
-#[test]
 fn event_file_two(rt: HostRuntime) -> Result<(), Fail> {
     let events = decode(rt.alloc(), &TWO)?;
     assert_eq!(rt; events.version(), Version::Two);
@@ -103,16 +80,6 @@ fn event_file_two_in_place(rt: HostRuntime) -> Result<(), Fail> {
 }
 
 #[test]
-fn event_file_in_place_cut(rt: HostRuntime) -> Result<(), Fail> {
-    let want = EventFlaw {
-        rule: EventRule::Truncated,
-        offset: 24,
-    };
-    assert_eq!(rt; EventFile::new(cut(&TWO, 27)?).err(), Some(want));
-    Ok(())
-}
-
-#[test]
 fn event_file_two_cut(rt: HostRuntime) -> Result<(), Fail> {
     let alloc = rt.alloc();
     for (offset, first, end) in [
@@ -134,21 +101,6 @@ fn event_file_two_cut(rt: HostRuntime) -> Result<(), Fail> {
     }
     assert_eq!(rt; decode(alloc, &TWO[..8])?.len(), 0);
     assert_eq!(rt; fault(alloc, &TWO[..7]), broken(EventRule::WrongHeader, 0));
-    Ok(())
-}
-
-#[test]
-fn event_file_one_faults(rt: HostRuntime) -> Result<(), Fail> {
-    let alloc = rt.alloc();
-    let mut wide = ONE;
-    wide[18] = 1;
-    assert_eq!(rt; fault(alloc, &wide), broken(EventRule::WordTooWide, 18));
-    let mut twice = ONE.to_vec(alloc)?;
-    twice.extend_from_slice(&ONE[8..])?;
-    assert_eq!(rt;
-        fault(alloc, &twice),
-        broken(EventRule::NumberOutOfOrder, 26)
-    );
     Ok(())
 }
 

@@ -1,4 +1,4 @@
-//! Tests of single crates: builders, readers and texts, each through the crate's public calls.
+//! Tests of single crates, of what no text of lines shows: builders, event lists, copies, readers that fail. Worked rows: tests/rows.
 #![tactic(auto)]
 
 #[cfg(test)]
@@ -11,8 +11,6 @@ mod event_files;
 mod plan_builders;
 #[cfg(test)]
 mod plan_texts;
-#[cfg(test)]
-mod script_texts;
 #[cfg(test)]
 mod tokens;
 #[cfg(test)]

@@ -7,7 +7,7 @@ use Rattle.camac_text_tokens.specs.declared.fault.TextRule.TheVariants.{LimitPas
 use Rattle.camac_text_tokens.specs.declared.token.Keyword.TheVariants as word
 use Rattle.camac_text_tokens.specs.declared.token.TokenKind.{TokenKind}
 use Rattle.camac_text_tokens.specs.declared.token.TokenKind.TheVariants as kind
-use Rattle.camac_text_cursor.specs.Reading.{State, give, change, kind_of, line_of, behind, while_next}
+use Rattle.camac_text_cursor.specs.Reading.{State, give, change, kind_of, line_of, after_first, while_next}
 use Rattle.camac_text_cursor.specs.Readers.{new_name, new_variable, is_name as next_is_name, expect, any_number, branch_number, sub_address_number, used_lam}
 use Rattle.camac_text_statements.specs.Statements.{block_at}
 use Rattle.camac_text.specs.Declarations.{with_lam, lam_declaration, one_more_variable, with_variables_of, variable_declaration, with_service, service_declaration, declaration_by, declaration_at, is_token}
@@ -42,7 +42,7 @@ at_least s n u some y d e =
 variables_is : (s : State) (k : TokenKind) (line : ℕ) (y : Unit {0} × State) → kind_of s.rest ≡ Some k → variable_declaration line s ≡ Ok y → VariableDeclaration s y.1
 unfolding variable_declaration
 variables_is s k line y next e =
-    let t : State = record s { rest = behind s.rest } in
+    let t : State = record s { rest = after_first s.rest } in
     let a = then_ok (new_variable t) _ y e in
     let first = new_variable_ok t a.0 a.1 in
     let one : DeclaresVariables t 1 a.0.1 = one_variable_more t 0 t first.0 a.0.1 (no_variables t) first.1 in
@@ -50,8 +50,8 @@ variables_is s k line y next e =
     let all = at_least t 1 a.0.1 (omega arith) b.0 one b.1 in
     let d = all.0 in
     let left : y.1 ≡ with_variables_of line b.0.0 b.0.1 = sym (ap (λ (p : Unit {0} × State). p.1) (ok_is (tt, with_variables_of line b.0.0 b.0.1) y b.2)) in
-    let less : length (behind s.rest) < length s.rest = behind_less s.rest k next in
-    let shorter : length b.0.1.rest ≤ length (behind s.rest) = d.declares.shorter in
+    let less : length (after_first s.rest) < length s.rest = behind_less s.rest k next in
+    let shorter : length b.0.1.rest ≤ length (after_first s.rest) = d.declares.shorter in
     record {
       line = line;
       count = b.0.0;
@@ -89,11 +89,11 @@ pub record LamDeclaration (s s' : State) : Type 0 where
 lam_is : (s : State) (k : TokenKind) (line : ℕ) (y : Unit {0} × State) → kind_of s.rest ≡ Some k → lam_declaration line s ≡ Ok y → LamDeclaration s y.1
 unfolding lam_declaration
 lam_is s k line y next e =
-    let t : State = record s { rest = behind s.rest } in
+    let t : State = record s { rest = after_first s.rest } in
     let c0 = check_ok (nat_lt (length s.lams) 64) LimitPassed _ s y e in
     let a = then_ok (new_name t) _ y c0.1 in
     let h = new_name_ok t a.0 a.1 in
-    let u : State = record a.0.1 { rest = behind a.0.1.rest } in
+    let u : State = record a.0.1 { rest = after_first a.0.1.rest } in
     let b = then_ok (branch_number u) _ y a.2 in
     let branch = branch_ok u b.0 b.1 in
     let c = then_ok (any_number b.0.1) _ y b.2 in
@@ -109,8 +109,8 @@ lam_is s k line y next e =
     let to_d : Moves s d.0.1 = then_moves s c.0.1 d.0.1 to_c (one_moves c.0.1 (kind.Number d.0.0) d.0.1 station) in
     let from_t : Moves t f.0.1 = then_moves t a.0.1 f.0.1 (subst (λ (w : State). Moves t w) (sym h.left) (stays t)) (then_moves a.0.1 u f.0.1 (moved a.0.1) (then_moves u b.0.1 f.0.1 (one_moves u (kind.Number branch.0) b.0.1 branch.1) (then_moves b.0.1 c.0.1 f.0.1 (one_moves b.0.1 (kind.Number c.0.0) c.0.1 crate_no) (then_moves c.0.1 d.0.1 f.0.1 (one_moves c.0.1 (kind.Number d.0.0) d.0.1 station) (one_moves d.0.1 (kind.Number f.0.0) f.0.1 sub_address.one))))) in
     let left : y.1 ≡ with_lam l f.0.1 = sym (ap (λ (p : Unit {0} × State). p.1) (ok_is (tt, with_lam l f.0.1) y f.2)) in
-    let less : length (behind s.rest) < length s.rest = behind_less s.rest k next in
-    let shorter : length f.0.1.rest ≤ length (behind s.rest) = from_t.shorter in
+    let less : length (after_first s.rest) < length s.rest = behind_less s.rest k next in
+    let shorter : length f.0.1.rest ≤ length (after_first s.rest) = from_t.shorter in
     record {
       lam = l;
       between = f.0.1;
@@ -144,7 +144,7 @@ pub record ServiceDeclaration (s s' : State) : Type 0 where
 service_is : (s : State) (k : TokenKind) (line : ℕ) (y : Unit {0} × State) → kind_of s.rest ≡ Some k → service_declaration line s ≡ Ok y → ServiceDeclaration s y.1
 unfolding service_declaration
 service_is s k line y next e =
-    let t : State = record s { rest = behind s.rest } in
+    let t : State = record s { rest = after_first s.rest } in
     let c0 = check_ok (nat_lt (length s.services) 24) LimitPassed _ s y e in
     let a = then_ok (used_lam t) _ y c0.1 in
     let lam = used_lam_ok t a.0 a.1 in
@@ -166,8 +166,8 @@ service_is s k line y next e =
     let to_h : Moves t h.0.1 = then_moves t g.0.1 h.0.1 to_g (expect_ok word.Words g.0.1 h.0 h.1) in
     let inner : Body 16 t i.0.0 i.0.1 = behind_moves 16 t h.0.1 i.0.0 i.0.1 to_h body in
     let left : y.1 ≡ with_service line a.0.0 c.0.0 g.0.0 i.0.0 i.0.1 = sym (ap (λ (p : Unit {0} × State). p.1) (ok_is (tt, with_service line a.0.0 c.0.0 g.0.0 i.0.0 i.0.1) y i.2)) in
-    let less : length (behind s.rest) < length s.rest = behind_less s.rest k next in
-    let shorter : length i.0.1.rest ≤ length (behind s.rest) = inner.shorter in
+    let less : length (after_first s.rest) < length s.rest = behind_less s.rest k next in
+    let shorter : length i.0.1.rest ≤ length (after_first s.rest) = inner.shorter in
     record {
       line = line;
       lam = a.0.0;

@@ -1,4 +1,4 @@
--- A fault is at a token, and no token behind it matters.
+-- A fault is at a token, and no token after it matters.
 use Rattle.std.proofs.Common.{◌≡◌, ℕ, List, Result, Ok, Err, sym, ap}
 use Rattle.camac_lang.specs.Tree.{Script}
 use Rattle.camac_text_tokens.specs.declared.token.Token.{Token}
@@ -8,7 +8,7 @@ use Rattle.camac_text_tokens.specs.Fault.{Fault, Answers}
 use Rattle.camac_text_tokens.specs.Scanning.{tokens_of, last_line}
 use Rattle.camac_text_cursor.specs.Reading.{State}
 use Rattle.camac_text.specs.Declarations.{declarations_at}
-use Rattle.camac_text.specs.Parser.{start, tree_in, tree_of_tokens, tree_behind, script_of}
+use Rattle.camac_text.specs.Parser.{start, tree_in, tree_of_tokens, tree_after, script_of}
 use Rattle.camac_text.specs.Places.{IsPlaced, HasFaultBehind, HasFault, FaultIs}
 use Rattle.camac_text.proofs.LocalDeclarations.{local_declarations}
 
@@ -28,10 +28,10 @@ placed tokens end_line f e =
       parts = a.parts;
       line = a.line;
       rule = a.rule;
-      settled = λ t behind others last here. ap tree_in (a.again t behind others last here);
+      settled = λ t after_first others last here. ap tree_in (a.again t after_first others last here);
     }
 
-fault_behind : (made : Result (List Token) Fault) (end_line : ℕ) (f : Fault) → tree_behind made end_line ≡ Err f → HasFaultBehind made end_line f
+fault_behind : (made : Result (List Token) Fault) (end_line : ℕ) (f : Fault) → tree_after made end_line ≡ Err f → HasFaultBehind made end_line f
 fault_behind (Ok tokens) end_line f e = placed tokens end_line f e
 fault_behind (Err first) end_line f e = sym (first_is first f e) where
   first_is : (d f : Fault) → (let r : Result Script Fault = Err d in r) ≡ Err f → d ≡ f

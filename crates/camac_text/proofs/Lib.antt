@@ -1,6 +1,5 @@
 pub mod Listed
 pub mod Variables
-pub mod Deepest
 pub mod TablesRead
 pub mod ParametersRead
 pub mod ProceduresRead

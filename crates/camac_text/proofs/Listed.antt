@@ -1,4 +1,4 @@
--- Lists of names and of declarations, and what is put behind them.
+-- Lists of names and of declarations, and what is put after them.
 use Rattle.std.proofs.Common.{false, ◌≡◌, ℕ, ◌+◌, Bool, true, not, ◌&&◌, nat_eq, List, [], ◌∷◌, ◌++◌, length, take, drop, Some, refl, sym, ap, ◌∙◌, append_assoc, arith}
 use Rattle.std.specs.Prelude.{slice_get, option_and_then}
 use Rattle.std.specs.Str.{bytes_eq}
@@ -47,7 +47,7 @@ new_same (x ∷ xs) ys zs same =
 pub declarable_same : (xs ys zs : List Text) → ((x : Text) → is_new x ys ≡ is_new x zs) → are_declarable xs ys ≡ are_declarable xs zs
 declarable_same xs ys zs same = ap (λ (b : Bool). each is_name xs && b) (new_same xs ys zs same)
 
--- names in front are as good as names behind
+-- names in front are as good as names after
 pub front_or_behind : (names known : List Text) (xs : List Text) → ((x : Text) → is_new x known ≡ is_new x xs) → (x : Text) → is_new x (names ++ known) ≡ is_new x (xs ++ names)
 front_or_behind names known xs same x =
     each_append _ names known ∙ ap (λ (b : Bool). is_new x names && b) (same x) ∙ and_comm (is_new x names) (is_new x xs) ∙ sym (each_append _ xs names)

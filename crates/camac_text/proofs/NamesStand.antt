@@ -20,7 +20,7 @@ grouped false b c = refl
 abbrev is_other : Text → Text → Bool
 is_other z y = not (bytes_eq z y)
 
--- a name in front of others is as good as behind them
+-- a name in front of others is as good as after them
 earlier : (z x : Text) (known xs : List Text) → is_new z (known ++ (x ∷ xs)) ≡ is_new z ((x ∷ known) ++ xs)
 earlier z x known xs =
     each_append (is_other z) known (x ∷ xs)
@@ -36,10 +36,10 @@ new_append (x ∷ xs) rs known more same e h =
 
 pub declarable_join : (x : Text) (xs rs known names : List Text) → ((z : Text) → is_new z names ≡ is_new z known) → is_name x ≡ true → is_new x known ≡ true → are_declarable xs (known ++ x ∷ []) ≡ true → are_declarable rs ((known ++ x ∷ []) ++ xs) ≡ true → are_declarable (x ∷ (xs ++ rs)) names ≡ true
 declarable_join x xs rs known names same name free first second =
-    let behind = front_or_behind (x ∷ []) names known same in
-    let xs_new : are_new xs (x ∷ names) ≡ true = new_same xs (x ∷ names) (known ++ x ∷ []) behind ∙ second_of_both (each is_name xs) (are_new xs (known ++ x ∷ [])) first in
+    let after_first = front_or_behind (x ∷ []) names known same in
+    let xs_new : are_new xs (x ∷ names) ≡ true = new_same xs (x ∷ names) (known ++ x ∷ []) after_first ∙ second_of_both (each is_name xs) (are_new xs (known ++ x ∷ [])) first in
     let rs_new : are_new rs ((known ++ x ∷ []) ++ xs) ≡ true = second_of_both (each is_name rs) (are_new rs ((known ++ x ∷ []) ++ xs)) second in
     both (is_name x && each is_name (xs ++ rs)) (is_new x names && are_new (xs ++ rs) (x ∷ names))
     (both (is_name x) (each is_name (xs ++ rs)) name (each_append is_name xs rs ∙ both (each is_name xs) (each is_name rs) (first_of_both (each is_name xs) (are_new xs (known ++ x ∷ [])) first) (first_of_both (each is_name rs) (are_new rs ((known ++ x ∷ []) ++ xs)) second)))
     (both (is_new x names) (are_new (xs ++ rs) (x ∷ names)) (same x ∙ free)
-    (new_append xs rs (x ∷ names) ((known ++ x ∷ []) ++ xs) (λ z. each_append (is_other z) (known ++ x ∷ []) xs ∙ ap (λ (b : Bool). b && is_new z xs) (sym (behind z)) ∙ sym (each_append (is_other z) (x ∷ names) xs)) xs_new rs_new))
+    (new_append xs rs (x ∷ names) ((known ++ x ∷ []) ++ xs) (λ z. each_append (is_other z) (known ++ x ∷ []) xs ∙ ap (λ (b : Bool). b && is_new z xs) (sym (after_first z)) ∙ sym (each_append (is_other z) (x ∷ names) xs)) xs_new rs_new))

@@ -11,7 +11,7 @@ use Rattle.camac_text_tokens.specs.declared.token.Sign.{Sign}
 use Rattle.camac_text_tokens.specs.declared.token.Sign.TheVariants as sign
 use Rattle.camac_text_tokens.specs.declared.token.TokenKind.{TokenKind}
 use Rattle.camac_text_tokens.specs.declared.token.TokenKind.TheVariants as kind
-use Rattle.camac_text_cursor.specs.Reading.{State, Reader, ◌>>=◌, ◌>>◌, give, ask, check, kind_of, behind, while_next, one_more}
+use Rattle.camac_text_cursor.specs.Reading.{State, Reader, ◌>>=◌, ◌>>◌, give, ask, check, kind_of, after_first, while_next, one_more}
 use Rattle.camac_text_cursor.specs.Readers.{is_sign, expect, expect_sign, any_number, new_name, added, new_parameter}
 use Rattle.camac_text.specs.Procedures.{parameter_at, next_parameter, parameter_list, parameters_at, Heading, heading_at}
 use Rattle.camac_text_cursor.proofs.Steps.{then_ok, ok_is, Progresses, while_keeps}
@@ -69,9 +69,9 @@ parameter_ok s y e =
       fits = λ h. both _ _ (kind_fit b.0.1.rest (kind.Number c.0.0) low.next (to_b.fit h)) (kind_fit d.0.1.rest (kind.Number f.0.0) high.next (to_d.fit h));
     })
 
-pub next_parameter_ok : (s : State) (y : Parameter × State) → next_parameter s ≡ Ok y → ReadsParameter (record s { rest = behind s.rest }) y.0 y.1
+pub next_parameter_ok : (s : State) (y : Parameter × State) → next_parameter s ≡ Ok y → ReadsParameter (record s { rest = after_first s.rest }) y.0 y.1
 unfolding next_parameter
-next_parameter_ok s y e = parameter_ok (record s { rest = behind s.rest }) y e
+next_parameter_ok s y e = parameter_ok (record s { rest = after_first s.rest }) y e
 
 -- ---- parameters
 
@@ -107,7 +107,7 @@ one_parameter_more s ps u p t r x =
 parameters_turn : (s : State) (ps : List Parameter) (u : State) (qs : List Parameter) (t : State) → ReadsParameters s ps u → one_more next_parameter ps u ≡ Ok (qs, t) → ReadsParameters s qs t
 parameters_turn s ps u qs t r e =
     let m = then_ok (next_parameter u) (λ p. give (ps ++ p ∷ [])) (qs, t) e in
-    subst (λ (p : List Parameter × State). ReadsParameters s p.0 p.1) (ok_is (ps ++ m.0.0 ∷ [], m.0.1) (qs, t) m.2) (one_parameter_more s ps (record u { rest = behind u.rest }) m.0.0 m.0.1 (parameters_then_moves s ps u (record u { rest = behind u.rest }) r (moved u)) (next_parameter_ok u m.0 m.1))
+    subst (λ (p : List Parameter × State). ReadsParameters s p.0 p.1) (ok_is (ps ++ m.0.0 ∷ [], m.0.1) (qs, t) m.2) (one_parameter_more s ps (record u { rest = after_first u.rest }) m.0.0 m.0.1 (parameters_then_moves s ps u (record u { rest = after_first u.rest }) r (moved u)) (next_parameter_ok u m.0 m.1))
 
 parameter_less : (s : State) (p : Parameter) (s' : State) → ReadsParameter s p s' → length s'.rest < length s.rest
 parameter_less s p s' x =
@@ -122,8 +122,8 @@ sign_some w None on = absurd cc
 pub next_parameter_less : (s : State) (y : Parameter × State) → is_sign sign.Comma (kind_of s.rest) ≡ true → next_parameter s ≡ Ok y → length y.1.rest < length s.rest
 next_parameter_less s y on e =
     let k = sign_some sign.Comma (kind_of s.rest) on in
-    let less : length (behind s.rest) < length s.rest = behind_less s.rest k.0 k.1 in
-    let more : length y.1.rest < length (behind s.rest) = parameter_less (record s { rest = behind s.rest }) y.0 y.1 (next_parameter_ok s y e) in
+    let less : length (after_first s.rest) < length s.rest = behind_less s.rest k.0 k.1 in
+    let more : length y.1.rest < length (after_first s.rest) = parameter_less (record s { rest = after_first s.rest }) y.0 y.1 (next_parameter_ok s y e) in
     omega arith
 
 pub parameters_progress : Progresses (is_sign sign.Comma) (one_more next_parameter)
@@ -169,7 +169,7 @@ moves_then_parameters s t ps u m r =
       fit = λ h. r.fit (m.fit h);
     }
 
--- the numbers behind the parameters
+-- the numbers after the parameters
 record ReadsNumbers (s : State) (ps : List Parameter) (h : Heading) (s' : State) : Type 0 where
   same : h.parameters ≡ ps
   moves : Moves s s'

@@ -33,7 +33,7 @@ module _ (s s' : State) (so : Sofar s) (d : ProcedureDeclaration s s') where
   abbrev inside : List Text
   inside = (s.declared ++ d.name ∷ []) ++ names_of ps
 
-  -- the state behind it
+  -- the state after it
   abbrev behind_it : State
   behind_it = record s {
     rest = d.last.rest;

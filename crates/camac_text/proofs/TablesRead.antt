@@ -7,7 +7,7 @@ use Rattle.camac_text_tokens.specs.declared.fault.TextRule.TheVariants.{NumberTo
 use Rattle.camac_text_tokens.specs.declared.token.Sign.TheVariants as sign
 use Rattle.camac_text_tokens.specs.declared.token.TokenKind.{TokenKind}
 use Rattle.camac_text_tokens.specs.declared.token.TokenKind.TheVariants as kind
-use Rattle.camac_text_cursor.specs.Reading.{State, ◌>>◌, give, advance, check, kind_of, behind, while_next}
+use Rattle.camac_text_cursor.specs.Reading.{State, ◌>>◌, give, advance, check, kind_of, after_first, while_next}
 use Rattle.camac_text_cursor.specs.Readers.{expect_sign, number_here, new_name}
 use Rattle.camac_text.specs.Tables.{word_behind, one_more_word, is_number, table_words, with_table, table_declaration}
 use Rattle.camac_text_cursor.proofs.Steps.{then_ok, ok_is, Progresses, while_keeps}
@@ -29,8 +29,8 @@ word_ok count s y e =
     let c = check_ok (nat_lt m.0.0 16777216) NumberTooLarge (check (nat_lt count 1024) LimitPassed >> (advance >> give m.0.0)) m.0.1 y m.2 in
     let d = check_ok (nat_lt count 1024) LimitPassed (advance >> give m.0.0) m.0.1 y c.1 in
     let below : m.0.0 < 16777216 = ltb-true m.0.0 16777216 c.0 in
-    subst (λ (p : ℕ × State). ReadsWord count s p.0 p.1) (ok_is (m.0.0, record m.0.1 { rest = behind m.0.1.rest }) y d.1) (record {
-      one = record { next = h.0; left = ap (λ (w : State). record w { rest = behind w.rest }) h.1 };
+    subst (λ (p : ℕ × State). ReadsWord count s p.0 p.1) (ok_is (m.0.0, record m.0.1 { rest = after_first m.0.1.rest }) y d.1) (record {
+      one = record { next = h.0; left = ap (λ (w : State). record w { rest = after_first w.rest }) h.1 };
       fits = below_le m.0.0 16777215 (omega arith);
       room = ltb-true count 1024 d.0;
     })
@@ -87,11 +87,11 @@ pub record TableDeclaration (s s' : State) : Type 0 where
 pub table_is : (s : State) (k : TokenKind) (line : ℕ) (y : Unit {0} × State) → kind_of s.rest ≡ Some k → table_declaration line s ≡ Ok y → TableDeclaration s y.1
 unfolding table_declaration
 table_is s k line y next e =
-    let t : State = record s { rest = behind s.rest } in
+    let t : State = record s { rest = after_first s.rest } in
     let c0 = check_ok (nat_lt (length s.tables) 16) LimitPassed _ s y e in
     let a = then_ok (new_name t) _ y c0.1 in
     let h = new_name_ok t a.0 a.1 in
-    let u : State = record a.0.1 { rest = behind a.0.1.rest } in
+    let u : State = record a.0.1 { rest = after_first a.0.1.rest } in
     let b = then_ok (expect_sign sign.Equals u) _ y a.2 in
     let c = then_ok (table_words b.0.1) _ y b.2 in
     let read = words_ok b.0.1 c.0 c.1 in
@@ -100,8 +100,8 @@ table_is s k line y next e =
     let to_b : Moves t b.0.1 = then_moves t u b.0.1 (then_moves t a.0.1 u to_a (moved a.0.1)) (expect_sign_ok sign.Equals u b.0 b.1) in
     let to_c : Moves t c.0.1 = then_moves t b.0.1 c.0.1 to_b read.moves in
     let left : y.1 ≡ with_table made c.0.1 = sym (ap (λ (p : Unit {0} × State). p.1) (ok_is (tt, with_table made c.0.1) y c.2)) in
-    let less : length (behind s.rest) < length s.rest = behind_less s.rest k next in
-    let shorter : length c.0.1.rest ≤ length (behind s.rest) = to_c.shorter in
+    let less : length (after_first s.rest) < length s.rest = behind_less s.rest k next in
+    let shorter : length c.0.1.rest ≤ length (after_first s.rest) = to_c.shorter in
     record {
       table = made;
       between = c.0.1;

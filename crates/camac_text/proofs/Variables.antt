@@ -7,7 +7,7 @@ use Rattle.camac_lang.specs.Tests.{is_new}
 use Rattle.camac_lang.specs.Tree.{Text}
 use Rattle.camac_text_tokens.specs.declared.fault.TextRule.TheVariants.{LimitPassed}
 use Rattle.camac_text_tokens.specs.declared.token.TokenKind.TheVariants as kind
-use Rattle.camac_text_cursor.specs.Reading.{State, ◌>>◌, give, change, advance, kind_of, behind}
+use Rattle.camac_text_cursor.specs.Reading.{State, ◌>>◌, give, change, advance, kind_of, after_first}
 use Rattle.camac_text_cursor.specs.Readers.{new_name, with_variable, added, new_variable, is_name as next_is_name}
 use Rattle.camac_text.specs.Declarations.{one_more_variable}
 use Rattle.camac_text_cursor.proofs.Steps.{then_ok, ok_is, Progresses}
@@ -20,7 +20,7 @@ pub record DeclaresOne (s : State) (x : Text) (s' : State) : Type 0 where
   pub next : kind_of s.rest ≡ Some (kind.Name x)
   pub free : is_new x s.declared ≡ true
   pub room : s.variable_count < 64
-  pub left : s' ≡ with_variable x (record s { rest = behind s.rest })
+  pub left : s' ≡ with_variable x (record s { rest = after_first s.rest })
 
 pub added_ok : (s : State) (x : Text) (y : Unit {0} × State) → kind_of s.rest ≡ Some (kind.Name x) → is_new x s.declared ≡ true → added x s ≡ Ok y → DeclaresOne s x y.1
 unfolding added
@@ -30,7 +30,7 @@ added_ok s x y next free e =
       next = next;
       free = free;
       room = ltb-true s.variable_count 64 c.0;
-      left = sym (ap (λ (p : Unit {0} × State). p.1) (ok_is (tt, with_variable x (record s { rest = behind s.rest })) y c.1));
+      left = sym (ap (λ (p : Unit {0} × State). p.1) (ok_is (tt, with_variable x (record s { rest = after_first s.rest })) y c.1));
     }
 
 pub new_variable_ok : (s : State) (y : Unit {0} × State) → new_variable s ≡ Ok y → (x : Text) × DeclaresOne s x y.1
@@ -74,7 +74,7 @@ one_name_more s xs u x t d one =
     let free : is_new x (s.declared ++ xs) ≡ true = subst (λ (known : List Text). is_new x known ≡ true) declared one.free in
     let parts : (is_new x s.declared && is_new x xs) ≡ true = sym (each_append _ s.declared xs) ∙ free in
     let longer : length (xs ++ x ∷ []) ≡ length xs + 1 = length-append xs (x ∷ []) in
-    let t_rest : t.rest ≡ behind u.rest = ap (λ (w : State). w.rest) one.left in
+    let t_rest : t.rest ≡ after_first u.rest = ap (λ (w : State). w.rest) one.left in
     let less : length t.rest < length u.rest = one_variable_less u x t one in
     let shorter : length u.rest ≤ length s.rest = d.shorter in
     let room : u.variable_count < 64 = one.room in
@@ -82,7 +82,7 @@ one_name_more s xs u x t d one =
     let count : suc (s.variable_count + length xs) ≡ s.variable_count + length (xs ++ x ∷ []) = omega arith in
     record {
       same = one.left
-          ∙ ap (λ (w : State). with_variable x (record w { rest = behind u.rest })) d.same
+          ∙ ap (λ (w : State). with_variable x (record w { rest = after_first u.rest })) d.same
           ∙ ap (λ (ts : _). record s { rest = ts; variables = (s.variables ++ xs) ++ x ∷ []; variable_count = suc (s.variable_count + length xs); declared = (s.declared ++ xs) ++ x ∷ [] }) (sym t_rest)
           ∙ ap (λ (ys : List Text). record s { rest = t.rest; variables = ys; variable_count = suc (s.variable_count + length xs); declared = (s.declared ++ xs) ++ x ∷ [] }) (append_assoc s.variables xs (x ∷ []))
           ∙ ap (λ (k : ℕ). record s { rest = t.rest; variables = s.variables ++ (xs ++ x ∷ []); variable_count = k; declared = (s.declared ++ xs) ++ x ∷ [] }) count

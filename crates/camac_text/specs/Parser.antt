@@ -45,10 +45,10 @@ tree_in (Err e) = Err e
 unfoldable pub tree_of_tokens : List Token → ℕ → Result Script Fault
 tree_of_tokens tokens end_line = tree_in (declarations_at (start tokens end_line))
 
-abbrev pub tree_behind : Result (List Token) Fault → ℕ → Result Script Fault
-tree_behind (Ok tokens) end_line = tree_of_tokens tokens end_line
-tree_behind (Err e) end_line = Err e
+abbrev pub tree_after : Result (List Token) Fault → ℕ → Result Script Fault
+tree_after (Ok tokens) end_line = tree_of_tokens tokens end_line
+tree_after (Err e) end_line = Err e
 
 -- The tree of a text, or its first fault: those of the tokens come first.
 unfoldable pub script_of : List ℕ → Result Script Fault
-script_of text = tree_behind (tokens_of text) (last_line text)
+script_of text = tree_after (tokens_of text) (last_line text)

@@ -17,7 +17,7 @@ pub record IsPlaced (tokens : List Token) (end_line : ℕ) (fault : Fault) : Typ
   pub parts : tokens ≡ taken ++ left
   pub line : fault.line ≡ line_of left end_line
   pub rule : RuleFits fault.rule (kind_of left)
-  pub settled : (t : Token) (behind others : List Token) (last : ℕ) → left ≡ t ∷ behind → tree_of_tokens (taken ++ t ∷ others) last ≡ Err fault
+  pub settled : (t : Token) (after_first others : List Token) (last : ℕ) → left ≡ t ∷ after_first → tree_of_tokens (taken ++ t ∷ others) last ≡ Err fault
 
 abbrev pub HasFaultBehind : Result (List Token) Fault → ℕ → Fault → Type 0
 HasFaultBehind (Ok tokens) end_line fault = IsPlaced tokens end_line fault

@@ -8,7 +8,7 @@ ghost use Rattle.camac_text_cursor.specs.Parser.{state, Gives};
 
 use crate::procedures::procedure_declaration;
 use crate::tables::table_declaration;
-use camac_lang::{Item, Lam, Service};
+use camac_lang::{Item, Lam, Service, limits};
 use camac_text_cursor::Parser;
 use camac_text_statements::block;
 use camac_text_tokens::{Keyword, TextFault, TextRule, TokenKind};
@@ -50,7 +50,7 @@ fn declaration(parser: &mut Parser<'_>) -> Result<(), TextFault>
 fn lam_declaration(parser: &mut Parser<'_>, line: u32) -> Result<(), TextFault>
     ensures { Gives (λ _. tt) result parser.new (lam_declaration line (state parser.old)) }
 {
-    if parser.lams.len() >= 64 {
+    if parser.lams.len() >= limits::LAMS {
         return Err(parser.fault(TextRule::LimitPassed));
     }
     parser.advance();
@@ -99,7 +99,7 @@ fn more_variables(parser: &mut Parser<'_>) -> Result<usize, TextFault>
 fn service_declaration(parser: &mut Parser<'_>, line: u32) -> Result<(), TextFault>
     ensures { Gives (λ _. tt) result parser.new (service_declaration line (state parser.old)) }
 {
-    if parser.services.len() >= 24 {
+    if parser.services.len() >= limits::SERVICES {
         return Err(parser.fault(TextRule::LimitPassed));
     }
     parser.advance();
@@ -110,7 +110,7 @@ fn service_declaration(parser: &mut Parser<'_>, line: u32) -> Result<(), TextFau
     parser.expect(Keyword::Event)?;
     let words = parser.any_number()?;
     parser.expect(Keyword::Words)?;
-    let body = block(parser, 16)?;
+    let body = block(parser, limits::DEPTH as u32)?;
     let registers = mem::replace(&mut parser.registers, Vec::new(parser.alloc));
     parser.services.push(Service {
         line,

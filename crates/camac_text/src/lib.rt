@@ -2,7 +2,6 @@
 #![tactic(auto)]
 
 mod declarations;
-mod depth;
 mod procedures;
 mod reading;
 mod tables;

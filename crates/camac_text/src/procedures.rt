@@ -8,9 +8,8 @@ ghost use Rattle.camac_text_cursor.specs.Parser.{state, Gives};
 ghost use Rattle.camac_text.specs.Headings.{heading_of};
 ghost use Rattle.camac_text.specs.Procedures.{parameter_at, next_parameter, parameter_list, parameters_at, heading_at, with_procedure, procedure_declaration};
 
-use crate::depth::inner_depth;
-use camac_lang::{Item, Name, Parameter, Procedure};
-use camac_text_cursor::{Called, Parser};
+use camac_lang::{Callable, Item, Name, Parameter, Procedure, limits};
+use camac_text_cursor::Parser;
 use camac_text_statements::block;
 use camac_text_tokens::{Keyword, Sign, TextFault, TextRule};
 use std::mem;
@@ -29,7 +28,7 @@ pub struct Heading {
 pub fn procedure_declaration(parser: &mut Parser<'_>, line: u32) -> Result<(), TextFault>
     ensures { Gives (λ _. tt) result parser.new (procedure_declaration line (state parser.old)) }
 {
-    if parser.procedures.len() >= 16 {
+    if parser.procedures.len() >= limits::PROCEDURES {
         return Err(parser.fault(TextRule::LimitPassed));
     }
     parser.advance();
@@ -40,7 +39,7 @@ pub fn procedure_declaration(parser: &mut Parser<'_>, line: u32) -> Result<(), T
     parser.declared.push(name.duplicate())?;
     let names = parser.declared.len();
     let heading = read_heading(parser)?;
-    let body = block(parser, 16)?;
+    let body = block(parser, limits::DEPTH as u32)?;
     let registers = mem::replace(&mut parser.registers, Vec::new(parser.alloc));
     let procedure = Procedure {
         line,
@@ -65,13 +64,12 @@ fn close_procedure(
     requires { inner_depth (state parser.old).callables (procedure_of procedure).body ≤ 15 }
     ensures { Gives (λ _. tt) result parser.new (change (with_procedure (procedure_of procedure) variables.items names) (state parser.old)) }
 {
-    let depth = inner_depth(&procedure.body, &parser.callables) + 1;
-    let parameters = procedure.parameters.len();
+    let callable = Callable::new(&procedure, &parser.callables);
     parser.variables = variables;
     parser.declared.truncate(names);
     parser.registers = Vec::new(parser.alloc);
     parser.in_procedure = false;
-    parser.callables.push(Called { parameters, depth })?;
+    parser.callables.push(callable)?;
     parser.procedures.push(procedure)?;
     parser.order.push(Item::Procedure)?;
     Ok(())

@@ -5,7 +5,7 @@ ghost use Rattle.camac_text_cursor.specs.Reading.{kind_of};
 ghost use Rattle.camac_text_cursor.specs.Parser.{state, Gives};
 ghost use Rattle.camac_text.specs.Tables.{is_number, word_behind, table_words, table_declaration};
 
-use camac_lang::{Item, Table};
+use camac_lang::{Item, Table, limits};
 use camac_text_cursor::Parser;
 use camac_text_tokens::{Sign, TextFault, TextRule, TokenKind};
 use camac_word::Word24;
@@ -15,7 +15,7 @@ use camac_word::Word24;
 pub fn table_declaration(parser: &mut Parser<'_>, line: u32) -> Result<(), TextFault>
     ensures { Gives (λ _. tt) result parser.new (table_declaration line (state parser.old)) }
 {
-    if parser.tables.len() >= 16 {
+    if parser.tables.len() >= limits::TABLES {
         return Err(parser.fault(TextRule::LimitPassed));
     }
     parser.advance();
@@ -57,7 +57,7 @@ fn word_behind(parser: &mut Parser<'_>, count: usize) -> Result<Word24, TextFaul
     let number = parser.number_here()?;
     match Word24::new(number) {
         Some(word) => {
-            if count >= 1024 {
+            if count >= limits::TABLE_WORDS {
                 return Err(parser.fault(TextRule::LimitPassed));
             }
             parser.advance();

@@ -1,4 +1,4 @@
--- Readers of single tokens, of numbers and of names are local: what one answers depends on no token behind the one where it stops.
+-- Readers of single tokens, of numbers and of names are local: what one answers depends on no token after the one where it stops.
 use Rattle.std.proofs.Common.{◌≡◌, ℕ, suc, ◌+◌, cond, nat_lt, nat_le, eqb, length, Option, Some, None, Ok, refl, sym, subst}
 use Rattle.std.specs.Prelude.{slice_get}
 use Rattle.camac_lang.specs.Expressions.{Callable}

@@ -9,7 +9,7 @@ use Rattle.camac_text_tokens.specs.declared.token.Sign.{Sign}
 use Rattle.camac_text_tokens.specs.declared.token.Token.{Token}
 use Rattle.camac_text_tokens.specs.declared.token.TokenKind.{TokenKind}
 use Rattle.camac_text_tokens.specs.declared.token.TokenKind.TheVariants as kind
-use Rattle.camac_text_cursor.specs.Reading.{State, Reader, ◌>>◌, give, advance, fail, check, kind_of, behind}
+use Rattle.camac_text_cursor.specs.Reading.{State, Reader, ◌>>◌, give, advance, fail, check, kind_of, after_first}
 use Rattle.camac_text_cursor.specs.Readers.{is_keyword, is_sign, expect, expect_sign, name_of, name_here, number_of, number_here, any_number, branch_number, function_number, sub_address_number, new_name}
 use Rattle.camac_text_cursor.proofs.Steps.{then_ok, ok_is, err_no_ok}
 
@@ -33,17 +33,17 @@ pub record Moves (s s' : State) : Type 0 where
 -- one token is taken, of this kind
 pub record TakesOne (s : State) (k : TokenKind) (s' : State) : Type 0 where
   pub next : kind_of s.rest ≡ Some k
-  pub left : s' ≡ record s { rest = behind s.rest }
+  pub left : s' ≡ record s { rest = after_first s.rest }
 
-behind_fit : (ts : List Token) → AllFit ts → AllFit (behind ts)
+behind_fit : (ts : List Token) → AllFit ts → AllFit (after_first ts)
 behind_fit [] h = tt
 behind_fit (t ∷ ts) h = h.1
 
-behind_shorter : (ts : List Token) → length (behind ts) ≤ length ts
+behind_shorter : (ts : List Token) → length (after_first ts) ≤ length ts
 behind_shorter [] = omega arith
 behind_shorter (t ∷ ts) = omega arith
 
-pub behind_less : (ts : List Token) (k : TokenKind) → kind_of ts ≡ Some k → length (behind ts) < length ts
+pub behind_less : (ts : List Token) (k : TokenKind) → kind_of ts ≡ Some k → length (after_first ts) < length ts
 behind_less [] k e = absurd cc
 behind_less (t ∷ ts) k e = omega arith
 
@@ -54,7 +54,7 @@ kind_fit (t ∷ ts) k e h = let same : t.kind ≡ k = cc in subst (λ (j : Token
 pub stays : (s : State) → Moves s s
 stays s = record { same = refl; fit = λ h. h; shorter = omega arith }
 
-pub moved : (s : State) → Moves s (record s { rest = behind s.rest })
+pub moved : (s : State) → Moves s (record s { rest = after_first s.rest })
 moved s = record { same = refl; fit = behind_fit s.rest; shorter = behind_shorter s.rest }
 
 pub then_moves : (s t u : State) → Moves s t → Moves t u → Moves s u
@@ -90,7 +90,7 @@ unfolding any_number
 any_number_ok s y e =
     let m = then_ok (number_here s) _ y e in
     let h = number_ok s m.0 m.1 in
-    subst (λ (p : ℕ × State). TakesOne s (kind.Number p.0) p.1) (ok_is _ y m.2) (record { next = h.0; left = ap (λ (w : State). record w { rest = behind w.rest }) h.1 })
+    subst (λ (p : ℕ × State). TakesOne s (kind.Number p.0) p.1) (ok_is _ y m.2) (record { next = h.0; left = ap (λ (w : State). record w { rest = after_first w.rest }) h.1 })
 
 pub branch_ok : (s : State) (y : Unit {0} × State) → branch_number s ≡ Ok y → (n : ℕ) × TakesOne s (kind.Number n) y.1
 unfolding branch_number
@@ -98,7 +98,7 @@ branch_ok s y e =
     let m = then_ok (number_here s) _ y e in
     let h = number_ok s m.0 m.1 in
     let c = check_ok (eqb m.0.0 1) BranchNotOne advance m.0.1 y m.2 in
-    (m.0.0, subst (λ (p : Unit {0} × State). TakesOne s (kind.Number m.0.0) p.1) (ok_is _ y c.1) (record { next = h.0; left = ap (λ (w : State). record w { rest = behind w.rest }) h.1 }))
+    (m.0.0, subst (λ (p : Unit {0} × State). TakesOne s (kind.Number m.0.0) p.1) (ok_is _ y c.1) (record { next = h.0; left = ap (λ (w : State). record w { rest = after_first w.rest }) h.1 }))
 
 pub record TakesBelow (limit : ℕ) (s : State) (n : ℕ) (s' : State) : Type 0 where
   pub one : TakesOne s (kind.Number n) s'
@@ -110,7 +110,7 @@ function_ok s y e =
     let m = then_ok (number_here s) _ y e in
     let h = number_ok s m.0 m.1 in
     let c = check_ok (nat_lt m.0.0 32) NumberTooLarge (advance >> give m.0.0) m.0.1 y m.2 in
-    subst (λ (p : ℕ × State). TakesBelow 32 s p.0 p.1) (ok_is _ y c.1) (record { one = record { next = h.0; left = ap (λ (w : State). record w { rest = behind w.rest }) h.1 }; below = c.0 })
+    subst (λ (p : ℕ × State). TakesBelow 32 s p.0 p.1) (ok_is _ y c.1) (record { one = record { next = h.0; left = ap (λ (w : State). record w { rest = after_first w.rest }) h.1 }; below = c.0 })
 
 pub sub_address_ok : (s : State) (y : ℕ × State) → sub_address_number s ≡ Ok y → TakesBelow 16 s y.0 y.1
 unfolding sub_address_number
@@ -118,9 +118,9 @@ sub_address_ok s y e =
     let m = then_ok (number_here s) _ y e in
     let h = number_ok s m.0 m.1 in
     let c = check_ok (nat_lt m.0.0 16) NumberTooLarge (advance >> give m.0.0) m.0.1 y m.2 in
-    subst (λ (p : ℕ × State). TakesBelow 16 s p.0 p.1) (ok_is _ y c.1) (record { one = record { next = h.0; left = ap (λ (w : State). record w { rest = behind w.rest }) h.1 }; below = c.0 })
+    subst (λ (p : ℕ × State). TakesBelow 16 s p.0 p.1) (ok_is _ y c.1) (record { one = record { next = h.0; left = ap (λ (w : State). record w { rest = after_first w.rest }) h.1 }; below = c.0 })
 
-expected : (b : Bool) (s : State) (y : Unit {0} × State) → cond b advance (fail UnexpectedToken) s ≡ Ok y → y.1 ≡ record s { rest = behind s.rest }
+expected : (b : Bool) (s : State) (y : Unit {0} × State) → cond b advance (fail UnexpectedToken) s ≡ Ok y → y.1 ≡ record s { rest = after_first s.rest }
 expected true s y e = sym (ap (λ (p : Unit {0} × State). p.1) (ok_is _ y e))
 expected false s y e = absurd (err_no_ok _ _ e)
 

@@ -1,10 +1,10 @@
--- Where readers stop: what a reader answers depends on no token behind the one where it stops.
+-- Where readers stop: what a reader answers depends on no token after the one where it stops.
 use Rattle.std.proofs.Common.{◌≡◌, ℕ, zero, suc, ◌<◌, Bool, true, false, cond, List, [], ◌∷◌, ◌++◌, length, Option, Result, Ok, Err, refl, sym, ap, subst, ◌∙◌, append_assoc, arith, ◌⊎◌, inl, inr}
 use Rattle.camac_text_tokens.specs.declared.token.Token.{Token}
 use Rattle.camac_text_tokens.specs.declared.token.TokenKind.{TokenKind}
 use Rattle.camac_text_tokens.specs.declared.fault.TextRule.{TextRule}
 use Rattle.camac_text_tokens.specs.Fault.{Fault}
-use Rattle.camac_text_cursor.specs.Reading.{State, Reader, then_read, ◌>>=◌, ◌>>◌, give, ask, change, peek, advance, fail, check, line_here, kind_of, behind, line_of, while_next}
+use Rattle.camac_text_cursor.specs.Reading.{State, Reader, then_read, ◌>>=◌, ◌>>◌, give, ask, change, peek, advance, fail, check, line_here, kind_of, after_first, line_of, while_next}
 use Rattle.camac_text_cursor.specs.Places.{RuleFits}
 use Rattle.camac_text_cursor.proofs.Steps.{then_ok, ok_is, err_is, err_no_ok, Progresses, while_choice}
 
@@ -158,18 +158,18 @@ first_of_rest : List Token → List Token
 first_of_rest [] = []
 first_of_rest (t ∷ ts) = t ∷ []
 
-first_parts : (ts : List Token) → ts ≡ first_of_rest ts ++ behind ts
+first_parts : (ts : List Token) → ts ≡ first_of_rest ts ++ after_first ts
 unfolding first_of_rest
 first_parts [] = refl
 first_parts (t ∷ ts) = refl
 
-first_again : (ts : List Token) (t : Token) (r r' : List Token) → behind ts ≡ t ∷ r → behind (first_of_rest ts ++ t ∷ r') ≡ t ∷ r'
+first_again : (ts : List Token) (t : Token) (r r' : List Token) → after_first ts ≡ t ∷ r → after_first (first_of_rest ts ++ t ∷ r') ≡ t ∷ r'
 unfolding first_of_rest
 first_again [] t r r' h = absurd cc
 first_again (c ∷ cs) t r r' h = refl
 
 pub local_advance : (s : State) → IsLocal advance s
-local_advance s = local_ok advance s tt (record s { rest = behind s.rest }) refl (record {
+local_advance s = local_ok advance s tt (record s { rest = after_first s.rest }) refl (record {
   taken = first_of_rest s.rest;
   parts = first_parts s.rest;
   same_end = refl;

@@ -9,7 +9,7 @@ use Rattle.camac_lang.specs.Tree.{Text}
 use Rattle.camac_text_tokens.specs.declared.fault.TextRule.TheVariants.{LimitPassed}
 use Rattle.camac_text_tokens.specs.declared.token.TokenKind.TheVariants as kind
 use Rattle.camac_text_cursor.specs.Names.{place_of}
-use Rattle.camac_text_cursor.specs.Reading.{State, ◌>>◌, give, change, advance, kind_of, behind}
+use Rattle.camac_text_cursor.specs.Reading.{State, ◌>>◌, give, change, advance, kind_of, after_first}
 use Rattle.camac_text_cursor.specs.Readers.{new_name, other_registers, with_register, register_at, set_name}
 use Rattle.camac_text_cursor.proofs.Steps.{then_ok, ok_is}
 use Rattle.camac_text_cursor.proofs.Searches.{is_new_none}
@@ -77,7 +77,7 @@ pub record SetsRegister (s : State) (r : ℕ) (s' : State) : Type 0 where
 register_is : (s : State) (x : Text) (place : Option ℕ) (y : ℕ × State) → kind_of s.rest ≡ Some (kind.Name x) → is_new x s.declared ≡ true → place_of x s.registers ≡ place → register_at x place s ≡ Ok y → SetsRegister s y.0 y.1
 register_is s x (Some place) y next free at e =
     let below : place < length s.registers = inside (bytes_eq x) place s.registers at in
-    subst (λ (p : ℕ × State). SetsRegister s p.0 p.1) (ok_is (place, record s { rest = behind s.rest }) y e) (record {
+    subst (λ (p : ℕ × State). SetsRegister s p.0 p.1) (ok_is (place, record s { rest = after_first s.rest }) y e) (record {
       same = refl;
       fit = (moved s).fit;
       shorter = (moved s).shorter;
@@ -90,7 +90,7 @@ register_is s x None y next free at e =
     let below : other_registers s + length s.registers < 64 = ltb-true (other_registers s + length s.registers) 64 c.0 in
     let one : length (s.registers ++ x ∷ []) ≡ length s.registers + 1 = length-append s.registers (x ∷ []) in
     let new : is_new x s.registers ≡ true = sym (is_new_none x s.registers) ∙ ap is_none at in
-    subst (λ (p : ℕ × State). SetsRegister s p.0 p.1) (ok_is (length s.registers, record s { rest = behind s.rest; registers = s.registers ++ x ∷ [] }) y c.1) (record {
+    subst (λ (p : ℕ × State). SetsRegister s p.0 p.1) (ok_is (length s.registers, record s { rest = after_first s.rest; registers = s.registers ++ x ∷ [] }) y c.1) (record {
       same = refl;
       fit = (moved s).fit;
       shorter = (moved s).shorter;

@@ -1,7 +1,6 @@
 -- Searches among names.
 use Rattle.std.proofs.Common.{◌≡◌, ℕ, ◌+◌, min, nat_lt, arith, Bool, true, false, not, cond, ◌&&◌, List, [], ◌∷◌, map, Option, Some, refl, ap}
-use Rattle.std.specs.Prelude.{is_none, slice_get, option_map}
-use Rattle.std.proofs.lemmas.Option.{slice_get-map}
+use Rattle.std.specs.Prelude.{is_none}
 use Rattle.std.specs.List.{position_from}
 use Rattle.std.specs.Str.{bytes_eq}
 use Rattle.camac_lang.specs.Tests.{is_new}
@@ -10,8 +9,6 @@ use Rattle.camac_lang.specs.View.{table_of, lam_of, procedure_of}
 use Rattle.camac_lang.specs.declared.script.Table as rust_table
 use Rattle.camac_lang.specs.declared.script.Lam as rust
 use Rattle.camac_lang.specs.declared.script.Procedure as rust_procedure
-use Rattle.camac_text_cursor.specs.declared.cursor.Called.{Called}
-use Rattle.camac_text_cursor.specs.Parser.{callable_of}
 use Rattle.camac_text_cursor.specs.Names.{place_of, lam_place, table_place, procedure_place}
 
 pub position_from-map : {A B : Type 0} (f : A → B) (test : B → Bool) (i : ℕ) (xs : List A) → position_from test i (map f xs) ≡ position_from (λ x. test (f x)) i xs
@@ -44,8 +41,3 @@ is_new_none x ys = none_from x 0 ys
 -- whether there is room does not depend on how far past it others are
 pub room_for_one : (others own : ℕ) → nat_lt (min 64 others + own) 64 ≡ nat_lt (others + own) 64
 room_for_one others own = grind arith
-
--- ---- what can be called
-
-pub callable_found : (qs : List Called) (k : ℕ) → slice_get (map callable_of qs) k ≡ option_map callable_of (slice_get qs k)
-callable_found qs k = slice_get-map callable_of qs k

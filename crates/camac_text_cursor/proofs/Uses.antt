@@ -8,7 +8,7 @@ use Rattle.camac_lang.specs.Tree.{Text, Table, Lam, Procedure}
 use Rattle.camac_text_tokens.specs.declared.token.TokenKind.TheVariants as kind
 use Rattle.camac_text_tokens.specs.declared.fault.TextRule.TheVariants.{LimitPassed}
 use Rattle.camac_text_cursor.specs.Names.{place_of, lam_place, table_place, procedure_place}
-use Rattle.camac_text_cursor.specs.Reading.{State, ◌>>=◌, ◌>>◌, give, ask, advance, kind_of, behind}
+use Rattle.camac_text_cursor.specs.Reading.{State, ◌>>=◌, ◌>>◌, give, ask, advance, kind_of, after_first}
 use Rattle.camac_text_cursor.specs.Readers.{name_here, used_at, used_register, used_variable, used_lam, known_at, variable_here, used_table, procedure_here, callable_by, called}
 use Rattle.camac_text_cursor.proofs.Steps.{then_ok, ok_is, err_no_ok}
 use Rattle.camac_text_cursor.proofs.Moves.{Moves, moved, name_ok, check_ok}
@@ -118,7 +118,7 @@ callable_is : (room place : ℕ) (found : Option Callable) (s : State) (y : ℕ 
 callable_is room place None s y at e = absurd (err_no_ok _ _ e)
 callable_is room place (Some q) s y at e =
     let c = check_ok (nat_le q.depth room) LimitPassed (advance >> give q.parameters) s y e in
-    subst (λ (p : ℕ × State). CanBeCalled room place s p.0 p.1) (ok_is (q.parameters, record s { rest = behind s.rest }) y c.1) (record {
+    subst (λ (p : ℕ × State). CanBeCalled room place s p.0 p.1) (ok_is (q.parameters, record s { rest = after_first s.rest }) y c.1) (record {
       callable = q;
       found = at;
       wants = refl;

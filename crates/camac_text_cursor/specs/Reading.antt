@@ -66,9 +66,9 @@ abbrev pub kind_of : List Token → Option TokenKind
 kind_of [] = None
 kind_of (t ∷ ts) = Some t.kind
 
-abbrev pub behind : List Token → List Token
-behind [] = []
-behind (t ∷ ts) = ts
+abbrev pub after_first : List Token → List Token
+after_first [] = []
+after_first (t ∷ ts) = ts
 
 abbrev pub line_here : Reader ℕ
 line_here = ask (λ s. line_of s.rest s.end_line)
@@ -77,7 +77,7 @@ abbrev pub peek : Reader (Option TokenKind)
 peek = ask (λ s. kind_of s.rest)
 
 abbrev pub advance : Reader (Unit {0})
-advance = change (λ s. record s { rest = behind s.rest })
+advance = change (λ s. record s { rest = after_first s.rest })
 
 -- a fault at the next token
 abbrev pub fail : {A : Type 0} → TextRule → Reader A

@@ -7,7 +7,7 @@ ghost use Rattle.camac_text_cursor.specs.Readers.{other_registers};
 ghost use Rattle.camac_text_cursor.specs.Parser.{state};
 
 use crate::cursor::Parser;
-use camac_lang::{Procedure, Service};
+use camac_lang::{Procedure, Service, limits};
 
 impl Parser<'_> {
     /// The registers that count beside those of the body in hand, or 64 where they are more.
@@ -19,7 +19,7 @@ impl Parser<'_> {
             return of_procedures;
         }
         let of_service = most_registers(&self.services);
-        (of_procedures + of_service).min(64)
+        (of_procedures + of_service).min(limits::REGISTERS)
     }
 }
 
@@ -29,7 +29,7 @@ fn registers_of_all(procedures: &[Procedure]) -> usize
 {
     let mut count: usize = 0;
     for procedure in procedures {
-        count = (count + procedure.registers.len()).min(64);
+        count = (count + procedure.registers.len()).min(limits::REGISTERS);
     }
     count
 }
@@ -40,7 +40,7 @@ fn most_registers(services: &[Service]) -> usize
 {
     let mut count: usize = 0;
     for service in services {
-        count = count.max(service.registers.len()).min(64);
+        count = count.max(service.registers.len()).min(limits::REGISTERS);
     }
     count
 }

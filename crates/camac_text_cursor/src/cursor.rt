@@ -2,21 +2,14 @@
 
 ghost use Rattle.std.specs.Prelude.{◌≡◌};
 ghost use Rattle.camac_text_tokens.specs.Fault.{Fails};
-ghost use Rattle.camac_text_cursor.specs.Reading.{line_of, kind_of, behind};
+ghost use Rattle.camac_text_cursor.specs.Reading.{line_of, kind_of, after_first};
 ghost use Rattle.camac_text_cursor.specs.Readers.{begin, is_keyword, is_sign, is_name, expect, expect_sign, name_here, number_here, any_number, branch_number, function_number, sub_address_number};
 ghost use Rattle.camac_text_cursor.specs.Parser.{state, Gives};
 
-use camac_lang::{Item, Lam, Name, Procedure, Service, Table};
+use camac_lang::{Callable, Item, Lam, Name, Procedure, Service, Table, limits};
 use camac_text_tokens::{Keyword, Sign, TextFault, TextRule, Token, TokenKind};
 use camac_word::{Function, SubAddress};
 use std::alloc::Global;
-
-/// What a call of a procedure needs: the number of its arguments, and the braces and brackets that the body has open at most.
-#[derive(Clone, Copy, Debug, PartialEq, Eq)]
-pub struct Called {
-    pub parameters: usize,
-    pub depth: u32,
-}
 
 /// What is left of the tokens, and what is declared so far.
 #[derive(Drop)]
@@ -33,7 +26,7 @@ pub struct Parser<'a> {
     pub procedures: Vec<Procedure>,
     pub services: Vec<Service>,
     /// What can be called, one for each procedure.
-    pub callables: Vec<Called>,
+    pub callables: Vec<Callable>,
     /// Whether the body in hand is a procedure's.
     pub in_procedure: bool,
     /// The variables of the script and the parameters of all procedures.
@@ -79,7 +72,7 @@ impl Parser<'_> {
 
     /// Takes the next token, if there is one.
     pub fn advance(&mut self)
-        ensures { state self.new ≡ record (state self.old) { rest = behind self.old.rest.now } }
+        ensures { state self.new ≡ record (state self.old) { rest = after_first self.old.rest.now } }
     {
         if let [_, rest @ ..] = self.rest {
             self.rest = rest;
@@ -217,7 +210,7 @@ impl Parser<'_> {
     pub fn begin(&mut self) -> Result<(), TextFault>
         ensures { Gives (λ _. tt) result self.new (begin (state self.old)) }
     {
-        if self.statements >= 4096 {
+        if self.statements >= limits::STATEMENTS {
             return Err(self.fault(TextRule::LimitPassed));
         }
         self.statements += 1;

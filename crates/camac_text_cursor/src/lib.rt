@@ -6,4 +6,4 @@ mod cursor;
 mod names;
 mod naming;
 
-pub use cursor::{Called, Parser};
+pub use cursor::Parser;

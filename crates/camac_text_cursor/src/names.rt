@@ -7,14 +7,13 @@ ghost use Rattle.camac_lang.specs.View.{lam_of, procedure_of, table_of};
 ghost use Rattle.camac_text_cursor.specs.Names.{place_of, lam_place, table_place, procedure_place};
 
 use camac_lang::{Lam, Name, Procedure, Table};
+use camac_text_tokens::are_same;
 
 /// The first place of a name.
 pub fn place_of(names: &[Name], name: &Name) -> Option<usize>
     ensures { result ≡ place_of name.now names.now }
 {
-    names
-        .iter()
-        .position(|known| name.as_bytes() == known.as_bytes())
+    names.iter().position(|known| is_same(known, name))
 }
 
 /// The first place of a LAM with this name.
@@ -61,7 +60,7 @@ fn procedure_position(procedures: &[Procedure], name: &Name) -> Option<usize>
 fn is_same(known: &Name, name: &Name) -> bool
     ensures { result ≡ bytes_eq name.now known.now }
 {
-    name.as_bytes() == known.as_bytes()
+    are_same(name.as_bytes(), known.as_bytes())
 }
 
 /// Whether a name is none of these.

@@ -6,7 +6,7 @@ ghost use Rattle.camac_text_cursor.specs.Parser.{state, Gives};
 
 use crate::cursor::Parser;
 use crate::names::{is_new, lam_place, place_of, procedure_place, table_place};
-use camac_lang::Name;
+use camac_lang::{Name, limits};
 use camac_text_tokens::{TextFault, TextRule};
 
 impl Parser<'_> {
@@ -27,7 +27,7 @@ impl Parser<'_> {
     fn added(&mut self, name: Name) -> Result<(), TextFault>
         ensures { Gives (λ _. tt) result self.new (added name (state self.old)) }
     {
-        if self.variable_count >= 64 {
+        if self.variable_count >= limits::VARIABLES {
             return Err(self.fault(TextRule::LimitPassed));
         }
         self.advance();
@@ -53,7 +53,7 @@ impl Parser<'_> {
         ensures { Gives (λ n. n) result self.new (new_parameter (state self.old)) }
     {
         let name = self.new_name()?;
-        if self.variables.len() >= 8 {
+        if self.variables.len() >= limits::PARAMETERS {
             return Err(self.fault(TextRule::LimitPassed));
         }
         self.added(name.duplicate())?;
@@ -72,7 +72,7 @@ impl Parser<'_> {
             }
             None => {
                 let register = self.registers.len();
-                if self.other_registers() + register >= 64 {
+                if self.other_registers() + register >= limits::REGISTERS {
                     return Err(self.fault(TextRule::LimitPassed));
                 }
                 self.advance();
@@ -171,7 +171,7 @@ impl Parser<'_> {
 
     /// Takes the name of the procedure with this number, and answers how many arguments it wants; S6 where it has more braces and
     /// brackets open than may be.
-    #[tactic(auto, unfolding(crate::specs::Readers::called), using(crate::proofs::Searches::callable_found))]
+    #[tactic(auto, unfolding(crate::specs::Readers::called), using(camac_lang::proofs::Depths::callable_found))]
     pub fn called(&mut self, room: u32, place: usize) -> Result<usize, TextFault>
         ensures { Gives (λ n. n) result self.new (called room place (state self.old)) }
     {

@@ -16,13 +16,13 @@ use Rattle.camac_text_cursor.proofs.Moves.{AllFit, Moves, stays, then_moves, exp
 use Rattle.camac_text_cursor.proofs.Uses.{scope_of, same_scope}
 use Rattle.camac_text_cursor.proofs.Registers.{each_push}
 use Rattle.camac_text_phrases.specs.Expressions.{expression_at}
-use Rattle.camac_text_phrases.specs.Arguments.{argument_behind, more_arguments, arguments_at}
+use Rattle.camac_text_phrases.specs.Arguments.{argument_after, more_arguments, arguments_at}
 use Rattle.camac_text_phrases.proofs.BracketsRead.{ReadsExpression, expression_ok}
 use Rattle.camac_text_phrases.proofs.ConditionsRead.{most_push}
 
 -- ---- one argument
 
-argument_ok : (room : ℕ) (es : List Expression) (s : State) (y : Expression × State) → argument_behind room es s ≡ Ok y → ReadsExpression room s y.0 y.1
+argument_ok : (room : ℕ) (es : List Expression) (s : State) (y : Expression × State) → argument_after room es s ≡ Ok y → ReadsExpression room s y.0 y.1
 argument_ok room [] s y e = expression_ok room s y e
 argument_ok room (x ∷ xs) s y e =
     let a = then_ok (expect_sign sign.Comma s) (λ _. expression_at room) y e in
@@ -36,7 +36,7 @@ argument_ok room (x ∷ xs) s y e =
 
 -- ---- so many
 
--- arguments are read, behind which there are so many in all
+-- arguments are read, after which there are so many in all
 pub record ReadsArguments (room count : ℕ) (s : State) (es : List Expression) (s' : State) : Type 0 where
   pub moves : Moves s s'
   pub counted : length es ≡ count
@@ -57,7 +57,7 @@ more_ok room zero count s es u y so e =
     let same : count ≡ zero + count = omega arith in
     subst (λ (p : List Expression × State). ReadsArguments room (zero + count) s p.0 p.1) (ok_is (es, u) y e) (subst (λ (k : ℕ). ReadsArguments room k s es u) same so)
 more_ok room (suc n) count s es u y so e =
-    let a = then_ok (argument_behind room es u) (λ x. more_arguments room n (es ++ x ∷ [])) y e in
+    let a = then_ok (argument_after room es u) (λ x. more_arguments room n (es ++ x ∷ [])) y e in
     let longer = one_longer room count s es u a.0.0 a.0.1 so (argument_ok room es u a.0 a.1) in
     let same : n + suc count ≡ suc n + count = omega arith in
     subst (λ (k : ℕ). ReadsArguments room k s y.0 y.1) same (more_ok room n (suc count) s (es ++ a.0.0 ∷ []) a.0.1 y longer a.2)
@@ -98,11 +98,11 @@ arguments_ok (suc room) count s y e =
 -- ---- the loop of the program
 
 -- one turn
-pub arguments_go : (room n : ℕ) (es : List Expression) (s : State) (e : Expression) (t : State) (total : Result (List Expression × State) Fault) → argument_behind room es s ≡ Ok (e, t) → more_arguments room (suc n) es s ≡ total → more_arguments room n (es ++ e ∷ []) t ≡ total
+pub arguments_go : (room n : ℕ) (es : List Expression) (s : State) (e : Expression) (t : State) (total : Result (List Expression × State) Fault) → argument_after room es s ≡ Ok (e, t) → more_arguments room (suc n) es s ≡ total → more_arguments room n (es ++ e ∷ []) t ≡ total
 unfolding more_arguments
 arguments_go room n es s e t total took so_far = ap (λ (r : Result (Expression × State) Fault). then_read r (λ x. more_arguments room n (es ++ x ∷ []))) (sym took) ∙ so_far
 
-pub arguments_fail : (room n : ℕ) (es : List Expression) (s : State) (f : TextFault) (total : Result (List Expression × State) Fault) → Fails f (argument_behind room es s) → more_arguments room (suc n) es s ≡ total → Fails f total
+pub arguments_fail : (room n : ℕ) (es : List Expression) (s : State) (f : TextFault) (total : Result (List Expression × State) Fault) → Fails f (argument_after room es s) → more_arguments room (suc n) es s ≡ total → Fails f total
 unfolding more_arguments
 arguments_fail room n es s fault.OutOfMemory total failed so_far = tt
 arguments_fail room n es s (fault.Broken rule line) total failed so_far = sym so_far ∙ ap (λ (r : Result (Expression × State) Fault). then_read r (λ x. more_arguments room n (es ++ x ∷ []))) failed

@@ -6,7 +6,7 @@ use Rattle.camac_lang.specs.Tree.{Expression, group, multiply, divide, remainder
 use Rattle.camac_text_tokens.specs.declared.token.Sign.TheVariants as sign
 use Rattle.camac_text_tokens.specs.declared.token.TokenKind.{TokenKind}
 use Rattle.camac_text_tokens.specs.declared.token.TokenKind.TheVariants as kind
-use Rattle.camac_text_cursor.specs.Reading.{State, Reader, ◌>>=◌, ◌>>◌, give, kind_of, behind}
+use Rattle.camac_text_cursor.specs.Reading.{State, Reader, ◌>>=◌, ◌>>◌, give, kind_of, after_first}
 use Rattle.camac_text_cursor.specs.Readers.{expect_sign}
 use Rattle.camac_text_phrases.specs.Expressions.{Counted, counted, operator, divisor, factor_with, is_product_sign, product_by, product_turn, product_with, is_sum_sign, joined, sum_turn, sum_with, bracketed, expression_at}
 use Rattle.camac_text_cursor.proofs.Steps.{then_ok, ok_is, err_no_ok, Progresses}
@@ -15,8 +15,8 @@ use Rattle.camac_text_cursor.proofs.Uses.{scope_of}
 use Rattle.camac_text_cursor.proofs.Registers.{both, below_le}
 use Rattle.camac_text_phrases.proofs.ExpressionsRead.{Operator, operator_ok, divisor_ok, Reads, factor_ok, product_ok, sum_ok}
 
--- what is read behind the sign of an operator is read behind the next token
-behind_operator : (so_far : ℕ) (s : State) (n : ℕ) (u : State) (y : Counted × State) → Operator so_far s n u → length y.1.rest ≤ length u.rest → length y.1.rest ≤ length (behind s.rest)
+-- what is read after the sign of an operator is read after the next token
+behind_operator : (so_far : ℕ) (s : State) (n : ℕ) (u : State) (y : Counted × State) → Operator so_far s n u → length y.1.rest ≤ length u.rest → length y.1.rest ≤ length (after_first s.rest)
 behind_operator so_far s n u y o h = subst (λ (w : State). length y.1.rest ≤ length w.rest) o.left h
 
 divided : (s : State) (d : ℕ × State) (x : Counted) (y : Counted × State) → divisor s ≡ Ok d → give x d.1 ≡ Ok y → length y.1.rest ≤ length s.rest
@@ -33,7 +33,7 @@ sum_sign_some None on = absurd cc
 -- ---- each turn takes a token
 
 module _ (room : ℕ) (inner : ℕ → Reader Counted) (inner_ok : (so_far : ℕ) (s : State) (y : Counted × State) → inner so_far s ≡ Ok y → Reads is_factor room so_far s y.0 y.1) where
-  product_shorter : (x : Counted) (k : Option TokenKind) (s : State) (y : Counted × State) → product_by inner x k s ≡ Ok y → length y.1.rest ≤ length (behind s.rest)
+  product_shorter : (x : Counted) (k : Option TokenKind) (s : State) (y : Counted × State) → product_by inner x k s ≡ Ok y → length y.1.rest ≤ length (after_first s.rest)
   product_shorter x (Some (kind.Sign sign.Over)) s y e =
       let a = then_ok (operator x.operators s) (λ so_far. divisor >>= λ d. give (counted (divide x.value d) so_far)) y e in
       let b = then_ok (divisor a.0.1) (λ d. give (counted (divide x.value d) a.0.0)) y a.2 in
@@ -53,8 +53,8 @@ module _ (room : ℕ) (inner : ℕ → Reader Counted) (inner_ok : (so_far : ℕ
   unfolding product_turn
   product_progress x s y s' on took =
       let k = product_sign_some (kind_of s.rest) on in
-      let shorter : length s'.rest ≤ length (behind s.rest) = product_shorter x (kind_of s.rest) s (y, s') took in
-      let less : length (behind s.rest) < length s.rest = behind_less s.rest k.0 k.1 in
+      let shorter : length s'.rest ≤ length (after_first s.rest) = product_shorter x (kind_of s.rest) s (y, s') took in
+      let less : length (after_first s.rest) < length s.rest = behind_less s.rest k.0 k.1 in
       omega arith
 
   pub sum_progress : Progresses is_sum_sign (sum_turn inner)
@@ -64,10 +64,10 @@ module _ (room : ℕ) (inner : ℕ → Reader Counted) (inner_ok : (so_far : ℕ
       let a = then_ok (operator x.operators s) (λ so_far. product_with inner so_far >>= λ right. give (counted (joined k x.value right.value) right.operators)) (y, s') took in
       let b = then_ok (product_with inner a.0.0 a.0.1) (λ right. give (counted (joined k x.value right.value) right.operators)) (y, s') a.2 in
       let right = product_ok room inner inner_ok a.0.0 a.0.1 b.0 b.1 in
-      let shorter : length s'.rest ≤ length (behind s.rest) = behind_operator x.operators s a.0.0 a.0.1 (y, s') (operator_ok x.operators s a.0 a.1)
+      let shorter : length s'.rest ≤ length (after_first s.rest) = behind_operator x.operators s a.0.0 a.0.1 (y, s') (operator_ok x.operators s a.0 a.1)
       (subst (λ (p : Counted × State). length p.1.rest ≤ length a.0.1.rest) (ok_is (counted (joined k x.value b.0.0.value) b.0.0.operators, b.0.1) (y, s') b.2) right.moves.shorter) in
       let some = sum_sign_some (kind_of s.rest) on in
-      let less : length (behind s.rest) < length s.rest = behind_less s.rest some.0 some.1 in
+      let less : length (after_first s.rest) < length s.rest = behind_less s.rest some.0 some.1 in
       omega arith
 
 -- ---- brackets and whole expressions
@@ -76,7 +76,7 @@ pub bracketed_ok : (room so_far : ℕ) (s : State) (y : Counted × State) → br
 unfolding bracketed
 bracketed_ok zero so_far s y e = absurd (err_no_ok _ _ e)
 bracketed_ok (suc room) so_far s y e =
-    let t : State = record s { rest = behind s.rest } in
+    let t : State = record s { rest = after_first s.rest } in
     let a = then_ok (sum_with (bracketed room) so_far t) (λ inner. expect_sign sign.RightBracket >> give (counted (group inner.value) inner.operators)) y e in
     let inner = sum_ok room (bracketed room) (bracketed_ok room) so_far t a.0 a.1 in
     let b = then_ok (expect_sign sign.RightBracket a.0.1) (λ _. give (counted (group a.0.0.value) a.0.0.operators)) y a.2 in

@@ -13,7 +13,7 @@ use Rattle.camac_text_tokens.specs.declared.token.Keyword.TheVariants as word
 use Rattle.camac_text_tokens.specs.declared.token.Sign.TheVariants as sign
 use Rattle.camac_text_tokens.specs.declared.token.TokenKind.{TokenKind}
 use Rattle.camac_text_tokens.specs.declared.token.TokenKind.TheVariants as kind
-use Rattle.camac_text_cursor.specs.Reading.{State, ◌>>=◌, give, peek, fail, kind_of, behind, while_next}
+use Rattle.camac_text_cursor.specs.Reading.{State, ◌>>=◌, give, peek, fail, kind_of, after_first, while_next}
 use Rattle.camac_text_cursor.specs.Readers.{is_keyword, variable_here}
 use Rattle.camac_text_phrases.specs.Expressions.{expression_at}
 use Rattle.camac_text_phrases.specs.Conditions.{comparison_by, comparison_sign, compared, test_by, test_at, part_by, part_at, no_part_by, part_limit, and_part, one_more_part, condition_at}
@@ -26,12 +26,12 @@ use Rattle.camac_text_cursor.proofs.Registers.{both, below_le, each_push}
 -- ---- comparisons
 
 comparison_is : (k : Option TokenKind) (s : State) (y : Cmp × State) → comparison_by k s ≡ Ok y → Moves s y.1
-comparison_is (Some (kind.Sign sign.Less)) s y e = subst (λ (p : Cmp × State). Moves s p.1) (ok_is (cmp.Less, record s { rest = behind s.rest }) y e) (moved s)
-comparison_is (Some (kind.Sign sign.AtMost)) s y e = subst (λ (p : Cmp × State). Moves s p.1) (ok_is (cmp.AtMost, record s { rest = behind s.rest }) y e) (moved s)
-comparison_is (Some (kind.Sign sign.More)) s y e = subst (λ (p : Cmp × State). Moves s p.1) (ok_is (cmp.More, record s { rest = behind s.rest }) y e) (moved s)
-comparison_is (Some (kind.Sign sign.AtLeast)) s y e = subst (λ (p : Cmp × State). Moves s p.1) (ok_is (cmp.AtLeast, record s { rest = behind s.rest }) y e) (moved s)
-comparison_is (Some (kind.Sign sign.Same)) s y e = subst (λ (p : Cmp × State). Moves s p.1) (ok_is (cmp.Same, record s { rest = behind s.rest }) y e) (moved s)
-comparison_is (Some (kind.Sign sign.Differs)) s y e = subst (λ (p : Cmp × State). Moves s p.1) (ok_is (cmp.Differs, record s { rest = behind s.rest }) y e) (moved s)
+comparison_is (Some (kind.Sign sign.Less)) s y e = subst (λ (p : Cmp × State). Moves s p.1) (ok_is (cmp.Less, record s { rest = after_first s.rest }) y e) (moved s)
+comparison_is (Some (kind.Sign sign.AtMost)) s y e = subst (λ (p : Cmp × State). Moves s p.1) (ok_is (cmp.AtMost, record s { rest = after_first s.rest }) y e) (moved s)
+comparison_is (Some (kind.Sign sign.More)) s y e = subst (λ (p : Cmp × State). Moves s p.1) (ok_is (cmp.More, record s { rest = after_first s.rest }) y e) (moved s)
+comparison_is (Some (kind.Sign sign.AtLeast)) s y e = subst (λ (p : Cmp × State). Moves s p.1) (ok_is (cmp.AtLeast, record s { rest = after_first s.rest }) y e) (moved s)
+comparison_is (Some (kind.Sign sign.Same)) s y e = subst (λ (p : Cmp × State). Moves s p.1) (ok_is (cmp.Same, record s { rest = after_first s.rest }) y e) (moved s)
+comparison_is (Some (kind.Sign sign.Differs)) s y e = subst (λ (p : Cmp × State). Moves s p.1) (ok_is (cmp.Differs, record s { rest = after_first s.rest }) y e) (moved s)
 comparison_is _ s y e = absurd (err_no_ok _ _ e)
 
 comparison_ok : (s : State) (y : Cmp × State) → comparison_sign s ≡ Ok y → Moves s y.1
@@ -64,8 +64,8 @@ compared_ok room s y e =
     most_of_two a b n p q = omega arith
 
 test_is : (room : ℕ) (k : Option TokenKind) (s : State) (y : Test × State) → test_by room k s ≡ Ok y → ReadsTest room s y.0 y.1
-test_is room (Some (kind.Keyword word.Q)) s y e = subst (λ (p : Test × State). ReadsTest room s p.0 p.1) (ok_is (flag_q, record s { rest = behind s.rest }) y e) (record { moves = moved s; fits = λ h. refl; deep = omega arith })
-test_is room (Some (kind.Keyword word.X)) s y e = subst (λ (p : Test × State). ReadsTest room s p.0 p.1) (ok_is (flag_x, record s { rest = behind s.rest }) y e) (record { moves = moved s; fits = λ h. refl; deep = omega arith })
+test_is room (Some (kind.Keyword word.Q)) s y e = subst (λ (p : Test × State). ReadsTest room s p.0 p.1) (ok_is (flag_q, record s { rest = after_first s.rest }) y e) (record { moves = moved s; fits = λ h. refl; deep = omega arith })
+test_is room (Some (kind.Keyword word.X)) s y e = subst (λ (p : Test × State). ReadsTest room s p.0 p.1) (ok_is (flag_x, record s { rest = after_first s.rest }) y e) (record { moves = moved s; fits = λ h. refl; deep = omega arith })
 test_is room _ s y e = compared_ok room s y e
 
 test_ok : (room : ℕ) (s : State) (y : Test × State) → test_at room s ≡ Ok y → ReadsTest room s y.0 y.1
@@ -87,7 +87,7 @@ plain_is room s y e =
 
 part_is : (room : ℕ) (k : Option TokenKind) (s : State) (y : Part × State) → part_by room k s ≡ Ok y → ReadsPart room s y.0 y.1
 part_is room (Some (kind.Keyword word.Not)) s y e =
-    let t : State = record s { rest = behind s.rest } in
+    let t : State = record s { rest = after_first s.rest } in
     let m = then_ok (test_at room t) (λ x. give (negated x)) y e in
     let test = test_ok room t m.0 m.1 in
     subst (λ (p : Part × State). ReadsPart room s p.0 p.1) (ok_is (negated m.0.0, m.0.1) y m.2) (record {
@@ -120,15 +120,15 @@ limit_ok : (count : ℕ) (s : State) (y : Unit {0} × State) → part_limit coun
 unfolding part_limit
 limit_ok count s y e = limit_is (nat_lt count 16) s y e
 
--- a part behind `and`
+-- a part after `and`
 pub record AndPart (room count : ℕ) (s : State) (x : Part) (s' : State) : Type 0 where
   pub room_left : count < 16
-  pub part : ReadsPart room (record s { rest = behind s.rest }) x s'
+  pub part : ReadsPart room (record s { rest = after_first s.rest }) x s'
 
 pub and_part_ok : (room count : ℕ) (s : State) (y : Part × State) → and_part room count s ≡ Ok y → AndPart room count s y.0 y.1
 unfolding and_part
 and_part_ok room count s y e =
-    let t : State = record s { rest = behind s.rest } in
+    let t : State = record s { rest = after_first s.rest } in
     let m = then_ok (part_limit count t) (λ _. part_at room) y e in
     let limit = limit_ok count t m.0 m.1 in
     let at : part_at room t ≡ Ok y = subst (λ (u : State). part_at room u ≡ Ok y) limit.1 m.2 in
@@ -155,7 +155,7 @@ first_part room s x s' p =
 
 longer_parts : (room : ℕ) (s : State) (xs : Condition) (u : State) (x : Part) (t : State) → ReadsParts room s xs u → AndPart room (length xs) u x t → ReadsParts room s (xs ++ x ∷ []) t
 longer_parts room s xs u x t ps a =
-    let v : State = record u { rest = behind u.rest } in
+    let v : State = record u { rest = after_first u.rest } in
     let to_v : Moves s v = then_moves s u v ps.moves (moved u) in
     let below : length xs < 16 = a.room_left in
     let some : 1 ≤ length xs = ps.some in
@@ -180,8 +180,8 @@ keyword_some w None on = absurd cc
 pub and_part_less : (room count : ℕ) (s : State) (y : Part × State) → is_keyword word.And (kind_of s.rest) ≡ true → and_part room count s ≡ Ok y → length y.1.rest < length s.rest
 and_part_less room count s y on e =
     let k = keyword_some word.And (kind_of s.rest) on in
-    let less : length (behind s.rest) < length s.rest = behind_less s.rest k.0 k.1 in
-    let shorter : length y.1.rest ≤ length (behind s.rest) = (and_part_ok room count s y e).part.moves.shorter in
+    let less : length (after_first s.rest) < length s.rest = behind_less s.rest k.0 k.1 in
+    let shorter : length y.1.rest ≤ length (after_first s.rest) = (and_part_ok room count s y e).part.moves.shorter in
     omega arith
 
 pub parts_progress : (room : ℕ) → Progresses (is_keyword word.And) (one_more_part room)

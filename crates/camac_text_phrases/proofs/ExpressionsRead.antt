@@ -8,7 +8,7 @@ use Rattle.camac_text_tokens.specs.declared.fault.TextRule.TheVariants.{Unexpect
 use Rattle.camac_text_tokens.specs.declared.token.Sign.TheVariants as sign
 use Rattle.camac_text_tokens.specs.declared.token.TokenKind.{TokenKind}
 use Rattle.camac_text_tokens.specs.declared.token.TokenKind.TheVariants as kind
-use Rattle.camac_text_cursor.specs.Reading.{State, Reader, ◌>>=◌, ◌>>◌, give, advance, check, kind_of, behind, while_next}
+use Rattle.camac_text_cursor.specs.Reading.{State, Reader, ◌>>=◌, ◌>>◌, give, advance, check, kind_of, after_first, while_next}
 use Rattle.camac_text_cursor.specs.Readers.{number_here, any_number, used_variable}
 use Rattle.camac_text_phrases.specs.Expressions.{Counted, counted, operator, divisor, factor_by, factor_with, is_product_sign, product_by, product_turn, product_with, is_sum_sign, joined, sum_turn, sum_with}
 use Rattle.camac_text_cursor.proofs.Steps.{then_ok, ok_is, err_no_ok, while_keeps}
@@ -20,13 +20,13 @@ use Rattle.camac_text_cursor.proofs.Registers.{both, below_le}
 pub record Operator (so_far : ℕ) (s : State) (n : ℕ) (s' : State) : Type 0 where
   pub room : so_far < 32
   pub next : n ≡ suc so_far
-  pub left : s' ≡ record s { rest = behind s.rest }
+  pub left : s' ≡ record s { rest = after_first s.rest }
 
 pub operator_ok : (so_far : ℕ) (s : State) (y : ℕ × State) → operator so_far s ≡ Ok y → Operator so_far s y.0 y.1
 unfolding operator
 operator_ok so_far s y e =
     let c = check_ok (nat_lt so_far 32) LimitPassed (advance >> give (suc so_far)) s y e in
-    subst (λ (p : ℕ × State). Operator so_far s p.0 p.1) (ok_is (suc so_far, record s { rest = behind s.rest }) y c.1)
+    subst (λ (p : ℕ × State). Operator so_far s p.0 p.1) (ok_is (suc so_far, record s { rest = after_first s.rest }) y c.1)
     (record { room = ltb-true so_far 32 c.0; next = refl; left = refl })
 
 operator_moves : (so_far : ℕ) (s : State) (n : ℕ) (s' : State) → Operator so_far s n s' → Moves s s'
@@ -43,8 +43,8 @@ divisor_ok s y e =
     let h = number_ok s m.0 m.1 in
     let c = check_ok (nat_lt 0 m.0.0) UnexpectedToken (advance >> give m.0.0) m.0.1 y m.2 in
     let above : 0 < m.0.0 = ltb-true 0 m.0.0 c.0 in
-    subst (λ (p : ℕ × State). Divides s p.0 p.1) (ok_is (m.0.0, record m.0.1 { rest = behind m.0.1.rest }) y c.1)
-    (record { one = record { next = h.0; left = ap (λ (w : State). record w { rest = behind w.rest }) h.1 }; from_1 = below_le 1 m.0.0 (omega arith) })
+    subst (λ (p : ℕ × State). Divides s p.0 p.1) (ok_is (m.0.0, record m.0.1 { rest = after_first m.0.1.rest }) y c.1)
+    (record { one = record { next = h.0; left = ap (λ (w : State). record w { rest = after_first w.rest }) h.1 }; from_1 = below_le 1 m.0.0 (omega arith) })
 
 -- a part of an expression is read, with so many operators before it
 pub record Reads (form : Expression → Bool) (room so_far : ℕ) (s : State) (x : Counted) (s' : State) : Type 0 where

@@ -14,7 +14,7 @@ use Rattle.camac_text_tokens.specs.declared.token.Sign.{Sign}
 use Rattle.camac_text_tokens.specs.declared.token.Sign.TheVariants as sign
 use Rattle.camac_text_tokens.specs.declared.token.TokenKind.{TokenKind}
 use Rattle.camac_text_tokens.specs.declared.token.TokenKind.TheVariants as kind
-use Rattle.camac_text_cursor.specs.Reading.{State, Reader, ◌>>=◌, ◌>>◌, give, advance, check, kind_of, behind, while_next}
+use Rattle.camac_text_cursor.specs.Reading.{State, Reader, ◌>>=◌, ◌>>◌, give, advance, check, kind_of, after_first, while_next}
 use Rattle.camac_text_cursor.specs.Readers.{is_keyword, is_sign, expect, expect_sign, any_number, variable_here}
 use Rattle.camac_text_phrases.specs.Keeps.{taken, is_free, keep_at, next_keep, one_more_keep, keep_list, keeps_at}
 use Rattle.camac_text_cursor.proofs.Steps.{then_ok, ok_is, Progresses, while_keeps}
@@ -62,7 +62,7 @@ keep_ok own keeps s y e =
     let here = variable_here_ok s v.0 v.1 in
     let at : (check (is_free v.0.0 own keeps) DeclaredTwice >> range_of v.0.0) s ≡ Ok y = subst (λ (u : State). (check (is_free v.0.0 own keeps) DeclaredTwice >> range_of v.0.0) u ≡ Ok y) here.left v.2 in
     let c = check_ok (is_free v.0.0 own keeps) DeclaredTwice (range_of v.0.0) s y at in
-    let t : State = record s { rest = behind s.rest } in
+    let t : State = record s { rest = after_first s.rest } in
     let a = then_ok (expect word.In t) (λ _. any_number >>= λ low. expect_sign sign.UpTo >> (any_number >>= λ high. give (kept v.0.0 low high))) y c.1 in
     let b = then_ok (any_number a.0.1) (λ low. expect_sign sign.UpTo >> (any_number >>= λ high. give (kept v.0.0 low high))) y a.2 in
     let low = any_number_ok a.0.1 b.0 b.1 in
@@ -80,9 +80,9 @@ keep_ok own keeps s y e =
       high_fits = λ h. kind_fit d.0.1.rest (kind.Number f.0.0) high.next (to_d.fit h);
     })
 
-pub next_keep_ok : (own : ℕ) (keeps : List Keep) (s : State) (y : Keep × State) → next_keep own keeps s ≡ Ok y → ReadsKeep own keeps (record s { rest = behind s.rest }) y.0 y.1
+pub next_keep_ok : (own : ℕ) (keeps : List Keep) (s : State) (y : Keep × State) → next_keep own keeps s ≡ Ok y → ReadsKeep own keeps (record s { rest = after_first s.rest }) y.0 y.1
 unfolding next_keep
-next_keep_ok own keeps s y e = keep_ok own keeps (record s { rest = behind s.rest }) y e
+next_keep_ok own keeps s y e = keep_ok own keeps (record s { rest = after_first s.rest }) y e
 
 sign_some : (w : Sign) (k : Option TokenKind) → is_sign w k ≡ true → (j : TokenKind) × (k ≡ Some j)
 sign_some w (Some j) on = (j, refl)
@@ -91,8 +91,8 @@ sign_some w None on = absurd cc
 pub next_keep_less : (own : ℕ) (keeps : List Keep) (s : State) (y : Keep × State) → is_sign sign.Comma (kind_of s.rest) ≡ true → next_keep own keeps s ≡ Ok y → length y.1.rest < length s.rest
 next_keep_less own keeps s y on e =
     let k = sign_some sign.Comma (kind_of s.rest) on in
-    let less : length (behind s.rest) < length s.rest = behind_less s.rest k.0 k.1 in
-    let shorter : length y.1.rest ≤ length (behind s.rest) = (next_keep_ok own keeps s y e).moves.shorter in
+    let less : length (after_first s.rest) < length s.rest = behind_less s.rest k.0 k.1 in
+    let shorter : length y.1.rest ≤ length (after_first s.rest) = (next_keep_ok own keeps s y e).moves.shorter in
     omega arith
 
 pub keeps_progress : (own : ℕ) → Progresses (is_sign sign.Comma) (one_more_keep own)
@@ -128,13 +128,13 @@ longer_keeps own s ks u k t r one =
 keeps_turn : (own : ℕ) (s : State) (ks : List Keep) (u : State) (js : List Keep) (t : State) → ReadsKeeps own s ks u → one_more_keep own ks u ≡ Ok (js, t) → ReadsKeeps own s js t
 keeps_turn own s ks u js t r e =
     let m = then_ok (next_keep own ks u) (λ k. give (ks ++ k ∷ [])) (js, t) e in
-    let v : State = record u { rest = behind u.rest } in
+    let v : State = record u { rest = after_first u.rest } in
     subst (λ (p : List Keep × State). ReadsKeeps own s p.0 p.1) (ok_is (ks ++ m.0.0 ∷ [], m.0.1) (js, t) m.2) (longer_keeps own s ks v m.0.0 m.0.1 (shifted own s ks u v r (moved u)) (next_keep_ok own ks u m.0 m.1))
 
 keep_list_ok : (own : ℕ) (s : State) (y : List Keep × State) → keep_list own s ≡ Ok y → ReadsKeeps own s y.0 y.1
 unfolding keep_list
 keep_list_ok own s y e =
-    let t : State = record s { rest = behind s.rest } in
+    let t : State = record s { rest = after_first s.rest } in
     let m = then_ok (keep_at own [] t) (λ first. while_next (is_sign sign.Comma) (one_more_keep own) (first ∷ [])) y e in
     while_keeps (λ (ks : List Keep) (u : State). ReadsKeeps own s ks u) (is_sign sign.Comma) (one_more_keep own) (λ ks u js v r on took. keeps_turn own s ks u js v r took) (m.0.0 ∷ []) m.0.1 y
     (longer_keeps own s [] t m.0.0 m.0.1 (no_keeps own s t (moved s)) (keep_ok own [] t m.0 m.1)) m.2

@@ -8,17 +8,17 @@ use Rattle.camac_text_cursor.specs.Readers.{is_sign, expect_sign}
 use Rattle.camac_text_cursor.proofs.Places.{IsLocal, local_then, local_peek, local_give, local_fail, local_if}
 use Rattle.camac_text_cursor.proofs.Local.{local_expect_sign}
 use Rattle.camac_text_phrases.specs.Expressions.{expression_at}
-use Rattle.camac_text_phrases.specs.Arguments.{argument_behind, more_arguments, arguments_at}
+use Rattle.camac_text_phrases.specs.Arguments.{argument_after, more_arguments, arguments_at}
 use Rattle.camac_text_phrases.proofs.LocalExpressions.{local_expression}
 
-local_argument : (room : ℕ) (es : List Expression) (s : State) → IsLocal (argument_behind room es) s
+local_argument : (room : ℕ) (es : List Expression) (s : State) → IsLocal (argument_after room es) s
 local_argument room [] s = local_expression room s
 local_argument room (x ∷ xs) s = local_then (expect_sign sign.Comma) (λ _. expression_at room) s (local_expect_sign sign.Comma s) (λ _ u _. local_expression room u)
 
 local_more : (room n : ℕ) (es : List Expression) (s : State) → IsLocal (more_arguments room n es) s
 unfolding more_arguments
 local_more room zero es s = local_give es s
-local_more room (suc n) es s = local_then (argument_behind room es) (λ e. more_arguments room n (es ++ e ∷ [])) s (local_argument room es s) (λ e u _. local_more room n (es ++ e ∷ []) u)
+local_more room (suc n) es s = local_then (argument_after room es) (λ e. more_arguments room n (es ++ e ∷ [])) s (local_argument room es s) (λ e u _. local_more room n (es ++ e ∷ []) u)
 
 pub local_arguments : (room n : ℕ) (s : State) → IsLocal (arguments_at room n) s
 unfolding arguments_at

@@ -8,15 +8,15 @@ use Rattle.camac_text_cursor.specs.Readers.{is_sign, expect_sign}
 use Rattle.camac_text_phrases.specs.Expressions.{expression_at}
 
 -- an argument after these
-abbrev pub argument_behind : ℕ → List Expression → Reader Expression
-argument_behind room [] = expression_at room
-argument_behind room (e ∷ es) = expect_sign sign.Comma >> expression_at room
+abbrev pub argument_after : ℕ → List Expression → Reader Expression
+argument_after room [] = expression_at room
+argument_after room (e ∷ es) = expect_sign sign.Comma >> expression_at room
 
 -- so many arguments more
 unfoldable pub more_arguments : ℕ → ℕ → List Expression → Reader (List Expression)
 more_arguments room zero es = give es
 more_arguments room (suc n) es = do
-  e ← argument_behind room es
+  e ← argument_after room es
   more_arguments room n (es ++ e ∷ [])
 
 -- so many arguments in their brackets

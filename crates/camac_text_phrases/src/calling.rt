@@ -3,7 +3,7 @@
 ghost use Rattle.std.specs.Prelude.{◌≡◌, map, suc, []};
 ghost use Rattle.camac_lang.specs.View.{expression_of};
 ghost use Rattle.camac_text_cursor.specs.Parser.{state, Gives};
-ghost use Rattle.camac_text_phrases.specs.Arguments.{argument_behind, more_arguments, arguments_at};
+ghost use Rattle.camac_text_phrases.specs.Arguments.{argument_after, more_arguments, arguments_at};
 
 use crate::expressions::expression;
 use camac_lang::Expr;
@@ -48,7 +48,7 @@ fn argument_list(parser: &mut Parser<'_>, room: u32, count: usize) -> Result<Vec
 
 /// An argument after these.
 fn argument(parser: &mut Parser<'_>, room: u32, before: &[Expr]) -> Result<Expr, TextFault>
-    ensures { Gives expression_of result parser.new (argument_behind room (map expression_of before.now) (state parser.old)) }
+    ensures { Gives expression_of result parser.new (argument_after room (map expression_of before.now) (state parser.old)) }
 {
     match before {
         [] => expression(parser, room),

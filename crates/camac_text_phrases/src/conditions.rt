@@ -6,7 +6,7 @@ ghost use Rattle.camac_text_phrases.specs.Conditions.{comparison_sign, compared,
 ghost use Rattle.camac_text_cursor.specs.Parser.{state, Gives};
 
 use crate::expressions::expression;
-use camac_lang::{Cond, Part, Test};
+use camac_lang::{Cond, Part, Test, limits};
 use camac_range::Cmp;
 use camac_text_cursor::Parser;
 use camac_text_tokens::{Keyword, Sign, TextFault, TextRule, TokenKind};
@@ -41,7 +41,7 @@ fn and_part(parser: &mut Parser<'_>, room: u32, count: usize) -> Result<Part, Te
 fn part_limit(parser: &mut Parser<'_>, count: usize) -> Result<(), TextFault>
     ensures { Gives (λ _. tt) result parser.new (part_limit count (state parser.old)) }
 {
-    if count < 16 {
+    if count < limits::CONDITION_PARTS {
         return Ok(());
     }
     match parser.peek() {

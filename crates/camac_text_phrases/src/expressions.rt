@@ -7,7 +7,7 @@ ghost use Rattle.camac_text_phrases.specs.Expressions.{operator, divisor, factor
 ghost use Rattle.camac_text_cursor.specs.Parser.{state, Gives};
 ghost use Rattle.camac_text_phrases.specs.Views.{counted_of};
 
-use camac_lang::{Divisor, Expr};
+use camac_lang::{Divisor, Expr, limits};
 use camac_text_cursor::Parser;
 use camac_text_tokens::{Sign, TextFault, TextRule, TokenKind};
 
@@ -174,7 +174,7 @@ fn in_brackets(parser: &mut Parser<'_>, room: u32, so_far: u32) -> Result<Counte
 fn operator(parser: &mut Parser<'_>, so_far: u32) -> Result<u32, TextFault>
     ensures { Gives (λ n. n) result parser.new (operator so_far (state parser.old)) }
 {
-    if so_far >= 32 {
+    if so_far >= limits::OPERATORS {
         return Err(parser.fault(TextRule::LimitPassed));
     }
     parser.advance();

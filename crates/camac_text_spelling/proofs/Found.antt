@@ -8,7 +8,7 @@ use Rattle.camac_text_cursor.specs.Names.{place_of, lam_place, table_place, proc
 use Rattle.camac_text_cursor.proofs.Searches.{position_from-map}
 use Rattle.camac_text_spelling.specs.Pieces.{text_at}
 
--- what is found is found with more behind it
+-- what is found is found with more after it
 pub found_later : {A : Type 0} (test : A → Bool) (i p : ℕ) (xs ys : List A) → position_from test i xs ≡ Some p → position_from test i (xs ++ ys) ≡ Some p
 found_later test i p [] ys e = absurd cc
 found_later test i p (x ∷ xs) ys e = later (test x) i p _ _ e (λ h. found_later test (i + 1) p xs ys h) where
@@ -28,7 +28,7 @@ last_from x i (y ∷ ys) e = goes (bytes_eq x y) (λ h. last_from x (i + 1) ys h
 pub found_last : (x : Text) (xs : List Text) → place_of x xs ≡ None → place_of x (xs ++ x ∷ []) ≡ Some (length xs)
 found_last x xs e = last_from x 0 xs e ∙ ap (λ (k : ℕ). Some k) (omega arith)
 
--- the name that is found stands there, whatever is behind
+-- the name that is found stands there, whatever is after
 named_from : (x : Text) (i p : ℕ) (xs ys : List Text) → position_from (bytes_eq x) i xs ≡ Some p → (k : ℕ) × (p ≡ i + k) × (x ≡ text_at (xs ++ ys) k)
 named_from x i p [] ys e = absurd cc
 named_from x i p (z ∷ zs) ys e = goes (bytes_eq x z) refl (λ h. named_from x (i + 1) p zs ys h) e where

@@ -83,7 +83,7 @@ new_push (y ∷ ys) x known e free new =
     both (is_new y known) (are_new (ys ++ x ∷ []) (y ∷ known)) (first_of_both (is_new y known) _ e)
     (new_push ys x (y ∷ known) (second_of_both (is_new y known) _ e) (both (not (bytes_eq x y)) (is_new x known) (first_of_both (not (bytes_eq x y)) _ new) free) (second_of_both (not (bytes_eq x y)) _ new))
 
--- more new names behind such names
+-- more new names after such names
 pub new_behind : (xs vs ds : List Text) → are_new vs [] ≡ true → ((z : Text) → is_new z ds ≡ true → is_new z vs ≡ true) → are_new xs ds ≡ true → are_new (vs ++ xs) [] ≡ true
 new_behind [] vs ds e covers new = ap (λ (w : List Text). are_new w []) (append-nil vs) ∙ e
 new_behind (x ∷ xs) vs ds e covers new =
@@ -93,7 +93,7 @@ new_behind (x ∷ xs) vs ds e covers new =
     (λ z h. each_append (λ y. not (bytes_eq z y)) vs (x ∷ []) ∙ both (is_new z vs) _ (covers z (second_of_both (not (bytes_eq z x)) _ h)) (both (not (bytes_eq z x)) true (first_of_both (not (bytes_eq z x)) _ h) refl))
     (second_of_both (is_new x ds) _ new)
 
--- of new names in two parts, the first are new, and the others are so behind them
+-- of new names in two parts, the first are new, and the others are so after them
 pub new_parts : (xs ys ds : List Text) → are_new (xs ++ ys) ds ≡ true → (are_new xs ds ≡ true) × (are_new ys (ds ++ xs) ≡ true)
 new_parts [] ys ds e = (refl, ap (λ (w : List Text). are_new ys w) (append-nil ds) ∙ e)
 new_parts (x ∷ xs) ys ds e =

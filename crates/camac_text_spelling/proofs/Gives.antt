@@ -16,7 +16,7 @@ use Rattle.camac_text_tokens.specs.declared.fault.TextRule.{TextRule}
 use Rattle.camac_text_tokens.specs.declared.fault.TextRule.TheVariants.{UnexpectedToken, NumberTooLarge, DeclaredTwice}
 use Rattle.camac_text_tokens.specs.Fault.{Fault}
 use Rattle.camac_text_cursor.specs.Names.{place_of, lam_place, table_place, procedure_place}
-use Rattle.camac_text_cursor.specs.Reading.{State, Reader, then_read, ◌>>◌, give, advance, fail, check, kind_of, behind, while_next}
+use Rattle.camac_text_cursor.specs.Reading.{State, Reader, then_read, ◌>>◌, give, advance, fail, check, kind_of, after_first, while_next}
 use Rattle.camac_text_cursor.specs.Readers.{is_keyword, is_sign, expect, expect_sign, name_of, name_here, number_of, number_here, any_number, branch_number, function_number, sub_address_number, new_name, used_at, used_register, used_variable, used_lam, used_table, known_at, variable_here}
 use Rattle.camac_text_cursor.proofs.Steps.{Progresses, while_on}
 use Rattle.camac_text_spelling.specs.Pieces.{text_at, Names}
@@ -45,11 +45,11 @@ left x s ts us e = ap (λ (w : List Token). ok x (at s w)) e
 
 -- ---- words and signs
 
-pub expected : (w : Keyword) (s : State) → kind_of s.rest ≡ Some (kind.Keyword w) → expect w s ≡ ok tt (at s (behind s.rest))
+pub expected : (w : Keyword) (s : State) → kind_of s.rest ≡ Some (kind.Keyword w) → expect w s ≡ ok tt (at s (after_first s.rest))
 unfolding expect
 expected w s e = ap (λ (k : Option TokenKind). cond (is_keyword w k) advance (fail UnexpectedToken) s) e ∙ ap (λ (b : Bool). cond b advance (fail UnexpectedToken) s) (true_same keyword_type.the_type w w refl)
 
-pub expected_sign : (w : Sign) (s : State) → kind_of s.rest ≡ Some (kind.Sign w) → expect_sign w s ≡ ok tt (at s (behind s.rest))
+pub expected_sign : (w : Sign) (s : State) → kind_of s.rest ≡ Some (kind.Sign w) → expect_sign w s ≡ ok tt (at s (after_first s.rest))
 unfolding expect_sign
 expected_sign w s e = ap (λ (k : Option TokenKind). cond (is_sign w k) advance (fail UnexpectedToken) s) e ∙ ap (λ (b : Bool). cond b advance (fail UnexpectedToken) s) (true_same sign_type.the_type w w refl)
 
@@ -65,19 +65,19 @@ pub number_seen : (s : State) (n : ℕ) → kind_of s.rest ≡ Some (kind.Number
 unfolding number_here
 number_seen s n e = ap (λ (k : Option TokenKind). number_of k s) e
 
-pub number_given : (s : State) (n : ℕ) → kind_of s.rest ≡ Some (kind.Number n) → any_number s ≡ ok n (at s (behind s.rest))
+pub number_given : (s : State) (n : ℕ) → kind_of s.rest ≡ Some (kind.Number n) → any_number s ≡ ok n (at s (after_first s.rest))
 unfolding any_number
 number_given s n e = after (number_here s) _ n s (number_seen s n e) refl
 
-pub branch_given : (s : State) → kind_of s.rest ≡ Some (kind.Number 1) → branch_number s ≡ ok tt (at s (behind s.rest))
+pub branch_given : (s : State) → kind_of s.rest ≡ Some (kind.Number 1) → branch_number s ≡ ok tt (at s (after_first s.rest))
 unfolding branch_number
 branch_given s e = after (number_here s) _ 1 s (number_seen s 1 e) refl
 
-pub function_given : (s : State) (n : ℕ) → kind_of s.rest ≡ Some (kind.Number n) → nat_lt n 32 ≡ true → function_number s ≡ ok n (at s (behind s.rest))
+pub function_given : (s : State) (n : ℕ) → kind_of s.rest ≡ Some (kind.Number n) → nat_lt n 32 ≡ true → function_number s ≡ ok n (at s (after_first s.rest))
 unfolding function_number
 function_given s n e below = after (number_here s) _ n s (number_seen s n e) (checked (nat_lt n 32) NumberTooLarge (advance >> give n) s below refl)
 
-pub sub_address_given : (s : State) (n : ℕ) → kind_of s.rest ≡ Some (kind.Number n) → nat_lt n 16 ≡ true → sub_address_number s ≡ ok n (at s (behind s.rest))
+pub sub_address_given : (s : State) (n : ℕ) → kind_of s.rest ≡ Some (kind.Number n) → nat_lt n 16 ≡ true → sub_address_number s ≡ ok n (at s (after_first s.rest))
 unfolding sub_address_number
 sub_address_given s n e below = after (number_here s) _ n s (number_seen s n e) (checked (nat_lt n 16) NumberTooLarge (advance >> give n) s below refl)
 
@@ -91,7 +91,7 @@ pub new_name_seen : (s : State) (x : Text) → kind_of s.rest ≡ Some (kind.Nam
 unfolding new_name
 new_name_seen s x e new = after (name_here s) _ x s (name_seen s x e) (checked (is_new x s.declared) DeclaredTwice (give x) s new refl)
 
-used_given : (s : State) (place : Option ℕ) (p : ℕ) → place ≡ Some p → used_at place s ≡ ok p (at s (behind s.rest))
+used_given : (s : State) (place : Option ℕ) (p : ℕ) → place ≡ Some p → used_at place s ≡ ok p (at s (after_first s.rest))
 used_given s place p e = ap (λ (o : Option ℕ). used_at o s) e
 
 -- each name is found at its number
@@ -104,25 +104,25 @@ pub record Finds (n : Names) (vs : List Text) (ls : List Lam) (gs : List Table) 
 abbrev pub FindsAll : Names → State → Type 0
 FindsAll n s = Finds n s.variables s.lams s.tables s.procedures s.callables
 
-pub variable_given : (n : Names) (s : State) (p : ℕ) → FindsAll n s → nat_lt p (length s.variables) ≡ true → kind_of s.rest ≡ Some (kind.Name (text_at n.variables p)) → used_variable s ≡ ok p (at s (behind s.rest))
+pub variable_given : (n : Names) (s : State) (p : ℕ) → FindsAll n s → nat_lt p (length s.variables) ≡ true → kind_of s.rest ≡ Some (kind.Name (text_at n.variables p)) → used_variable s ≡ ok p (at s (after_first s.rest))
 unfolding used_variable
 variable_given n s p finds fits e =
     let below : p < length s.variables = ltb-true p (length s.variables) fits in
     after (name_here s) _ (text_at n.variables p) s (name_seen s (text_at n.variables p) e) (used_given s (place_of (text_at n.variables p) s.variables) p (finds.variables p below))
 
-pub lam_given : (n : Names) (s : State) (p : ℕ) → FindsAll n s → nat_lt p (length s.lams) ≡ true → kind_of s.rest ≡ Some (kind.Name (text_at n.lams p)) → used_lam s ≡ ok p (at s (behind s.rest))
+pub lam_given : (n : Names) (s : State) (p : ℕ) → FindsAll n s → nat_lt p (length s.lams) ≡ true → kind_of s.rest ≡ Some (kind.Name (text_at n.lams p)) → used_lam s ≡ ok p (at s (after_first s.rest))
 unfolding used_lam
 lam_given n s p finds fits e =
     let below : p < length s.lams = ltb-true p (length s.lams) fits in
     after (name_here s) _ (text_at n.lams p) s (name_seen s (text_at n.lams p) e) (used_given s (lam_place (text_at n.lams p) s.lams) p (finds.lams p below))
 
-pub table_given : (n : Names) (s : State) (p : ℕ) → FindsAll n s → nat_lt p (length s.tables) ≡ true → kind_of s.rest ≡ Some (kind.Name (text_at n.tables p)) → used_table s ≡ ok p (at s (behind s.rest))
+pub table_given : (n : Names) (s : State) (p : ℕ) → FindsAll n s → nat_lt p (length s.tables) ≡ true → kind_of s.rest ≡ Some (kind.Name (text_at n.tables p)) → used_table s ≡ ok p (at s (after_first s.rest))
 unfolding used_table
 table_given n s p finds fits e =
     let below : p < length s.tables = ltb-true p (length s.tables) fits in
     after (name_here s) _ (text_at n.tables p) s (name_seen s (text_at n.tables p) e) (used_given s (table_place (text_at n.tables p) s.tables) p (finds.tables p below))
 
-pub register_given : (n : Names) (s : State) (p : ℕ) → place_of (text_at n.registers p) s.registers ≡ Some p → kind_of s.rest ≡ Some (kind.Name (text_at n.registers p)) → used_register s ≡ ok p (at s (behind s.rest))
+pub register_given : (n : Names) (s : State) (p : ℕ) → place_of (text_at n.registers p) s.registers ≡ Some p → kind_of s.rest ≡ Some (kind.Name (text_at n.registers p)) → used_register s ≡ ok p (at s (after_first s.rest))
 unfolding used_register
 register_given n s p found e =
     after (name_here s) _ (text_at n.registers p) s (name_seen s (text_at n.registers p) e) (used_given s (place_of (text_at n.registers p) s.registers) p found)

@@ -20,7 +20,7 @@ use Rattle.camac_text_tokens.specs.declared.token.Token.{Token}
 use Rattle.camac_text_tokens.specs.declared.token.TokenKind.{TokenKind}
 use Rattle.camac_text_tokens.specs.declared.token.TokenKind.TheVariants as kind
 use Rattle.camac_text_cursor.specs.Names.{place_of}
-use Rattle.camac_text_cursor.specs.Reading.{State, Reader, ◌>>=◌, ◌>>◌, give, kind_of, behind}
+use Rattle.camac_text_cursor.specs.Reading.{State, Reader, ◌>>=◌, ◌>>◌, give, kind_of, after_first}
 use Rattle.camac_text_cursor.specs.Readers.{expect_sign, branch_number, function_number, set_name, used_register, used_lam, variable_here}
 use Rattle.camac_text_phrases.specs.Expressions.{expression_at}
 use Rattle.camac_text_cursor.specs.Readers.{begin}
@@ -59,9 +59,9 @@ assignment_given n line x e room s rest j k m c f ends =
     let ps : List Piece = sign mark.Equals ∷ phrase.expression n e in
     let named : TokenKind = kind.Name (text_at n.variables x) in
     let h = front_line s.rest s.end_line line named ps rest f in
-    let q = front_first (behind s.rest) (sign mark.Equals) (phrase.expression n e) rest h.2 in
+    let q = front_first (after_first s.rest) (sign mark.Equals) (phrase.expression n e) rest h.2 in
     let r = unless_parts (head_fits (scope_of s) j (assign line x e)) j k c.reached in
-    let ts : List Token = behind (behind s.rest) in
+    let ts : List Token = after_first (after_first s.rest) in
     first_given line room (block_at room) named s ps rest f
     ∙ after (variable_here s) _ x s (variable_seen n s x c.finds (first_of_both (nat_lt x (length s.variables)) _ r.0) h.0)
     (simple_given n (assign line x e) s rest j k m room _ _ (expect_sign mark.Equals >> (expression_at room >>= λ value. give (assign line x value))) c r.1
@@ -77,11 +77,11 @@ unfolding single_action
 single_given n line size g r d room s rest j k m c f ends =
     let w : Keyword = spell.single_word size in
     let h = front_line s.rest s.end_line line (kind.Keyword w) (numeral g ∷ name_at n.registers r ∷ phrase.move n d) rest f in
-    let t1 : List Token = behind s.rest in
+    let t1 : List Token = after_first s.rest in
     let number = front_first t1 (numeral g) (name_at n.registers r ∷ phrase.move n d) rest h.2 in
-    let t2 : List Token = behind t1 in
+    let t2 : List Token = after_first t1 in
     let register = front_first t2 (name_at n.registers r) (phrase.move n d) rest number.1 in
-    let t3 : List Token = behind t2 in
+    let t3 : List Token = after_first t2 in
     let rule = unless_parts (head_fits (scope_of s) j (single line size g r d)) j k c.reached in
     let few : g ≤ 31 = leb-true g 31 (first_of_both (is_function g) _ rule.0) in
     let more = second_of_both (is_function g) _ rule.0 in
@@ -104,11 +104,11 @@ setting_given n line r e1 e2 e3 room s rest j k m c f ends =
     let p2 : List Piece = phrase.expression n e2 in
     let p3 : List Piece = phrase.expression n e3 in
     let h = front_line s.rest s.end_line line (kind.Keyword w) (name_at n.registers r ∷ numeral 1 ∷ (p1 ++ (p2 ++ p3))) rest f in
-    let t1 : List Token = behind s.rest in
+    let t1 : List Token = after_first s.rest in
     let name' = front_first t1 (name_at n.registers r) (numeral 1 ∷ (p1 ++ (p2 ++ p3))) rest h.2 in
-    let t2 : List Token = behind t1 in
+    let t2 : List Token = after_first t1 in
     let one = front_first t2 (numeral 1) (p1 ++ (p2 ++ p3)) rest name'.1 in
-    let t3 : List Token = behind t2 in
+    let t3 : List Token = after_first t2 in
     let s1 = front_split t3 p1 (p2 ++ p3) rest one.1 in
     let s2 = front_split s1.0 p2 p3 rest s1.2 in
     let ends_1 : NoSign (kind_of s1.0) = value_no_sign (kind_of s1.0) (value_begins n e2 s1.0 s2.0 s2.1) in
@@ -133,17 +133,17 @@ setting_given n line r e1 e2 e3 room s rest j k m c f ends =
 
 -- ---- calls
 
-switch_given : (b : Bool) (s : State) → kind_of s.rest ≡ Some (kind.Keyword (cond b keyword.On keyword.Off)) → switch s ≡ ok b (at s (behind s.rest))
+switch_given : (b : Bool) (s : State) → kind_of s.rest ≡ Some (kind.Keyword (cond b keyword.On keyword.Off)) → switch s ≡ ok b (at s (after_first s.rest))
 unfolding switch
 switch_given true s e = ap (λ (k : Option TokenKind). switch_by k s) e
 switch_given false s e = ap (λ (k : Option TokenKind). switch_by k s) e
 
 -- a call on a crate without a switch
-crate_plain : (n : Names) (call : CrateCall) (line : ℕ) (e : Expression) (room : ℕ) (s : State) (rest : List Token) (j k m : ℕ) → Runs n s j k m room (reached_by (scope_of s) j (crate_call line call e)) (expression_depth e) 1 → Front (behind s.rest) (phrase.expression n e ++ []) rest → NoSign (kind_of rest) → crate_action call room line s ≡ ok (crate_call line call e) (left_at n s rest k m)
+crate_plain : (n : Names) (call : CrateCall) (line : ℕ) (e : Expression) (room : ℕ) (s : State) (rest : List Token) (j k m : ℕ) → Runs n s j k m room (reached_by (scope_of s) j (crate_call line call e)) (expression_depth e) 1 → Front (after_first s.rest) (phrase.expression n e ++ []) rest → NoSign (kind_of rest) → crate_action call room line s ≡ ok (crate_call line call e) (left_at n s rest k m)
 unfolding crate_action
 crate_plain n call line e room s rest j k m c f ends =
-    let parts = front_split (behind s.rest) (phrase.expression n e) [] rest f in
-    let g : Front (behind s.rest) (phrase.expression n e) rest = subst (λ (ts : List Token). Front (behind s.rest) (phrase.expression n e) ts) parts.2 parts.1 in
+    let parts = front_split (after_first s.rest) (phrase.expression n e) [] rest f in
+    let g : Front (after_first s.rest) (phrase.expression n e) rest = subst (λ (ts : List Token). Front (after_first s.rest) (phrase.expression n e) ts) parts.2 parts.1 in
     let r = unless_parts (head_fits (scope_of s) j (crate_call line call e)) j k c.reached in
     simple_given n (crate_call line call e) s rest j k m room _ _ (expression_at room >>= λ crate_no. give (crate_call line call crate_no)) c r.1
     (after (expression_at room (begun s)) _ e (at (begun s) rest) (expression_given n e room (begun s) rest c.finds r.0 c.deep g ends) refl)
@@ -152,17 +152,17 @@ switch_no_sign : (b : Bool) → NoSign (Some (kind.Keyword (cond b keyword.On ke
 switch_no_sign true = record { product = refl; sum = refl }
 switch_no_sign false = record { product = refl; sum = refl }
 
-crate_switched : (n : Names) (on off : CrateCall) (b : Bool) (line : ℕ) (e : Expression) (room : ℕ) (s : State) (rest : List Token) (j k m : ℕ) → Runs n s j k m room (reached_by (scope_of s) j (crate_call line (cond b on off) e)) (expression_depth e) 1 → Front (behind s.rest) (phrase.expression n e ++ word (cond b keyword.On keyword.Off) ∷ []) rest → crate_switch on off room line s ≡ ok (crate_call line (cond b on off) e) (left_at n s rest k m)
+crate_switched : (n : Names) (on off : CrateCall) (b : Bool) (line : ℕ) (e : Expression) (room : ℕ) (s : State) (rest : List Token) (j k m : ℕ) → Runs n s j k m room (reached_by (scope_of s) j (crate_call line (cond b on off) e)) (expression_depth e) 1 → Front (after_first s.rest) (phrase.expression n e ++ word (cond b keyword.On keyword.Off) ∷ []) rest → crate_switch on off room line s ≡ ok (crate_call line (cond b on off) e) (left_at n s rest k m)
 unfolding crate_switch
 crate_switched n on off b line e room s rest j k m c f =
     let w : Keyword = cond b keyword.On keyword.Off in
-    let parts = front_split (behind s.rest) (phrase.expression n e) (word w ∷ []) rest f in
+    let parts = front_split (after_first s.rest) (phrase.expression n e) (word w ∷ []) rest f in
     let us : List Token = parts.0 in
     let h = front_first us (word w) [] rest parts.2 in
     let r = unless_parts (head_fits (scope_of s) j (crate_call line (cond b on off) e)) j k c.reached in
     simple_given n (crate_call line (cond b on off) e) s rest j k m room _ _ (expression_at room >>= λ crate_no. switch >>= λ is_on. give (crate_call line (cond is_on on off) crate_no)) c r.1
     (after (expression_at room (begun s)) _ e (at (begun s) us) (expression_given n e room (begun s) us c.finds r.0 c.deep parts.1 (no_sign (kind_of us) _ h.0 (switch_no_sign b)))
-    (after (switch (at (begun s) us)) _ b (at (begun s) (behind us)) (switch_given b (at (begun s) us) h.0) (left (crate_call line (cond b on off) e) (begun s) (behind us) rest h.1)))
+    (after (switch (at (begun s) us)) _ b (at (begun s) (after_first us)) (switch_given b (at (begun s) us) h.0) (left (crate_call line (cond b on off) e) (begun s) (after_first us) rest h.1)))
 
 pub crate_given : (n : Names) (line : ℕ) (call : CrateCall) (e : Expression) → IsGiven n (crate_call line call e)
 crate_given n line crate_word.Initialise e room s rest j k m c f ends =
@@ -193,26 +193,26 @@ crate_given n line crate_word.DemandOff e room s rest j k m c f ends =
     let ps : List Piece = phrase.expression n e ++ word keyword.Off ∷ [] in
     first_given line room (block_at room) (kind.Keyword keyword.Cccd) s ps rest f ∙ crate_switched n crate_word.DemandOn crate_word.DemandOff false line e room s rest j k m c (front_line s.rest s.end_line line (kind.Keyword keyword.Cccd) ps rest f).2
 
-lam_plain : (n : Names) (call : LamCall) (line l room : ℕ) (s : State) (rest : List Token) (j k m : ℕ) → Runs n s j k m room (reached_by (scope_of s) j (lam_call line call l)) 0 1 → Front (behind s.rest) (name_at n.lams l ∷ []) rest → lam_action call line s ≡ ok (lam_call line call l) (left_at n s rest k m)
+lam_plain : (n : Names) (call : LamCall) (line l room : ℕ) (s : State) (rest : List Token) (j k m : ℕ) → Runs n s j k m room (reached_by (scope_of s) j (lam_call line call l)) 0 1 → Front (after_first s.rest) (name_at n.lams l ∷ []) rest → lam_action call line s ≡ ok (lam_call line call l) (left_at n s rest k m)
 unfolding lam_action
 lam_plain n call line l room s rest j k m c f =
-    let h = front_first (behind s.rest) (name_at n.lams l) [] rest f in
+    let h = front_first (after_first s.rest) (name_at n.lams l) [] rest f in
     let r = unless_parts (head_fits (scope_of s) j (lam_call line call l)) j k c.reached in
     simple_given n (lam_call line call l) s rest j k m room _ _ (used_lam >>= λ lam. give (lam_call line call lam)) c r.1
-    (after (used_lam (begun s)) _ l (at (begun s) (behind (behind s.rest))) (lam_given n (begun s) l c.finds r.0 h.0) (left (lam_call line call l) (begun s) (behind (behind s.rest)) rest h.1))
+    (after (used_lam (begun s)) _ l (at (begun s) (after_first (after_first s.rest))) (lam_given n (begun s) l c.finds r.0 h.0) (left (lam_call line call l) (begun s) (after_first (after_first s.rest)) rest h.1))
 
-lam_switched : (n : Names) (b : Bool) (line l room : ℕ) (s : State) (rest : List Token) (j k m : ℕ) → Runs n s j k m room (reached_by (scope_of s) j (lam_call line (cond b lam_word.Enable lam_word.Disable) l)) 0 1 → Front (behind s.rest) (name_at n.lams l ∷ word (cond b keyword.On keyword.Off) ∷ []) rest → lam_switch line s ≡ ok (lam_call line (cond b lam_word.Enable lam_word.Disable) l) (left_at n s rest k m)
+lam_switched : (n : Names) (b : Bool) (line l room : ℕ) (s : State) (rest : List Token) (j k m : ℕ) → Runs n s j k m room (reached_by (scope_of s) j (lam_call line (cond b lam_word.Enable lam_word.Disable) l)) 0 1 → Front (after_first s.rest) (name_at n.lams l ∷ word (cond b keyword.On keyword.Off) ∷ []) rest → lam_switch line s ≡ ok (lam_call line (cond b lam_word.Enable lam_word.Disable) l) (left_at n s rest k m)
 unfolding lam_switch
 lam_switched n b line l room s rest j k m c f =
     let call : LamCall = cond b lam_word.Enable lam_word.Disable in
     let w : Keyword = cond b keyword.On keyword.Off in
-    let h = front_first (behind s.rest) (name_at n.lams l) (word w ∷ []) rest f in
-    let ts : List Token = behind (behind s.rest) in
+    let h = front_first (after_first s.rest) (name_at n.lams l) (word w ∷ []) rest f in
+    let ts : List Token = after_first (after_first s.rest) in
     let g = front_first ts (word w) [] rest h.1 in
     let r = unless_parts (head_fits (scope_of s) j (lam_call line call l)) j k c.reached in
     simple_given n (lam_call line call l) s rest j k m room _ _ (used_lam >>= λ lam. switch >>= λ is_on. give (lam_call line (cond is_on lam_word.Enable lam_word.Disable) lam)) c r.1
     (after (used_lam (begun s)) _ l (at (begun s) ts) (lam_given n (begun s) l c.finds r.0 h.0)
-    (after (switch (at (begun s) ts)) _ b (at (begun s) (behind ts)) (switch_given b (at (begun s) ts) g.0) (left (lam_call line call l) (begun s) (behind ts) rest g.1)))
+    (after (switch (at (begun s) ts)) _ b (at (begun s) (after_first ts)) (switch_given b (at (begun s) ts) g.0) (left (lam_call line call l) (begun s) (after_first ts) rest g.1)))
 
 pub lam_call_given : (n : Names) (line : ℕ) (call : LamCall) (l : ℕ) → IsGiven n (lam_call line call l)
 lam_call_given n line lam_word.Clear l room s rest j k m c f ends =

@@ -16,11 +16,11 @@ use Rattle.camac_text_tokens.specs.declared.token.Sign.TheVariants as mark
 use Rattle.camac_text_tokens.specs.declared.token.Token.{Token}
 use Rattle.camac_text_tokens.specs.declared.token.TokenKind.TheVariants as kind
 use Rattle.camac_text_cursor.specs.Names.{procedure_place}
-use Rattle.camac_text_cursor.specs.Reading.{State, ◌>>◌, give, advance, kind_of, behind}
+use Rattle.camac_text_cursor.specs.Reading.{State, ◌>>◌, give, advance, kind_of, after_first}
 use Rattle.camac_text_cursor.specs.Readers.{expect_sign, name_here, procedure_here, callable_by, called}
 use Rattle.camac_text_phrases.specs.Expressions.{expression_at}
-use Rattle.camac_text_phrases.specs.Arguments.{argument_behind, more_arguments, arguments_at}
-use Rattle.camac_text_statements.specs.Transfers.{calling}
+use Rattle.camac_text_phrases.specs.Arguments.{argument_after, more_arguments, arguments_at}
+use Rattle.camac_text_statements.specs.Transfers.{call_statement}
 use Rattle.camac_text_statements.specs.Statements.{block_at}
 use Rattle.camac_text_cursor.proofs.Uses.{scope_of}
 use Rattle.camac_text_statements.proofs.Acts.{begun}
@@ -41,7 +41,7 @@ unfolding procedure_here
 procedure_seen n s p finds below e =
     after (name_here s) _ (text_at n.procedures p) s (name_seen s (text_at n.procedures p) e) (known_given s (procedure_place (text_at n.procedures p) s.procedures) p (finds.procedures p below))
 
-called_given : (room : ℕ) (s : State) (p : ℕ) (q : Callable) → slice_get s.callables p ≡ Some q → q.depth ≤ room → called room p s ≡ ok q.parameters (at s (behind s.rest))
+called_given : (room : ℕ) (s : State) (p : ℕ) (q : Callable) → slice_get s.callables p ≡ Some q → q.depth ≤ room → called room p s ≡ ok q.parameters (at s (after_first s.rest))
 unfolding called
 called_given room s p q found deep =
     ap (λ (o : Option Callable). callable_by room o s) found
@@ -49,12 +49,12 @@ called_given room s p q found deep =
 
 -- ---- arguments
 
--- the sign behind an argument
+-- the sign after an argument
 argument_ends : (n : Names) (es : List Expression) (ts rest : List Token) → Front ts (others (sign mark.Comma) (phrase.expression n) es) rest → NoSign (kind_of rest) → NoSign (kind_of ts)
 argument_ends n [] ts rest f ends = subst (λ (w : List Token). NoSign (kind_of w)) (sym f) ends
 argument_ends n (e ∷ es) ts rest f ends = no_sign (kind_of ts) _ (front_first ts (sign mark.Comma) (phrase.expression n e ++ others (sign mark.Comma) (phrase.expression n) es) rest f).0 (record { product = refl; sum = refl })
 
--- those behind the first
+-- those after the first
 others_read : (n : Names) (first : Expression) (before es : List Expression) (room : ℕ) (s : State) (rest : List Token) → FindsAll n s → each (expression_fits (scope_of s)) es ≡ true → most expression_depth es ≤ room → Front s.rest (others (sign mark.Comma) (phrase.expression n) es) rest → NoSign (kind_of rest) → more_arguments room (length es) (first ∷ before) s ≡ ok (first ∷ (before ++ es)) (at s rest)
 unfolding more_arguments
 others_read n first before [] room s rest finds fit deep f ends =
@@ -63,10 +63,10 @@ others_read n first before (e ∷ es) room s rest finds fit deep f ends =
     let m = front_split s.rest (sign mark.Comma ∷ phrase.expression n e) (others (sign mark.Comma) (phrase.expression n) es) rest f in
     let us : List Token = m.0 in
     let h = front_first s.rest (sign mark.Comma) (phrase.expression n e) us m.1 in
-    let t : State = at s (behind s.rest) in
+    let t : State = at s (after_first s.rest) in
     let deep_e : expression_depth e ≤ room = omega arith in
     let deep_es : most expression_depth es ≤ room = omega arith in
-    after (argument_behind room (first ∷ before) s) _ e (at s us)
+    after (argument_after room (first ∷ before) s) _ e (at s us)
     (after (expect_sign mark.Comma s) _ tt t (expected_sign mark.Comma s h.0)
     (expression_given n e room t us finds (first_of_both (expression_fits (scope_of s) e) _ fit) deep_e h.1 (argument_ends n es us rest m.2 ends)))
     (others_read n first (before ++ e ∷ []) es room (at s us) rest finds (second_of_both (expression_fits (scope_of s) e) _ fit) deep_es m.2 ends
@@ -92,14 +92,14 @@ arguments_given n es zero s rest finds fit deep f = absurd (omega arith)
 arguments_given n es (suc room) s rest finds fit deep f =
     let ps : List Piece = separated (sign mark.Comma) (phrase.expression n) es in
     let h = front_first s.rest (sign mark.LeftBracket) (ps ++ sign mark.RightBracket ∷ []) rest f in
-    let t : State = at s (behind s.rest) in
-    let m = front_split (behind s.rest) ps (sign mark.RightBracket ∷ []) rest h.1 in
+    let t : State = at s (after_first s.rest) in
+    let m = front_split (after_first s.rest) ps (sign mark.RightBracket ∷ []) rest h.1 in
     let us : List Token = m.0 in
     let g = front_first us (sign mark.RightBracket) [] rest m.2 in
     let within : most expression_depth es ≤ room = omega arith in
     after (expect_sign mark.LeftBracket s) _ tt t (expected_sign mark.LeftBracket s h.0)
     (after (more_arguments room (length es) [] t) _ es (at s us) (arguments_read n es room t us finds fit within m.1 (no_sign (kind_of us) _ g.0 (record { product = refl; sum = refl })))
-    (after (expect_sign mark.RightBracket (at s us)) _ tt (at s (behind us)) (expected_sign mark.RightBracket (at s us) g.0) (left es s (behind us) rest g.1)))
+    (after (expect_sign mark.RightBracket (at s us)) _ tt (at s (after_first us)) (expected_sign mark.RightBracket (at s us) g.0) (left es s (after_first us) rest g.1)))
 
 -- ---- the call
 
@@ -109,14 +109,14 @@ has_there None test e = absurd cc
 has_there (Some q) test e = (q, refl, e)
 
 pub call_given : (n : Names) (line p : ℕ) (es : List Expression) → IsGiven n (call line p es)
-unfolding calling
+unfolding call_statement
 call_given n line p es room s rest j k m c f ends =
     let x : Statement = call line p es in
     let ps : List Piece = name_at n.procedures p ∷ bracketed n es in
     let h = front_line s.rest s.end_line line (kind.Keyword keyword.Call) ps rest f in
-    let t1 : List Token = behind s.rest in
+    let t1 : List Token = after_first s.rest in
     let named = front_first t1 (name_at n.procedures p) (bracketed n es) rest h.2 in
-    let t2 : List Token = behind t1 in
+    let t2 : List Token = after_first t1 in
     let r = unless_parts (head_fits (scope_of s) j x) j k c.reached in
     let called_one = has_there (slice_get s.callables p) (λ q. nat_eq q.parameters (length es)) (first_of_both (has (slice_get s.callables p) (λ q. nat_eq q.parameters (length es))) _ r.0) in
     let q : Callable = called_one.0 in

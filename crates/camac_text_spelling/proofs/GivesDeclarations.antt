@@ -9,7 +9,7 @@ use Rattle.camac_text_tokens.specs.declared.token.Keyword.TheVariants as keyword
 use Rattle.camac_text_tokens.specs.declared.token.Token.{Token}
 use Rattle.camac_text_tokens.specs.declared.token.TokenKind.{TokenKind}
 use Rattle.camac_text_tokens.specs.declared.token.TokenKind.TheVariants as kind
-use Rattle.camac_text_cursor.specs.Reading.{State, ◌>>◌, give, change, advance, kind_of, behind, while_next}
+use Rattle.camac_text_cursor.specs.Reading.{State, ◌>>◌, give, change, advance, kind_of, after_first, while_next}
 use Rattle.camac_text_cursor.specs.Readers.{is_name, new_name, with_variable, new_variable, expect, any_number, branch_number, sub_address_number, used_lam, added}
 use Rattle.camac_text_statements.specs.Statements.{block_at}
 use Rattle.camac_text.specs.Declarations.{with_lam, lam_declaration, one_more_variable, with_variables_of, variable_declaration, with_service, service_declaration, declaration_by, declaration_at}
@@ -44,15 +44,15 @@ lam_declared l s rest room new below f =
     let q2 : List Piece = numeral l.crate_no ∷ q3 in
     let q1 : List Piece = numeral 1 ∷ q2 in
     let h = front_line s.rest s.end_line l.line (kind.Keyword keyword.Cdlam) (name l.name ∷ q1) rest f in
-    let t1 : List Token = behind s.rest in
+    let t1 : List Token = after_first s.rest in
     let f1 = front_first t1 (name l.name) q1 rest h.2 in
-    let t2 : List Token = behind t1 in
+    let t2 : List Token = after_first t1 in
     let f2 = front_first t2 (numeral 1) q2 rest f1.1 in
-    let t3 : List Token = behind t2 in
+    let t3 : List Token = after_first t2 in
     let f3 = front_first t3 (numeral l.crate_no) q3 rest f2.1 in
-    let t4 : List Token = behind t3 in
+    let t4 : List Token = after_first t3 in
     let f4 = front_first t4 (numeral l.station) q4 rest f3.1 in
-    let t5 : List Token = behind t4 in
+    let t5 : List Token = after_first t4 in
     let f5 = front_first t5 (numeral l.sub_address) [] rest f4.1 in
     first_given l.line (kind.Keyword keyword.Cdlam) s (name l.name ∷ q1) rest f
     ∙ checked (nat_lt (length s.lams) 64) LimitPassed _ s (lt-ltb (length s.lams) 64 room)
@@ -60,7 +60,7 @@ lam_declared l s rest room new below f =
     (after (branch_number (at s t2)) _ tt (at s t3) (branch_given (at s t2) f2.0)
     (after (any_number (at s t3)) _ l.crate_no (at s t4) (number_given (at s t3) l.crate_no f3.0)
     (after (any_number (at s t4)) _ l.station (at s t5) (number_given (at s t4) l.station f4.0)
-    (after (sub_address_number (at s t5)) _ l.sub_address (at s (behind t5)) (sub_address_given (at s t5) l.sub_address f5.0 below)
+    (after (sub_address_number (at s t5)) _ l.sub_address (at s (after_first t5)) (sub_address_given (at s t5) l.sub_address f5.0 below)
     (ap (λ (ts : List Token). ok tt (with_lam l (at s ts))) f5.1))))))
 
 -- ---- variables
@@ -70,14 +70,14 @@ abbrev pub with_names : State → List Token → List Text → State
 with_names s rest xs = record s { rest = rest; variables = s.variables ++ xs; variable_count = s.variable_count + length xs; declared = s.declared ++ xs }
 
 -- a variable or a parameter, whose name stands next
-pub name_added : (s : State) (x : Text) → s.variable_count < 64 → added x s ≡ ok tt (with_names s (behind s.rest) (x ∷ []))
+pub name_added : (s : State) (x : Text) → s.variable_count < 64 → added x s ≡ ok tt (with_names s (after_first s.rest) (x ∷ []))
 unfolding added
 name_added s x room =
     let one_more : suc s.variable_count ≡ s.variable_count + 1 = omega arith in
     checked (nat_lt s.variable_count 64) LimitPassed (advance >> change (with_variable x)) s (lt-ltb s.variable_count 64 room)
-    (ap (λ (i : ℕ). ok tt (record s { rest = behind s.rest; variables = s.variables ++ x ∷ []; variable_count = i; declared = s.declared ++ x ∷ [] })) one_more)
+    (ap (λ (i : ℕ). ok tt (record s { rest = after_first s.rest; variables = s.variables ++ x ∷ []; variable_count = i; declared = s.declared ++ x ∷ [] })) one_more)
 
-variable_declared : (s : State) (x : Text) → kind_of s.rest ≡ Some (kind.Name x) → is_new x s.declared ≡ true → s.variable_count < 64 → new_variable s ≡ ok tt (with_names s (behind s.rest) (x ∷ []))
+variable_declared : (s : State) (x : Text) → kind_of s.rest ≡ Some (kind.Name x) → is_new x s.declared ≡ true → s.variable_count < 64 → new_variable s ≡ ok tt (with_names s (after_first s.rest) (x ∷ []))
 unfolding new_variable
 variable_declared s x e new room = after (new_name s) added x s (new_name_seen s x e new) (name_added s x room)
 
@@ -90,7 +90,7 @@ no_names s rest same =
     ∙ ap (λ (i : ℕ). record s { rest = rest; variables = s.variables ++ []; variable_count = i }) no_more
     ∙ ap (λ (xs : List Text). record s { rest = rest; variables = s.variables ++ []; variable_count = s.variable_count + 0; declared = xs }) (sym (append-nil s.declared))
 
--- new behind one more name as in front of it
+-- new after one more name as in front of it
 pub new_after : (x : Text) (xs ds : List Text) → are_new xs (x ∷ ds) ≡ true → are_new xs (ds ++ x ∷ []) ≡ true
 new_after x xs ds e = new_same xs (ds ++ x ∷ []) (x ∷ ds) (λ z. sym (front_or_behind (x ∷ []) ds ds (λ y. refl) z)) ∙ e
 
@@ -109,28 +109,28 @@ names_declared [] counted s rest new room f off =
     ∙ ap (λ (w : State). ok (counted + 0) w) (no_names s rest f)
 names_declared (x ∷ xs) counted s rest new room f off =
     let h = front_first s.rest (name x) (map name xs) rest f in
-    let u : State = with_names s (behind s.rest) (x ∷ []) in
+    let u : State = with_names s (after_first s.rest) (x ∷ []) in
     let total : (counted + 1) + length xs ≡ counted + suc (length xs) = omega arith in
     while_turn is_name one_more_variable variables_progress counted s (counted + 1) u (ap is_name h.0)
     (after (new_variable s) (λ _. give (counted + 1)) tt u (variable_declared s x h.0 (first_of_both (is_new x s.declared) _ new) (omega arith)) refl)
     (names_declared xs (counted + 1) u rest (new_after x xs s.declared (second_of_both (is_new x s.declared) _ new)) (omega arith) h.1 off
     ∙ ap (λ (i : ℕ). ok i (with_names u rest xs)) total
-    ∙ ap (λ (w : State). ok (counted + suc (length xs)) w) (names_joined s (behind s.rest) rest x xs))
+    ∙ ap (λ (w : State). ok (counted + suc (length xs)) w) (names_joined s (after_first s.rest) rest x xs))
 
 pub variables_declared : (line n : ℕ) (xs : List Text) (s : State) (rest : List Token) → 1 ≤ n → length xs ≡ n → are_new xs s.declared ≡ true → s.variable_count + length xs ≤ 64 → Front s.rest (spell.variable_declaration line xs) rest → is_name (kind_of rest) ≡ false → declaration_at s ≡ ok tt (with_variables_of line n (with_names s rest xs))
 unfolding variable_declaration
 variables_declared line n [] s rest some many new room f off = absurd (omega arith)
 variables_declared line n (x ∷ xs) s rest some many new room f off =
     let h = front_line s.rest s.end_line line (kind.Keyword keyword.Var) (map name (x ∷ xs)) rest f in
-    let t1 : List Token = behind s.rest in
+    let t1 : List Token = after_first s.rest in
     let f1 = front_first t1 (name x) (map name xs) rest h.2 in
-    let u : State = with_names s (behind t1) (x ∷ []) in
+    let u : State = with_names s (after_first t1) (x ∷ []) in
     let is_n : 1 + length xs ≡ n = omega arith in
     first_given line (kind.Keyword keyword.Var) s (map name (x ∷ xs)) rest f
     ∙ after (new_variable (at s t1)) _ tt u (variable_declared (at s t1) x f1.0 (first_of_both (is_new x s.declared) _ new) (omega arith))
     (after (while_next is_name one_more_variable 1 u) _ (1 + length xs) (with_names u rest xs) (names_declared xs 1 u rest (new_after x xs s.declared (second_of_both (is_new x s.declared) _ new)) (omega arith) f1.1 off)
     (ap (λ (i : ℕ). ok tt (with_variables_of line i (with_names u rest xs))) is_n
-    ∙ ap (λ (w : State). ok tt (with_variables_of line n w)) (names_joined (at s t1) (behind t1) rest x xs)))
+    ∙ ap (λ (w : State). ok tt (with_variables_of line n w)) (names_joined (at s t1) (after_first t1) rest x xs)))
 
 -- ---- a service
 
@@ -151,21 +151,21 @@ service_declared t v s rest m room lam_fits c f =
     let q2 : List Piece = word keyword.Within ∷ q3 in
     let q1 : List Piece = name_at n.lams v.lam ∷ q2 in
     let h = front_line s.rest s.end_line v.line (kind.Keyword keyword.Service) q1 rest f in
-    let t1 : List Token = behind s.rest in
+    let t1 : List Token = after_first s.rest in
     let f1 = front_first t1 (name_at n.lams v.lam) q2 rest h.2 in
-    let t2 : List Token = behind t1 in
+    let t2 : List Token = after_first t1 in
     let f2 = front_first t2 (word keyword.Within) q3 rest f1.1 in
-    let t3 : List Token = behind t2 in
+    let t3 : List Token = after_first t2 in
     let f3 = front_first t3 (numeral v.cycles) q4 rest f2.1 in
-    let t4 : List Token = behind t3 in
+    let t4 : List Token = after_first t3 in
     let f4 = front_first t4 (word keyword.Cycles) q5 rest f3.1 in
-    let t5 : List Token = behind t4 in
+    let t5 : List Token = after_first t4 in
     let f5 = front_first t5 (word keyword.Event) q6 rest f4.1 in
-    let t6 : List Token = behind t5 in
+    let t6 : List Token = after_first t5 in
     let f6 = front_first t6 (numeral v.words) q7 rest f5.1 in
-    let t7 : List Token = behind t6 in
+    let t7 : List Token = after_first t6 in
     let f7 = front_first t7 (word keyword.Words) q8 rest f6.1 in
-    let t8 : List Token = behind t7 in
+    let t8 : List Token = after_first t7 in
     let inside : RunsBraced n (at s t8) 0 (length v.registers) m 16 v.body = record {
       finds = c.finds;
       sets = c.sets;

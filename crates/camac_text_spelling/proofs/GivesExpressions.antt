@@ -12,7 +12,7 @@ use Rattle.camac_text_tokens.specs.declared.token.Token.{Token}
 use Rattle.camac_text_tokens.specs.declared.token.TokenKind.{TokenKind}
 use Rattle.camac_text_tokens.specs.declared.token.TokenKind.TheVariants as kind
 use Rattle.camac_text_tokens.specs.Fault.{Fault}
-use Rattle.camac_text_cursor.specs.Reading.{State, Reader, ◌>>=◌, ◌>>◌, give, advance, kind_of, behind, while_next}
+use Rattle.camac_text_cursor.specs.Reading.{State, Reader, ◌>>=◌, ◌>>◌, give, advance, kind_of, after_first, while_next}
 use Rattle.camac_text_cursor.specs.Readers.{number_here, any_number, used_variable, expect_sign}
 use Rattle.camac_text_phrases.specs.Expressions.{Counted, counted, operator, divisor, factor_by, factor_with, is_product_sign, product_by, product_turn, product_with, is_sum_sign, joined, sum_turn, sum_with, bracketed, expression_at}
 use Rattle.camac_text_cursor.proofs.Steps.{while_off}
@@ -24,7 +24,7 @@ use Rattle.camac_text_spelling.specs.Phrases.{expression}
 use Rattle.camac_text_spelling.proofs.Fronts.{front_split, front_first}
 use Rattle.camac_text_spelling.proofs.Gives.{at, ok, after, checked, while_turn, left, expected_sign, number_seen, number_given, FindsAll, variable_given}
 
--- The expression may stand here, behind so many operators.
+-- The expression may stand here, after so many operators.
 record Can (n : Names) (s : State) (room so_far : ℕ) (e : Expression) : Type 0 where
   finds : FindsAll n s
   refers : refers (length s.variables) e ≡ true
@@ -59,11 +59,11 @@ sum_from_product : (e : Expression) (room so_far m : ℕ) (s : State) (rest : Li
 unfolding sum_with
 sum_from_product e room so_far m s rest off h = after (product_with (bracketed room) so_far s) (sum_loop room) (counted e m) (at s rest) (product_is e room so_far m s rest off h) refl
 
-operator_given : (so_far : ℕ) (s : State) → so_far < 32 → operator so_far s ≡ ok (suc so_far) (at s (behind s.rest))
+operator_given : (so_far : ℕ) (s : State) → so_far < 32 → operator so_far s ≡ ok (suc so_far) (at s (after_first s.rest))
 unfolding operator
 operator_given so_far s below = checked (nat_lt so_far 32) LimitPassed (advance >> give (suc so_far)) s (lt-ltb so_far 32 below) refl
 
-divisor_given : (s : State) (d : ℕ) → kind_of s.rest ≡ Some (kind.Number d) → nat_le 1 d ≡ true → divisor s ≡ ok d (at s (behind s.rest))
+divisor_given : (s : State) (d : ℕ) → kind_of s.rest ≡ Some (kind.Number d) → nat_le 1 d ≡ true → divisor s ≡ ok d (at s (after_first s.rest))
 unfolding divisor
 divisor_given s d e from_1 =
     let above : nat_lt 0 d ≡ true = grind (arith, from_1) in
@@ -76,8 +76,8 @@ unfolding factor_with
 number_factor n k room so_far m s rest same f =
     let h = front_first s.rest (numeral k) [] rest f in
     ap (λ (o : Option TokenKind). factor_by (bracketed room) so_far o s) h.0
-    ∙ after (any_number s) _ k (at s (behind s.rest)) (number_given s k h.0) refl
-    ∙ left (counted (number k) so_far) s (behind s.rest) rest h.1
+    ∙ after (any_number s) _ k (at s (after_first s.rest)) (number_given s k h.0) refl
+    ∙ left (counted (number k) so_far) s (after_first s.rest) rest h.1
     ∙ ap (λ (j : ℕ). read (number k) j s rest) (rw same refl)
 
 variable_factor : (n : Names) (x room so_far m : ℕ) (s : State) (rest : List Token) → FindsAll n s → nat_lt x (length s.variables) ≡ true → m ≡ so_far → Front s.rest (expression n (variable x)) rest → factor_with (bracketed room) so_far s ≡ read (variable x) m s rest
@@ -85,8 +85,8 @@ unfolding factor_with
 variable_factor n x room so_far m s rest finds fits same f =
     let h = front_first s.rest (name_at n.variables x) [] rest f in
     ap (λ (o : Option TokenKind). factor_by (bracketed room) so_far o s) h.0
-    ∙ after (used_variable s) _ x (at s (behind s.rest)) (variable_given n s x finds fits h.0) refl
-    ∙ left (counted (variable x) so_far) s (behind s.rest) rest h.1
+    ∙ after (used_variable s) _ x (at s (after_first s.rest)) (variable_given n s x finds fits h.0) refl
+    ∙ left (counted (variable x) so_far) s (after_first s.rest) rest h.1
     ∙ ap (λ (j : ℕ). read (variable x) j s rest) (rw same refl)
 
 group_factor : (n : Names) (a : Expression) → AtLevels n a → (room so_far m : ℕ) (s : State) (rest : List Token) → Can n s room so_far (group a) → m ≡ so_far + operators a → Front s.rest (expression n (group a)) rest → factor_with (bracketed room) so_far s ≡ read (group a) m s rest
@@ -94,8 +94,8 @@ unfolding factor_with bracketed
 group_factor n a levels zero so_far m s rest can same f = let deep : expression_depth (group a) ≤ 0 = can.deep in absurd (omega arith)
 group_factor n a levels (suc room) so_far m s rest can same f =
     let h = front_first s.rest (sign mark.LeftBracket) (expression n a ++ sign mark.RightBracket ∷ []) rest f in
-    let u : State = at s (behind s.rest) in
-    let parts = front_split (behind s.rest) (expression n a) (sign mark.RightBracket ∷ []) rest h.1 in
+    let u : State = at s (after_first s.rest) in
+    let parts = front_split (after_first s.rest) (expression n a) (sign mark.RightBracket ∷ []) rest h.1 in
     let us : List Token = parts.0 in
     let closing = front_first us (sign mark.RightBracket) [] rest parts.2 in
     let deep : suc (expression_depth a) ≤ suc room = can.deep in
@@ -104,7 +104,7 @@ group_factor n a levels (suc room) so_far m s rest can same f =
     levels.sum room so_far m u us can_inside same parts.1 (ap is_product_sign closing.0) ∙ while_off is_sum_sign (sum_turn (bracketed room)) (counted a m) (at u us) (ap is_sum_sign closing.0) in
     ap (λ (o : Option TokenKind). factor_by (bracketed (suc room)) so_far o s) h.0
     ∙ after (sum_with (bracketed room) so_far u) _ (counted a m) (at s us) inside
-    (after (expect_sign mark.RightBracket (at s us)) _ tt (at s (behind us)) (expected_sign mark.RightBracket (at s us) closing.0) (left (counted (group a) m) s (behind us) rest closing.1))
+    (after (expect_sign mark.RightBracket (at s us)) _ tt (at s (after_first us)) (expected_sign mark.RightBracket (at s us) closing.0) (left (counted (group a) m) s (after_first us) rest closing.1))
 
 -- ---- products
 
@@ -120,11 +120,11 @@ times_product n a b at_a at_b room so_far m s rest can same f =
     let right_forms = second_of_both (is_grouped a) _ can.grouped in
     let right_group = second_of_both (is_term a) _ right_forms in
     let can_a : Can n s room so_far a = record { finds = can.finds; refers = first_of_both _ _ can.refers; grouped = first_of_both (is_grouped a) _ can.grouped; deep = omega arith; few = omega arith } in
-    let can_b : Can n (at s (behind us)) room (suc k) b = record { finds = can.finds; refers = second_of_both (refers (length s.variables) a) _ can.refers; grouped = first_of_both (is_grouped b) _ right_group; deep = omega arith; few = omega arith } in
-    let right : factor_with (bracketed room) (suc k) (at s (behind us)) ≡ read b m s rest = at_b.factor room (suc k) m (at s (behind us)) rest can_b (second_of_both (is_grouped b) _ right_group) (omega arith) h.1 in
+    let can_b : Can n (at s (after_first us)) room (suc k) b = record { finds = can.finds; refers = second_of_both (refers (length s.variables) a) _ can.refers; grouped = first_of_both (is_grouped b) _ right_group; deep = omega arith; few = omega arith } in
+    let right : factor_with (bracketed room) (suc k) (at s (after_first us)) ≡ read b m s rest = at_b.factor room (suc k) m (at s (after_first us)) rest can_b (second_of_both (is_grouped b) _ right_group) (omega arith) h.1 in
     let turn : product_turn (bracketed room) (counted a k) (at s us) ≡ ok (counted (multiply a b) m) (at s rest) =
     ap (λ (o : Option TokenKind). product_by (bracketed room) (counted a k) o (at s us)) h.0
-    ∙ after (operator k (at s us)) _ (suc k) (at s (behind us)) (operator_given k (at s us) (omega arith)) (after (factor_with (bracketed room) (suc k) (at s (behind us))) _ (counted b m) (at s rest) right refl) in
+    ∙ after (operator k (at s us)) _ (suc k) (at s (after_first us)) (operator_given k (at s us) (omega arith)) (after (factor_with (bracketed room) (suc k) (at s (after_first us))) _ (counted b m) (at s rest) right refl) in
     at_a.product room so_far k s us can_a (first_of_both (is_term a) _ right_forms) refl parts.1
     ∙ while_turn is_product_sign (product_turn (bracketed room)) (product_progress room (bracketed room) (bracketed_ok room)) (counted a k) (at s us) (counted (multiply a b) m) (at s rest) (ap is_product_sign h.0) turn refl
 
@@ -134,7 +134,7 @@ over_product n a d at_a room so_far m s rest can same f =
     let parts = front_split s.rest (expression n a) (sign mark.Over ∷ numeral d ∷ []) rest f in
     let us : List Token = parts.0 in
     let h = front_first us (sign mark.Over) (numeral d ∷ []) rest parts.2 in
-    let by = front_first (behind us) (numeral d) [] rest h.1 in
+    let by = front_first (after_first us) (numeral d) [] rest h.1 in
     let k : ℕ = so_far + operators a in
     let few : so_far + suc (operators a) ≤ 32 = can.few in
     let m_is : suc k ≡ m = omega arith in
@@ -142,8 +142,8 @@ over_product n a d at_a room so_far m s rest can same f =
     let can_a : Can n s room so_far a = record { finds = can.finds; refers = first_of_both _ _ can.refers; grouped = first_of_both (is_grouped a) _ can.grouped; deep = can.deep; few = omega arith } in
     let turn : product_turn (bracketed room) (counted a k) (at s us) ≡ ok (counted (divide a d) m) (at s rest) =
     ap (λ (o : Option TokenKind). product_by (bracketed room) (counted a k) o (at s us)) h.0
-    ∙ after (operator k (at s us)) _ (suc k) (at s (behind us)) (operator_given k (at s us) (omega arith)) (after (divisor (at s (behind us))) _ d (at s (behind (behind us))) (divisor_given (at s (behind us)) d by.0 (first_of_both (nat_le 1 d) (is_number d) numbers)) refl)
-    ∙ left (counted (divide a d) (suc k)) s (behind (behind us)) rest by.1
+    ∙ after (operator k (at s us)) _ (suc k) (at s (after_first us)) (operator_given k (at s us) (omega arith)) (after (divisor (at s (after_first us))) _ d (at s (after_first (after_first us))) (divisor_given (at s (after_first us)) d by.0 (first_of_both (nat_le 1 d) (is_number d) numbers)) refl)
+    ∙ left (counted (divide a d) (suc k)) s (after_first (after_first us)) rest by.1
     ∙ ap (λ (j : ℕ). read (divide a d) j s rest) m_is in
     at_a.product room so_far k s us can_a (second_of_both (is_grouped a) _ can.grouped) refl parts.1
     ∙ while_turn is_product_sign (product_turn (bracketed room)) (product_progress room (bracketed room) (bracketed_ok room)) (counted a k) (at s us) (counted (divide a d) m) (at s rest) (ap is_product_sign h.0) turn refl
@@ -154,7 +154,7 @@ modulo_product n a d at_a room so_far m s rest can same f =
     let parts = front_split s.rest (expression n a) (sign mark.Modulo ∷ numeral d ∷ []) rest f in
     let us : List Token = parts.0 in
     let h = front_first us (sign mark.Modulo) (numeral d ∷ []) rest parts.2 in
-    let by = front_first (behind us) (numeral d) [] rest h.1 in
+    let by = front_first (after_first us) (numeral d) [] rest h.1 in
     let k : ℕ = so_far + operators a in
     let few : so_far + suc (operators a) ≤ 32 = can.few in
     let m_is : suc k ≡ m = omega arith in
@@ -162,15 +162,15 @@ modulo_product n a d at_a room so_far m s rest can same f =
     let can_a : Can n s room so_far a = record { finds = can.finds; refers = first_of_both _ _ can.refers; grouped = first_of_both (is_grouped a) _ can.grouped; deep = can.deep; few = omega arith } in
     let turn : product_turn (bracketed room) (counted a k) (at s us) ≡ ok (counted (remainder a d) m) (at s rest) =
     ap (λ (o : Option TokenKind). product_by (bracketed room) (counted a k) o (at s us)) h.0
-    ∙ after (operator k (at s us)) _ (suc k) (at s (behind us)) (operator_given k (at s us) (omega arith)) (after (divisor (at s (behind us))) _ d (at s (behind (behind us))) (divisor_given (at s (behind us)) d by.0 (first_of_both (nat_le 1 d) (is_number d) numbers)) refl)
-    ∙ left (counted (remainder a d) (suc k)) s (behind (behind us)) rest by.1
+    ∙ after (operator k (at s us)) _ (suc k) (at s (after_first us)) (operator_given k (at s us) (omega arith)) (after (divisor (at s (after_first us))) _ d (at s (after_first (after_first us))) (divisor_given (at s (after_first us)) d by.0 (first_of_both (nat_le 1 d) (is_number d) numbers)) refl)
+    ∙ left (counted (remainder a d) (suc k)) s (after_first (after_first us)) rest by.1
     ∙ ap (λ (j : ℕ). read (remainder a d) j s rest) m_is in
     at_a.product room so_far k s us can_a (second_of_both (is_grouped a) _ can.grouped) refl parts.1
     ∙ while_turn is_product_sign (product_turn (bracketed room)) (product_progress room (bracketed room) (bracketed_ok room)) (counted a k) (at s us) (counted (remainder a d) m) (at s rest) (ap is_product_sign h.0) turn refl
 
 -- ---- sums
 
--- behind a sum, its sign and a product
+-- after a sum, its sign and a product
 sum_of : (n : Names) (made : Expression → Expression → Expression) (w : Sign) (a b : Expression) → AtLevels n a → AtLevels n b → (joined (Some (kind.Sign w)) a b ≡ made a b) → is_product_sign (Some (kind.Sign w)) ≡ false → is_sum_sign (Some (kind.Sign w)) ≡ true → (room so_far m : ℕ) (s : State) (rest : List Token) → FindsAll n s → (refers (length s.variables) a && refers (length s.variables) b) ≡ true → (is_grouped a && (is_grouped b && is_term b)) ≡ true → max (expression_depth a) (expression_depth b) ≤ room → so_far + suc (operators a + operators b) ≤ 32 → m ≡ so_far + suc (operators a + operators b) → Front s.rest (expression n a ++ sign w ∷ expression n b) rest → is_product_sign (kind_of rest) ≡ false → sum_with (bracketed room) so_far s ≡ sum_loop room (counted (made a b) m) (at s rest)
 unfolding sum_turn
 sum_of n made w a b at_a at_b makes no_product is_sum room so_far m s rest finds refer group' deep few same f off =
@@ -180,12 +180,12 @@ sum_of n made w a b at_a at_b makes no_product is_sum room so_far m s rest finds
     let k : ℕ = so_far + operators a in
     let right_forms = second_of_both (is_grouped a) _ group' in
     let can_a : Can n s room so_far a = record { finds = finds; refers = first_of_both _ _ refer; grouped = first_of_both (is_grouped a) _ group'; deep = omega arith; few = omega arith } in
-    let can_b : Can n (at s (behind us)) room (suc k) b = record { finds = finds; refers = second_of_both (refers (length s.variables) a) _ refer; grouped = first_of_both (is_grouped b) _ right_forms; deep = omega arith; few = omega arith } in
-    let right : product_with (bracketed room) (suc k) (at s (behind us)) ≡ read b m s rest =
-    product_is b room (suc k) m (at s (behind us)) rest off (at_b.product room (suc k) m (at s (behind us)) rest can_b (second_of_both (is_grouped b) _ right_forms) (omega arith) h.1) in
+    let can_b : Can n (at s (after_first us)) room (suc k) b = record { finds = finds; refers = second_of_both (refers (length s.variables) a) _ refer; grouped = first_of_both (is_grouped b) _ right_forms; deep = omega arith; few = omega arith } in
+    let right : product_with (bracketed room) (suc k) (at s (after_first us)) ≡ read b m s rest =
+    product_is b room (suc k) m (at s (after_first us)) rest off (at_b.product room (suc k) m (at s (after_first us)) rest can_b (second_of_both (is_grouped b) _ right_forms) (omega arith) h.1) in
     let turn : sum_turn (bracketed room) (counted a k) (at s us) ≡ ok (counted (made a b) m) (at s rest) =
     ap (λ (o : Option TokenKind). (operator k >>= λ so_far. product_with (bracketed room) so_far >>= λ right. give (counted (joined o a right.value) right.operators)) (at s us)) h.0
-    ∙ after (operator k (at s us)) _ (suc k) (at s (behind us)) (operator_given k (at s us) (omega arith)) (after (product_with (bracketed room) (suc k) (at s (behind us))) _ (counted b m) (at s rest) right refl)
+    ∙ after (operator k (at s us)) _ (suc k) (at s (after_first us)) (operator_given k (at s us) (omega arith)) (after (product_with (bracketed room) (suc k) (at s (after_first us))) _ (counted b m) (at s rest) right refl)
     ∙ ap (λ (e : Expression). read e m s rest) makes in
     at_a.sum room so_far k s us can_a refl parts.1 (ap is_product_sign h.0 ∙ no_product)
     ∙ while_turn is_sum_sign (sum_turn (bracketed room)) (sum_progress room (bracketed room) (bracketed_ok room)) (counted a k) (at s us) (counted (made a b) m) (at s rest) (ap is_sum_sign h.0 ∙ is_sum) turn refl

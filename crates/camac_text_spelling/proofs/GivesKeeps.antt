@@ -11,7 +11,7 @@ use Rattle.camac_text_tokens.specs.declared.token.Sign.TheVariants as mark
 use Rattle.camac_text_tokens.specs.declared.token.Token.{Token}
 use Rattle.camac_text_tokens.specs.declared.token.TokenKind.{TokenKind}
 use Rattle.camac_text_tokens.specs.declared.token.TokenKind.TheVariants as kind
-use Rattle.camac_text_cursor.specs.Reading.{State, give, kind_of, behind}
+use Rattle.camac_text_cursor.specs.Reading.{State, give, kind_of, after_first}
 use Rattle.camac_text_cursor.specs.Readers.{is_keyword, is_sign, expect, expect_sign, any_number, used_variable, variable_here}
 use Rattle.camac_text_phrases.specs.Expressions.{expression_at}
 use Rattle.camac_text_phrases.specs.Keeps.{is_free, keep_at, next_keep, keep_list, keeps_at}
@@ -43,13 +43,13 @@ unfolding move_at
 move_given n no_data room s rest finds fits deep f ends off = no_move room (kind_of s.rest) s (ap (λ (w : List Token). is_move_sign (kind_of w)) f ∙ off) ∙ left no_data s s.rest rest f
 move_given n (into x) room s rest finds fits deep f ends off =
     let h = front_first s.rest (sign mark.Into) (name_at n.variables x ∷ []) rest f in
-    let u : State = at s (behind s.rest) in
-    let g = front_first (behind s.rest) (name_at n.variables x) [] rest h.1 in
+    let u : State = at s (after_first s.rest) in
+    let g = front_first (after_first s.rest) (name_at n.variables x) [] rest h.1 in
     ap (λ (k : Option TokenKind). move_by room k s) h.0
-    ∙ after (used_variable u) _ x (at s (behind (behind s.rest))) (variable_given n u x finds fits g.0) (left (into x) s (behind (behind s.rest)) rest g.1)
+    ∙ after (used_variable u) _ x (at s (after_first (after_first s.rest))) (variable_given n u x finds fits g.0) (left (into x) s (after_first (after_first s.rest)) rest g.1)
 move_given n (from e) room s rest finds fits deep f ends off =
     let h = front_first s.rest (sign mark.From) (phrase.expression n e) rest f in
-    let u : State = at s (behind s.rest) in
+    let u : State = at s (after_first s.rest) in
     ap (λ (k : Option TokenKind). move_by room k s) h.0
     ∙ after (expression_at room u) _ e (at s rest) (expression_given n e room u rest finds fits deep h.1 ends) refl
 
@@ -78,13 +78,13 @@ unfolding keep_at
 keep_given n own s finds acc k ks ts us good f =
     let u : State = at s ts in
     let h = front_first ts (name_at n.variables k.variable) (word keyword.In ∷ numeral k.low ∷ sign mark.UpTo ∷ numeral k.high ∷ []) us f in
-    let t1 = behind ts in
+    let t1 = after_first ts in
     let h1 = front_first t1 (word keyword.In) (numeral k.low ∷ sign mark.UpTo ∷ numeral k.high ∷ []) us h.1 in
-    let t2 = behind t1 in
+    let t2 = after_first t1 in
     let h2 = front_first t2 (numeral k.low) (sign mark.UpTo ∷ numeral k.high ∷ []) us h1.1 in
-    let t3 = behind t2 in
+    let t3 = after_first t2 in
     let h3 = front_first t3 (sign mark.UpTo) (numeral k.high ∷ []) us h2.1 in
-    let t4 = behind t3 in
+    let t4 = after_first t3 in
     let h4 = front_first t4 (numeral k.high) [] us h3.1 in
     let fits = first_of_both (nat_lt k.variable (length s.variables) && (is_number k.low && is_number k.high)) _ good.fit in
     let parted : are_distinct ((own ∷ map kept_variable acc) ++ k.variable ∷ map kept_variable ks) ≡ true = subst (λ (xs : List ℕ). are_distinct (own ∷ xs) ≡ true) (map-append kept_variable acc (k ∷ ks)) good.distinct in
@@ -94,7 +94,7 @@ keep_given n own s finds acc k ks ts us good f =
           (after (expect keyword.In (at s t1)) _ tt (at s t2) (expected keyword.In (at s t1) h1.0)
           (after (any_number (at s t2)) _ k.low (at s t3) (number_given (at s t2) k.low h2.0)
           (after (expect_sign mark.UpTo (at s t3)) _ tt (at s t4) (expected_sign mark.UpTo (at s t3) h3.0)
-          (after (any_number (at s t4)) _ k.high (at s (behind t4)) (number_given (at s t4) k.high h4.0) (left k s (behind t4) us h4.1)))))),
+          (after (any_number (at s t4)) _ k.high (at s (after_first t4)) (number_given (at s t4) k.high h4.0) (left k s (after_first t4) us h4.1)))))),
       record {
         distinct = subst (λ (xs : List Keep). are_distinct (own ∷ map kept_variable xs) ≡ true) (sym (append_assoc acc (k ∷ []) ks)) good.distinct;
         fit = second_of_both (nat_lt k.variable (length s.variables) && (is_number k.low && is_number k.high)) _ good.fit;
@@ -105,20 +105,20 @@ next_keep_given : (n : Names) (own : ℕ) (s : State) → FindsAll n s → (acc 
 unfolding next_keep
 next_keep_given n own s finds acc k ks ts us good f _ =
     let h = front_first ts (sign mark.Comma) (phrase.keep n k) us f in
-    keep_given n own s finds acc k ks (behind ts) us good h.1
+    keep_given n own s finds acc k ks (after_first ts) us good h.1
 
--- the kept ranges of a loop, and the brace behind them
+-- the kept ranges of a loop, and the brace after them
 pub keeps_given : (n : Names) (own : ℕ) (ks : List Keep) (s : State) (rest : List Token) → FindsAll n s → keeps_fit (scope_of s) own ks ≡ true → Front s.rest (phrase.keeps n ks) rest → kind_of rest ≡ Some (kind.Sign mark.LeftBrace) → keeps_at own s ≡ ok ks (at s rest)
 unfolding keeps_at keep_list
 keeps_given n own [] s rest finds fits f brace =
     ap (λ (k : Option TokenKind). cond (is_keyword keyword.Keep k) (keep_list own) (give []) s) (ap kind_of f ∙ brace) ∙ left [] s s.rest rest f
 keeps_given n own (k ∷ ks) s rest finds fits f brace =
     let h = front_first s.rest (word keyword.Keep) (separated (sign mark.Comma) (phrase.keep n) (k ∷ ks)) rest f in
-    let u : State = at s (behind s.rest) in
-    let m = front_split (behind s.rest) (phrase.keep n k) (others (sign mark.Comma) (phrase.keep n) ks) rest h.1 in
+    let u : State = at s (after_first s.rest) in
+    let m = front_split (after_first s.rest) (phrase.keep n k) (others (sign mark.Comma) (phrase.keep n) ks) rest h.1 in
     let us : List Token = m.0 in
     let good : GoodKeeps own s [] (k ∷ ks) = record { distinct = first_of_both (are_distinct (own ∷ map kept_variable (k ∷ ks))) _ fits; fit = second_of_both (are_distinct (own ∷ map kept_variable (k ∷ ks))) _ fits } in
-    let first = keep_given n own s finds [] k ks (behind s.rest) us good m.1 in
+    let first = keep_given n own s finds [] k ks (after_first s.rest) us good m.1 in
     ap (λ (o : Option TokenKind). cond (is_keyword keyword.Keep o) (keep_list own) (give []) s) h.0
     ∙ ap (λ (b : Bool). cond b (keep_list own) (give []) s) (keyword_same keyword.Keep)
     ∙ after (keep_at own [] u) _ k (at s us) first.0

@@ -4,19 +4,19 @@ use Rattle.camac_lang.specs.Depth.{expression_depth, part_depth, inner_depth}
 use Rattle.camac_lang.specs.Expressions.{expression_fits, condition_fits}
 use Rattle.camac_lang.specs.Statements.{head_fits, begun as begun_by, after_block, statements}
 use Rattle.camac_lang.specs.Tests.{most, is_number}
-use Rattle.camac_lang.specs.Tree.{Expression, Condition, Keep, Statement, count, repeat, Block}
+use Rattle.camac_lang.specs.Tree.{Expression, Condition, Keep, Statement, for_, while_, Block}
 use Rattle.camac_lang.proofs.Options.{unless_parts, then_parts}
 use Rattle.camac_text_tokens.specs.declared.token.Keyword.TheVariants as keyword
 use Rattle.camac_text_tokens.specs.declared.token.Sign.TheVariants as mark
 use Rattle.camac_text_tokens.specs.declared.token.Token.{Token}
 use Rattle.camac_text_tokens.specs.declared.token.TokenKind.TheVariants as kind
-use Rattle.camac_text_cursor.specs.Reading.{State, kind_of, behind}
+use Rattle.camac_text_cursor.specs.Reading.{State, kind_of, after_first}
 use Rattle.camac_text_cursor.specs.Readers.{is_keyword, expect, expect_sign, any_number, used_variable}
 use Rattle.camac_text_phrases.specs.Expressions.{expression_at}
 use Rattle.camac_text_phrases.specs.Conditions.{condition_at}
 use Rattle.camac_text_phrases.specs.Keeps.{keeps_at}
 use Rattle.camac_text_cursor.specs.Readers.{begin}
-use Rattle.camac_text_statements.specs.Statements.{counting, repetition, block_at}
+use Rattle.camac_text_statements.specs.Statements.{for_statement, while_statement, block_at}
 use Rattle.camac_text_cursor.proofs.Uses.{scope_of}
 use Rattle.camac_text_statements.proofs.Acts.{begun}
 use Rattle.camac_text_cursor.proofs.Registers.{first_of_both, second_of_both}
@@ -39,24 +39,24 @@ keeps_first n (k ∷ ks) ts us f brace = no_sign (kind_of ts) _ (front_first ts 
 
 -- ---- loops
 
-pub count_given : (n : Names) (line v : ℕ) (e1 e2 : Expression) (ks : List Keep) (b : Block) → AreGiven n b → IsGiven n (count line v e1 e2 ks b)
-unfolding counting
+pub count_given : (n : Names) (line v : ℕ) (e1 e2 : Expression) (ks : List Keep) (b : Block) → AreGiven n b → IsGiven n (for_ line v e1 e2 ks b)
+unfolding for_statement
 count_given n line v e1 e2 ks b given room s rest j k m c f ends =
-    let x : Statement = count line v e1 e2 ks b in
+    let x : Statement = for_ line v e1 e2 ks b in
     let p1 : List Piece = phrase.expression n e1 in
     let p2 : List Piece = phrase.expression n e2 in
     let p3 : List Piece = phrase.keeps n ks in
     let body : List Piece = spell.braced (spell.block n b) in
     let all : List Piece = name_at n.variables v ∷ sign mark.Equals ∷ (p1 ++ word keyword.To ∷ (p2 ++ (p3 ++ body))) in
     let h = front_line s.rest s.end_line line (kind.Keyword keyword.For) all rest f in
-    let t1 : List Token = behind s.rest in
+    let t1 : List Token = after_first s.rest in
     let own = front_first t1 (name_at n.variables v) (sign mark.Equals ∷ (p1 ++ word keyword.To ∷ (p2 ++ (p3 ++ body)))) rest h.2 in
-    let t2 : List Token = behind t1 in
+    let t2 : List Token = after_first t1 in
     let equals = front_first t2 (sign mark.Equals) (p1 ++ word keyword.To ∷ (p2 ++ (p3 ++ body))) rest own.1 in
-    let t3 : List Token = behind t2 in
+    let t3 : List Token = after_first t2 in
     let s1 = front_split t3 p1 (word keyword.To ∷ (p2 ++ (p3 ++ body))) rest equals.1 in
     let to = front_first s1.0 (word keyword.To) (p2 ++ (p3 ++ body)) rest s1.2 in
-    let t4 : List Token = behind s1.0 in
+    let t4 : List Token = after_first s1.0 in
     let s2 = front_split t4 p2 (p3 ++ body) rest to.1 in
     let s3 = front_split s2.0 p3 body rest s2.2 in
     let us : List Token = s3.0 in
@@ -89,12 +89,12 @@ count_given n line v e1 e2 ks b given room s rest j k m c f ends =
     (after (expression_at room (at g t4)) _ e2 (at g s2.0) (expression_given n e2 room (at g t4) s2.0 c.finds (first_of_both (expression_fits (scope_of s) e2) _ fits_more) (omega arith) s2.1 (keeps_first n ks s2.0 us s3.1 brace))
     (after (keeps_at v (at g s2.0)) _ ks (at g us) (keeps_given n v ks (at g s2.0) us c.finds (second_of_both (expression_fits (scope_of s) e2) _ fits_more) s3.1 brace)
     (after (block_at room (at g us)) _ (listed b) (left_at n s rest k m) (braced_given n b given room (at g us) rest p.0 k m inside s3.2)
-    (ap (λ (w : Block). ok (count line v e1 e2 ks w) (left_at n s rest k m)) (block_of_listed b)))))))))
+    (ap (λ (w : Block). ok (for_ line v e1 e2 ks w) (left_at n s rest k m)) (block_of_listed b)))))))))
 
-pub repeat_given : (n : Names) (line : ℕ) (t : Condition) (turns v : ℕ) (ks : List Keep) (b : Block) → AreGiven n b → IsGiven n (repeat line t turns v ks b)
-unfolding repetition
+pub repeat_given : (n : Names) (line : ℕ) (t : Condition) (turns v : ℕ) (ks : List Keep) (b : Block) → AreGiven n b → IsGiven n (while_ line t turns v ks b)
+unfolding while_statement
 repeat_given n line t turns v ks b given room s rest j k m c f ends =
-    let x : Statement = repeat line t turns v ks b in
+    let x : Statement = while_ line t turns v ks b in
     let p1 : List Piece = phrase.condition n t in
     let p3 : List Piece = phrase.keeps n ks in
     let body : List Piece = spell.braced (spell.block n b) in
@@ -103,15 +103,15 @@ repeat_given n line t turns v ks b given room s rest j k m c f ends =
     let q2 : List Piece = numeral turns ∷ q3 in
     let q1 : List Piece = word keyword.Turns ∷ q2 in
     let h = front_line s.rest s.end_line line (kind.Keyword keyword.While) (p1 ++ q1) rest f in
-    let s1 = front_split (behind s.rest) p1 q1 rest h.2 in
+    let s1 = front_split (after_first s.rest) p1 q1 rest h.2 in
     let f1 = front_first s1.0 (word keyword.Turns) q2 rest s1.2 in
-    let t2 : List Token = behind s1.0 in
+    let t2 : List Token = after_first s1.0 in
     let f2 = front_first t2 (numeral turns) q3 rest f1.1 in
-    let t3 : List Token = behind t2 in
+    let t3 : List Token = after_first t2 in
     let f3 = front_first t3 (word keyword.By) q4 rest f2.1 in
-    let t4 : List Token = behind t3 in
+    let t4 : List Token = after_first t3 in
     let f4 = front_first t4 (name_at n.variables v) (p3 ++ body) rest f3.1 in
-    let t5 : List Token = behind t4 in
+    let t5 : List Token = after_first t4 in
     let s3 = front_split t5 p3 body rest f4.1 in
     let us : List Token = s3.0 in
     let brace = brace_first n b us rest s3.2 in
@@ -142,4 +142,4 @@ repeat_given n line t turns v ks b given room s rest j k m c f ends =
     (after (used_variable (at g t4)) _ v (at g t5) (variable_given n (at g t4) v c.finds (first_of_both (nat_lt v (length s.variables)) _ fits_more) f4.0)
     (after (keeps_at v (at g t5)) _ ks (at g us) (keeps_given n v ks (at g t5) us c.finds (second_of_both (nat_lt v (length s.variables)) _ fits_more) s3.1 brace)
     (after (block_at room (at g us)) _ (listed b) (left_at n s rest k m) (braced_given n b given room (at g us) rest p.0 k m inside s3.2)
-    (ap (λ (w : Block). ok (repeat line t turns v ks w) (left_at n s rest k m)) (block_of_listed b)))))))))
+    (ap (λ (w : Block). ok (while_ line t turns v ks w) (left_at n s rest k m)) (block_of_listed b)))))))))

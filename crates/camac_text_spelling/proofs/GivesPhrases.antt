@@ -13,7 +13,7 @@ use Rattle.camac_text_tokens.specs.declared.token.Sign.TheVariants as mark
 use Rattle.camac_text_tokens.specs.declared.token.Token.{Token}
 use Rattle.camac_text_tokens.specs.declared.token.TokenKind.{TokenKind}
 use Rattle.camac_text_tokens.specs.declared.token.TokenKind.TheVariants as kind
-use Rattle.camac_text_cursor.specs.Reading.{State, Reader, ◌>>=◌, give, peek, kind_of, behind, while_next}
+use Rattle.camac_text_cursor.specs.Reading.{State, Reader, ◌>>=◌, give, peek, kind_of, after_first, while_next}
 use Rattle.camac_text_cursor.specs.Readers.{is_keyword}
 use Rattle.camac_text_phrases.specs.Expressions.{expression_at}
 use Rattle.camac_text_phrases.specs.Conditions.{comparison_by, comparison_sign, compared, test_by, test_at, part_by, part_at, no_part_by, part_limit, and_part, condition_at}
@@ -56,10 +56,10 @@ no_sign k j e h = subst (λ (o : Option TokenKind). NoSign o) (sym e) h
 
 -- ---- conditions
 
-comparison_given : (s : State) (how : Cmp) → kind_of s.rest ≡ Some (kind.Sign (phrase.comparison how)) → comparison_sign s ≡ ok how (at s (behind s.rest))
+comparison_given : (s : State) (how : Cmp) → kind_of s.rest ≡ Some (kind.Sign (phrase.comparison how)) → comparison_sign s ≡ ok how (at s (after_first s.rest))
 unfolding comparison_sign
 comparison_given s how e = ap (λ (k : Option TokenKind). comparison_by k s) e ∙ by how where
-  by : (c : Cmp) → comparison_by (Some (kind.Sign (phrase.comparison c))) s ≡ ok c (at s (behind s.rest))
+  by : (c : Cmp) → comparison_by (Some (kind.Sign (phrase.comparison c))) s ≡ ok c (at s (after_first s.rest))
   by cmp.Less = refl
   by cmp.AtMost = refl
   by cmp.More = refl
@@ -84,8 +84,8 @@ compared_given n a b how room s rest finds fits deep f ends =
     let deep_a : expression_depth a ≤ room = omega arith in
     let deep_b : expression_depth b ≤ room = omega arith in
     after (expression_at room s) _ a (at s us) (expression_given n a room s us finds (first_of_both (expression_fits (scope_of s) a) _ fits) deep_a m.1 (no_sign (kind_of us) _ h.0 (comparison_no_sign how)))
-    (after (comparison_sign (at s us)) _ how (at s (behind us)) (comparison_given (at s us) how h.0)
-    (after (expression_at room (at s (behind us))) _ b (at s rest) (expression_given n b room (at s (behind us)) rest finds (second_of_both (expression_fits (scope_of s) a) _ fits) deep_b h.1 ends) refl))
+    (after (comparison_sign (at s us)) _ how (at s (after_first us)) (comparison_given (at s us) how h.0)
+    (after (expression_at room (at s (after_first us))) _ b (at s rest) (expression_given n b room (at s (after_first us)) rest finds (second_of_both (expression_fits (scope_of s) a) _ fits) deep_b h.1 ends) refl))
 
 value_compared : (room : ℕ) (k : Option TokenKind) (s : State) → begins_value k ≡ true → test_by room k s ≡ compared room s
 value_compared room (Some (kind.Number j)) s e = refl
@@ -95,8 +95,8 @@ value_compared room _ s e = absurd cc
 
 test_given : (n : Names) (t : Test) (room : ℕ) (s : State) (rest : List Token) → FindsAll n s → test_fits (scope_of s) t ≡ true → test_depth t ≤ room → Front s.rest (phrase.test n t) rest → NoSign (kind_of rest) → test_at room s ≡ ok t (at s rest)
 unfolding test_at
-test_given n flag_q room s rest finds fits deep f ends = let h = front_first s.rest (word keyword.Q) [] rest f in ap (λ (k : Option TokenKind). test_by room k s) h.0 ∙ left flag_q s (behind s.rest) rest h.1
-test_given n flag_x room s rest finds fits deep f ends = let h = front_first s.rest (word keyword.X) [] rest f in ap (λ (k : Option TokenKind). test_by room k s) h.0 ∙ left flag_x s (behind s.rest) rest h.1
+test_given n flag_q room s rest finds fits deep f ends = let h = front_first s.rest (word keyword.Q) [] rest f in ap (λ (k : Option TokenKind). test_by room k s) h.0 ∙ left flag_q s (after_first s.rest) rest h.1
+test_given n flag_x room s rest finds fits deep f ends = let h = front_first s.rest (word keyword.X) [] rest f in ap (λ (k : Option TokenKind). test_by room k s) h.0 ∙ left flag_x s (after_first s.rest) rest h.1
 test_given n (compare a how b) room s rest finds fits deep f ends =
     let m = front_split s.rest (phrase.expression n a) (sign (phrase.comparison how) ∷ phrase.expression n b) rest f in
     value_compared room (kind_of s.rest) s (value_begins n a s.rest m.0 m.1) ∙ compared_given n a b how room s rest finds fits deep f ends
@@ -134,7 +134,7 @@ part_given n (plain t) room s rest finds fits deep f ends =
     ∙ after (test_at room s) _ t (at s rest) (test_given n t room s rest finds fits deep f ends) refl
 part_given n (negated t) room s rest finds fits deep f ends =
     let h = front_first s.rest (word keyword.Not) (phrase.test n t) rest f in
-    let u : State = at s (behind s.rest) in
+    let u : State = at s (after_first s.rest) in
     ap (λ (k : Option TokenKind). part_by room k s) h.0
     ∙ after (test_at room u) _ t (at s rest) (test_given n t room u rest finds fits deep h.1 ends) refl
 
@@ -173,7 +173,7 @@ and_part_given : (n : Names) (room : ℕ) (s : State) → FindsAll n s → (acc 
 unfolding and_part
 and_part_given n room s finds acc x xs ts us good f ends =
     let h = front_first ts (word keyword.And) (phrase.part n x) us f in
-    let u : State = at s (behind ts) in
+    let u : State = at s (after_first ts) in
     let few : length acc + suc (length xs) ≤ 16 = good.few in
     let deep : max (part_depth x) (most part_depth xs) ≤ room = good.deep in
     let longer : length (acc ++ x ∷ []) ≡ length acc + 1 = length-append acc (x ∷ []) in (

@@ -12,7 +12,7 @@ use Rattle.camac_text_tokens.specs.declared.token.Sign.TheVariants as mark
 use Rattle.camac_text_tokens.specs.declared.token.Token.{Token}
 use Rattle.camac_text_tokens.specs.declared.token.TokenKind.{TokenKind}
 use Rattle.camac_text_tokens.specs.declared.token.TokenKind.TheVariants as kind
-use Rattle.camac_text_cursor.specs.Reading.{State, ◌>>◌, give, kind_of, behind, while_next, one_more}
+use Rattle.camac_text_cursor.specs.Reading.{State, ◌>>◌, give, kind_of, after_first, while_next, one_more}
 use Rattle.camac_text_cursor.specs.Readers.{is_sign, expect, expect_sign, any_number, new_name, added, new_parameter}
 use Rattle.camac_text_cursor.proofs.Steps.{while_off}
 use Rattle.camac_text_cursor.proofs.Registers.{first_of_both, second_of_both}
@@ -33,12 +33,12 @@ use Rattle.camac_text_spelling.proofs.GivesDeclarations.{first_given, with_names
 
 -- ---- one parameter
 
-name_of_parameter : (s : State) (x : Text) → kind_of s.rest ≡ Some (kind.Name x) → is_new x s.declared ≡ true → length s.variables < 8 → s.variable_count < 64 → new_parameter s ≡ ok x (with_names s (behind s.rest) (x ∷ []))
+name_of_parameter : (s : State) (x : Text) → kind_of s.rest ≡ Some (kind.Name x) → is_new x s.declared ≡ true → length s.variables < 8 → s.variable_count < 64 → new_parameter s ≡ ok x (with_names s (after_first s.rest) (x ∷ []))
 unfolding new_parameter
 name_of_parameter s x e new few room =
     after (new_name s) _ x s (new_name_seen s x e new)
     (checked (nat_lt (length s.variables) 8) LimitPassed (added x >> give x) s (lt-ltb (length s.variables) 8 few)
-    (after (added x s) (λ _. give x) tt (with_names s (behind s.rest) (x ∷ [])) (name_added s x room) refl))
+    (after (added x s) (λ _. give x) tt (with_names s (after_first s.rest) (x ∷ [])) (name_added s x room) refl))
 
 parameter_given : (s : State) (p : Parameter) (rest : List Token) → is_new p.name s.declared ≡ true → length s.variables < 8 → s.variable_count < 64 → Front s.rest (spell.parameter p) rest → parameter_at s ≡ ok p (with_names s rest (p.name ∷ []))
 unfolding parameter_at
@@ -48,19 +48,19 @@ parameter_given s p rest new few room f =
     let q1 : List Piece = numeral p.low ∷ q2 in
     let h = front_first s.rest (name p.name) (word keyword.In ∷ q1) rest f in
     let u : State = with_names s s.rest (p.name ∷ []) in
-    let t1 : List Token = behind s.rest in
+    let t1 : List Token = after_first s.rest in
     let f1 = front_first t1 (word keyword.In) q1 rest h.1 in
-    let t2 : List Token = behind t1 in
+    let t2 : List Token = after_first t1 in
     let f2 = front_first t2 (numeral p.low) q2 rest f1.1 in
-    let t3 : List Token = behind t2 in
+    let t3 : List Token = after_first t2 in
     let f3 = front_first t3 (sign mark.UpTo) q3 rest f2.1 in
-    let t4 : List Token = behind t3 in
+    let t4 : List Token = after_first t3 in
     let f4 = front_first t4 (numeral p.high) [] rest f3.1 in
     after (new_parameter s) _ p.name (at u t1) (name_of_parameter s p.name h.0 new few room)
     (after (expect keyword.In (at u t1)) _ tt (at u t2) (expected keyword.In (at u t1) f1.0)
     (after (any_number (at u t2)) _ p.low (at u t3) (number_given (at u t2) p.low f2.0)
     (after (expect_sign mark.UpTo (at u t3)) _ tt (at u t4) (expected_sign mark.UpTo (at u t3) f3.0)
-    (after (any_number (at u t4)) _ p.high (at u (behind t4)) (number_given (at u t4) p.high f4.0) (left p u (behind t4) rest f4.1)))))
+    (after (any_number (at u t4)) _ p.high (at u (after_first t4)) (number_given (at u t4) p.high f4.0) (left p u (after_first t4) rest f4.1)))))
 
 -- ---- all parameters
 
@@ -77,7 +77,7 @@ parameters_more (p ∷ ps) acc s rest new few room f off =
     let m = front_split s.rest (sign mark.Comma ∷ spell.parameter p) (comma_first ps) rest f in
     let us : List Token = m.0 in
     let h = front_first s.rest (sign mark.Comma) (spell.parameter p) us m.1 in
-    let t : State = at s (behind s.rest) in
+    let t : State = at s (after_first s.rest) in
     let u : State = with_names s us (p.name ∷ []) in
     let longer : length (s.variables ++ p.name ∷ []) ≡ length s.variables + 1 = length-append s.variables (p.name ∷ []) in
     while_turn (is_sign mark.Comma) (one_more next_parameter) parameters_progress acc s (acc ++ p ∷ []) u (ap (is_sign mark.Comma) h.0 ∙ sign_same mark.Comma)
@@ -97,7 +97,7 @@ parameters_listed p ps s rest new few room f off =
     (parameters_more ps (p ∷ []) u rest (new_after p.name (names_of ps) s.declared (second_of_both (is_new p.name s.declared) _ new)) (omega arith) (omega arith) m.2 off
     ∙ ap (λ (w : State). ok (p ∷ ps) w) (names_joined s us rest p.name (names_of ps)))
 
--- the bracket behind them
+-- the bracket after them
 parameters_given : (ps : List Parameter) (s : State) (rest : List Token) → are_new (names_of ps) s.declared ≡ true → length s.variables + length ps ≤ 8 → s.variable_count + length ps ≤ 64 → Front s.rest (separated (sign mark.Comma) spell.parameter ps) rest → kind_of rest ≡ Some (kind.Sign mark.RightBracket) → parameters_at s ≡ ok ps (with_names s rest (names_of ps))
 unfolding parameters_at
 parameters_given [] s rest new few room f bracket =
@@ -137,25 +137,25 @@ heading_given p s ps rest new few room f =
     let q2 : List Piece = numeral p.cycles ∷ q3 in
     let q1 : List Piece = word keyword.Within ∷ q2 in
     let h = front_first s.rest (sign mark.LeftBracket) (q0 ++ sign mark.RightBracket ∷ q1) rest f in
-    let t0 : List Token = behind s.rest in
+    let t0 : List Token = after_first s.rest in
     let m = front_split t0 q0 (sign mark.RightBracket ∷ q1) rest h.1 in
     let t1 : List Token = m.0 in
     let f1 = front_first t1 (sign mark.RightBracket) q1 rest m.2 in
-    let t2 : List Token = behind t1 in
+    let t2 : List Token = after_first t1 in
     let f2 = front_first t2 (word keyword.Within) q2 rest f1.1 in
-    let t3 : List Token = behind t2 in
+    let t3 : List Token = after_first t2 in
     let f3 = front_first t3 (numeral p.cycles) q3 rest f2.1 in
-    let t4 : List Token = behind t3 in
+    let t4 : List Token = after_first t3 in
     let f4 = front_first t4 (word keyword.Cycles) q4 rest f3.1 in
-    let t5 : List Token = behind t4 in
+    let t5 : List Token = after_first t4 in
     let f5 = front_first t5 (word keyword.Event) q5 rest f4.1 in
-    let t6 : List Token = behind t5 in
+    let t6 : List Token = after_first t5 in
     let f6 = front_first t6 (numeral p.words) q6 rest f5.1 in
-    let t7 : List Token = behind t6 in
+    let t7 : List Token = after_first t6 in
     let f7 = front_first t7 (word keyword.Words) q7 rest f6.1 in
-    let t8 : List Token = behind t7 in
+    let t8 : List Token = after_first t7 in
     let f8 = front_first t8 (word keyword.Steps) q8 rest f7.1 in
-    let t9 : List Token = behind t8 in
+    let t9 : List Token = after_first t8 in
     let f9 = front_first t9 (numeral p.steps) ps rest f8.1 in
     let u : State = with_names s t1 (names_of p.parameters) in
     let read =
@@ -169,8 +169,8 @@ heading_given p s ps rest new few room f =
     (after (any_number (at u t6)) _ p.words (at u t7) (number_given (at u t6) p.words f6.0)
     (after (expect keyword.Words (at u t7)) _ tt (at u t8) (expected keyword.Words (at u t7) f7.0)
     (after (expect keyword.Steps (at u t8)) _ tt (at u t9) (expected keyword.Steps (at u t8) f8.0)
-    (after (any_number (at u t9)) _ p.steps (at u (behind t9)) (number_given (at u t9) p.steps f9.0) refl)))))))))) in
-    (behind t9, read, f9.1)
+    (after (any_number (at u t9)) _ p.steps (at u (after_first t9)) (number_given (at u t9) p.steps f9.0) refl)))))))))) in
+    (after_first t9, read, f9.1)
 
 -- ---- the whole procedure
 
@@ -199,9 +199,9 @@ procedure_declared t p s rest m room new new_parameters few count c f =
     let body : List Piece = braced (block n p.body) in
     let q1 : List Piece = heading p body in
     let h = front_line s.rest s.end_line p.line (kind.Keyword keyword.Proc) (name p.name ∷ q1) rest f in
-    let t1 : List Token = behind s.rest in
+    let t1 : List Token = after_first s.rest in
     let f1 = front_first t1 (name p.name) q1 rest h.2 in
-    let t2 : List Token = behind t1 in
+    let t2 : List Token = after_first t1 in
     let u : State = in_heading p.name (at s t2) in
     let g = heading_given p u body rest new_parameters (omega arith) count f1.1 in
     let us : List Token = g.0 in

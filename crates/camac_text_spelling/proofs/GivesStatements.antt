@@ -13,12 +13,12 @@ use Rattle.camac_text_tokens.specs.declared.token.Sign.TheVariants as mark
 use Rattle.camac_text_tokens.specs.declared.token.Token.{Token}
 use Rattle.camac_text_tokens.specs.declared.token.TokenKind.{TokenKind}
 use Rattle.camac_text_tokens.specs.declared.token.TokenKind.TheVariants as kind
-use Rattle.camac_text_cursor.specs.Reading.{State, Reader, kind_of, behind, while_next, one_more, many}
+use Rattle.camac_text_cursor.specs.Reading.{State, Reader, kind_of, after_first, while_next, one_more, many}
 use Rattle.camac_text_cursor.specs.Readers.{is_keyword, expect_sign}
 use Rattle.camac_text_phrases.specs.Expressions.{expression_at}
 use Rattle.camac_text_phrases.specs.Conditions.{condition_at}
 use Rattle.camac_text_cursor.specs.Readers.{begin}
-use Rattle.camac_text_statements.specs.Statements.{else_by, choice, locking, statement_with, is_no_end, block_at}
+use Rattle.camac_text_statements.specs.Statements.{else_by, if_statement, lock_statement, statement_with, is_no_end, block_at}
 use Rattle.camac_text_cursor.proofs.Uses.{scope_of}
 use Rattle.camac_text_statements.proofs.Acts.{begun}
 use Rattle.camac_text_cursor.proofs.Registers.{first_of_both, second_of_both}
@@ -46,8 +46,8 @@ braced_given n b given zero s rest j k m c f = let deep : suc (inner_depth s.cal
 braced_given n b given (suc room) s rest j k m c f =
     let ps : List Piece = spell.block n b in
     let h = front_first s.rest (sign mark.LeftBrace) (ps ++ sign mark.RightBrace ∷ []) rest f in
-    let u : State = at s (behind s.rest) in
-    let parts = front_split (behind s.rest) ps (sign mark.RightBrace ∷ []) rest h.1 in
+    let u : State = at s (after_first s.rest) in
+    let parts = front_split (after_first s.rest) ps (sign mark.RightBrace ∷ []) rest h.1 in
     let us : List Token = parts.0 in
     let closing = front_first us (sign mark.RightBrace) [] rest parts.2 in
     let deep : suc (inner_depth s.callables b) ≤ suc room = c.deep in
@@ -64,7 +64,7 @@ braced_given n b given (suc room) s rest j k m c f =
     let v : State = left_at n s us k m in
     after (expect_sign mark.LeftBrace s) _ tt u (expected_sign mark.LeftBrace s h.0)
     (after (many is_no_end (statement_with room (block_at room)) u) _ (listed b) v (given room [] u us j k m inside parts.1 closing.0)
-    (after (expect_sign mark.RightBrace v) _ tt (at v (behind us)) (expected_sign mark.RightBrace v closing.0) (left (listed b) v (behind us) rest closing.1)))
+    (after (expect_sign mark.RightBrace v) _ tt (at v (after_first us)) (expected_sign mark.RightBrace v closing.0) (left (listed b) v (after_first us) rest closing.1)))
 
 pub brace_no_sign : NoSign (Some (kind.Sign mark.LeftBrace))
 brace_no_sign = record { product = refl; sum = refl }
@@ -76,13 +76,13 @@ brace_first n b ts rest f = (front_first ts (sign mark.LeftBrace) (spell.block n
 -- ---- `lock`
 
 pub locked_given : (n : Names) (line : ℕ) (e : Expression) (b : Block) → AreGiven n b → IsGiven n (locked line e b)
-unfolding locking
+unfolding lock_statement
 locked_given n line e b given room s rest j k m c f ends =
     let x : Statement = locked line e b in
     let p1 : List Piece = phrase.expression n e in
     let body : List Piece = spell.braced (spell.block n b) in
     let h = front_line s.rest s.end_line line (kind.Keyword keyword.Lock) (p1 ++ body) rest f in
-    let parts = front_split (behind s.rest) p1 body rest h.2 in
+    let parts = front_split (after_first s.rest) p1 body rest h.2 in
     let us : List Token = parts.0 in
     let p = then_parts (λ i. after_block (scope_of s) i b) (begun_by (scope_of s) j x) k c.reached in
     let r = unless_parts (head_fits (scope_of s) j x) j p.0 p.1 in
@@ -113,13 +113,13 @@ no_else_by block line c xs (Some (kind.Keyword keyword.Else)) s off = absurd cc
 no_else_by block line c xs _ s off = refl
 
 pub choose_given : (n : Names) (line : ℕ) (t : Condition) (b : Block) → AreGiven n b → IsGiven n (choose line t b)
-unfolding choice
+unfolding if_statement
 choose_given n line t b given room s rest j k m c f ends =
     let x : Statement = choose line t b in
     let p1 : List Piece = phrase.condition n t in
     let body : List Piece = spell.braced (spell.block n b) in
     let h = front_line s.rest s.end_line line (kind.Keyword keyword.If) (p1 ++ body) rest f in
-    let parts = front_split (behind s.rest) p1 body rest h.2 in
+    let parts = front_split (after_first s.rest) p1 body rest h.2 in
     let us : List Token = parts.0 in
     let brace = brace_first n b us rest parts.2 in
     let p = then_parts (λ i. after_block (scope_of s) i b) (begun_by (scope_of s) j x) k c.reached in
@@ -145,14 +145,14 @@ choose_given n line t b given room s rest j k m c f ends =
     ∙ ap (λ (w : Block). ok (choose line t w) (left_at n s rest k m)) (block_of_listed b))))
 
 pub choose_else_given : (n : Names) (line : ℕ) (t : Condition) (a b : Block) → AreGiven n a → AreGiven n b → IsGiven n (choose_else line t a b)
-unfolding choice
+unfolding if_statement
 choose_else_given n line t a b given_a given_b room s rest j k m c f ends =
     let x : Statement = choose_else line t a b in
     let p1 : List Piece = phrase.condition n t in
     let body : List Piece = spell.braced (spell.block n a) in
     let other : List Piece = spell.braced (spell.block n b) in
     let h = front_line s.rest s.end_line line (kind.Keyword keyword.If) (p1 ++ (body ++ word keyword.Else ∷ other)) rest f in
-    let parts = front_split (behind s.rest) p1 (body ++ word keyword.Else ∷ other) rest h.2 in
+    let parts = front_split (after_first s.rest) p1 (body ++ word keyword.Else ∷ other) rest h.2 in
     let us : List Token = parts.0 in
     let more = front_split us body (word keyword.Else ∷ other) rest parts.2 in
     let vs : List Token = more.0 in
@@ -177,7 +177,7 @@ choose_else_given n line t a b given_a given_b room s rest j k m c f ends =
       counted = refl;
       few = omega arith;
     } in
-    let w : State = left_at n s (behind vs) p.0 m1 in
+    let w : State = left_at n s (after_first vs) p.0 m1 in
     let inside_b : RunsBraced n w p.0 k m room b = record {
       finds = c.finds;
       sets = c.sets;

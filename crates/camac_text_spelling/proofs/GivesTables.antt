@@ -9,7 +9,7 @@ use Rattle.camac_text_tokens.specs.declared.token.Keyword.TheVariants as keyword
 use Rattle.camac_text_tokens.specs.declared.token.Sign.TheVariants as mark
 use Rattle.camac_text_tokens.specs.declared.token.Token.{Token}
 use Rattle.camac_text_tokens.specs.declared.token.TokenKind.TheVariants as kind
-use Rattle.camac_text_cursor.specs.Reading.{State, ◌>>◌, give, check, advance, kind_of, behind, while_next}
+use Rattle.camac_text_cursor.specs.Reading.{State, ◌>>◌, give, check, advance, kind_of, after_first, while_next}
 use Rattle.camac_text_cursor.specs.Readers.{expect_sign, number_here, new_name}
 use Rattle.camac_text.specs.Tables.{word_behind, one_more_word, is_number, table_words, with_table, table_declaration}
 use Rattle.camac_text.specs.Declarations.{declaration_at}
@@ -22,8 +22,8 @@ use Rattle.camac_text_spelling.proofs.Fronts.{front_first, front_line}
 use Rattle.camac_text_spelling.proofs.Gives.{at, ok, after, checked, while_turn, left, expected_sign, number_seen, new_name_seen}
 use Rattle.camac_text_spelling.proofs.GivesDeclarations.{first_given}
 
--- one word behind so many
-word_given : (count : ℕ) (s : State) (w : ℕ) → kind_of s.rest ≡ Some (kind.Number w) → is_word w ≡ true → count < 1024 → word_behind count s ≡ ok w (at s (behind s.rest))
+-- one word after so many
+word_given : (count : ℕ) (s : State) (w : ℕ) → kind_of s.rest ≡ Some (kind.Number w) → is_word w ≡ true → count < 1024 → word_behind count s ≡ ok w (at s (after_first s.rest))
 unfolding word_behind
 word_given count s w next fits room =
     let most : w ≤ 16777215 = leb-true w 16777215 fits in
@@ -32,7 +32,7 @@ word_given count s w next fits room =
     (checked (nat_lt w 16777216) NumberTooLarge (check (nat_lt count 1024) LimitPassed >> (advance >> give w)) s (lt-ltb w 16777216 below)
     (checked (nat_lt count 1024) LimitPassed (advance >> give w) s (lt-ltb count 1024 room) refl))
 
--- the words behind these
+-- the words after these
 words_given : (ws acc : List ℕ) (s : State) (rest : List Token) → each is_word ws ≡ true → length acc + length ws ≤ 1024 → Front s.rest (map numeral ws) rest → is_number (kind_of rest) ≡ false → while_next is_number one_more_word acc s ≡ ok (acc ++ ws) (at s rest)
 words_given [] acc s rest fit room f off =
     while_off is_number one_more_word acc s (ap (λ (ts : List Token). is_number (kind_of ts)) f ∙ off)
@@ -40,7 +40,7 @@ words_given [] acc s rest fit room f off =
     ∙ left (acc ++ []) s s.rest rest f
 words_given (w ∷ ws) acc s rest fit room f off =
     let h = front_first s.rest (numeral w) (map numeral ws) rest f in
-    let u : State = at s (behind s.rest) in
+    let u : State = at s (after_first s.rest) in
     let longer : length (acc ++ w ∷ []) ≡ length acc + 1 = length-append acc (w ∷ []) in
     while_turn is_number one_more_word words_progress acc s (acc ++ w ∷ []) u (ap is_number h.0)
     (after (word_behind (length acc) s) (λ x. give (acc ++ x ∷ [])) w u (word_given (length acc) s w h.0 (first_of_both (is_word w) _ fit) (omega arith)) refl)
@@ -52,7 +52,7 @@ unfolding table_words
 all_words_given [] s rest some few fit f off = absurd (omega arith)
 all_words_given (w ∷ ws) s rest some few fit f off =
     let h = front_first s.rest (numeral w) (map numeral ws) rest f in
-    let u : State = at s (behind s.rest) in
+    let u : State = at s (after_first s.rest) in
     after (word_behind 0 s) (λ first. while_next is_number one_more_word (first ∷ [])) w u (word_given 0 s w h.0 (first_of_both (is_word w) _ fit) (omega arith))
     (words_given ws (w ∷ []) u rest (second_of_both (is_word w) _ fit) (omega arith) h.1 off)
 
@@ -62,11 +62,11 @@ table_declared g s rest room new some few fit f off =
     let q2 : List Piece = map numeral g.words in
     let q1 : List Piece = sign mark.Equals ∷ q2 in
     let h = front_line s.rest s.end_line g.line (kind.Keyword keyword.Table) (name g.name ∷ q1) rest f in
-    let t1 : List Token = behind s.rest in
+    let t1 : List Token = after_first s.rest in
     let f1 = front_first t1 (name g.name) q1 rest h.2 in
-    let t2 : List Token = behind t1 in
+    let t2 : List Token = after_first t1 in
     let f2 = front_first t2 (sign mark.Equals) q2 rest f1.1 in
-    let t3 : List Token = behind t2 in
+    let t3 : List Token = after_first t2 in
     first_given g.line (kind.Keyword keyword.Table) s (name g.name ∷ q1) rest f
     ∙ checked (nat_lt (length s.tables) 16) LimitPassed _ s (lt-ltb (length s.tables) 16 room)
     (after (new_name (at s t1)) _ g.name (at s t1) (new_name_seen (at s t1) g.name f1.0 new)

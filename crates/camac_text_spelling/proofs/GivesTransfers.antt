@@ -13,11 +13,11 @@ use Rattle.camac_text_tokens.specs.declared.token.Token.{Token}
 use Rattle.camac_text_tokens.specs.declared.token.TokenKind.{TokenKind}
 use Rattle.camac_text_tokens.specs.declared.token.TokenKind.TheVariants as kind
 use Rattle.camac_text_cursor.specs.Names.{place_of}
-use Rattle.camac_text_cursor.specs.Reading.{State, kind_of, behind}
+use Rattle.camac_text_cursor.specs.Reading.{State, kind_of, after_first}
 use Rattle.camac_text_cursor.specs.Readers.{expect, function_number, used_register, used_variable, used_table}
 use Rattle.camac_text_phrases.specs.Expressions.{expression_at}
 use Rattle.camac_text_statements.specs.Statements.{block_at}
-use Rattle.camac_text_statements.specs.Transfers.{last_bound, table_by, table_at, scanning, stopping, repeating}
+use Rattle.camac_text_statements.specs.Transfers.{last_bound, table_by, table_at, scan_statement, q_stop_statement, q_repeat_statement}
 use Rattle.camac_text_statements.proofs.Acts.{begun}
 use Rattle.camac_text_cursor.proofs.Uses.{scope_of}
 use Rattle.camac_text_cursor.proofs.Registers.{first_of_both, second_of_both}
@@ -32,13 +32,13 @@ use Rattle.camac_text_spelling.proofs.GivesActions.{IsGiven}
 
 -- ---- their parts
 
-function_read : (s : State) (g : ℕ) → is_function g ≡ true → kind_of s.rest ≡ Some (kind.Number g) → function_number s ≡ ok g (at s (behind s.rest))
+function_read : (s : State) (g : ℕ) → is_function g ≡ true → kind_of s.rest ≡ Some (kind.Number g) → function_number s ≡ ok g (at s (after_first s.rest))
 function_read s g fits next =
     let few : g ≤ 31 = leb-true g 31 fits in
     function_given s g next (let less : g < 32 = omega arith in lt-ltb g 32 less)
 
 -- a register that is set
-register_read : (n : Names) (s : State) (ts : List Token) (r j k m room : ℕ) (reaches : Option ℕ) (depth : ℕ) → Runs n s j k m room reaches depth 1 → j ≡ k → nat_lt r j ≡ true → kind_of ts ≡ Some (kind.Name (text_at n.registers r)) → used_register (at (begun s) ts) ≡ ok r (at (begun s) (behind ts))
+register_read : (n : Names) (s : State) (ts : List Token) (r j k m room : ℕ) (reaches : Option ℕ) (depth : ℕ) → Runs n s j k m room reaches depth 1 → j ≡ k → nat_lt r j ≡ true → kind_of ts ≡ Some (kind.Name (text_at n.registers r)) → used_register (at (begun s) ts) ≡ ok r (at (begun s) (after_first ts))
 register_read n s ts r j k m room reaches depth c same fits next =
     let below : r < j = ltb-true r j fits in
     let within : k ≤ length n.registers = c.within in
@@ -50,21 +50,21 @@ tally_no_sign = record { product = refl; sum = refl }
 limit_no_sign : NoSign (Some (kind.Keyword keyword.Limit))
 limit_no_sign = record { product = refl; sum = refl }
 
--- the last bound behind its word, and the tally
+-- the last bound after its word, and the tally
 bound_given : (n : Names) (w : Keyword) (e : Expression) (x room : ℕ) (s : State) (rest : List Token) → FindsAll n s → expression_fits (scope_of s) e ≡ true → expression_depth e ≤ room → nat_lt x (length s.variables) ≡ true → Front s.rest (word w ∷ (phrase.expression n e ++ phrase.tally n x)) rest → last_bound w room s ≡ ok (e, x) (at s rest)
 unfolding last_bound
 bound_given n w e x room s rest finds fits deep known f =
     let h = front_first s.rest (word w) (phrase.expression n e ++ phrase.tally n x) rest f in
-    let u : State = at s (behind s.rest) in
-    let parts = front_split (behind s.rest) (phrase.expression n e) (phrase.tally n x) rest h.1 in
+    let u : State = at s (after_first s.rest) in
+    let parts = front_split (after_first s.rest) (phrase.expression n e) (phrase.tally n x) rest h.1 in
     let us : List Token = parts.0 in
     let tally = front_first us (word keyword.Tally) (name_at n.variables x ∷ []) rest parts.2 in
-    let ts : List Token = behind us in
+    let ts : List Token = after_first us in
     let named = front_first ts (name_at n.variables x) [] rest tally.1 in
     after (expect w s) _ tt u (expected w s h.0)
     (after (expression_at room u) _ e (at s us) (expression_given n e room u us finds fits deep parts.1 (no_sign (kind_of us) _ tally.0 tally_no_sign))
     (after (expect keyword.Tally (at s us)) _ tt (at s ts) (expected keyword.Tally (at s us) tally.0)
-    (after (used_variable (at s ts)) _ x (at s (behind ts)) (variable_given n (at s ts) x finds known named.0) (left (e, x) s (behind ts) rest named.1))))
+    (after (used_variable (at s ts)) _ x (at s (after_first ts)) (variable_given n (at s ts) x finds known named.0) (left (e, x) s (after_first ts) rest named.1))))
 
 -- the table of a write, in front of `max`
 write_given : (n : Names) (g : Option ℕ) (s : State) (rest : List Token) → FindsAll n s → table_fits (scope_of s) g ≡ true → Front s.rest (phrase.table n g) rest → kind_of rest ≡ Some (kind.Keyword keyword.Max) → table_at s ≡ ok g (at s rest)
@@ -73,28 +73,28 @@ write_given n None s rest finds fits f next =
     ap (λ (k : Option TokenKind). table_by k s) (ap kind_of f ∙ next) ∙ left (let none : Option ℕ = None in none) s s.rest rest f
 write_given n (Some g) s rest finds fits f next =
     let h = front_first s.rest (word keyword.Table) (name_at n.tables g ∷ []) rest f in
-    let ts : List Token = behind s.rest in
+    let ts : List Token = after_first s.rest in
     let named = front_first ts (name_at n.tables g) [] rest h.1 in
     ap (λ (k : Option TokenKind). table_by k s) h.0
-    ∙ after (used_table (at s ts)) _ g (at s (behind ts)) (table_given n (at s ts) g finds fits named.0) (left (Some g) s (behind ts) rest named.1)
+    ∙ after (used_table (at s ts)) _ g (at s (after_first ts)) (table_given n (at s ts) g finds fits named.0) (left (Some g) s (after_first ts) rest named.1)
 
 -- ---- `cfmad`
 
 pub scan_given : (n : Names) (line g r1 r2 : ℕ) (e : Expression) (x : ℕ) → IsGiven n (address_scan line g r1 r2 e x)
-unfolding scanning
+unfolding scan_statement
 scan_given n line g r1 r2 e x room s rest j k m c f ends =
     let y : Statement = address_scan line g r1 r2 e x in
     let p4 : List Piece = phrase.most n e ++ phrase.tally n x in
     let p3 : List Piece = name_at n.registers r2 ∷ p4 in
     let p2 : List Piece = name_at n.registers r1 ∷ p3 in
     let h = front_line s.rest s.end_line line (kind.Keyword keyword.Cfmad) (numeral g ∷ p2) rest f in
-    let t1 : List Token = behind s.rest in
+    let t1 : List Token = after_first s.rest in
     let number = front_first t1 (numeral g) p2 rest h.2 in
-    let t2 : List Token = behind t1 in
+    let t2 : List Token = after_first t1 in
     let first = front_first t2 (name_at n.registers r1) p3 rest number.1 in
-    let t3 : List Token = behind t2 in
+    let t3 : List Token = after_first t2 in
     let last = front_first t3 (name_at n.registers r2) p4 rest first.1 in
-    let t4 : List Token = behind t3 in
+    let t4 : List Token = after_first t3 in
     let rule = unless_parts (head_fits (scope_of s) j y) j k c.reached in
     let q1 = second_of_both (is_function g) _ rule.0 in
     let q2 = second_of_both (nat_lt r1 j) _ q1 in
@@ -110,18 +110,18 @@ scan_given n line g r1 r2 e x room s rest j k m c f ends =
 -- ---- `cfubc`
 
 pub stop_given : (n : Names) (line g r : ℕ) (t : Option ℕ) (e : Expression) (x : ℕ) → IsGiven n (q_stop line g r t e x)
-unfolding stopping
+unfolding q_stop_statement
 stop_given n line g r t e x room s rest j k m c f ends =
     let y : Statement = q_stop line g r t e x in
     let p4 : List Piece = phrase.expression n e ++ phrase.tally n x in
     let p3 : List Piece = phrase.table n t ++ word keyword.Max ∷ p4 in
     let p2 : List Piece = name_at n.registers r ∷ p3 in
     let h = front_line s.rest s.end_line line (kind.Keyword keyword.Cfubc) (numeral g ∷ p2) rest f in
-    let t1 : List Token = behind s.rest in
+    let t1 : List Token = after_first s.rest in
     let number = front_first t1 (numeral g) p2 rest h.2 in
-    let t2 : List Token = behind t1 in
+    let t2 : List Token = after_first t1 in
     let register = front_first t2 (name_at n.registers r) p3 rest number.1 in
-    let t3 : List Token = behind t2 in
+    let t3 : List Token = after_first t2 in
     let parts = front_split t3 (phrase.table n t) (word keyword.Max ∷ p4) rest register.1 in
     let us : List Token = parts.0 in
     let most = front_first us (word keyword.Max) p4 rest parts.2 in
@@ -140,7 +140,7 @@ stop_given n line g r t e x room s rest j k m c f ends =
 -- ---- `cfubr`
 
 pub repeat_transfer_given : (n : Names) (line g r : ℕ) (t : Option ℕ) (e l : Expression) (x : ℕ) → IsGiven n (q_repeat line g r t e l x)
-unfolding repeating
+unfolding q_repeat_statement
 repeat_transfer_given n line g r t e l x room s rest j k m c f ends =
     let y : Statement = q_repeat line g r t e l x in
     let p5 : List Piece = word keyword.Limit ∷ (phrase.expression n l ++ phrase.tally n x) in
@@ -148,15 +148,15 @@ repeat_transfer_given n line g r t e l x room s rest j k m c f ends =
     let p3 : List Piece = phrase.table n t ++ word keyword.Max ∷ p4 in
     let p2 : List Piece = name_at n.registers r ∷ p3 in
     let h = front_line s.rest s.end_line line (kind.Keyword keyword.Cfubr) (numeral g ∷ p2) rest f in
-    let t1 : List Token = behind s.rest in
+    let t1 : List Token = after_first s.rest in
     let number = front_first t1 (numeral g) p2 rest h.2 in
-    let t2 : List Token = behind t1 in
+    let t2 : List Token = after_first t1 in
     let register = front_first t2 (name_at n.registers r) p3 rest number.1 in
-    let t3 : List Token = behind t2 in
+    let t3 : List Token = after_first t2 in
     let parts = front_split t3 (phrase.table n t) (word keyword.Max ∷ p4) rest register.1 in
     let us : List Token = parts.0 in
     let most = front_first us (word keyword.Max) p4 rest parts.2 in
-    let more = front_split (behind us) (phrase.expression n e) p5 rest most.1 in
+    let more = front_split (after_first us) (phrase.expression n e) p5 rest most.1 in
     let vs : List Token = more.0 in
     let limit = front_first vs (word keyword.Limit) (phrase.expression n l ++ phrase.tally n x) rest more.2 in
     let rule = unless_parts (head_fits (scope_of s) j y) j k c.reached in
@@ -170,7 +170,7 @@ repeat_transfer_given n line g r t e l x room s rest j k m c f ends =
     (after (function_number (begun s)) _ g (at (begun s) t2) (function_read (begun s) g (first_of_both (is_function g) _ rule.0) number.0)
     (after (used_register (at (begun s) t2)) _ r (at (begun s) t3) (register_read n s t2 r j k m room _ _ c rule.1 (first_of_both (nat_lt r j) _ q1) register.0)
     (after (table_at (at (begun s) t3)) _ t (at (begun s) us) (write_given n t (at (begun s) t3) us c.finds (first_of_both (table_fits (scope_of s) t) _ q2) parts.1 most.0)
-    (after (expect keyword.Max (at (begun s) us)) _ tt (at (begun s) (behind us)) (expected keyword.Max (at (begun s) us) most.0)
-    (after (expression_at room (at (begun s) (behind us))) _ e (at (begun s) vs) (expression_given n e room (at (begun s) (behind us)) vs c.finds (first_of_both (expression_fits (scope_of s) e) _ q3) (omega arith) more.1 (no_sign (kind_of vs) _ limit.0 limit_no_sign))
+    (after (expect keyword.Max (at (begun s) us)) _ tt (at (begun s) (after_first us)) (expected keyword.Max (at (begun s) us) most.0)
+    (after (expression_at room (at (begun s) (after_first us))) _ e (at (begun s) vs) (expression_given n e room (at (begun s) (after_first us)) vs c.finds (first_of_both (expression_fits (scope_of s) e) _ q3) (omega arith) more.1 (no_sign (kind_of vs) _ limit.0 limit_no_sign))
     (after (last_bound keyword.Limit room (at (begun s) vs)) _ (l, x) (at (begun s) rest)
     (bound_given n keyword.Limit l x room (at (begun s) vs) rest c.finds (first_of_both (expression_fits (scope_of s) l) _ q4) (omega arith) (second_of_both (expression_fits (scope_of s) l) _ q4) more.2) refl))))))

@@ -15,7 +15,7 @@ use Rattle.camac_text_cursor.specs.Reading.{State, kind_of, while_next}
 use Rattle.camac_text_cursor.specs.Readers.{is_name as next_is_name}
 use Rattle.camac_text.specs.Declarations.{declaration_at, is_token, declarations_at}
 use Rattle.camac_text.specs.Tables.{is_number as next_is_number}
-use Rattle.camac_text.specs.Parser.{start, tree_so_far, tree_in, tree_of_tokens, tree_behind, script_of}
+use Rattle.camac_text.specs.Parser.{start, tree_so_far, tree_in, tree_of_tokens, tree_after, script_of}
 use Rattle.camac_text_cursor.proofs.Registers.{first_of_both, second_of_both}
 use Rattle.camac_text.proofs.Declares.{declarations_progress}
 use Rattle.camac_text_cursor.proofs.Steps.{while_off}
@@ -176,7 +176,7 @@ spelled_tokens_are_read tokens end_line tree spelled =
 pub spelled_is_read : SpelledIsRead
 unfolding script_of
 spelled_is_read text tree spelled =
-    ap (λ (r : Result (List Token) Fault). tree_behind r (last_line text)) spelled.made ∙ spelled_tokens_are_read spelled.tokens (last_line text) tree spelled.spelled
+    ap (λ (r : Result (List Token) Fault). tree_after r (last_line text)) spelled.made ∙ spelled_tokens_are_read spelled.tokens (last_line text) tree spelled.spelled
 
 tree_same : (a b : Script) → (let r : Result Script Fault = Ok a in r) ≡ Ok b → a ≡ b
 tree_same a b e = cc

@@ -1,4 +1,4 @@
--- The rules that hold where a statement or a block stands, and the state behind it.
+-- The rules that hold where a statement or a block stands, and the state after it.
 use Rattle.std.proofs.Common.{◌≡◌, ℕ, suc, ◌+◌, ◌≤◌, ◌<◌, max, Bool, true, false, not, ◌&&◌, nat_lt, List, [], ◌∷◌, ◌++◌, length, take, Option, Some, None, refl, sym, ap, ◌∙◌, arith}
 use Rattle.std.proofs.lemmas.Bool.{lt-ltb, ltb-true, not-true}
 use Rattle.std.proofs.lemmas.List.{length-take-le}
@@ -11,7 +11,7 @@ use Rattle.camac_text_tokens.specs.declared.token.Token.{Token}
 use Rattle.camac_text_tokens.specs.declared.token.TokenKind.{TokenKind}
 use Rattle.camac_text_tokens.specs.declared.token.TokenKind.TheVariants as kind
 use Rattle.camac_text_cursor.specs.Names.{place_of}
-use Rattle.camac_text_cursor.specs.Reading.{State, Reader, ◌>>◌, give, change, advance, kind_of, behind}
+use Rattle.camac_text_cursor.specs.Reading.{State, Reader, ◌>>◌, give, change, advance, kind_of, after_first}
 use Rattle.camac_text_cursor.specs.Readers.{other_registers, is_keyword, new_name, with_register, register_at, set_name}
 use Rattle.camac_text_phrases.specs.Expressions.{is_product_sign, is_sum_sign}
 use Rattle.camac_text_cursor.specs.Readers.{begin}
@@ -44,7 +44,7 @@ pub record Runs (n : Names) (s : State) (j k m room : ℕ) (reaches : Option ℕ
   pub counted : m ≡ s.statements + count
   pub few : m ≤ 4096
 
--- the state behind it
+-- the state after it
 abbrev pub left_at : Names → State → List Token → ℕ → ℕ → State
 left_at n s rest k m = record s { rest = rest; registers = take k n.registers; statements = m }
 
@@ -92,26 +92,26 @@ ends_by k e =
 
 -- ---- registers
 
-register_set : (s : State) (x : Text) (place : Option ℕ) (r : ℕ) → place ≡ Some r → register_at x place s ≡ ok r (at s (behind s.rest))
+register_set : (s : State) (x : Text) (place : Option ℕ) (r : ℕ) → place ≡ Some r → register_at x place s ≡ ok r (at s (after_first s.rest))
 register_set s x place r e = ap (λ (o : Option ℕ). register_at x o s) e
 
-register_new : (s : State) (x : Text) (place : Option ℕ) → place ≡ None → other_registers s + length s.registers < 64 → register_at x place s ≡ ok (length s.registers) (record s { rest = behind s.rest; registers = s.registers ++ x ∷ [] })
+register_new : (s : State) (x : Text) (place : Option ℕ) → place ≡ None → other_registers s + length s.registers < 64 → register_at x place s ≡ ok (length s.registers) (record s { rest = after_first s.rest; registers = s.registers ++ x ∷ [] })
 register_new s x place e room =
     ap (λ (o : Option ℕ). register_at x o s) e
     ∙ checked (nat_lt (other_registers s + length s.registers) 64) LimitPassed (advance >> (change (with_register x) >> give (length s.registers))) s (lt-ltb (other_registers s + length s.registers) 64 room) refl
 
-pub set_name_given : (n : Names) (s : State) (r j k : ℕ) → Sets n s.declared (other_registers s) → s.registers ≡ take j n.registers → r ≤ j → max j (suc r) ≡ k → k ≤ length n.registers → kind_of s.rest ≡ Some (kind.Name (text_at n.registers r)) → set_name s ≡ ok r (record s { rest = behind s.rest; registers = take k n.registers })
+pub set_name_given : (n : Names) (s : State) (r j k : ℕ) → Sets n s.declared (other_registers s) → s.registers ≡ take j n.registers → r ≤ j → max j (suc r) ≡ k → k ≤ length n.registers → kind_of s.rest ≡ Some (kind.Name (text_at n.registers r)) → set_name s ≡ ok r (record s { rest = after_first s.rest; registers = take k n.registers })
 unfolding set_name
 set_name_given n s r j k sets registers below reaches within ahead =
     let x : Text = text_at n.registers r in
     after (new_name s) _ x s (new_name_seen s x ahead (sets.fresh r (omega arith))) (by (nat_lt r j) refl)
   where
-    by : (b : Bool) → nat_lt r j ≡ b → register_at (text_at n.registers r) (place_of (text_at n.registers r) s.registers) s ≡ ok r (record s { rest = behind s.rest; registers = take k n.registers })
+    by : (b : Bool) → nat_lt r j ≡ b → register_at (text_at n.registers r) (place_of (text_at n.registers r) s.registers) s ≡ ok r (record s { rest = after_first s.rest; registers = take k n.registers })
     by true e =
         let less : r < j = ltb-true r j e in
         let same : j ≡ k = omega arith in
         register_set s (text_at n.registers r) (place_of (text_at n.registers r) s.registers) r (ap (place_of (text_at n.registers r)) registers ∙ sets.set r j less (omega arith))
-        ∙ ap (λ (rs : List Text). ok r (record s { rest = behind s.rest; registers = rs })) (registers ∙ ap (λ (i : ℕ). take i n.registers) same)
+        ∙ ap (λ (rs : List Text). ok r (record s { rest = after_first s.rest; registers = rs })) (registers ∙ ap (λ (i : ℕ). take i n.registers) same)
     by false e =
         let same : r ≡ j = grind (arith, e, below) in
         let next_is : suc j ≡ k = omega arith in
@@ -119,8 +119,8 @@ set_name_given n s r j k sets registers below reaches within ahead =
         let few : other_registers s + length n.registers ≤ 64 = sets.few in
         let found : place_of (text_at n.registers r) s.registers ≡ None = ap (place_of (text_at n.registers r)) registers ∙ ap (λ (i : ℕ). place_of (text_at n.registers i) (take j n.registers)) same ∙ sets.unset j (omega arith) in
         register_new s (text_at n.registers r) (place_of (text_at n.registers r) s.registers) found (omega arith)
-        ∙ ap (λ (i : ℕ). ok i (record s { rest = behind s.rest; registers = s.registers ++ text_at n.registers r ∷ [] })) (many ∙ sym same)
-        ∙ ap (λ (rs : List Text). ok r (record s { rest = behind s.rest; registers = rs })) (ap (λ (rs : List Text). rs ++ text_at n.registers r ∷ []) registers ∙ ap (λ (i : ℕ). take j n.registers ++ text_at n.registers i ∷ []) same ∙ sym (sets.more j (omega arith)) ∙ ap (λ (i : ℕ). take i n.registers) next_is)
+        ∙ ap (λ (i : ℕ). ok i (record s { rest = after_first s.rest; registers = s.registers ++ text_at n.registers r ∷ [] })) (many ∙ sym same)
+        ∙ ap (λ (rs : List Text). ok r (record s { rest = after_first s.rest; registers = rs })) (ap (λ (rs : List Text). rs ++ text_at n.registers r ∷ []) registers ∙ ap (λ (i : ℕ). take j n.registers ++ text_at n.registers i ∷ []) same ∙ sym (sets.more j (omega arith)) ∙ ap (λ (i : ℕ). take i n.registers) next_is)
 
 -- ---- blocks
 

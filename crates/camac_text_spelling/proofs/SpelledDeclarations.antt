@@ -9,7 +9,7 @@ use Rattle.camac_text_tokens.specs.declared.token.Sign.TheVariants as mark
 use Rattle.camac_text_tokens.specs.declared.token.Token.{Token}
 use Rattle.camac_text_tokens.specs.declared.token.TokenKind.{TokenKind}
 use Rattle.camac_text_tokens.specs.declared.token.TokenKind.TheVariants as kind
-use Rattle.camac_text_cursor.specs.Reading.{State, give, change, kind_of, line_of, behind, while_next, advance, Reader, ◌>>◌}
+use Rattle.camac_text_cursor.specs.Reading.{State, give, change, kind_of, line_of, after_first, while_next, advance, Reader, ◌>>◌}
 use Rattle.camac_text_cursor.specs.Readers.{new_name, new_variable, is_name, expect, any_number, branch_number, sub_address_number, used_lam, expect_sign, number_here}
 use Rattle.camac_text_statements.specs.Statements.{block_at}
 use Rattle.camac_text.specs.Declarations.{with_lam as lam_added, lam_declaration, one_more_variable, with_variables_of, variable_declaration, with_service as service_added, service_declaration, declaration_by, declaration_at, is_token, declarations_at}
@@ -58,11 +58,11 @@ plainly s ps u took = took.front (tells_names u (tree_so_far u) (own u) (itself 
 lam_spelled : (s : State) (y : Unit {0} × State) → kind_of s.rest ≡ Some (kind.Keyword keyword.Cdlam) → lam_declaration (line_of s.rest s.end_line) s ≡ Ok y → Declares (tree_so_far s) s.rest (tree_so_far y.1) y.1.rest
 unfolding lam_declaration
 lam_spelled s y next e =
-    let t : State = record s { rest = behind s.rest } in
+    let t : State = record s { rest = after_first s.rest } in
     let c0 = check_ok (nat_lt (length s.lams) 64) LimitPassed _ s y e in
     let a = then_ok (new_name t) _ y c0.1 in
     let h = new_name_ok t a.0 a.1 in
-    let u : State = record a.0.1 { rest = behind a.0.1.rest } in
+    let u : State = record a.0.1 { rest = after_first a.0.1.rest } in
     let b = then_ok (branch_number u) _ y a.2 in
     let c = then_ok (any_number b.0.1) _ y b.2 in
     let d = then_ok (any_number c.0.1) _ y c.2 in
@@ -70,7 +70,7 @@ lam_spelled s y next e =
     let l : Lam = record { line = line_of s.rest s.end_line; name = a.0.0; crate_no = c.0.0; station = d.0.0; sub_address = f.0.0 } in
     let v : State = f.0.1 in
     let took : Took (service_names (tree_so_far v) (own v)) s (spell.lam_declaration l) v =
-    join (took_first s (kind.Keyword keyword.Cdlam) next) (join (took_one {s' = u} h.next (ap (λ (w : State). record w { rest = behind w.rest }) h.left)) (join (took_branch u b.0 b.1)
+    join (took_first s (kind.Keyword keyword.Cdlam) next) (join (took_one {s' = u} h.next (ap (λ (w : State). record w { rest = after_first w.rest }) h.left)) (join (took_branch u b.0 b.1)
     (join (took_token (any_number_ok b.0.1 c.0 c.1)) (join (took_token (any_number_ok c.0.1 d.0 d.1)) (took_token (sub_address_ok d.0.1 f.0 f.1).one))))) in
     subst (λ (p : Unit {0} × State). Declares (tree_so_far s) s.rest (tree_so_far p.1) p.1.rest) (ok_is (tt, lam_added l v) y f.2)
     (subst (λ (w : Script). Declares w s.rest (with_lam (tree_so_far v) l) v.rest) took.same (declares_lam (tree_so_far v) l s.rest v.rest (plainly s (spell.lam_declaration l) v took)))
@@ -89,7 +89,7 @@ took_word_of {n} count s y e =
     let rest : Reader ℕ = advance >> give m.0.0 in
     let a = check_ok (nat_lt m.0.0 16777216) NumberTooLarge _ m.0.1 y m.2 in
     let b = check_ok (nat_lt count 1024) LimitPassed rest m.0.1 y a.1 in
-    let one : Took n s (numeral m.0.0 ∷ []) (record m.0.1 { rest = behind m.0.1.rest }) = took_one h.0 (ap (λ (w : State). record w { rest = behind w.rest }) h.1) in
+    let one : Took n s (numeral m.0.0 ∷ []) (record m.0.1 { rest = after_first m.0.1.rest }) = took_one h.0 (ap (λ (w : State). record w { rest = after_first w.rest }) h.1) in
     returns {x = m.0.0} (λ w. numeral w ∷ []) b.1 one
 
 took_words : {n : Names} (s : State) (y : List ℕ × State) → table_words s ≡ Ok y → Took n s (map numeral y.0) y.1
@@ -103,17 +103,17 @@ took_words {n} s y e =
 table_spelled : (s : State) (y : Unit {0} × State) → kind_of s.rest ≡ Some (kind.Keyword keyword.Table) → table_declaration (line_of s.rest s.end_line) s ≡ Ok y → Declares (tree_so_far s) s.rest (tree_so_far y.1) y.1.rest
 unfolding table_declaration
 table_spelled s y next e =
-    let t : State = record s { rest = behind s.rest } in
+    let t : State = record s { rest = after_first s.rest } in
     let c0 = check_ok (nat_lt (length s.tables) 16) LimitPassed _ s y e in
     let a = then_ok (new_name t) _ y c0.1 in
     let h = new_name_ok t a.0 a.1 in
-    let u : State = record a.0.1 { rest = behind a.0.1.rest } in
+    let u : State = record a.0.1 { rest = after_first a.0.1.rest } in
     let b = then_ok (expect_sign mark.Equals u) _ y a.2 in
     let c = then_ok (table_words b.0.1) _ y b.2 in
     let l : Table = record { line = line_of s.rest s.end_line; name = a.0.0; words = c.0.0 } in
     let v : State = c.0.1 in
     let took : Took (service_names (tree_so_far v) (own v)) s (spell.table_declaration l) v =
-    join (took_first s (kind.Keyword keyword.Table) next) (join (took_one {s' = u} h.next (ap (λ (w : State). record w { rest = behind w.rest }) h.left)) (join (took_sign mark.Equals u b.0 b.1) (took_words b.0.1 c.0 c.1))) in
+    join (took_first s (kind.Keyword keyword.Table) next) (join (took_one {s' = u} h.next (ap (λ (w : State). record w { rest = after_first w.rest }) h.left)) (join (took_sign mark.Equals u b.0 b.1) (took_words b.0.1 c.0 c.1))) in
     subst (λ (p : Unit {0} × State). Declares (tree_so_far s) s.rest (tree_so_far p.1) p.1.rest) (ok_is (tt, table_added l v) y c.2)
     (subst (λ (w : Script). Declares w s.rest (with_table (tree_so_far v) l) v.rest) took.same (declares_table (tree_so_far v) l s.rest v.rest (plainly s (spell.table_declaration l) v took)))
 
@@ -131,7 +131,7 @@ no_names s = record { names = []; counted = refl; front = refl; tree = ap (λ (x
 
 name_more : (s : State) (n : ℕ) (u : State) (x : Text) (v : State) → Names' s n u → DeclaresOne u x v → Names' s (n + 1) v
 name_more s n u x v d one =
-    let rest : v.rest ≡ behind u.rest = ap (λ (w : State). w.rest) one.left in
+    let rest : v.rest ≡ after_first u.rest = ap (λ (w : State). w.rest) one.left in
     let here : Front u.rest (name x ∷ []) v.rest = subst (λ (ts : List Token). Front u.rest (name x ∷ []) ts) (sym rest) (front_token u.rest (kind.Name x) one.next) in
     record {
       names = d.names ++ x ∷ [];
@@ -152,7 +152,7 @@ variables_spelled : (s : State) (y : Unit {0} × State) → kind_of s.rest ≡ S
 unfolding variable_declaration
 variables_spelled s y next e =
     let line : ℕ = line_of s.rest s.end_line in
-    let t : State = record s { rest = behind s.rest } in
+    let t : State = record s { rest = after_first s.rest } in
     let a = then_ok (new_variable t) _ y e in
     let first = new_variable_ok t a.0 a.1 in
     let one : Names' t 1 a.0.1 = name_more t 0 t first.0 a.0.1 (no_names t) first.1 in
@@ -170,7 +170,7 @@ service_spelled : (s : State) (y : Unit {0} × State) → kind_of s.rest ≡ Som
 unfolding service_declaration
 service_spelled s y next e =
     let line : ℕ = line_of s.rest s.end_line in
-    let t : State = record s { rest = behind s.rest } in
+    let t : State = record s { rest = after_first s.rest } in
     let c0 = check_ok (nat_lt (length s.services) 24) LimitPassed _ s y e in
     let l = then_ok (used_lam t) _ y c0.1 in
     let a = then_ok (expect keyword.Within l.0.1) _ y l.2 in

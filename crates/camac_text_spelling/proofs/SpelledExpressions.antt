@@ -4,7 +4,7 @@ use Rattle.camac_lang.specs.Tree.{Expression}
 use Rattle.camac_text_tokens.specs.declared.token.Sign.TheVariants as mark
 use Rattle.camac_text_tokens.specs.declared.token.TokenKind.{TokenKind}
 use Rattle.camac_text_tokens.specs.declared.token.TokenKind.TheVariants as kind
-use Rattle.camac_text_cursor.specs.Reading.{State, Reader, ◌>>=◌, give, kind_of, behind}
+use Rattle.camac_text_cursor.specs.Reading.{State, Reader, ◌>>=◌, give, kind_of, after_first}
 use Rattle.camac_text_cursor.specs.Readers.{any_number, used_variable, expect_sign}
 use Rattle.camac_text_phrases.specs.Expressions.{Counted, counted, operator, divisor, factor_by, factor_with, is_product_sign, product_by, product_turn, product_with, is_sum_sign, joined, sum_turn, sum_with, bracketed, expression_at}
 use Rattle.camac_text_cursor.proofs.Steps.{then_ok, err_no_ok, while_keeps}
@@ -74,7 +74,7 @@ took_bracketed : (n : Names) (room so_far : ℕ) (s : State) (y : Counted × Sta
 unfolding bracketed
 took_bracketed n zero so_far s y next e = absurd (err_no_ok _ _ e)
 took_bracketed n (suc room) so_far s y next e =
-    let u : State = record s { rest = behind s.rest } in
+    let u : State = record s { rest = after_first s.rest } in
     let a = then_ok (sum_with (bracketed room) so_far u) _ y e in
     let inside = took_sum n (bracketed room) (took_bracketed n room) so_far u a.0 a.1 in
     let b = then_ok (expect_sign mark.RightBracket a.0.1) _ y a.2 in

@@ -8,7 +8,7 @@ use Rattle.camac_text_tokens.specs.declared.token.Keyword.TheVariants as keyword
 use Rattle.camac_text_tokens.specs.declared.token.Sign.TheVariants as mark
 use Rattle.camac_text_tokens.specs.declared.token.TokenKind.{TokenKind}
 use Rattle.camac_text_tokens.specs.declared.token.TokenKind.TheVariants as kind
-use Rattle.camac_text_cursor.specs.Reading.{State, Reader, ◌>>=◌, ◌>>◌, give, peek, advance, fail, check, kind_of, behind}
+use Rattle.camac_text_cursor.specs.Reading.{State, Reader, ◌>>=◌, ◌>>◌, give, peek, advance, fail, check, kind_of, after_first}
 use Rattle.camac_text_cursor.specs.Readers.{is_keyword, is_sign, expect, expect_sign, any_number, used_variable, variable_here}
 use Rattle.camac_text_phrases.specs.Expressions.{expression_at}
 use Rattle.camac_text_phrases.specs.Conditions.{comparison_by, comparison_sign, compared, test_by, test_at, part_by, part_at, no_part_by, part_limit, and_part, condition_at}
@@ -64,7 +64,7 @@ took_plain {n} room s y e =
 
 took_part_by : {n : Names} (room : ℕ) (k : Option TokenKind) (s : State) (y : Part × State) → kind_of s.rest ≡ k → part_by room k s ≡ Ok y → Took n s (phrase.part n y.0) y.1
 took_part_by {n} room (Some (kind.Keyword keyword.Not)) s y next e =
-    let u : State = record s { rest = behind s.rest } in
+    let u : State = record s { rest = after_first s.rest } in
     let m = then_ok (test_at room u) (λ t. give (negated t)) y e in
     returns {x = negated m.0.0} (phrase.part n) m.2 (join (took_one {s' = u} next refl) (took_test room u m.0 m.1))
 took_part_by room _ s y next e = took_plain room s y e
@@ -93,7 +93,7 @@ limit_stays count s y e = limit_is (nat_lt count 16) s y e
 took_and_part : {n : Names} (room count : ℕ) (s : State) (y : Part × State) → is_keyword keyword.And (kind_of s.rest) ≡ true → and_part room count s ≡ Ok y → Took n s (word keyword.And ∷ phrase.part n y.0) y.1
 unfolding and_part
 took_and_part room count s y on e =
-    let u : State = record s { rest = behind s.rest } in
+    let u : State = record s { rest = after_first s.rest } in
     let m = then_ok (part_limit count u) (λ _. part_at room) y e in
     let at : part_at room u ≡ Ok y = subst (λ (w : State). part_at room w ≡ Ok y) (limit_stays count u m.0 m.1) m.2 in
     join (took_one {s' = u} (keyword_is keyword.And (kind_of s.rest) on) refl) (took_part room u y at)
@@ -109,11 +109,11 @@ took_condition {n} room s y e =
 
 took_move_by : {n : Names} (room : ℕ) (k : Option TokenKind) (s : State) (y : Move × State) → kind_of s.rest ≡ k → move_by room k s ≡ Ok y → Took n s (phrase.move n y.0) y.1
 took_move_by {n} room (Some (kind.Sign mark.Into)) s y next e =
-    let u : State = record s { rest = behind s.rest } in
+    let u : State = record s { rest = after_first s.rest } in
     let m = then_ok (used_variable u) (λ place. give (into place)) y e in
     returns {x = into m.0.0} (phrase.move n) m.2 (join (took_one {s' = u} next refl) (took_variable u m.0 m.1))
 took_move_by {n} room (Some (kind.Sign mark.From)) s y next e =
-    let u : State = record s { rest = behind s.rest } in
+    let u : State = record s { rest = after_first s.rest } in
     let m = then_ok (expression_at room u) (λ v. give (from v)) y e in
     returns {x = from m.0.0} (phrase.move n) m.2 (join (took_one {s' = u} next refl) (took_expression room u m.0 m.1))
 took_move_by {n} room _ s y next e = returns {x = no_data} (phrase.move n) e (nothing n s)
@@ -135,7 +135,7 @@ took_keep {n} own keeps s y e =
     let range : ℕ → Reader Keep = λ place. advance >> (expect keyword.In >> (any_number >>= λ low. expect_sign mark.UpTo >> (any_number >>= λ high. give (kept place low high)))) in
     let at : (check (is_free v.0.0 own keeps) DeclaredTwice >> range v.0.0) s ≡ Ok y = subst (λ (w : State). (check (is_free v.0.0 own keeps) DeclaredTwice >> range v.0.0) w ≡ Ok y) here.left v.2 in
     let c = check_ok (is_free v.0.0 own keeps) DeclaredTwice (range v.0.0) s y at in
-    let u : State = record s { rest = behind s.rest } in
+    let u : State = record s { rest = after_first s.rest } in
     let a = then_ok (expect keyword.In u) _ y c.1 in
     let b = then_ok (any_number a.0.1) _ y a.2 in
     let d = then_ok (expect_sign mark.UpTo b.0.1) _ y b.2 in
@@ -146,13 +146,13 @@ took_keep {n} own keeps s y e =
 took_next_keep : {n : Names} (own : ℕ) (keeps : List Keep) (s : State) (y : Keep × State) → is_sign mark.Comma (kind_of s.rest) ≡ true → next_keep own keeps s ≡ Ok y → Took n s (sign mark.Comma ∷ phrase.keep n y.0) y.1
 unfolding next_keep
 took_next_keep own keeps s y on e =
-    let u : State = record s { rest = behind s.rest } in
+    let u : State = record s { rest = after_first s.rest } in
     join (took_one {s' = u} (sign_is mark.Comma (kind_of s.rest) on) refl) (took_keep own keeps u y e)
 
 took_keep_list : {n : Names} (own : ℕ) (s : State) (y : List Keep × State) → kind_of s.rest ≡ Some (kind.Keyword keyword.Keep) → keep_list own s ≡ Ok y → Took n s (phrase.keeps n y.0) y.1
 unfolding keep_list
 took_keep_list {n} own s y next e =
-    let u : State = record s { rest = behind s.rest } in
+    let u : State = record s { rest = after_first s.rest } in
     let m = then_ok (keep_at own [] u) _ y e in
     let l = took_list n (sign mark.Comma) (phrase.keep n) (is_sign mark.Comma) (next_keep own) (λ xs w z on took. took_next_keep own xs w z on took) m.0.0 u m.0.1 (took_keep own [] u m.0 m.1) y m.2 in
     subst (λ (ks : List Keep). Took n s (phrase.keeps n ks) y.1) (sym l.same) (join (took_one {s' = u} next refl) l.took)

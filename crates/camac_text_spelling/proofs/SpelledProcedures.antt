@@ -9,7 +9,7 @@ use Rattle.camac_text_tokens.specs.declared.token.Sign.{Sign}
 use Rattle.camac_text_tokens.specs.declared.token.Sign.TheVariants as mark
 use Rattle.camac_text_tokens.specs.declared.token.TokenKind.{TokenKind}
 use Rattle.camac_text_tokens.specs.declared.token.TokenKind.TheVariants as kind
-use Rattle.camac_text_cursor.specs.Reading.{State, Reader, ◌>>=◌, ◌>>◌, give, ask, change, advance, kind_of, line_of, behind, while_next, one_more}
+use Rattle.camac_text_cursor.specs.Reading.{State, Reader, ◌>>=◌, ◌>>◌, give, ask, change, advance, kind_of, line_of, after_first, while_next, one_more}
 use Rattle.camac_text_cursor.specs.Readers.{is_sign, expect, expect_sign, any_number, new_name, added, new_parameter}
 use Rattle.camac_text_cursor.proofs.Steps.{then_ok, ok_is, while_keeps}
 use Rattle.camac_text_cursor.proofs.Moves.{TakesOne, check_ok, any_number_ok, new_name_ok}
@@ -41,7 +41,7 @@ heads {s} {ps} {xs} {u} {qs} {ys} {v} a b = record {
       ∙ ap (λ (zs : List Text). record (tree_so_far s) { variables = zs }) (append_assoc s.variables xs ys);
 }
 
-heads_one : {s : State} {k : TokenKind} {s' : State} → kind_of s.rest ≡ Some k → s' ≡ record s { rest = behind s.rest } → Heads s (piece k ∷ []) [] s'
+heads_one : {s : State} {k : TokenKind} {s' : State} → kind_of s.rest ≡ Some k → s' ≡ record s { rest = after_first s.rest } → Heads s (piece k ∷ []) [] s'
 heads_one {s} {k} {s'} ahead left = subst (λ (u : State). Heads s (piece k ∷ []) [] u) (sym left) (record { front = front_token s.rest k ahead; tree = ap (λ (zs : List Text). record (tree_so_far s) { variables = zs }) (sym (append-nil s.variables)) })
 
 heads_token : {s : State} {k : TokenKind} {s' : State} → TakesOne s k s' → Heads s (piece k ∷ []) [] s'
@@ -106,7 +106,7 @@ parameter_more s first ps u p v so one = record {
 another : (s : State) (y : Parameter × State) → is_sign mark.Comma (kind_of s.rest) ≡ true → next_parameter s ≡ Ok y → Heads s (sign mark.Comma ∷ spell.parameter y.0) (y.0.name ∷ []) y.1
 unfolding next_parameter
 another s y on e =
-    let u : State = record s { rest = behind s.rest } in
+    let u : State = record s { rest = after_first s.rest } in
     heads (heads_one {s' = u} (sign_is mark.Comma (kind_of s.rest) on) refl) (one_parameter u y e)
 
 parameters_list : (s : State) (y : List Parameter × State) → parameter_list s ≡ Ok y → Heads s (listed y.0) (map parameter_of y.0) y.1
@@ -133,7 +133,7 @@ heading h =
     ∷ word keyword.Within ∷ numeral h.cycles ∷ word keyword.Cycles ∷ word keyword.Event ∷ numeral h.words ∷ word keyword.Words
     ∷ word keyword.Steps ∷ numeral h.steps ∷ [])
 
--- the end of a heading, behind these parameters and this number of cycles
+-- the end of a heading, after these parameters and this number of cycles
 abbrev last_reader : List Parameter → ℕ → Reader Heading
 last_reader ps cycles = do
   expect keyword.Event
@@ -165,7 +165,7 @@ last_read ps cycles s y e =
       read = heads (heads_word keyword.Event s g.0 g.1) (heads (heads_token (any_number_ok g.0.1 h.0 h.1)) (heads (heads_word keyword.Words h.0.1 i.0 i.1) (heads (heads_word keyword.Steps i.0.1 j.0 j.1) (heads_token (any_number_ok j.0.1 k.0 k.1)))));
     })
 
--- behind the parameters
+-- after the parameters
 abbrev middle_reader : List Parameter → Reader Heading
 middle_reader ps = do
   expect_sign mark.RightBracket
@@ -226,7 +226,7 @@ tells_inside s t w p x tree same =
           ∙ ap (λ (xs : List Text). text_at xs i) (sym (map-append (λ (q : Procedure). q.name) s.procedures x.procedures) ∙ ap (map (λ (q : Procedure). q.name)) (ap (λ (qs : List Procedure). qs ++ x.procedures) procedures ∙ sym x.procedures_are));
     }
 
--- what was declared before a procedure is declared again behind it
+-- what was declared before a procedure is declared again after it
 record Encloses (s : State) (p : Procedure) (v : State) : Type 0 where
   declares : Declares (tree_so_far s) s.rest (with_procedure (tree_so_far s) p) v.rest
   tree : tree_so_far v ≡ record (tree_so_far s) { variables = map parameter_of p.parameters }
@@ -258,7 +258,7 @@ encloses s p u h w v opens start read parameters cycles words steps registers ta
     front_join s.rest (first_word p.line keyword.Proc ∷ name p.name ∷ []) u.rest (sign mark.LeftBracket ∷ (listed p.parameters ++ (middle_pieces made ++ body_pieces t p))) v.rest opens joined in
     record { declares = declares_procedure (tree_so_far s) p s.rest v.rest front; tree = tree }
 
--- behind its name
+-- after its name
 abbrev behind_name : ℕ → Text → List Text → ℕ → Reader (Unit {0})
 behind_name line x variables names = do
   h ← heading_at
@@ -282,12 +282,12 @@ pub procedure_spelled : (s : State) (y : Unit {0} × State) → kind_of s.rest �
 unfolding procedure_declaration
 procedure_spelled s y ahead e =
     let line : ℕ = line_of s.rest s.end_line in
-    let t : State = record s { rest = behind s.rest } in
+    let t : State = record s { rest = after_first s.rest } in
     let c0 = check_ok (nat_lt (length s.procedures) 16) LimitPassed _ s y e in
     let a = then_ok (new_name t) (λ x. advance >> (ask (λ w. w.variables) >>= λ variables. change (in_heading x) >> (ask (λ w. length w.declared) >>= λ names. behind_name line x variables names))) y c0.1 in
     let n = new_name_ok t a.0 a.1 in
     let after_name : Reader (Unit {0}) = advance >> (ask (λ w. w.variables) >>= λ variables. change (in_heading a.0.0) >> (ask (λ w. length w.declared) >>= λ names. behind_name line a.0.0 variables names)) in
     let at : after_name t ≡ Ok y = subst (λ (w : State). after_name w ≡ Ok y) n.left a.2 in
-    let u : State = record t { rest = behind t.rest } in
+    let u : State = record t { rest = after_first t.rest } in
     let opens : Front s.rest (first_word line keyword.Proc ∷ name a.0.0 ∷ []) u.rest = front_join s.rest (first_word line keyword.Proc ∷ []) t.rest (name a.0.0 ∷ []) u.rest (front_begin s.rest s.end_line (kind.Keyword keyword.Proc) ahead) (front_token t.rest (kind.Name a.0.0) n.next) in
     behind_name_spelled s a.0.0 (length (in_heading a.0.0 u).declared) (in_heading a.0.0 u) y opens refl at

@@ -1,7 +1,7 @@
 -- Statements and blocks that are read are spelled so.
 use Rattle.std.proofs.Common.{◌≡◌, ℕ, zero, suc, Bool, true, false, not, cond, List, [], ◌∷◌, ◌++◌, Option, Some, Ok, refl, sym, ap, subst, ◌∙◌, append_assoc}
 use Rattle.std.proofs.lemmas.List.{append-nil}
-use Rattle.camac_lang.specs.Tree.{Statement, choose, choose_else, count, repeat, locked, Condition}
+use Rattle.camac_lang.specs.Tree.{Statement, choose, choose_else, for_, while_, locked, Condition}
 use Rattle.camac_lang.specs.View.{block_of}
 use Rattle.camac_lang.specs.declared.word.WordSize.TheVariants.{Full, Short}
 use Rattle.camac_text_tokens.specs.declared.fault.TextRule.TheVariants.{UnexpectedToken, LimitPassed}
@@ -9,13 +9,13 @@ use Rattle.camac_text_tokens.specs.declared.token.Keyword.TheVariants as keyword
 use Rattle.camac_text_tokens.specs.declared.token.Sign.TheVariants as mark
 use Rattle.camac_text_tokens.specs.declared.token.TokenKind.{TokenKind}
 use Rattle.camac_text_tokens.specs.declared.token.TokenKind.TheVariants as kind
-use Rattle.camac_text_cursor.specs.Reading.{State, Reader, give, fail, kind_of, line_of, behind, one_more, many}
+use Rattle.camac_text_cursor.specs.Reading.{State, Reader, give, fail, kind_of, line_of, after_first, one_more, many}
 use Rattle.camac_text_cursor.specs.Readers.{is_sign, expect, expect_sign, any_number, used_variable}
 use Rattle.camac_text_phrases.specs.Expressions.{expression_at}
 use Rattle.camac_text_phrases.specs.Conditions.{condition_at}
 use Rattle.camac_text_phrases.specs.Keeps.{keeps_at}
 use Rattle.camac_text_cursor.specs.Readers.{begin}
-use Rattle.camac_text_statements.specs.Statements.{else_by, choice, counting, repetition, locking, nested_by, statement_by, statement_with, is_no_end, block_at}
+use Rattle.camac_text_statements.specs.Statements.{else_by, if_statement, for_statement, while_statement, lock_statement, nested_by, statement_by, statement_with, is_no_end, block_at}
 use Rattle.camac_text_cursor.proofs.Steps.{then_ok, err_no_ok, while_keeps}
 use Rattle.camac_text_cursor.proofs.Moves.{any_number_ok, check_ok}
 use Rattle.camac_text_spelling.specs.Pieces.{Piece, first_word, word, Names}
@@ -36,15 +36,15 @@ in_braces n xs = spell.braced (body n xs)
 module _ (n : Names) (room : ℕ) (block : Reader (List Statement)) (block_took : (s : State) (y : List Statement × State) → block s ≡ Ok y → Took n s (in_braces n y.0) y.1) where
   took_else : (s : State) (line : ℕ) (c : Condition) (xs : List Statement) (u : State) (k : Option TokenKind) (y : Statement × State) → Took n s (first_word line keyword.If ∷ (phrase.condition n c ++ in_braces n xs)) u → kind_of u.rest ≡ k → else_by block line c xs k u ≡ Ok y → Took n s (spell.statement n y.0) y.1
   took_else s line c xs u (Some (kind.Keyword keyword.Else)) y before next e =
-      let v : State = record u { rest = behind u.rest } in
+      let v : State = record u { rest = after_first u.rest } in
       let m = then_ok (block v) (λ other. give (choose_else line c (block_of xs) (block_of other))) y e in
       let all : Took n s ((first_word line keyword.If ∷ (phrase.condition n c ++ in_braces n xs)) ++ (word keyword.Else ∷ in_braces n m.0.0)) m.0.1 = join before (join (took_one {s' = v} next refl) (block_took v m.0 m.1)) in
       returns {x = choose_else line c (block_of xs) (block_of m.0.0)} (spell.statement n) m.2
       (subst (λ (ps : List Piece). Took n s (first_word line keyword.If ∷ ps) m.0.1) (append_assoc (phrase.condition n c) (in_braces n xs) (word keyword.Else ∷ in_braces n m.0.0)) all)
   took_else s line c xs u _ y before next e = returns {x = choose line c (block_of xs)} (spell.statement n) e before
 
-  took_choice : (s : State) (y : Statement × State) → kind_of s.rest ≡ Some (kind.Keyword keyword.If) → choice room block (line_of s.rest s.end_line) s ≡ Ok y → Took n s (spell.statement n y.0) y.1
-  unfolding choice
+  took_choice : (s : State) (y : Statement × State) → kind_of s.rest ≡ Some (kind.Keyword keyword.If) → if_statement room block (line_of s.rest s.end_line) s ≡ Ok y → Took n s (spell.statement n y.0) y.1
+  unfolding if_statement
   took_choice s y next e =
       let line : ℕ = line_of s.rest s.end_line in
       let a = then_ok (begin s) _ y e in
@@ -53,8 +53,8 @@ module _ (n : Names) (room : ℕ) (block : Reader (List Statement)) (block_took 
       took_else s line c.0.0 b.0.0 b.0.1 (kind_of b.0.1.rest) y
       (join (took_begin s (kind.Keyword keyword.If) a.0 next a.1) (join (took_condition room a.0.1 c.0 c.1) (block_took c.0.1 b.0 b.1))) refl b.2
 
-  took_counting : (s : State) (y : Statement × State) → kind_of s.rest ≡ Some (kind.Keyword keyword.For) → counting room block (line_of s.rest s.end_line) s ≡ Ok y → Took n s (spell.statement n y.0) y.1
-  unfolding counting
+  took_counting : (s : State) (y : Statement × State) → kind_of s.rest ≡ Some (kind.Keyword keyword.For) → for_statement room block (line_of s.rest s.end_line) s ≡ Ok y → Took n s (spell.statement n y.0) y.1
+  unfolding for_statement
   took_counting s y next e =
       let line : ℕ = line_of s.rest s.end_line in
       let a = then_ok (begin s) _ y e in
@@ -64,14 +64,14 @@ module _ (n : Names) (room : ℕ) (block : Reader (List Statement)) (block_took 
       let w = then_ok (expect keyword.To f.0.1) _ y f.2 in
       let l = then_ok (expression_at room w.0.1) _ y w.2 in
       let k = then_ok (keeps_at x.0.0 l.0.1) _ y l.2 in
-      let b = then_ok (block k.0.1) (λ xs. give (count line x.0.0 f.0.0 l.0.0 k.0.0 (block_of xs))) y k.2 in
-      returns {x = count line x.0.0 f.0.0 l.0.0 k.0.0 (block_of b.0.0)} (spell.statement n) b.2
+      let b = then_ok (block k.0.1) (λ xs. give (for_ line x.0.0 f.0.0 l.0.0 k.0.0 (block_of xs))) y k.2 in
+      returns {x = for_ line x.0.0 f.0.0 l.0.0 k.0.0 (block_of b.0.0)} (spell.statement n) b.2
       (join (took_begin s (kind.Keyword keyword.For) a.0 next a.1) (join (took_variable a.0.1 x.0 x.1) (join (took_sign mark.Equals x.0.1 q.0 q.1)
       (join (took_expression room q.0.1 f.0 f.1) (join (took_word keyword.To f.0.1 w.0 w.1) (join (took_expression room w.0.1 l.0 l.1)
       (join (took_keeps x.0.0 l.0.1 k.0 k.1) (block_took k.0.1 b.0 b.1))))))))
 
-  took_repetition : (s : State) (y : Statement × State) → kind_of s.rest ≡ Some (kind.Keyword keyword.While) → repetition room block (line_of s.rest s.end_line) s ≡ Ok y → Took n s (spell.statement n y.0) y.1
-  unfolding repetition
+  took_repetition : (s : State) (y : Statement × State) → kind_of s.rest ≡ Some (kind.Keyword keyword.While) → while_statement room block (line_of s.rest s.end_line) s ≡ Ok y → Took n s (spell.statement n y.0) y.1
+  unfolding while_statement
   took_repetition s y next e =
       let line : ℕ = line_of s.rest s.end_line in
       let a = then_ok (begin s) _ y e in
@@ -81,14 +81,14 @@ module _ (n : Names) (room : ℕ) (block : Reader (List Statement)) (block_took 
       let v = then_ok (expect keyword.By t.0.1) _ y t.2 in
       let m = then_ok (used_variable v.0.1) _ y v.2 in
       let k = then_ok (keeps_at m.0.0 m.0.1) _ y m.2 in
-      let b = then_ok (block k.0.1) (λ xs. give (repeat line c.0.0 t.0.0 m.0.0 k.0.0 (block_of xs))) y k.2 in
-      returns {x = repeat line c.0.0 t.0.0 m.0.0 k.0.0 (block_of b.0.0)} (spell.statement n) b.2
+      let b = then_ok (block k.0.1) (λ xs. give (while_ line c.0.0 t.0.0 m.0.0 k.0.0 (block_of xs))) y k.2 in
+      returns {x = while_ line c.0.0 t.0.0 m.0.0 k.0.0 (block_of b.0.0)} (spell.statement n) b.2
       (join (took_begin s (kind.Keyword keyword.While) a.0 next a.1) (join (took_condition room a.0.1 c.0 c.1) (join (took_word keyword.Turns c.0.1 w.0 w.1)
       (join (took_token (any_number_ok w.0.1 t.0 t.1)) (join (took_word keyword.By t.0.1 v.0 v.1) (join (took_variable v.0.1 m.0 m.1)
       (join (took_keeps m.0.0 m.0.1 k.0 k.1) (block_took k.0.1 b.0 b.1))))))))
 
-  took_locking : (s : State) (y : Statement × State) → kind_of s.rest ≡ Some (kind.Keyword keyword.Lock) → locking room block (line_of s.rest s.end_line) s ≡ Ok y → Took n s (spell.statement n y.0) y.1
-  unfolding locking
+  took_locking : (s : State) (y : Statement × State) → kind_of s.rest ≡ Some (kind.Keyword keyword.Lock) → lock_statement room block (line_of s.rest s.end_line) s ≡ Ok y → Took n s (spell.statement n y.0) y.1
+  unfolding lock_statement
   took_locking s y next e =
       let line : ℕ = line_of s.rest s.end_line in
       let outside = check_ok (not s.in_procedure) UnexpectedToken _ s y e in

@@ -8,12 +8,12 @@ use Rattle.camac_text_tokens.specs.declared.token.Keyword.TheVariants as keyword
 use Rattle.camac_text_tokens.specs.declared.token.Sign.TheVariants as mark
 use Rattle.camac_text_tokens.specs.declared.token.TokenKind.{TokenKind}
 use Rattle.camac_text_tokens.specs.declared.token.TokenKind.TheVariants as kind
-use Rattle.camac_text_cursor.specs.Reading.{State, Reader, ◌>>=◌, give, fail, kind_of, line_of, behind}
+use Rattle.camac_text_cursor.specs.Reading.{State, Reader, ◌>>=◌, give, fail, kind_of, line_of, after_first}
 use Rattle.camac_text_cursor.specs.Readers.{begin, is_sign, expect, expect_sign, function_number, used_register, used_variable, used_table, procedure_here, called}
-use Rattle.camac_text_phrases.specs.Arguments.{argument_behind, more_arguments, arguments_at}
+use Rattle.camac_text_phrases.specs.Arguments.{argument_after, more_arguments, arguments_at}
 use Rattle.camac_text_phrases.specs.Expressions.{expression_at}
 use Rattle.camac_text_statements.specs.Statements.{transfer_by}
-use Rattle.camac_text_statements.specs.Transfers.{last_bound, table_by, table_at, scanning, stopping, repeating, calling}
+use Rattle.camac_text_statements.specs.Transfers.{last_bound, table_by, table_at, scan_statement, q_stop_statement, q_repeat_statement, call_statement}
 use Rattle.camac_text_cursor.proofs.Steps.{then_ok, err_no_ok}
 use Rattle.camac_text_cursor.proofs.Moves.{function_ok}
 use Rattle.camac_text_spelling.specs.Pieces.{Piece, word, sign, separated, Names}
@@ -40,7 +40,7 @@ took_bound {n} w room s y e =
 
 took_table_by : {n : Names} (k : Option TokenKind) (s : State) (y : Option ℕ × State) → kind_of s.rest ≡ k → table_by k s ≡ Ok y → Took n s (phrase.table n y.0) y.1
 took_table_by {n} (Some (kind.Keyword keyword.Table)) s y next e =
-    let u : State = record s { rest = behind s.rest } in
+    let u : State = record s { rest = after_first s.rest } in
     let m = then_ok (used_table u) (λ place. give (Some place)) y e in
     returns {x = Some m.0.0} (phrase.table n) m.2 (join (took_one {s' = u} next refl) (took_table u m.0 m.1))
 took_table_by {n} _ s y next e = returns {x = None} (phrase.table n) e (nothing n s)
@@ -49,8 +49,8 @@ took_write : {n : Names} (s : State) (y : Option ℕ × State) → table_at s �
 unfolding table_at
 took_write s y e = took_table_by (kind_of s.rest) s y refl e
 
-took_scanning : {n : Names} (room : ℕ) (s : State) (y : Statement × State) → kind_of s.rest ≡ Some (kind.Keyword keyword.Cfmad) → scanning room (line_of s.rest s.end_line) s ≡ Ok y → Took n s (spell.statement n y.0) y.1
-unfolding scanning
+took_scanning : {n : Names} (room : ℕ) (s : State) (y : Statement × State) → kind_of s.rest ≡ Some (kind.Keyword keyword.Cfmad) → scan_statement room (line_of s.rest s.end_line) s ≡ Ok y → Took n s (spell.statement n y.0) y.1
+unfolding scan_statement
 took_scanning {n} room s y next e =
     let line : ℕ = line_of s.rest s.end_line in
     let a = then_ok (begin s) _ y e in
@@ -61,8 +61,8 @@ took_scanning {n} room s y next e =
     returns {x = address_scan line f.0.0 r.0.0 l.0.0 b.0.0.0 b.0.0.1} (spell.statement n) b.2
     (join (took_begin s (kind.Keyword keyword.Cfmad) a.0 next a.1) (join (took_token (function_ok a.0.1 f.0 f.1).one) (join (took_register f.0.1 r.0 r.1) (join (took_register r.0.1 l.0 l.1) (took_bound keyword.Max room l.0.1 b.0 b.1)))))
 
-took_stopping : {n : Names} (room : ℕ) (s : State) (y : Statement × State) → kind_of s.rest ≡ Some (kind.Keyword keyword.Cfubc) → stopping room (line_of s.rest s.end_line) s ≡ Ok y → Took n s (spell.statement n y.0) y.1
-unfolding stopping
+took_stopping : {n : Names} (room : ℕ) (s : State) (y : Statement × State) → kind_of s.rest ≡ Some (kind.Keyword keyword.Cfubc) → q_stop_statement room (line_of s.rest s.end_line) s ≡ Ok y → Took n s (spell.statement n y.0) y.1
+unfolding q_stop_statement
 took_stopping {n} room s y next e =
     let line : ℕ = line_of s.rest s.end_line in
     let a = then_ok (begin s) _ y e in
@@ -73,8 +73,8 @@ took_stopping {n} room s y next e =
     returns {x = q_stop line f.0.0 r.0.0 g.0.0 b.0.0.0 b.0.0.1} (spell.statement n) b.2
     (join (took_begin s (kind.Keyword keyword.Cfubc) a.0 next a.1) (join (took_token (function_ok a.0.1 f.0 f.1).one) (join (took_register f.0.1 r.0 r.1) (join (took_write r.0.1 g.0 g.1) (took_bound keyword.Max room g.0.1 b.0 b.1)))))
 
-took_repeating : {n : Names} (room : ℕ) (s : State) (y : Statement × State) → kind_of s.rest ≡ Some (kind.Keyword keyword.Cfubr) → repeating room (line_of s.rest s.end_line) s ≡ Ok y → Took n s (spell.statement n y.0) y.1
-unfolding repeating
+took_repeating : {n : Names} (room : ℕ) (s : State) (y : Statement × State) → kind_of s.rest ≡ Some (kind.Keyword keyword.Cfubr) → q_repeat_statement room (line_of s.rest s.end_line) s ≡ Ok y → Took n s (spell.statement n y.0) y.1
+unfolding q_repeat_statement
 took_repeating {n} room s y next e =
     let line : ℕ = line_of s.rest s.end_line in
     let a = then_ok (begin s) _ y e in
@@ -93,8 +93,8 @@ took_repeating {n} room s y next e =
 abbrev listed : Names → List Expression → List Piece
 listed n es = separated (sign mark.Comma) (phrase.expression n) es
 
--- an argument behind these
-took_argument : {n : Names} (room : ℕ) (es : List Expression) (s u : State) (y : Expression × State) → Took n s (listed n es) u → argument_behind room es u ≡ Ok y → Took n s (listed n (es ++ y.0 ∷ [])) y.1
+-- an argument after these
+took_argument : {n : Names} (room : ℕ) (es : List Expression) (s u : State) (y : Expression × State) → Took n s (listed n es) u → argument_after room es u ≡ Ok y → Took n s (listed n (es ++ y.0 ∷ [])) y.1
 took_argument {n} room [] s u y before e = subst (λ (ps : List Piece). Took n s ps y.1) (sym (append-nil (phrase.expression n y.0))) (join before (took_expression room u y e))
 took_argument {n} room (x ∷ xs) s u y before e =
     let a = then_ok (expect_sign mark.Comma u) (λ _. expression_at room) y e in
@@ -104,7 +104,7 @@ took_more : {n : Names} (room m : ℕ) (es : List Expression) (s u : State) (y :
 unfolding more_arguments
 took_more {n} room zero es s u y before e = returns {x = es} (listed n) e before
 took_more {n} room (suc m) es s u y before e =
-    let a = then_ok (argument_behind room es u) _ y e in
+    let a = then_ok (argument_after room es u) _ y e in
     took_more room m (es ++ a.0.0 ∷ []) s a.0.1 y (took_argument room es s u a.0 before a.1) a.2
 
 no_room : (b : Bool) (s : State) (y : List Expression × State) → cond b (fail LimitPassed) (fail UnexpectedToken) s ≡ Ok y → ⊥
@@ -123,8 +123,8 @@ took_arguments {n} (suc room) m s y e =
     let c = then_ok (expect_sign mark.RightBracket b.0.1) (λ _. give b.0.0) y b.2 in
     returns {x = b.0.0} (in_brackets n) c.2 (join (took_sign mark.LeftBracket s a.0 a.1) (join (took_more room m [] a.0.1 a.0.1 b.0 (nothing n a.0.1) b.1) (took_sign mark.RightBracket b.0.1 c.0 c.1)))
 
-took_calling : {n : Names} (room : ℕ) (s : State) (y : Statement × State) → kind_of s.rest ≡ Some (kind.Keyword keyword.Call) → calling room (line_of s.rest s.end_line) s ≡ Ok y → Took n s (spell.statement n y.0) y.1
-unfolding calling
+took_calling : {n : Names} (room : ℕ) (s : State) (y : Statement × State) → kind_of s.rest ≡ Some (kind.Keyword keyword.Call) → call_statement room (line_of s.rest s.end_line) s ≡ Ok y → Took n s (spell.statement n y.0) y.1
+unfolding call_statement
 took_calling {n} room s y next e =
     let line : ℕ = line_of s.rest s.end_line in
     let a = then_ok (begin s) _ y e in

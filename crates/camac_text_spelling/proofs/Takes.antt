@@ -14,7 +14,7 @@ use Rattle.camac_text_tokens.specs.declared.token.TokenKind.TheVariants as kind
 use Rattle.camac_text_tokens.specs.declared.fault.TextRule.TheVariants.{UnexpectedToken, BranchNotOne, LimitPassed}
 use Rattle.camac_text_tokens.specs.Fault.{Fault}
 use Rattle.camac_text_cursor.specs.Names.{place_of, lam_place, table_place, procedure_place}
-use Rattle.camac_text_cursor.specs.Reading.{◌>>◌, State, advance, fail, kind_of, line_of, behind, give}
+use Rattle.camac_text_cursor.specs.Reading.{◌>>◌, State, advance, fail, kind_of, line_of, after_first, give}
 use Rattle.camac_text_cursor.specs.Readers.{is_keyword, is_sign, expect, expect_sign, name_here, number_here, branch_number, used_at, used_register, used_variable, used_lam, known_at, variable_here, used_table, procedure_here, callable_by, called}
 use Rattle.camac_text.specs.Parser.{tree_so_far}
 use Rattle.camac_text_cursor.proofs.Steps.{then_ok, ok_is, err_no_ok}
@@ -53,14 +53,14 @@ returns {A} {n} {s} {x} {u} {y} spell e took = subst (λ (p : A × State). Took 
 pub nothing : (n : Names) (s : State) → Took n s [] s
 nothing n s = record { front = λ t. refl; tells = λ t. t; same = refl }
 
-pub took_one : {n : Names} {s : State} {k : TokenKind} {s' : State} → kind_of s.rest ≡ Some k → s' ≡ record s { rest = behind s.rest } → Took n s (piece k ∷ []) s'
+pub took_one : {n : Names} {s : State} {k : TokenKind} {s' : State} → kind_of s.rest ≡ Some k → s' ≡ record s { rest = after_first s.rest } → Took n s (piece k ∷ []) s'
 took_one {n} {s} {k} {s'} next left = subst (λ (u : State). Took n s (piece k ∷ []) u) (sym left) (record { front = λ t. front_token s.rest k next; tells = λ t. t; same = refl })
 
 pub took_token : {n : Names} {s : State} {k : TokenKind} {s' : State} → TakesOne s k s' → Took n s (piece k ∷ []) s'
 took_token t = took_one t.next t.left
 
 -- the first token of a declaration
-pub took_first : {n : Names} (s : State) (k : TokenKind) → kind_of s.rest ≡ Some k → Took n s (first_piece (line_of s.rest s.end_line) k ∷ []) (record s { rest = behind s.rest })
+pub took_first : {n : Names} (s : State) (k : TokenKind) → kind_of s.rest ≡ Some k → Took n s (first_piece (line_of s.rest s.end_line) k ∷ []) (record s { rest = after_first s.rest })
 took_first s k next = record { front = λ t. front_begin s.rest s.end_line k next; tells = λ t. t; same = refl }
 
 -- ---- words and signs
@@ -73,7 +73,7 @@ pub sign_is : (w : Sign) (k : Option TokenKind) → is_sign w k ≡ true → k �
 sign_is w (Some (kind.Sign v)) e = ap (λ (u : Sign). Some (kind.Sign u)) (same_true sign_type.the_type (search rules) v w e)
 sign_is w _ e = absurd cc
 
-pub expected : (b : Bool) (s : State) (y : Unit {0} × State) → cond b advance (fail UnexpectedToken) s ≡ Ok y → (b ≡ true) × (y.1 ≡ record s { rest = behind s.rest })
+pub expected : (b : Bool) (s : State) (y : Unit {0} × State) → cond b advance (fail UnexpectedToken) s ≡ Ok y → (b ≡ true) × (y.1 ≡ record s { rest = after_first s.rest })
 expected true s y e = (refl, sym (ap (λ (p : Unit {0} × State). p.1) (ok_is _ y e)))
 expected false s y e = absurd (err_no_ok _ _ e)
 
@@ -95,7 +95,7 @@ took_branch {n} s y e =
     let c = check_ok (eqb m.0.0 1) BranchNotOne advance m.0.1 y m.2 in
     let one : m.0.0 ≡ 1 = eqb-true m.0.0 1 c.0 in
     let next : kind_of s.rest ≡ Some (kind.Number 1) = h.0 ∙ ap (λ (k : ℕ). Some (kind.Number k)) one in
-    took_one next (ap (λ (p : Unit {0} × State). p.1) (sym (ok_is _ y c.1)) ∙ ap (λ (w : State). record w { rest = behind w.rest }) h.1)
+    took_one next (ap (λ (p : Unit {0} × State). p.1) (sym (ok_is _ y c.1)) ∙ ap (λ (w : State). record w { rest = after_first w.rest }) h.1)
 
 -- ---- names
 
@@ -107,8 +107,8 @@ named {n} {s} {x} {s'} y same took = record {
   same = took.same;
 }
 
-used_is : (place : Option ℕ) (s : State) (y : ℕ × State) → used_at place s ≡ Ok y → (place ≡ Some y.0) × (y.1 ≡ record s { rest = behind s.rest })
-used_is (Some place) s y e = subst (λ (p : ℕ × State). (Some place ≡ Some p.0) × (p.1 ≡ record s { rest = behind s.rest })) (ok_is (place, record s { rest = behind s.rest }) y e) (refl, refl)
+used_is : (place : Option ℕ) (s : State) (y : ℕ × State) → used_at place s ≡ Ok y → (place ≡ Some y.0) × (y.1 ≡ record s { rest = after_first s.rest })
+used_is (Some place) s y e = subst (λ (p : ℕ × State). (Some place ≡ Some p.0) × (p.1 ≡ record s { rest = after_first s.rest })) (ok_is (place, record s { rest = after_first s.rest }) y e) (refl, refl)
 used_is None s y e = absurd (err_no_ok _ _ e)
 
 -- a name that is used, where it stands in a list
@@ -193,11 +193,11 @@ sees_procedure s y e =
     let k = known_is (procedure_place m.0.0 s.procedures) s y at in
     record { name = m.0.0; next = h.0; same = λ t. t.procedures m.0.0 y.0 k.0; left = k.1 }
 
-callable_moves : (room : ℕ) (found : Option Callable) (s : State) (y : ℕ × State) → callable_by room found s ≡ Ok y → y.1 ≡ record s { rest = behind s.rest }
+callable_moves : (room : ℕ) (found : Option Callable) (s : State) (y : ℕ × State) → callable_by room found s ≡ Ok y → y.1 ≡ record s { rest = after_first s.rest }
 callable_moves room None s y e = absurd (err_no_ok _ _ e)
 callable_moves room (Some q) s y e =
     let c = check_ok (nat_le q.depth room) LimitPassed (advance >> give q.parameters) s y e in
-    sym (ap (λ (p : ℕ × State). p.1) (ok_is (q.parameters, record s { rest = behind s.rest }) y c.1))
+    sym (ap (λ (p : ℕ × State). p.1) (ok_is (q.parameters, record s { rest = after_first s.rest }) y c.1))
 
 -- the procedure that is called
 pub took_called : {n : Names} (room place : ℕ) (s t : State) (y : ℕ × State) → SeesProcedure n s place t → called room place s ≡ Ok y → Took n s (name_at n.procedures place ∷ []) y.1

@@ -66,7 +66,7 @@ pub record Limited (t : Script) : Type 0 where
   pub registers : total own_registers t.procedures + most service_registers t.services ≤ 64
   pub statements : total procedure_statements t.procedures + total service_statements t.services ≤ 4096
 
--- The state is that behind the first declarations of the tree.
+-- The state is that after the first declarations of the tree.
 pub record Stands (t : Script) (b : Before) (s : State) : Type 0 where
   pub tables : s.tables ≡ take b.tables t.tables
   pub tables_within : b.tables ≤ length t.tables

@@ -26,7 +26,7 @@ use Rattle.camac_text_spelling.proofs.GivesDeclarations.{lam_declared, with_name
 use Rattle.camac_text_spelling.proofs.GivesTables.{table_declared}
 use Rattle.camac_text_spelling.proofs.Walk.{lam_name, table_name, procedure_name, parameter_count, passed_of, Limited, Stands, there}
 
--- One more declaration is read, and the state behind it is that behind the first declarations.
+-- One more declaration is read, and the state after it is that after the first declarations.
 pub record Goes (t : Script) (b : Before) (i : Item) (s : State) (rest : List Token) : Type 0 where
   pub next : State
   pub read : declaration_at s ≡ ok tt next
@@ -34,7 +34,7 @@ pub record Goes (t : Script) (b : Before) (i : Item) (s : State) (rest : List To
   pub left : next.rest ≡ rest
   pub stands : Stands t b next
 
--- new names among those before, in front or behind
+-- new names among those before, in front or after
 pub covers_more : (xs vs ds : List Text) → ((x : Text) → is_new x ds ≡ true → is_new x vs ≡ true) → (x : Text) → is_new x (ds ++ xs) ≡ true → is_new x (vs ++ xs) ≡ true
 covers_more xs vs ds covers x e =
     let parts = sym (each_append (λ y. not (bytes_eq x y)) ds xs) ∙ e in

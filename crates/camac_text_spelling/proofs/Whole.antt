@@ -7,7 +7,7 @@ use Rattle.camac_text_tokens.specs.Fault.{Fault}
 use Rattle.camac_text_tokens.specs.Scanning.{tokens_of, last_line}
 use Rattle.camac_text_cursor.specs.Reading.{State, Reader, ◌>>=◌, give, kind_of, turns, while_next}
 use Rattle.camac_text.specs.Declarations.{declaration_at, is_token, declarations_at}
-use Rattle.camac_text.specs.Parser.{start, tree_so_far, tree_in, tree_of_tokens, tree_behind, script_of}
+use Rattle.camac_text.specs.Parser.{start, tree_so_far, tree_in, tree_of_tokens, tree_after, script_of}
 use Rattle.camac_text_cursor.proofs.Steps.{then_ok, ok_is, Progresses}
 use Rattle.camac_text.proofs.Declares.{declarations_progress}
 use Rattle.camac_text.proofs.WellFormed.{read_well_formed}
@@ -50,7 +50,7 @@ tokens_spelled text ts end_line tree made e =
       stands = read_well_formed text ts end_line r.0 made r.1;
     })
 
-behind_spelled : (text : List ℕ) (made : Result (List Token) Fault) (end_line : ℕ) (tree : Script) → tokens_of text ≡ made → tree_behind made end_line ≡ Ok tree → IsSpelled text tree
+behind_spelled : (text : List ℕ) (made : Result (List Token) Fault) (end_line : ℕ) (tree : Script) → tokens_of text ≡ made → tree_after made end_line ≡ Ok tree → IsSpelled text tree
 behind_spelled text (Ok ts) end_line tree made e = record { tokens = ts; made = made; spelled = tokens_spelled text ts end_line tree made e }
 behind_spelled text (Err d) end_line tree made e = absurd cc
 

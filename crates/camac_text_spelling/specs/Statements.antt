@@ -1,6 +1,6 @@
 -- The tokens of statements and blocks.
 use Rattle.std.specs.Prelude.{List, [], ◌∷◌, ◌++◌}
-use Rattle.camac_lang.specs.Tree.{Statement, assign, set_register, single, address_scan, q_stop, q_repeat, put, crate_call, lam_call, choose, choose_else, count, repeat, locked, call, Block, done, next}
+use Rattle.camac_lang.specs.Tree.{Statement, assign, set_register, single, address_scan, q_stop, q_repeat, put, crate_call, lam_call, choose, choose_else, for_, while_, locked, call, Block, done, next}
 use Rattle.camac_lang.specs.declared.word.WordSize.{WordSize}
 use Rattle.camac_lang.specs.declared.word.WordSize.TheVariants as size
 use Rattle.camac_lang.specs.declared.word.CrateCall.{CrateCall}
@@ -72,10 +72,10 @@ abbrev mutual
   statement n (choose line c a) = first_word line keyword.If ∷ (condition n c ++ braced (block n a))
   statement n (choose_else line c a b) =
       first_word line keyword.If ∷ (condition n c ++ (braced (block n a) ++ word keyword.Else ∷ braced (block n b)))
-  statement n (count line x e1 e2 ks body) =
+  statement n (for_ line x e1 e2 ks body) =
       first_word line keyword.For ∷ name_at n.variables x ∷ sign mark.Equals
       ∷ (expression n e1 ++ word keyword.To ∷ (expression n e2 ++ (keeps n ks ++ braced (block n body))))
-  statement n (repeat line c turns x ks body) =
+  statement n (while_ line c turns x ks body) =
       first_word line keyword.While
       ∷ (condition n c ++ word keyword.Turns ∷ numeral turns ∷ word keyword.By ∷ name_at n.variables x ∷ (keeps n ks ++ braced (block n body)))
   statement n (locked line e body) = first_word line keyword.Lock ∷ (expression n e ++ braced (block n body))

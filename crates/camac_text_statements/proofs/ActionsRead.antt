@@ -10,7 +10,7 @@ use Rattle.camac_lang.specs.declared.word.WordSize.{WordSize}
 use Rattle.camac_text_tokens.specs.declared.token.Sign.TheVariants as sign
 use Rattle.camac_text_tokens.specs.declared.token.TokenKind.{TokenKind}
 use Rattle.camac_text_tokens.specs.declared.token.TokenKind.TheVariants as kind
-use Rattle.camac_text_cursor.specs.Reading.{State, Reader, then_read, ◌>>=◌, ◌>>◌, give, kind_of, behind}
+use Rattle.camac_text_cursor.specs.Reading.{State, Reader, then_read, ◌>>=◌, ◌>>◌, give, kind_of, after_first}
 use Rattle.camac_text_cursor.specs.Readers.{begin, expect_sign, branch_number, function_number, set_name, used_register, used_variable, variable_here}
 use Rattle.camac_text_phrases.specs.Expressions.{expression_at}
 use Rattle.camac_text_statements.specs.Statements.{assignment, register_setting, move_by, move_at, single_action, put_action}
@@ -30,7 +30,7 @@ record ReadsMove (room : ℕ) (s : State) (x : Move) (s' : State) : Type 0 where
 
 move_is : (room : ℕ) (k : Option TokenKind) (s : State) (y : Move × State) → move_by room k s ≡ Ok y → ReadsMove room s y.0 y.1
 move_is room (Some (kind.Sign sign.Into)) s y e =
-    let t : State = record s { rest = behind s.rest } in
+    let t : State = record s { rest = after_first s.rest } in
     let m = then_ok (used_variable t) _ y e in
     let used = used_variable_ok t m.0 m.1 in
     subst (λ (p : Move × State). ReadsMove room s p.0 p.1) (ok_is (into m.0.0, m.0.1) y m.2) (record {
@@ -39,7 +39,7 @@ move_is room (Some (kind.Sign sign.Into)) s y e =
       deep = omega arith;
     })
 move_is room (Some (kind.Sign sign.From)) s y e =
-    let t : State = record s { rest = behind s.rest } in
+    let t : State = record s { rest = after_first s.rest } in
     let m = then_ok (expression_at room t) _ y e in
     let read = expression_ok room t m.0 m.1 in
     subst (λ (p : Move × State). ReadsMove room s p.0 p.1) (ok_is (from m.0.0, m.0.1) y m.2) (record {
@@ -120,11 +120,11 @@ setting_is room s k line y next e =
     let t : State = u4.0.1 in
     let registers : t.registers ≡ b.0.1.registers = ap (λ (w : State). w.registers) to_4.same in
     let scope_b : scope_of b.0.1 ≡ scope_of s = ap scope_of r.same in
-    let less : length (behind s.rest) < length s.rest = behind_less s.rest k next in
+    let less : length (after_first s.rest) < length s.rest = behind_less s.rest k next in
     let below : s.statements < 4096 = begins.0 in
     let counted : t.statements ≡ suc s.statements = ap (λ (w : State). w.statements) to_4.same ∙ ap (λ (w : State). w.statements) r.same in
     let count : suc s.statements ≡ s.statements + 1 = omega arith in
-    let shorter_b : length b.0.1.rest ≤ length (behind s.rest) = r.shorter in
+    let shorter_b : length b.0.1.rest ≤ length (after_first s.rest) = r.shorter in
     let shorter_t : length t.rest ≤ length b.0.1.rest = to_4.shorter in
     let stands : (u : State) (e : Expression) → Moves b.0.1 u → expression_fits (scope_of u) e ≡ true → expression_fits (scope_of s) e ≡ true = λ u e m h. subst (λ (scope : Scope). expression_fits scope e ≡ true) (same_scope b.0.1 u m ∙ scope_b) h in
     subst (λ (p : Statement × State). Acts room s p.0 p.1) (ok_is (x, t) y u4.2) (record {

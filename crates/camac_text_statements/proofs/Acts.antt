@@ -6,16 +6,16 @@ use Rattle.camac_lang.specs.Statements.{after, statements_in}
 use Rattle.camac_lang.specs.Tree.{Text, Statement}
 use Rattle.camac_text_tokens.specs.declared.fault.TextRule.TheVariants.{LimitPassed}
 use Rattle.camac_text_tokens.specs.declared.token.TokenKind.{TokenKind}
-use Rattle.camac_text_cursor.specs.Reading.{State, ◌>>◌, change, advance, kind_of, behind}
+use Rattle.camac_text_cursor.specs.Reading.{State, ◌>>◌, change, advance, kind_of, after_first}
 use Rattle.camac_text_cursor.specs.Readers.{begin}
 use Rattle.camac_text_cursor.proofs.Steps.{ok_is}
 use Rattle.camac_text_cursor.proofs.Moves.{AllFit, Moves, behind_less, moved, check_ok}
 use Rattle.camac_text_cursor.proofs.Registers.{Limits, limits_of, RegistersFit}
 use Rattle.camac_text_cursor.proofs.Uses.{scope_of}
 
--- the state behind the first token of a statement
+-- the state after the first token of a statement
 abbrev pub begun : State → State
-begun s = record s { rest = behind s.rest; statements = suc s.statements }
+begun s = record s { rest = after_first s.rest; statements = suc s.statements }
 
 pub begin_ok : (s : State) (y : Unit {0} × State) → begin s ≡ Ok y → (s.statements < 4096) × (y.1 ≡ begun s)
 unfolding begin
@@ -39,8 +39,8 @@ acts room s x k t next below m rule deep one =
     let registers : t.registers ≡ s.registers = ap (λ (w : State). w.registers) m.same in
     let counted : t.statements ≡ suc s.statements = ap (λ (w : State). w.statements) m.same in
     let count : suc s.statements ≡ s.statements + statements_in x = omega (arith, one) in
-    let less : length (behind s.rest) < length s.rest = behind_less s.rest k next in
-    let shorter : length t.rest ≤ length (behind s.rest) = m.shorter in
+    let less : length (after_first s.rest) < length s.rest = behind_less s.rest k next in
+    let shorter : length t.rest ≤ length (after_first s.rest) = m.shorter in
     record {
       same = m.same ∙ ap (λ (rs : List Text). record s { rest = t.rest; registers = rs; statements = suc s.statements }) (sym registers) ∙ ap (λ (n : ℕ). record s { rest = t.rest; registers = t.registers; statements = n }) count;
       fit = λ h. m.fit ((moved s).fit h);

@@ -8,7 +8,7 @@ use Rattle.camac_lang.specs.Tests.{most, unless_broken}
 use Rattle.camac_lang.specs.Tree.{Text, Statement, choose, choose_else, Condition}
 use Rattle.camac_lang.specs.View.{block_of}
 use Rattle.camac_text_tokens.specs.declared.token.TokenKind.{TokenKind}
-use Rattle.camac_text_cursor.specs.Reading.{State, kind_of, behind}
+use Rattle.camac_text_cursor.specs.Reading.{State, kind_of, after_first}
 use Rattle.camac_text_cursor.proofs.Moves.{AllFit, Moves, behind_less, moved}
 use Rattle.camac_text_cursor.proofs.Uses.{scope_of}
 use Rattle.camac_text_cursor.proofs.Registers.{Limits, limits_of, RegistersFit}
@@ -61,12 +61,12 @@ before_moves room s xs t u b m =
 
 -- ---- statements that hold blocks
 
--- behind what tells how it runs, a block
+-- after what tells how it runs, a block
 pub holds_block : (room : ℕ) (s : State) (k : TokenKind) (x : Statement) (xs : List Statement) (u : State) → kind_of s.rest ≡ Some k → s.statements < 4096 → (AllFit s.rest → after (scope_of s) (length s.registers) x ≡ after_block (scope_of s) (length s.registers) (block_of xs)) → statements_in x ≡ suc (statements (block_of xs)) → statement_depth s.callables x ≤ room → Body room (begun s) xs u → Acts room s x u
 holds_block room s k x xs u next below rule one deep b =
     let count : suc s.statements + statements (block_of xs) ≡ s.statements + statements_in x = omega (arith, one) in
-    let less : length (behind s.rest) < length s.rest = behind_less s.rest k next in
-    let shorter : length u.rest ≤ length (behind s.rest) = b.shorter in
+    let less : length (after_first s.rest) < length s.rest = behind_less s.rest k next in
+    let shorter : length u.rest ≤ length (after_first s.rest) = b.shorter in
     record {
       same = b.same ∙ ap (λ (n : ℕ). record s { rest = u.rest; registers = u.registers; statements = n }) count;
       fit = λ h. b.fit ((moved s).fit h);
@@ -77,7 +77,7 @@ holds_block room s k x xs u next below rule one deep b =
       deep = deep;
     }
 
--- behind a condition, a block
+-- after a condition, a block
 pub holds_one : (room : ℕ) (s : State) (k : TokenKind) (line : ℕ) (c : Condition) (xs : List Statement) (u : State) → kind_of s.rest ≡ Some k → s.statements < 4096 → (AllFit s.rest → condition_fits (scope_of s) c ≡ true) → most part_depth c ≤ room → Body room (begun s) xs u → Acts room s (choose line c (block_of xs)) u
 holds_one room s k line c xs u next below rule deep b =
     let inner : inner_depth s.callables (block_of xs) < room = b.deep in
@@ -85,12 +85,12 @@ holds_one room s k line c xs u next below rule deep b =
     (λ h. ap (λ (holds : Bool). option_and_then (λ (n : ℕ). after_block (scope_of s) n (block_of xs)) (unless_broken holds (length s.registers))) (rule h))
     refl (omega arith) b
 
--- and another one behind `else`
+-- and another one after `else`
 pub holds_two : (room : ℕ) (s : State) (k : TokenKind) (line : ℕ) (c : Condition) (xs : List Statement) (u : State) (ys : List Statement) (t : State) → kind_of s.rest ≡ Some k → s.statements < 4096 → (AllFit s.rest → condition_fits (scope_of s) c ≡ true) → most part_depth c ≤ room → Body room (begun s) xs u → Body room u ys t → Acts room s (choose_else line c (block_of xs) (block_of ys)) t
 holds_two room s k line c xs u ys t next below rule deep a b =
     let count : (suc s.statements + statements (block_of xs)) + statements (block_of ys) ≡ s.statements + suc (statements (block_of xs) + statements (block_of ys)) = omega arith in
-    let less : length (behind s.rest) < length s.rest = behind_less s.rest k next in
-    let shorter_u : length u.rest ≤ length (behind s.rest) = a.shorter in
+    let less : length (after_first s.rest) < length s.rest = behind_less s.rest k next in
+    let shorter_u : length u.rest ≤ length (after_first s.rest) = a.shorter in
     let shorter_t : length t.rest ≤ length u.rest = b.shorter in
     let inner_a : inner_depth s.callables (block_of xs) < room = a.deep in
     let callables : u.callables ≡ s.callables = ap (λ (w : State). w.callables) a.same in
@@ -103,12 +103,12 @@ holds_two room s k line c xs u ys t next below rule deep a b =
       less = omega arith;
       few = λ h. b.few (a.few (omega arith));
       after = λ h.
-          let h_s : AllFit (behind s.rest) = (moved s).fit h in
+          let h_s : AllFit (after_first s.rest) = (moved s).fit h in
           ap (λ (holds : Bool). option_and_then (λ (n : ℕ). after_block (scope_of s) n (block_of ys)) (option_and_then (λ (n : ℕ). after_block (scope_of s) n (block_of xs)) (unless_broken holds (length s.registers)))) (rule h)
           ∙ ap (option_and_then (λ (n : ℕ). after_block (scope_of s) n (block_of ys))) (a.after h_s)
           ∙ subst (λ (sc : Scope). after_block sc (length u.registers) (block_of ys) ≡ Some (length t.registers)) scope (b.after (a.fit h_s));
       registers = λ h fits.
-          let h_s : AllFit (behind s.rest) = (moved s).fit h in
+          let h_s : AllFit (after_first s.rest) = (moved s).fit h in
           subst (λ (limits : Limits). RegistersFit limits t.registers) limits (b.registers (a.fit h_s) (subst (λ (limits : Limits). RegistersFit limits u.registers) (sym limits) (a.registers h_s fits)));
       deep = omega arith;
     }

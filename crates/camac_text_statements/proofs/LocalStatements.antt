@@ -1,6 +1,6 @@
 -- Readers of statements are local.
 use Rattle.std.proofs.Common.{not, ◌≡◌, true, false, cond, ℕ, zero, suc, List, Ok, nat_lt, [], ◌∷◌, ◌++◌, Option, Some, refl}
-use Rattle.camac_lang.specs.Tree.{no_data, into, from, assign, set_register, single, put, crate_call, lam_call, choose, choose_else, count, repeat, locked, Statement, Condition}
+use Rattle.camac_lang.specs.Tree.{no_data, into, from, assign, set_register, single, put, crate_call, lam_call, choose, choose_else, for_, while_, locked, Statement, Condition}
 use Rattle.camac_lang.specs.View.{block_of}
 use Rattle.camac_lang.specs.declared.word.WordSize.{WordSize}
 use Rattle.camac_lang.specs.declared.word.WordSize.TheVariants.{Full, Short}
@@ -16,7 +16,7 @@ use Rattle.camac_text_tokens.specs.declared.token.TokenKind.TheVariants as kind
 use Rattle.camac_text_cursor.specs.Reading.{State, Reader, fail, ◌>>=◌, ◌>>◌, give, change, peek, advance, check, kind_of, line_of, one_more, many}
 use Rattle.camac_text_cursor.specs.Readers.{begin, is_sign, expect, expect_sign, any_number, branch_number, function_number, set_name, used_register, used_variable, variable_here, used_lam}
 use Rattle.camac_text_phrases.specs.Expressions.{expression_at}
-use Rattle.camac_text_statements.specs.Statements.{assignment, register_setting, move_by, move_at, single_action, put_action, switch_by, switch, crate_action, crate_switch, lam_action, lam_switch, lam_call_by, crate_call_by, else_by, choice, counting, repetition, locking, nested_by, statement_by, statement_with, is_no_end, block_at}
+use Rattle.camac_text_statements.specs.Statements.{assignment, register_setting, move_by, move_at, single_action, put_action, switch_by, switch, crate_action, crate_switch, lam_action, lam_switch, lam_call_by, crate_call_by, else_by, if_statement, for_statement, while_statement, lock_statement, nested_by, statement_by, statement_with, is_no_end, block_at}
 use Rattle.camac_text_phrases.specs.Conditions.{condition_at}
 use Rattle.camac_text_phrases.specs.Keeps.{keeps_at}
 use Rattle.camac_text_statements.proofs.Blocks.{Body}
@@ -82,40 +82,40 @@ module _ (room : ℕ) (block : Reader (List Statement)) (block_is : (s : State) 
       local_then block (λ ys. give (choose_else line c (block_of xs) (block_of ys))) u (block_local u) (λ ys v _. local_give (choose_else line c (block_of xs) (block_of ys)) v))
   local_else_by line c xs _ s = local_give (choose line c (block_of xs)) s
 
-  local_choice : (line : ℕ) (s : State) → IsLocal (choice room block line) s
-  unfolding choice
+  local_choice : (line : ℕ) (s : State) → IsLocal (if_statement room block line) s
+  unfolding if_statement
   local_choice line s =
       local_then begin (λ _. condition_at room >>= λ c. block >>= λ xs. peek >>= λ k. else_by block line c xs k) s (local_begin s) (λ _ u _.
       local_then (condition_at room) (λ c. block >>= λ xs. peek >>= λ k. else_by block line c xs k) u (local_condition room u) (λ c u _.
       local_then block (λ xs. peek >>= λ k. else_by block line c xs k) u (block_local u) (λ xs v _.
       local_peek (λ k. else_by block line c xs k) v (local_else_by line c xs (kind_of v.rest) v))))
 
-  local_counting : (line : ℕ) (s : State) → IsLocal (counting room block line) s
-  unfolding counting
+  local_counting : (line : ℕ) (s : State) → IsLocal (for_statement room block line) s
+  unfolding for_statement
   local_counting line s =
-      local_then begin (λ _. used_variable >>= λ v. expect_sign sign.Equals >> (expression_at room >>= λ a. expect word.To >> (expression_at room >>= λ b. keeps_at v >>= λ ks. block >>= λ xs. give (count line v a b ks (block_of xs))))) s (local_begin s) (λ _ u _.
-      local_then used_variable (λ v. expect_sign sign.Equals >> (expression_at room >>= λ a. expect word.To >> (expression_at room >>= λ b. keeps_at v >>= λ ks. block >>= λ xs. give (count line v a b ks (block_of xs))))) u (local_used_variable u) (λ v u _.
-      local_then (expect_sign sign.Equals) (λ _. expression_at room >>= λ a. expect word.To >> (expression_at room >>= λ b. keeps_at v >>= λ ks. block >>= λ xs. give (count line v a b ks (block_of xs)))) u (local_expect_sign sign.Equals u) (λ _ u _.
-      local_then (expression_at room) (λ a. expect word.To >> (expression_at room >>= λ b. keeps_at v >>= λ ks. block >>= λ xs. give (count line v a b ks (block_of xs)))) u (local_expression room u) (λ a u _.
-      local_then (expect word.To) (λ _. expression_at room >>= λ b. keeps_at v >>= λ ks. block >>= λ xs. give (count line v a b ks (block_of xs))) u (local_expect word.To u) (λ _ u _.
-      local_then (expression_at room) (λ b. keeps_at v >>= λ ks. block >>= λ xs. give (count line v a b ks (block_of xs))) u (local_expression room u) (λ b u _.
-      local_then (keeps_at v) (λ ks. block >>= λ xs. give (count line v a b ks (block_of xs))) u (local_keeps v u) (λ ks u _.
-      local_then block (λ xs. give (count line v a b ks (block_of xs))) u (block_local u) (λ xs u _. local_give (count line v a b ks (block_of xs)) u))))))))
+      local_then begin (λ _. used_variable >>= λ v. expect_sign sign.Equals >> (expression_at room >>= λ a. expect word.To >> (expression_at room >>= λ b. keeps_at v >>= λ ks. block >>= λ xs. give (for_ line v a b ks (block_of xs))))) s (local_begin s) (λ _ u _.
+      local_then used_variable (λ v. expect_sign sign.Equals >> (expression_at room >>= λ a. expect word.To >> (expression_at room >>= λ b. keeps_at v >>= λ ks. block >>= λ xs. give (for_ line v a b ks (block_of xs))))) u (local_used_variable u) (λ v u _.
+      local_then (expect_sign sign.Equals) (λ _. expression_at room >>= λ a. expect word.To >> (expression_at room >>= λ b. keeps_at v >>= λ ks. block >>= λ xs. give (for_ line v a b ks (block_of xs)))) u (local_expect_sign sign.Equals u) (λ _ u _.
+      local_then (expression_at room) (λ a. expect word.To >> (expression_at room >>= λ b. keeps_at v >>= λ ks. block >>= λ xs. give (for_ line v a b ks (block_of xs)))) u (local_expression room u) (λ a u _.
+      local_then (expect word.To) (λ _. expression_at room >>= λ b. keeps_at v >>= λ ks. block >>= λ xs. give (for_ line v a b ks (block_of xs))) u (local_expect word.To u) (λ _ u _.
+      local_then (expression_at room) (λ b. keeps_at v >>= λ ks. block >>= λ xs. give (for_ line v a b ks (block_of xs))) u (local_expression room u) (λ b u _.
+      local_then (keeps_at v) (λ ks. block >>= λ xs. give (for_ line v a b ks (block_of xs))) u (local_keeps v u) (λ ks u _.
+      local_then block (λ xs. give (for_ line v a b ks (block_of xs))) u (block_local u) (λ xs u _. local_give (for_ line v a b ks (block_of xs)) u))))))))
 
-  local_repetition : (line : ℕ) (s : State) → IsLocal (repetition room block line) s
-  unfolding repetition
+  local_repetition : (line : ℕ) (s : State) → IsLocal (while_statement room block line) s
+  unfolding while_statement
   local_repetition line s =
-      local_then begin (λ _. condition_at room >>= λ c. expect word.Turns >> (any_number >>= λ n. expect word.By >> (used_variable >>= λ v. keeps_at v >>= λ ks. block >>= λ xs. give (repeat line c n v ks (block_of xs))))) s (local_begin s) (λ _ u _.
-      local_then (condition_at room) (λ c. expect word.Turns >> (any_number >>= λ n. expect word.By >> (used_variable >>= λ v. keeps_at v >>= λ ks. block >>= λ xs. give (repeat line c n v ks (block_of xs))))) u (local_condition room u) (λ c u _.
-      local_then (expect word.Turns) (λ _. any_number >>= λ n. expect word.By >> (used_variable >>= λ v. keeps_at v >>= λ ks. block >>= λ xs. give (repeat line c n v ks (block_of xs)))) u (local_expect word.Turns u) (λ _ u _.
-      local_then any_number (λ n. expect word.By >> (used_variable >>= λ v. keeps_at v >>= λ ks. block >>= λ xs. give (repeat line c n v ks (block_of xs)))) u (local_any_number u) (λ n u _.
-      local_then (expect word.By) (λ _. used_variable >>= λ v. keeps_at v >>= λ ks. block >>= λ xs. give (repeat line c n v ks (block_of xs))) u (local_expect word.By u) (λ _ u _.
-      local_then used_variable (λ v. keeps_at v >>= λ ks. block >>= λ xs. give (repeat line c n v ks (block_of xs))) u (local_used_variable u) (λ v u _.
-      local_then (keeps_at v) (λ ks. block >>= λ xs. give (repeat line c n v ks (block_of xs))) u (local_keeps v u) (λ ks u _.
-      local_then block (λ xs. give (repeat line c n v ks (block_of xs))) u (block_local u) (λ xs u _. local_give (repeat line c n v ks (block_of xs)) u))))))))
+      local_then begin (λ _. condition_at room >>= λ c. expect word.Turns >> (any_number >>= λ n. expect word.By >> (used_variable >>= λ v. keeps_at v >>= λ ks. block >>= λ xs. give (while_ line c n v ks (block_of xs))))) s (local_begin s) (λ _ u _.
+      local_then (condition_at room) (λ c. expect word.Turns >> (any_number >>= λ n. expect word.By >> (used_variable >>= λ v. keeps_at v >>= λ ks. block >>= λ xs. give (while_ line c n v ks (block_of xs))))) u (local_condition room u) (λ c u _.
+      local_then (expect word.Turns) (λ _. any_number >>= λ n. expect word.By >> (used_variable >>= λ v. keeps_at v >>= λ ks. block >>= λ xs. give (while_ line c n v ks (block_of xs)))) u (local_expect word.Turns u) (λ _ u _.
+      local_then any_number (λ n. expect word.By >> (used_variable >>= λ v. keeps_at v >>= λ ks. block >>= λ xs. give (while_ line c n v ks (block_of xs)))) u (local_any_number u) (λ n u _.
+      local_then (expect word.By) (λ _. used_variable >>= λ v. keeps_at v >>= λ ks. block >>= λ xs. give (while_ line c n v ks (block_of xs))) u (local_expect word.By u) (λ _ u _.
+      local_then used_variable (λ v. keeps_at v >>= λ ks. block >>= λ xs. give (while_ line c n v ks (block_of xs))) u (local_used_variable u) (λ v u _.
+      local_then (keeps_at v) (λ ks. block >>= λ xs. give (while_ line c n v ks (block_of xs))) u (local_keeps v u) (λ ks u _.
+      local_then block (λ xs. give (while_ line c n v ks (block_of xs))) u (block_local u) (λ xs u _. local_give (while_ line c n v ks (block_of xs)) u))))))))
 
-  local_locking : (line : ℕ) (s : State) → IsLocal (locking room block line) s
-  unfolding locking
+  local_locking : (line : ℕ) (s : State) → IsLocal (lock_statement room block line) s
+  unfolding lock_statement
   local_locking line s =
       local_ask (λ w. w.in_procedure) (λ w ts n. refl) (λ b. check (not b) UnexpectedToken >> (begin >> (expression_at room >>= λ e. block >>= λ xs. give (locked line e (block_of xs))))) s
       (local_check (not s.in_procedure) UnexpectedToken (begin >> (expression_at room >>= λ e. block >>= λ xs. give (locked line e (block_of xs)))) s tt (λ _.

@@ -9,7 +9,7 @@ use Rattle.camac_text_cursor.specs.Reading.{State, ◌>>=◌, ◌>>◌, give, ad
 use Rattle.camac_text_cursor.specs.Readers.{begin, expect, function_number, used_register, used_variable, used_table, procedure_here, called}
 use Rattle.camac_text_phrases.specs.Expressions.{expression_at}
 use Rattle.camac_text_phrases.specs.Arguments.{arguments_at}
-use Rattle.camac_text_statements.specs.Transfers.{last_bound, table_by, table_at, scanning, stopping, repeating, calling}
+use Rattle.camac_text_statements.specs.Transfers.{last_bound, table_by, table_at, scan_statement, q_stop_statement, q_repeat_statement, call_statement}
 use Rattle.camac_text_statements.specs.Statements.{transfer_by}
 use Rattle.camac_text_cursor.proofs.Uses.{procedure_here_ok}
 use Rattle.camac_text_cursor.proofs.Places.{IsLocal, local_then, local_peek, local_give, local_advance}
@@ -38,8 +38,8 @@ local_table s = local_peek table_by s (local_table_by (kind_of s.rest) s)
 
 -- ---- transfers
 
-local_scan : (room line : ℕ) (s : State) → IsLocal (scanning room line) s
-unfolding scanning
+local_scan : (room line : ℕ) (s : State) → IsLocal (scan_statement room line) s
+unfolding scan_statement
 local_scan room line s =
     local_then begin (λ _. function_number >>= λ f. used_register >>= λ r. used_register >>= λ q. last_bound word.Max room >>= λ end. give (address_scan line f r q end.0 end.1)) s (local_begin s) (λ _ u _.
     local_then function_number (λ f. used_register >>= λ r. used_register >>= λ q. last_bound word.Max room >>= λ end. give (address_scan line f r q end.0 end.1)) u (local_function u) (λ f u _.
@@ -47,8 +47,8 @@ local_scan room line s =
     local_then used_register (λ q. last_bound word.Max room >>= λ end. give (address_scan line f r q end.0 end.1)) u (local_used_register u) (λ q u _.
     local_then (last_bound word.Max room) (λ end. give (address_scan line f r q end.0 end.1)) u (local_bound word.Max room u) (λ end u _. local_give (address_scan line f r q end.0 end.1) u)))))
 
-local_stop : (room line : ℕ) (s : State) → IsLocal (stopping room line) s
-unfolding stopping
+local_stop : (room line : ℕ) (s : State) → IsLocal (q_stop_statement room line) s
+unfolding q_stop_statement
 local_stop room line s =
     local_then begin (λ _. function_number >>= λ f. used_register >>= λ r. table_at >>= λ g. last_bound word.Max room >>= λ end. give (q_stop line f r g end.0 end.1)) s (local_begin s) (λ _ u _.
     local_then function_number (λ f. used_register >>= λ r. table_at >>= λ g. last_bound word.Max room >>= λ end. give (q_stop line f r g end.0 end.1)) u (local_function u) (λ f u _.
@@ -56,8 +56,8 @@ local_stop room line s =
     local_then table_at (λ g. last_bound word.Max room >>= λ end. give (q_stop line f r g end.0 end.1)) u (local_table u) (λ g u _.
     local_then (last_bound word.Max room) (λ end. give (q_stop line f r g end.0 end.1)) u (local_bound word.Max room u) (λ end u _. local_give (q_stop line f r g end.0 end.1) u)))))
 
-local_repeat : (room line : ℕ) (s : State) → IsLocal (repeating room line) s
-unfolding repeating
+local_repeat : (room line : ℕ) (s : State) → IsLocal (q_repeat_statement room line) s
+unfolding q_repeat_statement
 local_repeat room line s =
     local_then begin (λ _. function_number >>= λ f. used_register >>= λ r. table_at >>= λ g. expect word.Max >> (expression_at room >>= λ m. last_bound word.Limit room >>= λ end. give (q_repeat line f r g m end.0 end.1))) s (local_begin s) (λ _ u _.
     local_then function_number (λ f. used_register >>= λ r. table_at >>= λ g. expect word.Max >> (expression_at room >>= λ m. last_bound word.Limit room >>= λ end. give (q_repeat line f r g m end.0 end.1))) u (local_function u) (λ f u _.
@@ -75,8 +75,8 @@ procedure_at s p u took =
     let h = procedure_here_ok s (p, u) took in
     (h.name, subst (λ (w : State). kind_of w.rest ≡ Some (kind.Name h.name)) (sym h.left) h.next)
 
-local_call : (room line : ℕ) (s : State) → IsLocal (calling room line) s
-unfolding calling
+local_call : (room line : ℕ) (s : State) → IsLocal (call_statement room line) s
+unfolding call_statement
 local_call room line s =
     local_then begin (λ _. procedure_here >>= λ p. called room p >>= λ n. arguments_at room n >>= λ es. give (call line p es)) s (local_begin s) (λ _ u _.
     local_then procedure_here (λ p. called room p >>= λ n. arguments_at room n >>= λ es. give (call line p es)) u (local_procedure_here u) (λ p v took.

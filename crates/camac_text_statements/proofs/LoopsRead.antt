@@ -6,7 +6,7 @@ use Rattle.camac_lang.specs.Depth.{expression_depth, part_depth, inner_depth}
 use Rattle.camac_lang.specs.Expressions.{Scope, expression_fits}
 use Rattle.camac_lang.specs.Statements.{keeps_fit, after_block}
 use Rattle.camac_lang.specs.Tests.{most, unless_broken}
-use Rattle.camac_lang.specs.Tree.{Expression, Condition, Keep, Statement, count, repeat, locked}
+use Rattle.camac_lang.specs.Tree.{Expression, Condition, Keep, Statement, for_, while_, locked}
 use Rattle.camac_lang.specs.View.{block_of}
 use Rattle.camac_text_tokens.specs.declared.fault.TextRule.TheVariants.{UnexpectedToken}
 use Rattle.camac_text_tokens.specs.declared.token.Keyword.TheVariants as word
@@ -18,7 +18,7 @@ use Rattle.camac_text_cursor.specs.Readers.{begin, expect, expect_sign, any_numb
 use Rattle.camac_text_phrases.specs.Expressions.{expression_at}
 use Rattle.camac_text_phrases.specs.Conditions.{condition_at}
 use Rattle.camac_text_phrases.specs.Keeps.{keeps_at}
-use Rattle.camac_text_statements.specs.Statements.{counting, repetition, locking}
+use Rattle.camac_text_statements.specs.Statements.{for_statement, while_statement, lock_statement}
 use Rattle.camac_text_cursor.proofs.Steps.{then_ok, ok_is}
 use Rattle.camac_text_cursor.proofs.Moves.{check_ok, AllFit, Moves, kind_fit, moved, then_moves, one_moves, any_number_ok, expect_ok, expect_sign_ok}
 use Rattle.camac_text_cursor.proofs.Uses.{scope_of, same_scope, used_variable_ok}
@@ -29,7 +29,7 @@ use Rattle.camac_text_cursor.proofs.Registers.{both}
 use Rattle.camac_text_statements.proofs.Acts.{begun, begin_ok, Acts}
 use Rattle.camac_text_statements.proofs.Blocks.{Body, behind_moves, holds_block}
 
--- what fits behind some tokens fits before them
+-- what fits after some tokens fits before them
 expression_before : (s t : State) (e : Expression) → Moves s t → (AllFit t.rest → expression_fits (scope_of t) e ≡ true) → AllFit s.rest → expression_fits (scope_of s) e ≡ true
 expression_before s t e m fits h = subst (λ (c : Scope). expression_fits c e ≡ true) (same_scope s t m) (fits (m.fit h))
 
@@ -40,7 +40,7 @@ keeps_before : (s t : State) (own : ℕ) (ks : List Keep) → Moves s t → (All
 keeps_before s t own ks m fits h = subst (λ (c : Scope). keeps_fit c own ks ≡ true) (same_scope s t m) (fits (m.fit h))
 
 module _ (room : ℕ) (block : Reader (List Statement)) (block_is : (s : State) (y : List Statement × State) → block s ≡ Ok y → Body room s y.0 y.1) where
-  -- a `for` behind its first bound
+  -- a `for` after its first bound
   record Bounded (line own : ℕ) (first : Expression) (s : State) (y : Statement × State) : Type 0 where
     last : Expression
     keeps : List Keep
@@ -50,22 +50,22 @@ module _ (room : ℕ) (block : Reader (List Statement)) (block_is : (s : State) 
     last_deep : expression_depth last ≤ room
     keeps_stand : AllFit s.rest → keeps_fit (scope_of s) own keeps ≡ true
     holds : Body room s body left
-    is : (count line own first last keeps (block_of body), left) ≡ y
+    is : (for_ line own first last keeps (block_of body), left) ≡ y
 
   abbrev from_to : ℕ → ℕ → Expression → Reader Statement
-  from_to line own first = expect word.To >> (expression_at room >>= λ last. keeps_at own >>= λ ks. block >>= λ xs. give (count line own first last ks (block_of xs)))
+  from_to line own first = expect word.To >> (expression_at room >>= λ last. keeps_at own >>= λ ks. block >>= λ xs. give (for_ line own first last ks (block_of xs)))
 
   bounded : (line own : ℕ) (first : Expression) (s : State) (y : Statement × State) → from_to line own first s ≡ Ok y → Bounded line own first s y
   bounded line own first s y e =
-      let a = then_ok (expect word.To s) (λ _. expression_at room >>= λ last. keeps_at own >>= λ ks. block >>= λ xs. give (count line own first last ks (block_of xs))) y e in
+      let a = then_ok (expect word.To s) (λ _. expression_at room >>= λ last. keeps_at own >>= λ ks. block >>= λ xs. give (for_ line own first last ks (block_of xs))) y e in
       let to_a : Moves s a.0.1 = expect_ok word.To s a.0 a.1 in
-      let b = then_ok (expression_at room a.0.1) (λ last. keeps_at own >>= λ ks. block >>= λ xs. give (count line own first last ks (block_of xs))) y a.2 in
+      let b = then_ok (expression_at room a.0.1) (λ last. keeps_at own >>= λ ks. block >>= λ xs. give (for_ line own first last ks (block_of xs))) y a.2 in
       let last = expression_ok room a.0.1 b.0 b.1 in
       let to_b : Moves s b.0.1 = then_moves s a.0.1 b.0.1 to_a last.moves in
-      let c = then_ok (keeps_at own b.0.1) (λ ks. block >>= λ xs. give (count line own first b.0.0 ks (block_of xs))) y b.2 in
+      let c = then_ok (keeps_at own b.0.1) (λ ks. block >>= λ xs. give (for_ line own first b.0.0 ks (block_of xs))) y b.2 in
       let keeps = keeps_ok own b.0.1 c.0 c.1 in
       let to_c : Moves s c.0.1 = then_moves s b.0.1 c.0.1 to_b keeps.moves in
-      let d = then_ok (block c.0.1) (λ xs. give (count line own first b.0.0 c.0.0 (block_of xs))) y c.2 in
+      let d = then_ok (block c.0.1) (λ xs. give (for_ line own first b.0.0 c.0.0 (block_of xs))) y c.2 in
       record {
         last = b.0.0;
         keeps = c.0.0;
@@ -75,7 +75,7 @@ module _ (room : ℕ) (block : Reader (List Statement)) (block_is : (s : State) 
         last_deep = last.deep;
         keeps_stand = keeps_before s b.0.1 own c.0.0 to_b (keeps_stand own b.0.1 c.0.0 c.0.1 keeps);
         holds = behind_moves room s c.0.1 d.0.0 d.0.1 to_c (block_is c.0.1 d.0 d.1);
-        is = ok_is (count line own first b.0.0 c.0.0 (block_of d.0.0), d.0.1) y d.2;
+        is = ok_is (for_ line own first b.0.0 c.0.0 (block_of d.0.0), d.0.1) y d.2;
       }
 
   counts : (s : State) (j : TokenKind) (line own : ℕ) (first : Expression) (u : State) (y : Statement × State) → kind_of s.rest ≡ Some j → s.statements < 4096 → own < length s.variables → Moves (begun s) u → (AllFit s.rest → expression_fits (scope_of s) first ≡ true) → expression_depth first ≤ room → Bounded line own first u y → Acts room s y.0 y.1
@@ -84,7 +84,7 @@ module _ (room : ℕ) (block : Reader (List Statement)) (block_is : (s : State) 
       let deep_last : expression_depth r.last ≤ room = r.last_deep in
       let inner : inner_depth s.callables (block_of r.body) < room = body.deep in
       subst (λ (p : Statement × State). Acts room s p.0 p.1) r.is
-      (holds_block room s j (count line own first r.last r.keeps (block_of r.body)) r.body r.left next below
+      (holds_block room s j (for_ line own first r.last r.keeps (block_of r.body)) r.body r.left next below
       (λ h.
       let h_b : AllFit (begun s).rest = (moved s).fit h in
       ap (λ (holds : Bool). option_and_then (λ (n : ℕ). after_block (scope_of s) n (block_of r.body)) (unless_broken holds (length s.registers)))
@@ -94,8 +94,8 @@ module _ (room : ℕ) (block : Reader (List Statement)) (block_is : (s : State) 
       (keeps_before (begun s) u own r.keeps to_u r.keeps_stand h_b)))))
       refl (omega arith) body)
 
-  pub counting_is : (s : State) (j : TokenKind) (line : ℕ) (y : Statement × State) → kind_of s.rest ≡ Some j → counting room block line s ≡ Ok y → Acts room s y.0 y.1
-  unfolding counting
+  pub counting_is : (s : State) (j : TokenKind) (line : ℕ) (y : Statement × State) → kind_of s.rest ≡ Some j → for_statement room block line s ≡ Ok y → Acts room s y.0 y.1
+  unfolding for_statement
   counting_is s j line y next e =
       let rest : Reader Statement = used_variable >>= λ own. expect_sign sign.Equals >> (expression_at room >>= λ first. from_to line own first) in
       let z = then_ok (begin s) (λ _. rest) y e in
@@ -111,10 +111,10 @@ module _ (room : ℕ) (block : Reader (List Statement)) (block_is : (s : State) 
       let to_2 : Moves b a2.0.1 = then_moves b a1.0.1 a2.0.1 to_1 first.moves in
       counts s j line v.0.0 a2.0.0 a2.0.1 y next begins.0 own.0 to_2 (λ h. expression_before b a1.0.1 a2.0.0 to_1 first.fits ((moved s).fit h)) first.deep (bounded line v.0.0 a2.0.0 a2.0.1 y a2.2)
 
-  pub repetition_is : (s : State) (j : TokenKind) (line : ℕ) (y : Statement × State) → kind_of s.rest ≡ Some j → repetition room block line s ≡ Ok y → Acts room s y.0 y.1
-  unfolding repetition
+  pub repetition_is : (s : State) (j : TokenKind) (line : ℕ) (y : Statement × State) → kind_of s.rest ≡ Some j → while_statement room block line s ≡ Ok y → Acts room s y.0 y.1
+  unfolding while_statement
   repetition_is s j line y next e =
-      let by_to : Condition → ℕ → Reader Statement = λ c turns. expect word.By >> (used_variable >>= λ own. keeps_at own >>= λ ks. block >>= λ xs. give (repeat line c turns own ks (block_of xs))) in
+      let by_to : Condition → ℕ → Reader Statement = λ c turns. expect word.By >> (used_variable >>= λ own. keeps_at own >>= λ ks. block >>= λ xs. give (while_ line c turns own ks (block_of xs))) in
       let rest : Reader Statement = condition_at room >>= λ c. expect word.Turns >> (any_number >>= λ turns. by_to c turns) in
       let z = then_ok (begin s) (λ _. rest) y e in
       let begins = begin_ok s z.0 z.1 in
@@ -127,17 +127,17 @@ module _ (room : ℕ) (block : Reader (List Statement)) (block_is : (s : State) 
       let a3 = then_ok (any_number a2.0.1) (λ turns. by_to a1.0.0 turns) y a2.2 in
       let turns = any_number_ok a2.0.1 a3.0 a3.1 in
       let to_3 : Moves b a3.0.1 = then_moves b a2.0.1 a3.0.1 to_2 (one_moves a2.0.1 (kind.Number a3.0.0) a3.0.1 turns) in
-      let a4 = then_ok (expect word.By a3.0.1) (λ _. used_variable >>= λ own. keeps_at own >>= λ ks. block >>= λ xs. give (repeat line a1.0.0 a3.0.0 own ks (block_of xs))) y a3.2 in
+      let a4 = then_ok (expect word.By a3.0.1) (λ _. used_variable >>= λ own. keeps_at own >>= λ ks. block >>= λ xs. give (while_ line a1.0.0 a3.0.0 own ks (block_of xs))) y a3.2 in
       let to_4 : Moves b a4.0.1 = then_moves b a3.0.1 a4.0.1 to_3 (expect_ok word.By a3.0.1 a4.0 a4.1) in
-      let v = then_ok (used_variable a4.0.1) (λ own. keeps_at own >>= λ ks. block >>= λ xs. give (repeat line a1.0.0 a3.0.0 own ks (block_of xs))) y a4.2 in
+      let v = then_ok (used_variable a4.0.1) (λ own. keeps_at own >>= λ ks. block >>= λ xs. give (while_ line a1.0.0 a3.0.0 own ks (block_of xs))) y a4.2 in
       let own = used_variable_ok a4.0.1 v.0 v.1 in
       let to_v : Moves b v.0.1 = then_moves b a4.0.1 v.0.1 to_4 own.1 in
-      let a5 = then_ok (keeps_at v.0.0 v.0.1) (λ ks. block >>= λ xs. give (repeat line a1.0.0 a3.0.0 v.0.0 ks (block_of xs))) y v.2 in
+      let a5 = then_ok (keeps_at v.0.0 v.0.1) (λ ks. block >>= λ xs. give (while_ line a1.0.0 a3.0.0 v.0.0 ks (block_of xs))) y v.2 in
       let keeps = keeps_ok v.0.0 v.0.1 a5.0 a5.1 in
       let to_5 : Moves b a5.0.1 = then_moves b v.0.1 a5.0.1 to_v keeps.moves in
-      let a6 = then_ok (block a5.0.1) (λ xs. give (repeat line a1.0.0 a3.0.0 v.0.0 a5.0.0 (block_of xs))) y a5.2 in
+      let a6 = then_ok (block a5.0.1) (λ xs. give (while_ line a1.0.0 a3.0.0 v.0.0 a5.0.0 (block_of xs))) y a5.2 in
       let body : Body room b a6.0.0 a6.0.1 = behind_moves room b a5.0.1 a6.0.0 a6.0.1 to_5 (block_is a5.0.1 a6.0 a6.1) in
-      let x : Statement = repeat line a1.0.0 a3.0.0 v.0.0 a5.0.0 (block_of a6.0.0) in
+      let x : Statement = while_ line a1.0.0 a3.0.0 v.0.0 a5.0.0 (block_of a6.0.0) in
       let deep_test : most part_depth a1.0.0 ≤ room = test.deep in
       let inner : inner_depth s.callables (block_of a6.0.0) < room = body.deep in
       subst (λ (p : Statement × State). Acts room s p.0 p.1) (ok_is (x, a6.0.1) y a6.2)
@@ -151,8 +151,8 @@ module _ (room : ℕ) (block : Reader (List Statement)) (block_is : (s : State) 
       (keeps_before b v.0.1 v.0.0 a5.0.0 to_v (keeps_stand v.0.0 v.0.1 a5.0.0 a5.0.1 keeps) h_b)))))
       refl (omega arith) body)
 
-  pub locking_is : (s : State) (j : TokenKind) (line : ℕ) (y : Statement × State) → kind_of s.rest ≡ Some j → locking room block line s ≡ Ok y → Acts room s y.0 y.1
-  unfolding locking
+  pub locking_is : (s : State) (j : TokenKind) (line : ℕ) (y : Statement × State) → kind_of s.rest ≡ Some j → lock_statement room block line s ≡ Ok y → Acts room s y.0 y.1
+  unfolding lock_statement
   locking_is s j line y next e =
       let rest : Reader Statement = expression_at room >>= λ c. block >>= λ xs. give (locked line c (block_of xs)) in
       let free = check_ok (not s.in_procedure) UnexpectedToken (begin >> rest) s y e in

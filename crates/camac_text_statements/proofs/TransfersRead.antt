@@ -11,11 +11,11 @@ use Rattle.camac_text_tokens.specs.declared.token.Keyword.{Keyword}
 use Rattle.camac_text_tokens.specs.declared.token.Keyword.TheVariants as word
 use Rattle.camac_text_tokens.specs.declared.token.TokenKind.{TokenKind}
 use Rattle.camac_text_tokens.specs.declared.token.TokenKind.TheVariants as kind
-use Rattle.camac_text_cursor.specs.Reading.{State, Reader, ◌>>=◌, ◌>>◌, give, kind_of, behind}
+use Rattle.camac_text_cursor.specs.Reading.{State, Reader, ◌>>=◌, ◌>>◌, give, kind_of, after_first}
 use Rattle.camac_text_cursor.specs.Readers.{begin, expect, function_number, used_register, used_variable, used_table, procedure_here, called}
 use Rattle.camac_text_phrases.specs.Expressions.{expression_at}
 use Rattle.camac_text_phrases.specs.Arguments.{arguments_at}
-use Rattle.camac_text_statements.specs.Transfers.{last_bound, table_by, table_at, scanning, stopping, repeating, calling}
+use Rattle.camac_text_statements.specs.Transfers.{last_bound, table_by, table_at, scan_statement, q_stop_statement, q_repeat_statement, call_statement}
 use Rattle.camac_text_statements.specs.Statements.{transfer_by}
 use Rattle.camac_text_cursor.proofs.Steps.{then_ok, ok_is}
 use Rattle.camac_text_cursor.proofs.Moves.{AllFit, Moves, stays, moved, then_moves, one_moves, function_ok, expect_ok}
@@ -26,7 +26,7 @@ use Rattle.camac_text_phrases.proofs.ArgumentsRead.{arguments_ok}
 use Rattle.camac_text_statements.proofs.Acts.{begun, begin_ok, Acts, acts}
 use Rattle.camac_text_statements.proofs.CallsRead.{crate_call_is}
 
--- ---- what is behind some tokens, seen from before them
+-- ---- what is after some tokens, seen from before them
 
 expression_before : (s t : State) (e : Expression) → Moves s t → (AllFit t.rest → expression_fits (scope_of t) e ≡ true) → AllFit s.rest → expression_fits (scope_of s) e ≡ true
 expression_before s t e m fits h = subst (λ (c : Scope). expression_fits c e ≡ true) (same_scope s t m) (fits (m.fit h))
@@ -75,7 +75,7 @@ record ReadsTable (s : State) (table : Option ℕ) (s' : State) : Type 0 where
 
 table_is : (k : Option TokenKind) (s : State) (y : Option ℕ × State) → table_by k s ≡ Ok y → ReadsTable s y.0 y.1
 table_is (Some (kind.Keyword word.Table)) s y e =
-    let t : State = record s { rest = behind s.rest } in
+    let t : State = record s { rest = after_first s.rest } in
     let m = then_ok (used_table t) (λ place. give (Some place)) y e in
     let used = used_table_ok t m.0 m.1 in
     subst (λ (p : Option ℕ × State). ReadsTable s p.0 p.1) (ok_is (Some m.0.0, m.0.1) y m.2) (record {
@@ -93,8 +93,8 @@ table_before s t g m fits = subst (λ (c : Scope). table_fits c g ≡ true) (sam
 
 -- ---- transfers
 
-scan_is : (room : ℕ) (s : State) (k : TokenKind) (line : ℕ) (y : Statement × State) → kind_of s.rest ≡ Some k → scanning room line s ≡ Ok y → Acts room s y.0 y.1
-unfolding scanning
+scan_is : (room : ℕ) (s : State) (k : TokenKind) (line : ℕ) (y : Statement × State) → kind_of s.rest ≡ Some k → scan_statement room line s ≡ Ok y → Acts room s y.0 y.1
+unfolding scan_statement
 scan_is room s k line y next e =
     let rest : Reader Statement = function_number >>= λ f. used_register >>= λ r. used_register >>= λ q. last_bound word.Max room >>= λ end. give (address_scan line f r q end.0 end.1) in
     let z = then_ok (begin s) (λ _. rest) y e in
@@ -123,8 +123,8 @@ scan_is room s k line y next e =
     (subst (λ (u : State). nat_lt a4.0.0.1 (length u.variables) ≡ true) to_3.same end.within))))))
     end.deep refl)
 
-stop_is : (room : ℕ) (s : State) (k : TokenKind) (line : ℕ) (y : Statement × State) → kind_of s.rest ≡ Some k → stopping room line s ≡ Ok y → Acts room s y.0 y.1
-unfolding stopping
+stop_is : (room : ℕ) (s : State) (k : TokenKind) (line : ℕ) (y : Statement × State) → kind_of s.rest ≡ Some k → q_stop_statement room line s ≡ Ok y → Acts room s y.0 y.1
+unfolding q_stop_statement
 stop_is room s k line y next e =
     let rest : Reader Statement = function_number >>= λ f. used_register >>= λ r. table_at >>= λ g. last_bound word.Max room >>= λ end. give (q_stop line f r g end.0 end.1) in
     let z = then_ok (begin s) (λ _. rest) y e in
@@ -153,8 +153,8 @@ stop_is room s k line y next e =
     (subst (λ (u : State). nat_lt a4.0.0.1 (length u.variables) ≡ true) to_3.same end.within))))))
     end.deep refl)
 
-repeat_is : (room : ℕ) (s : State) (k : TokenKind) (line : ℕ) (y : Statement × State) → kind_of s.rest ≡ Some k → repeating room line s ≡ Ok y → Acts room s y.0 y.1
-unfolding repeating
+repeat_is : (room : ℕ) (s : State) (k : TokenKind) (line : ℕ) (y : Statement × State) → kind_of s.rest ≡ Some k → q_repeat_statement room line s ≡ Ok y → Acts room s y.0 y.1
+unfolding q_repeat_statement
 repeat_is room s k line y next e =
     let rest : Reader Statement = function_number >>= λ f. used_register >>= λ r. table_at >>= λ g. expect word.Max >> (expression_at room >>= λ m. last_bound word.Limit room >>= λ end. give (q_repeat line f r g m end.0 end.1)) in
     let z = then_ok (begin s) (λ _. rest) y e in
@@ -208,8 +208,8 @@ wants_so_many None q n wanted at wants counted = absurd cc
 deep_enough : (found : Option Callable) (q : Callable) (arguments room : ℕ) → found ≡ Some q → q.depth ≤ room → arguments ≤ room → max arguments (depth_of found) ≤ room
 deep_enough found q arguments room at deep inner = let same : depth_of found ≡ q.depth = ap depth_of at in omega arith
 
-call_is : (room : ℕ) (s : State) (k : TokenKind) (line : ℕ) (y : Statement × State) → kind_of s.rest ≡ Some k → calling room line s ≡ Ok y → Acts room s y.0 y.1
-unfolding calling
+call_is : (room : ℕ) (s : State) (k : TokenKind) (line : ℕ) (y : Statement × State) → kind_of s.rest ≡ Some k → call_statement room line s ≡ Ok y → Acts room s y.0 y.1
+unfolding call_statement
 call_is room s k line y next e =
     let rest : Reader Statement = procedure_here >>= λ p. called room p >>= λ n. arguments_at room n >>= λ es. give (call line p es) in
     let z = then_ok (begin s) (λ _. rest) y e in

@@ -1,6 +1,6 @@
 -- What is read at each place of a statement.
 use Rattle.std.specs.Prelude.{ℕ, zero, suc, Bool, true, false, List, Option, Some, not, if◌then◌else◌}
-use Rattle.camac_lang.specs.Tree.{Move, no_data, into, from, Statement, assign, set_register, single, put, crate_call, lam_call, choose, choose_else, count, repeat, locked, Condition}
+use Rattle.camac_lang.specs.Tree.{Move, no_data, into, from, Statement, assign, set_register, single, put, crate_call, lam_call, choose, choose_else, for_, while_, locked, Condition}
 use Rattle.camac_lang.specs.View.{block_of}
 use Rattle.camac_lang.specs.declared.word.WordSize.{WordSize}
 use Rattle.camac_lang.specs.declared.word.WordSize.TheVariants.{Full, Short}
@@ -16,7 +16,7 @@ use Rattle.camac_text_tokens.specs.declared.fault.TextRule.TheVariants.{Unexpect
 use Rattle.camac_text_cursor.specs.Reading.{Reader, ◌>>=◌, ◌>>◌, give, peek, advance, line_here, fail, many, ask, check}
 use Rattle.camac_text_cursor.specs.Readers.{begin, is_sign, expect, expect_sign, any_number, branch_number, function_number, set_name, used_register, used_variable, variable_here, used_lam}
 use Rattle.camac_text_phrases.specs.Expressions.{expression_at}
-use Rattle.camac_text_statements.specs.Transfers.{scanning, stopping, repeating, calling}
+use Rattle.camac_text_statements.specs.Transfers.{scan_statement, q_stop_statement, q_repeat_statement, call_statement}
 use Rattle.camac_text_phrases.specs.Conditions.{condition_at}
 use Rattle.camac_text_phrases.specs.Keeps.{keeps_at}
 
@@ -125,10 +125,10 @@ crate_call_by room line k = lam_call_by line k
 
 -- a transfer or a call, whichever keyword stands next
 abbrev pub transfer_by : ℕ → ℕ → Option TokenKind → Reader Statement
-transfer_by room line (Some (kind.Keyword word.Cfmad)) = scanning room line
-transfer_by room line (Some (kind.Keyword word.Cfubc)) = stopping room line
-transfer_by room line (Some (kind.Keyword word.Cfubr)) = repeating room line
-transfer_by room line (Some (kind.Keyword word.Call)) = calling room line
+transfer_by room line (Some (kind.Keyword word.Cfmad)) = scan_statement room line
+transfer_by room line (Some (kind.Keyword word.Cfubc)) = q_stop_statement room line
+transfer_by room line (Some (kind.Keyword word.Cfubr)) = q_repeat_statement room line
+transfer_by room line (Some (kind.Keyword word.Call)) = call_statement room line
 transfer_by room line k = crate_call_by room line k
 
 -- ---- statements that hold blocks
@@ -142,8 +142,8 @@ else_by block line test body (Some (kind.Keyword word.Else)) = do
 else_by block line test body _ = give (choose line test (block_of body))
 
 -- `if`
-unfoldable pub choice : ℕ → Reader (List Statement) → ℕ → Reader Statement
-choice room block line = do
+unfoldable pub if_statement : ℕ → Reader (List Statement) → ℕ → Reader Statement
+if_statement room block line = do
   begin
   test ← condition_at room
   body ← block
@@ -151,8 +151,8 @@ choice room block line = do
   else_by block line test body next
 
 -- `for`
-unfoldable pub counting : ℕ → Reader (List Statement) → ℕ → Reader Statement
-counting room block line = do
+unfoldable pub for_statement : ℕ → Reader (List Statement) → ℕ → Reader Statement
+for_statement room block line = do
   begin
   own ← used_variable
   expect_sign sign.Equals
@@ -161,11 +161,11 @@ counting room block line = do
   last ← expression_at room
   keeps ← keeps_at own
   body ← block
-  give (count line own first last keeps (block_of body))
+  give (for_ line own first last keeps (block_of body))
 
 -- `while`
-unfoldable pub repetition : ℕ → Reader (List Statement) → ℕ → Reader Statement
-repetition room block line = do
+unfoldable pub while_statement : ℕ → Reader (List Statement) → ℕ → Reader Statement
+while_statement room block line = do
   begin
   test ← condition_at room
   expect word.Turns
@@ -174,11 +174,11 @@ repetition room block line = do
   measure ← used_variable
   keeps ← keeps_at measure
   body ← block
-  give (repeat line test turns measure keeps (block_of body))
+  give (while_ line test turns measure keeps (block_of body))
 
 -- `lock`, which stands in no procedure
-unfoldable pub locking : ℕ → Reader (List Statement) → ℕ → Reader Statement
-locking room block line = do
+unfoldable pub lock_statement : ℕ → Reader (List Statement) → ℕ → Reader Statement
+lock_statement room block line = do
   is_procedure ← ask (λ s. s.in_procedure)
   check (not is_procedure) UnexpectedToken
   begin
@@ -188,10 +188,10 @@ locking room block line = do
 
 -- a statement that holds blocks, which are read so
 abbrev pub nested_by : ℕ → Reader (List Statement) → ℕ → Option TokenKind → Reader Statement
-nested_by room block line (Some (kind.Keyword word.If)) = choice room block line
-nested_by room block line (Some (kind.Keyword word.For)) = counting room block line
-nested_by room block line (Some (kind.Keyword word.While)) = repetition room block line
-nested_by room block line (Some (kind.Keyword word.Lock)) = locking room block line
+nested_by room block line (Some (kind.Keyword word.If)) = if_statement room block line
+nested_by room block line (Some (kind.Keyword word.For)) = for_statement room block line
+nested_by room block line (Some (kind.Keyword word.While)) = while_statement room block line
+nested_by room block line (Some (kind.Keyword word.Lock)) = lock_statement room block line
 nested_by room block line k = transfer_by room line k
 
 -- a statement, where so many brackets and braces may be open at once and this is read as a block

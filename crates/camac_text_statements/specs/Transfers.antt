@@ -12,8 +12,8 @@ use Rattle.camac_text_phrases.specs.Arguments.{arguments_at}
 
 -- the last bound of a transfer after its word, and the tally
 unfoldable pub last_bound : Keyword → ℕ → Reader (Expression × ℕ)
-last_bound behind room = do
-  expect behind
+last_bound after_first room = do
+  expect after_first
   bound ← expression_at room
   expect word.Tally
   tally ← used_variable
@@ -31,8 +31,8 @@ unfoldable pub table_at : Reader (Option ℕ)
 table_at = peek >>= table_by
 
 -- `cfmad`
-unfoldable pub scanning : ℕ → ℕ → Reader Statement
-scanning room line = do
+unfoldable pub scan_statement : ℕ → ℕ → Reader Statement
+scan_statement room line = do
   begin
   function ← function_number
   first ← used_register
@@ -41,8 +41,8 @@ scanning room line = do
   give (address_scan line function first last end.0 end.1)
 
 -- `cfubc`
-unfoldable pub stopping : ℕ → ℕ → Reader Statement
-stopping room line = do
+unfoldable pub q_stop_statement : ℕ → ℕ → Reader Statement
+q_stop_statement room line = do
   begin
   function ← function_number
   register ← used_register
@@ -51,8 +51,8 @@ stopping room line = do
   give (q_stop line function register table end.0 end.1)
 
 -- `cfubr`
-unfoldable pub repeating : ℕ → ℕ → Reader Statement
-repeating room line = do
+unfoldable pub q_repeat_statement : ℕ → ℕ → Reader Statement
+q_repeat_statement room line = do
   begin
   function ← function_number
   register ← used_register
@@ -63,8 +63,8 @@ repeating room line = do
   give (q_repeat line function register table most end.0 end.1)
 
 -- `call`
-unfoldable pub calling : ℕ → ℕ → Reader Statement
-calling room line = do
+unfoldable pub call_statement : ℕ → ℕ → Reader Statement
+call_statement room line = do
   begin
   place ← procedure_here
   wanted ← called room place

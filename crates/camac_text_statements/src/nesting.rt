@@ -3,7 +3,7 @@
 ghost use Rattle.std.specs.Prelude.{◌≡◌};
 ghost use Rattle.camac_lang.specs.View.{statement_of};
 ghost use Rattle.camac_text_cursor.specs.Reading.{kind_of};
-ghost use Rattle.camac_text_statements.specs.Statements.{choice, counting, repetition, locking, nested_by, block_at};
+ghost use Rattle.camac_text_statements.specs.Statements.{if_statement, for_statement, while_statement, lock_statement, nested_by, block_at};
 ghost use Rattle.camac_text_cursor.specs.Parser.{state, Gives};
 
 use crate::statements::block;
@@ -19,19 +19,19 @@ pub fn nested(parser: &mut Parser<'_>, room: u32, line: u32) -> Result<Stmt, Tex
     ensures { Gives statement_of result parser.new (nested_by room (block_at room) line (kind_of parser.old.rest.now) (state parser.old)) }
 {
     match parser.peek() {
-        Some(TokenKind::Keyword(Keyword::If)) => choice(parser, room, line),
-        Some(TokenKind::Keyword(Keyword::For)) => counting(parser, room, line),
-        Some(TokenKind::Keyword(Keyword::While)) => repetition(parser, room, line),
-        Some(TokenKind::Keyword(Keyword::Lock)) => locking(parser, room, line),
+        Some(TokenKind::Keyword(Keyword::If)) => if_statement(parser, room, line),
+        Some(TokenKind::Keyword(Keyword::For)) => for_statement(parser, room, line),
+        Some(TokenKind::Keyword(Keyword::While)) => while_statement(parser, room, line),
+        Some(TokenKind::Keyword(Keyword::Lock)) => lock_statement(parser, room, line),
         _ => transfer(parser, room, line),
     }
 }
 
 /// `if`
 #[cycle(statement)]
-#[tactic(auto, unfolding(crate::specs::Statements::choice))]
-fn choice(parser: &mut Parser<'_>, room: u32, line: u32) -> Result<Stmt, TextFault>
-    ensures { Gives statement_of result parser.new (choice room (block_at room) line (state parser.old)) }
+#[tactic(auto, unfolding(crate::specs::Statements::if_statement))]
+fn if_statement(parser: &mut Parser<'_>, room: u32, line: u32) -> Result<Stmt, TextFault>
+    ensures { Gives statement_of result parser.new (if_statement room (block_at room) line (state parser.old)) }
 {
     parser.begin()?;
     let test = condition(parser, room)?;
@@ -53,9 +53,9 @@ fn choice(parser: &mut Parser<'_>, room: u32, line: u32) -> Result<Stmt, TextFau
 
 /// `for`
 #[cycle(statement)]
-#[tactic(auto, unfolding(crate::specs::Statements::counting))]
-fn counting(parser: &mut Parser<'_>, room: u32, line: u32) -> Result<Stmt, TextFault>
-    ensures { Gives statement_of result parser.new (counting room (block_at room) line (state parser.old)) }
+#[tactic(auto, unfolding(crate::specs::Statements::for_statement))]
+fn for_statement(parser: &mut Parser<'_>, room: u32, line: u32) -> Result<Stmt, TextFault>
+    ensures { Gives statement_of result parser.new (for_statement room (block_at room) line (state parser.old)) }
 {
     parser.begin()?;
     let variable = parser.used_variable()?;
@@ -77,9 +77,9 @@ fn counting(parser: &mut Parser<'_>, room: u32, line: u32) -> Result<Stmt, TextF
 
 /// `while`
 #[cycle(statement)]
-#[tactic(auto, unfolding(crate::specs::Statements::repetition))]
-fn repetition(parser: &mut Parser<'_>, room: u32, line: u32) -> Result<Stmt, TextFault>
-    ensures { Gives statement_of result parser.new (repetition room (block_at room) line (state parser.old)) }
+#[tactic(auto, unfolding(crate::specs::Statements::while_statement))]
+fn while_statement(parser: &mut Parser<'_>, room: u32, line: u32) -> Result<Stmt, TextFault>
+    ensures { Gives statement_of result parser.new (while_statement room (block_at room) line (state parser.old)) }
 {
     parser.begin()?;
     let test = condition(parser, room)?;
@@ -101,9 +101,9 @@ fn repetition(parser: &mut Parser<'_>, room: u32, line: u32) -> Result<Stmt, Tex
 
 /// `lock`, which stands in no procedure
 #[cycle(statement)]
-#[tactic(auto, unfolding(crate::specs::Statements::locking))]
-fn locking(parser: &mut Parser<'_>, room: u32, line: u32) -> Result<Stmt, TextFault>
-    ensures { Gives statement_of result parser.new (locking room (block_at room) line (state parser.old)) }
+#[tactic(auto, unfolding(crate::specs::Statements::lock_statement))]
+fn lock_statement(parser: &mut Parser<'_>, room: u32, line: u32) -> Result<Stmt, TextFault>
+    ensures { Gives statement_of result parser.new (lock_statement room (block_at room) line (state parser.old)) }
 {
     if parser.in_procedure {
         return Err(parser.fault(TextRule::UnexpectedToken));

@@ -4,7 +4,7 @@ ghost use Rattle.std.specs.Prelude.{◌≡◌};
 ghost use Rattle.camac_lang.specs.View.{expression_of, statement_of};
 ghost use Rattle.camac_text_cursor.specs.Reading.{kind_of};
 ghost use Rattle.camac_text_cursor.specs.Parser.{state, Gives};
-ghost use Rattle.camac_text_statements.specs.Transfers.{last_bound, table_at, scanning, stopping, repeating, calling};
+ghost use Rattle.camac_text_statements.specs.Transfers.{last_bound, table_at, scan_statement, q_stop_statement, q_repeat_statement, call_statement};
 ghost use Rattle.camac_text_statements.specs.Statements.{transfer_by};
 
 use crate::calls::crate_call;
@@ -27,9 +27,9 @@ pub fn transfer(parser: &mut Parser<'_>, room: u32, line: u32) -> Result<Stmt, T
 }
 
 /// `cfmad`
-#[tactic(auto, unfolding(crate::specs::Transfers::scanning))]
+#[tactic(auto, unfolding(crate::specs::Transfers::scan_statement))]
 fn scan(parser: &mut Parser<'_>, room: u32, line: u32) -> Result<Stmt, TextFault>
-    ensures { Gives statement_of result parser.new (scanning room line (state parser.old)) }
+    ensures { Gives statement_of result parser.new (scan_statement room line (state parser.old)) }
 {
     parser.begin()?;
     let function = parser.function_number()?;
@@ -47,9 +47,9 @@ fn scan(parser: &mut Parser<'_>, room: u32, line: u32) -> Result<Stmt, TextFault
 }
 
 /// `cfubc`
-#[tactic(auto, unfolding(crate::specs::Transfers::stopping))]
+#[tactic(auto, unfolding(crate::specs::Transfers::q_stop_statement))]
 fn q_stop(parser: &mut Parser<'_>, room: u32, line: u32) -> Result<Stmt, TextFault>
-    ensures { Gives statement_of result parser.new (stopping room line (state parser.old)) }
+    ensures { Gives statement_of result parser.new (q_stop_statement room line (state parser.old)) }
 {
     parser.begin()?;
     let function = parser.function_number()?;
@@ -67,9 +67,9 @@ fn q_stop(parser: &mut Parser<'_>, room: u32, line: u32) -> Result<Stmt, TextFau
 }
 
 /// `cfubr`
-#[tactic(auto, unfolding(crate::specs::Transfers::repeating))]
+#[tactic(auto, unfolding(crate::specs::Transfers::q_repeat_statement))]
 fn q_repeat(parser: &mut Parser<'_>, room: u32, line: u32) -> Result<Stmt, TextFault>
-    ensures { Gives statement_of result parser.new (repeating room line (state parser.old)) }
+    ensures { Gives statement_of result parser.new (q_repeat_statement room line (state parser.old)) }
 {
     parser.begin()?;
     let function = parser.function_number()?;
@@ -108,12 +108,12 @@ fn table(parser: &mut Parser<'_>) -> Result<Option<usize>, TextFault>
 #[tactic(auto, unfolding(crate::specs::Transfers::last_bound))]
 fn last_bound(
     parser: &mut Parser<'_>,
-    behind: Keyword,
+    after_first: Keyword,
     room: u32,
 ) -> Result<(Expr, usize), TextFault>
-    ensures { Gives (λ p. (expression_of p.0, p.1)) result parser.new (last_bound behind room (state parser.old)) }
+    ensures { Gives (λ p. (expression_of p.0, p.1)) result parser.new (last_bound after_first room (state parser.old)) }
 {
-    parser.expect(behind)?;
+    parser.expect(after_first)?;
     let bound = expression(parser, room)?;
     parser.expect(Keyword::Tally)?;
     let tally = parser.used_variable()?;
@@ -121,9 +121,9 @@ fn last_bound(
 }
 
 /// `call`
-#[tactic(auto, unfolding(crate::specs::Transfers::calling))]
+#[tactic(auto, unfolding(crate::specs::Transfers::call_statement))]
 fn call(parser: &mut Parser<'_>, room: u32, line: u32) -> Result<Stmt, TextFault>
-    ensures { Gives statement_of result parser.new (calling room line (state parser.old)) }
+    ensures { Gives statement_of result parser.new (call_statement room line (state parser.old)) }
 {
     parser.begin()?;
     let procedure = parser.procedure_here()?;

@@ -1,6 +1,7 @@
 //! Cuts the text of a script into tokens.
 #![tactic(auto)]
 
+mod bytes;
 mod fault;
 pub mod laws;
 mod scanner;
@@ -8,6 +9,7 @@ mod signs;
 mod token;
 mod words;
 
+pub use bytes::are_same;
 pub use fault::{TextFault, TextRule};
 pub use scanner::{last_line, tokens};
 pub use token::{Keyword, Sign, Token, TokenKind};

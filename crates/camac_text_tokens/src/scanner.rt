@@ -165,7 +165,7 @@ fn pair_at(text: &[u8]) -> Option<Sign>
     ensures { result ≡ pair_at text.now }
 {
     match text {
-        [first, second, ..] => pair_sign(&[*first, *second]),
+        [first, second, ..] => pair_sign(*first, *second),
         _ => None,
     }
 }
@@ -174,7 +174,7 @@ fn single_at(text: &[u8]) -> Option<Sign>
     ensures { result ≡ single_at text.now }
 {
     match text {
-        [first, ..] => single_sign(&[*first]),
+        [first, ..] => single_sign(*first),
         _ => None,
     }
 }

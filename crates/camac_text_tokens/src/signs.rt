@@ -1,35 +1,44 @@
 // The signs of the language.
 
-ghost use Rattle.std.specs.Prelude.{◌≡◌};
+ghost use Rattle.std.specs.Prelude.{◌≡◌, [], ◌∷◌};
 ghost use Rattle.camac_text_tokens.specs.Words.{spelled_in, pair_signs, single_signs};
 
 use crate::token::Sign;
 
-// The first sign that is spelled so.
-macro_rules! spelled {
-    ($text:expr; $($bytes:literal => $sign:ident),*) => {{
-        $(
-            if $text == $bytes.as_slice() {
-                return Some(Sign::$sign);
-            }
-        )*
-        None
-    }};
-}
-
 /// The sign of these two bytes.
-pub fn pair_sign(text: &[u8]) -> Option<Sign>
-    ensures { result ≡ spelled_in pair_signs text.now }
+pub fn pair_sign(first: u8, second: u8) -> Option<Sign>
+    ensures { result ≡ spelled_in pair_signs (first ∷ second ∷ []) }
 {
-    spelled!(text; b"<=" => AtMost, b">=" => AtLeast, b"==" => Same, b"!=" => Differs,
-        b"->" => Into, b"<-" => From, b".." => UpTo)
+    match (first, second) {
+        (b'<', b'=') => Some(Sign::AtMost),
+        (b'>', b'=') => Some(Sign::AtLeast),
+        (b'=', b'=') => Some(Sign::Same),
+        (b'!', b'=') => Some(Sign::Differs),
+        (b'-', b'>') => Some(Sign::Into),
+        (b'<', b'-') => Some(Sign::From),
+        (b'.', b'.') => Some(Sign::UpTo),
+        _ => None,
+    }
 }
 
 /// The sign of this one byte.
-pub fn single_sign(text: &[u8]) -> Option<Sign>
-    ensures { result ≡ spelled_in single_signs text.now }
+pub fn single_sign(byte: u8) -> Option<Sign>
+    ensures { result ≡ spelled_in single_signs (byte ∷ []) }
 {
-    spelled!(text; b"{" => LeftBrace, b"}" => RightBrace, b"(" => LeftBracket, b")" => RightBracket,
-        b"+" => Plus, b"-" => Minus, b"*" => Times, b"/" => Over, b"%" => Modulo,
-        b"=" => Equals, b"," => Comma, b"<" => Less, b">" => More)
+    match byte {
+        b'{' => Some(Sign::LeftBrace),
+        b'}' => Some(Sign::RightBrace),
+        b'(' => Some(Sign::LeftBracket),
+        b')' => Some(Sign::RightBracket),
+        b'+' => Some(Sign::Plus),
+        b'-' => Some(Sign::Minus),
+        b'*' => Some(Sign::Times),
+        b'/' => Some(Sign::Over),
+        b'%' => Some(Sign::Modulo),
+        b'=' => Some(Sign::Equals),
+        b',' => Some(Sign::Comma),
+        b'<' => Some(Sign::Less),
+        b'>' => Some(Sign::More),
+        _ => None,
+    }
 }

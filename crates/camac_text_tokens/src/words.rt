@@ -3,13 +3,14 @@
 ghost use Rattle.std.specs.Prelude.{◌≡◌};
 ghost use Rattle.camac_text_tokens.specs.Words.{spelled_in, declaration_words, action_words, call_words, control_words, keyword};
 
+use crate::bytes::are_same;
 use crate::token::Keyword;
 
 // The first word that is spelled so.
 macro_rules! spelled {
     ($text:expr; $($letters:literal => $word:ident),*) => {{
         $(
-            if $text == $letters.as_slice() {
+            if are_same($text, $letters.as_slice()) {
                 return Some(Keyword::$word);
             }
         )*

@@ -12,7 +12,6 @@ use Rattle.camac_check_rules.specs.Accept.{accept}
 use Rattle.camac_model.specs.Fine.{Bounds}
 use Rattle.camac_report.specs.declared.refusal.Refusal.{Refusal}
 use Rattle.camac_report.specs.declared.refusal.Refusal.TheVariants as refusal
-use Rattle.camac_tool.specs.Codes.{text_code, link_code, check_code}
 use Rattle.camac_tool.specs.declared.fault.ToolFault.{ToolFault}
 use Rattle.camac_tool.specs.declared.fault.ToolFault.TheVariants as fault
 use Rattle.camac_tool.specs.declared.judging.Judged.{Judged}
@@ -25,18 +24,18 @@ Accepted = Option (Result Script Refusal)
 -- by what the checker says of the script
 abbrev pub accepted_checked : Script → Result (List Bounds) CheckFault → Accepted
 accepted_checked script (Ok bounds) = Some (Ok script)
-accepted_checked script (Err (broken rule line)) = Some (Err (refusal.Check (check_code rule) line))
+accepted_checked script (Err (broken rule line)) = Some (Err (refusal.Check rule line))
 
 -- by what linking says of it
 abbrev pub accepted_linked : Layout → Script → Option LinkFault → Accepted
 accepted_linked plan script None = accepted_checked script (accept plan script)
-accepted_linked plan script (Some (link_fault_of.Broken rule line)) = Some (Err (refusal.Link (link_code rule) line))
+accepted_linked plan script (Some (link_fault_of.Broken rule line)) = Some (Err (refusal.Link rule line))
 accepted_linked plan script (Some link_fault_of.OutOfMemory) = None
 
 -- by what reading the text gives
 abbrev pub accepted_read : Layout → Result Script TextFault → Accepted
 accepted_read plan (Ok script) = accepted_linked plan script (link_fault plan script)
-accepted_read plan (Err flaw) = Some (Err (refusal.Text (text_code flaw.rule) flaw.line))
+accepted_read plan (Err flaw) = Some (Err (refusal.Text flaw.rule flaw.line))
 
 abbrev pub accepted : Layout → List ℕ → Accepted
 accepted plan text = accepted_read plan (script_of text)

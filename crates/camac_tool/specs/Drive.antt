@@ -5,7 +5,7 @@ use Rattle.camac_lang.specs.Tree.{Script}
 use Rattle.camac_branch.specs.Plan.{Layout}
 use Rattle.camac_model.specs.Fine.{Bounds}
 use Rattle.camac_answer.specs.Reading.{Reading}
-use Rattle.camac_check.specs.Checked.{CheckedScript}
+use Rattle.camac_check_result.specs.Checked.{CheckedScript}
 use Rattle.camac_check_rules.specs.Accept.{accept}
 use Rattle.camac_tool_play.specs.Headline.{DrivesWhole, DrivesSoFar}
 use Rattle.camac_tool_play.specs.Live.{Drives}

@@ -5,7 +5,6 @@ use Rattle.camac_plan.specs.declared.fault.PlanRule.{PlanRule}
 use Rattle.camac_tool_play.specs.Sent.{Held}
 use Rattle.camac_report.specs.declared.refusal.Refusal.TheVariants as refusal
 use Rattle.camac_tool.specs.Accepted.{Accepts, accepted}
-use Rattle.camac_tool.specs.Codes.{plan_code}
 use Rattle.camac_tool.specs.Plan.{Says, IsPlanTooLong}
 use Rattle.camac_tool.specs.Reading.{ConsumesSome, WasRead}
 use Rattle.camac_tool.specs.Run.{SendsNothing}
@@ -31,7 +30,7 @@ JudgesOn plan s t (Err fault.Write) = ⊥
 -- where the plan may be refused: of the script nothing is read then
 abbrev pub IsJudgedIf : Result Layout PlanRule → (s t : Option (List ℕ)) → Judged → Type 0
 IsJudgedIf (Ok plan) s t j = IsJudged plan s t j
-IsJudgedIf (Err rule) s t j = (t ≡ s) × (j ≡ judged.Refused (refusal.Plan (plan_code rule)))
+IsJudgedIf (Err rule) s t j = (t ≡ s) × (j ≡ judged.Refused (refusal.Plan rule))
 
 -- a plan was read and then a script, and this was found of them
 abbrev pub HasJudged : {R : Type 0} → (of : R → Option (List ℕ)) → (plan plan' : PlanSource R) → (s t : Option (List ℕ)) → Judged → Type 0

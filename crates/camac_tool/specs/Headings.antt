@@ -9,7 +9,6 @@ use Rattle.camac_check.specs.declared.fault.LeastFault.{LeastFault}
 use Rattle.camac_check.specs.declared.fault.LeastFault.TheVariants as least_fault
 use Rattle.camac_report.specs.Headings.{headings_text}
 use Rattle.camac_report.specs.declared.refusal.Refusal.TheVariants as refusal
-use Rattle.camac_tool.specs.Codes.{text_code, link_code, check_code}
 use Rattle.camac_tool.specs.Report.{Report, refused}
 use Rattle.camac_tool.specs.declared.fault.ToolFault.{ToolFault}
 use Rattle.camac_tool.specs.declared.fault.ToolFault.TheVariants as fault
@@ -20,14 +19,14 @@ use Rattle.camac_tool.specs.declared.outcome.Outcome.TheVariants.{Good}
 -- of the script with its least headings
 abbrev pub headings_found : Result Script LeastFault → Report
 headings_found (Ok script) = Some (Good, headings_text script)
-headings_found (Err (least_fault.Link rule line)) = refused (refusal.Link (link_code rule) line)
-headings_found (Err (least_fault.Check rule line)) = refused (refusal.Check (check_code rule) line)
+headings_found (Err (least_fault.Link rule line)) = refused (refusal.Link rule line)
+headings_found (Err (least_fault.Check rule line)) = refused (refusal.Check rule line)
 headings_found (Err least_fault.OutOfMemory) = None
 
 -- of what reading the text gives
 abbrev pub headings_read : Layout → Result Script TextFault → Report
 headings_read plan (Ok script) = headings_found (least plan script)
-headings_read plan (Err fault) = refused (refusal.Text (text_code fault.rule) fault.line)
+headings_read plan (Err fault) = refused (refusal.Text fault.rule fault.line)
 
 -- of a script's text
 abbrev pub headings_report : Layout → List ℕ → Report

@@ -1,4 +1,3 @@
-pub mod Codes
 pub mod Sample
 pub mod Report
 pub mod Reading

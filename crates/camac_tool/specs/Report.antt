@@ -20,7 +20,6 @@ use Rattle.camac_report.specs.Refusal.{refusal_text}
 use Rattle.camac_report.specs.Verdict.{verdict_text}
 use Rattle.camac_report.specs.declared.refusal.Refusal.{Refusal}
 use Rattle.camac_report.specs.declared.refusal.Refusal.TheVariants as refusal
-use Rattle.camac_tool.specs.Codes.{plan_code, text_code, link_code, check_code, event_code}
 use Rattle.camac_tool.specs.declared.judging.Judged.{Judged}
 use Rattle.camac_tool.specs.declared.judging.Judged.TheVariants as judged
 use Rattle.camac_tool.specs.declared.outcome.Outcome.{Outcome}
@@ -36,18 +35,18 @@ refused r = Some (Refused, refusal_text r)
 -- of what acceptance says of the script
 abbrev pub report_accepted : Layout → Script → Result (List Bounds) CheckFault → Report
 report_accepted plan script (Ok bounds) = Some (Good, verdict_text plan script bounds)
-report_accepted plan script (Err (broken rule line)) = refused (refusal.Check (check_code rule) line)
+report_accepted plan script (Err (broken rule line)) = refused (refusal.Check rule line)
 
 -- of what linking says of the script
 abbrev pub report_linked : Layout → Script → Option LinkFault → Report
 report_linked plan script None = report_accepted plan script (accept plan script)
-report_linked plan script (Some (link_fault_of.Broken rule line)) = refused (refusal.Link (link_code rule) line)
+report_linked plan script (Some (link_fault_of.Broken rule line)) = refused (refusal.Link rule line)
 report_linked plan script (Some link_fault_of.OutOfMemory) = None
 
 -- of what reading the text gives
 abbrev pub report_read : Layout → Result Script TextFault → Report
 report_read plan (Ok script) = report_linked plan script (link_fault plan script)
-report_read plan (Err fault) = refused (refusal.Text (text_code fault.rule) fault.line)
+report_read plan (Err fault) = refused (refusal.Text fault.rule fault.line)
 
 -- of a script's text
 abbrev pub report : Layout → List ℕ → Report
@@ -56,12 +55,12 @@ report plan text = report_read plan (script_of text)
 -- of what the plan says
 abbrev pub report_plan : Result Layout PlanRule → Report
 report_plan (Ok plan) = Some (Good, plan_text plan)
-report_plan (Err rule) = refused (refusal.Plan (plan_code rule))
+report_plan (Err rule) = refused (refusal.Plan rule)
 
 -- of what an event file says
 abbrev pub report_events : Result (Version × List Entry) Flaw → Report
 report_events (Ok file) = Some (Good, events_text file.1)
-report_events (Err flaw) = refused (refusal.Event (event_code flaw.rule) flaw.offset)
+report_events (Err flaw) = refused (refusal.Event flaw)
 
 abbrev pub report_of : Judged → Report
 report_of (judged.Accepted c) = Some (Good, verdict_text c.plan c.script c.bounds)

@@ -15,7 +15,6 @@ use Rattle.camac_report.specs.declared.refusal.Refusal.{Refusal}
 use Rattle.camac_report.specs.declared.refusal.Refusal.TheVariants as refusal
 use Rattle.camac_run_machine.specs.declared.item.End.TheVariants as end
 use Rattle.camac_tool.specs.Accepted.{Accepted, accepted}
-use Rattle.camac_tool.specs.Codes.{plan_code}
 use Rattle.camac_tool.specs.Plan.{Says, IsPlanTooLong}
 use Rattle.camac_tool.specs.Reading.{ConsumesSome, WasRead}
 use Rattle.camac_tool.specs.declared.fault.ToolFault.{ToolFault}
@@ -81,7 +80,7 @@ RunsOn plan s t left a b (Err fault.TooLong) = ConsumesSome s t (TEXT_LIMIT + 1)
 -- the same where the plan may be refused: of the script nothing is read then
 abbrev pub RunsIf : Result Layout PlanRule → (s t : Option (List ℕ)) → Option Reading → Held → Held → Result Outcome ToolFault → Type 0
 RunsIf (Ok plan) s t left a b r = RunsOn plan s t left a b r
-RunsIf (Err rule) s t left a b r = (t ≡ s) × Refuses (refusal.Plan (plan_code rule)) a b r
+RunsIf (Err rule) s t left a b r = (t ≡ s) × Refuses (refusal.Plan rule) a b r
 
 -- a plan was read, and then a script run on it
 abbrev pub RunsPlan : {R : Type 0} → (of : R → Option (List ℕ)) → (plan plan' : PlanSource R) → (s t : Option (List ℕ)) → Option Reading → Held → Held → Result Outcome ToolFault → Type 0

@@ -1,6 +1,6 @@
 // The engine of a live run: from a plan, a script and the answers of a branch to requests and an event file.
 
-ghost use Rattle.std.specs.Prelude.{◌≡◌, ◌||◌, true, false, ℕ, List, Option};
+ghost use Rattle.std.specs.Prelude.{◌≡◌, ◌||◌, true, false};
 ghost use Rattle.camac_answer.specs.Answers.{left_in};
 ghost use Rattle.camac_answer.specs.declared.answers.Stage.TheVariants.{Running};
 ghost use Rattle.camac_tool_play.specs.Sent.{held};
@@ -11,11 +11,12 @@ ghost use Rattle.camac_tool.specs.Plan.{plan_failed};
 ghost use Rattle.camac_tool.specs.Reading.{is_read_fault};
 ghost use Rattle.camac_word.specs.Watched.{inner_of, has_failed};
 
+use crate::engine::refuse;
 use crate::fault::ToolFault;
 use crate::judging::{Judged, read_judged};
 use crate::outcome::Outcome;
 use crate::plan::PlanSource;
-use crate::running::{outcome_of, refuse_run};
+use crate::running::outcome_of;
 use camac_check::Checked;
 use camac_tool_play::{PlayFault, drive};
 use camac_word::Watched;
@@ -72,7 +73,7 @@ fn drive_judged<A: Read, W: Write, E: Write>(
 {
     match judged {
         Judged::Accepted(checked) => drive_checked(alloc, checked, answers, requests, events),
-        Judged::Refused(refusal) => refuse_run(requests, *refusal),
+        Judged::Refused(refusal) => refuse(requests, *refusal),
     }
 }
 

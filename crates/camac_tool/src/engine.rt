@@ -1,6 +1,6 @@
 // The engines: from the bytes of their inputs to the bytes of their output.
 
-ghost use Rattle.std.specs.Prelude.{◌≡◌, ◌||◌};
+ghost use Rattle.std.specs.Prelude.{◌≡◌, ◌||◌, false};
 ghost use Rattle.camac_event.specs.Reading.{file_at};
 ghost use Rattle.camac_tool.specs.Engine.{Checks, ChecksOn, ShowsEvents, ShowsPlan, Shows, is_write_fault};
 ghost use Rattle.camac_tool.specs.Plan.{plan_failed};
@@ -8,7 +8,6 @@ ghost use Rattle.camac_tool.specs.Reading.{is_read_fault};
 ghost use Rattle.camac_tool.specs.Report.{refused, report, report_events, report_of};
 ghost use Rattle.camac_word.specs.Watched.{inner_of, has_failed};
 
-use crate::codes::{event_code, plan_code};
 use crate::fault::ToolFault;
 use crate::judging::{Judged, judge};
 use crate::outcome::Outcome;
@@ -37,7 +36,7 @@ pub fn engine_plan<P: Read, W: Write>(
             write_plan(out, &plan)?;
             Ok(Outcome::Good)
         }
-        Err(rule) => refuse(out, Refusal::Plan(plan_code(rule))),
+        Err(rule) => refuse(out, Refusal::Plan(rule)),
     }
 }
 
@@ -57,7 +56,7 @@ pub fn engine_check<P: Read, S: Read, W: Write>(
     let says = read_plan(alloc, plan)?;
     match says {
         Ok(plan) => check_on(alloc, &plan, script, out),
-        Err(rule) => refuse(out, Refusal::Plan(plan_code(rule))),
+        Err(rule) => refuse(out, Refusal::Plan(rule)),
     }
 }
 
@@ -89,9 +88,11 @@ fn show<W: Write>(out: &mut Watched<W>, judged: &Judged) -> Result<Outcome, Tool
     }
 }
 
+/// Writes the line of a refusal. After a write fault a prefix of it was written.
 pub fn refuse<W: Write>(out: &mut Watched<W>, refusal: Refusal) -> Result<Outcome, ToolFault>
     ensures shows { Shows (refused refusal) (W.contents (inner_of out.old)) (W.contents (inner_of out.new)) result }
     ensures failed { has_failed out.new ≡ (has_failed out.old || is_write_fault result) }
+    ensures no_read { is_read_fault result ≡ false }
 {
     write_refusal(out, refusal)?;
     Ok(Outcome::Refused)
@@ -121,12 +122,6 @@ fn list_events<W: Write>(bytes: &[u8], out: &mut Watched<W>) -> Result<Outcome, 
             write_event_file(out, &file)?;
             Ok(Outcome::Good)
         }
-        Err(flaw) => refuse(
-            out,
-            Refusal::Event {
-                code: event_code(flaw.rule),
-                byte: flaw.offset,
-            },
-        ),
+        Err(flaw) => refuse(out, Refusal::Event(flaw)),
     }
 }

@@ -10,7 +10,6 @@ ghost use Rattle.camac_tool.specs.Report.{refused, report_of, report_plan};
 ghost use Rattle.camac_word.specs.Watched.{inner_of, has_failed};
 ghost use Rattle.camac_word.specs.Writing.{Writes};
 
-use crate::codes::plan_code;
 use crate::fault::ToolFault;
 use crate::judging::{Judged, judge};
 use crate::outcome::Outcome;
@@ -54,7 +53,7 @@ fn explain_rule<W: Write>(
     ensures failed { has_failed out.new ≡ (has_failed out.old || is_write_fault result) }
 {
     let more = explain_plan(alloc, text, rule)?;
-    refuse_and(out, Refusal::Plan(plan_code(rule)), &more)
+    refuse_and(out, Refusal::Plan(rule), &more)
 }
 
 fn explain_on<S: Read, W: Write>(
@@ -88,7 +87,7 @@ fn explain_judged<W: Write>(
             Ok(Outcome::Good)
         }
         Judged::Refused(refusal) => {
-            let more = explain_script(alloc, plan, text)?;
+            let more = explain_script(alloc, plan, text, *refusal)?;
             refuse_and(out, *refusal, &more)
         }
     }

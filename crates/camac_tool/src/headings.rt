@@ -8,7 +8,6 @@ ghost use Rattle.camac_tool.specs.Plan.{plan_failed};
 ghost use Rattle.camac_tool.specs.Reading.{is_read_fault};
 ghost use Rattle.camac_word.specs.Watched.{inner_of, has_failed};
 
-use crate::codes::{check_code, link_code, plan_code, text_code};
 use crate::engine::refuse;
 use crate::fault::ToolFault;
 use crate::judging::Judged;
@@ -41,7 +40,7 @@ pub fn engine_bounds<P: Read, S: Read, W: Write>(
     let says = read_plan(alloc, plan)?;
     match says {
         Ok(plan) => bounds_on(alloc, &plan, script, out),
-        Err(rule) => refuse(out, Refusal::Plan(plan_code(rule))),
+        Err(rule) => refuse(out, Refusal::Plan(rule)),
     }
 }
 
@@ -80,10 +79,7 @@ fn judge_headings(alloc: Global, plan: &Plan, text: &[u8]) -> Result<Judged, Too
     match parse(alloc, text) {
         Ok(script) => find_headings(alloc, plan, script),
         Err(TextFault::OutOfMemory) => Err(ToolFault::Memory),
-        Err(TextFault::Broken { rule, line }) => Ok(Judged::Refused(Refusal::Text {
-            code: text_code(rule),
-            line,
-        })),
+        Err(TextFault::Broken { rule, line }) => Ok(Judged::Refused(Refusal::Text { rule, line })),
     }
 }
 
@@ -93,13 +89,7 @@ fn find_headings(alloc: Global, plan: &Plan, script: Script) -> Result<Judged, T
     match least(alloc, script, plan) {
         Ok(checked) => Ok(Judged::Accepted(checked)),
         Err(LeastFault::OutOfMemory) => Err(ToolFault::Memory),
-        Err(LeastFault::Link { rule, line }) => Ok(Judged::Refused(Refusal::Link {
-            code: link_code(rule),
-            line,
-        })),
-        Err(LeastFault::Check { rule, line }) => Ok(Judged::Refused(Refusal::Check {
-            code: check_code(rule),
-            line,
-        })),
+        Err(LeastFault::Link { rule, line }) => Ok(Judged::Refused(Refusal::Link { rule, line })),
+        Err(LeastFault::Check { rule, line }) => Ok(Judged::Refused(Refusal::Check { rule, line })),
     }
 }

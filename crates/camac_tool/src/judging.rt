@@ -11,7 +11,6 @@ ghost use Rattle.camac_tool.specs.Reading.{is_read_fault};
 ghost use Rattle.camac_tool.specs.Report.{report, report_linked, report_accepted};
 ghost use Rattle.camac_word.specs.Watched.{inner_of, has_failed};
 
-use crate::codes::{check_code, link_code, plan_code, text_code};
 use crate::fault::ToolFault;
 use crate::plan::{PlanSource, read_plan};
 use crate::reading::{TEXT_LIMIT, read_whole};
@@ -44,7 +43,7 @@ pub fn read_judged<P: Read, S: Read>(
     let says = read_plan(alloc, plan)?;
     match says {
         Ok(plan) => judge_on(alloc, &plan, script),
-        Err(rule) => Ok(Judged::Refused(Refusal::Plan(plan_code(rule)))),
+        Err(rule) => Ok(Judged::Refused(Refusal::Plan(rule))),
     }
 }
 
@@ -68,10 +67,7 @@ pub fn judge(alloc: Global, plan: &Plan, text: &[u8]) -> Result<Judged, ToolFaul
     match parse(alloc, text) {
         Ok(script) => judge_script(alloc, plan, script),
         Err(TextFault::OutOfMemory) => Err(ToolFault::Memory),
-        Err(TextFault::Broken { rule, line }) => Ok(Judged::Refused(Refusal::Text {
-            code: text_code(rule),
-            line,
-        })),
+        Err(TextFault::Broken { rule, line }) => Ok(Judged::Refused(Refusal::Text { rule, line })),
     }
 }
 
@@ -82,10 +78,7 @@ fn judge_script(alloc: Global, plan: &Plan, script: Script) -> Result<Judged, To
     match resolve(alloc, script, plan) {
         Ok(linked) => judge_linked(alloc, linked),
         Err(LinkFault::OutOfMemory) => Err(ToolFault::Memory),
-        Err(LinkFault::Broken { rule, line }) => Ok(Judged::Refused(Refusal::Link {
-            code: link_code(rule),
-            line,
-        })),
+        Err(LinkFault::Broken { rule, line }) => Ok(Judged::Refused(Refusal::Link { rule, line })),
     }
 }
 
@@ -97,7 +90,7 @@ fn judge_linked(alloc: Global, linked: Linked) -> Result<Judged, ToolFault>
         Ok(checked) => Ok(Judged::Accepted(checked)),
         Err(CheckFault::OutOfMemory) => Err(ToolFault::Memory),
         Err(CheckFault::Broken { rule, line }) => Ok(Judged::Refused(Refusal::Check {
-            code: check_code(rule),
+            rule,
             line,
         })),
     }

@@ -1,7 +1,6 @@
 //! The engines of the program: from its inputs to its output, and its command line.
 #![tactic(auto)]
 
-mod codes;
 mod driving;
 mod engine;
 mod explaining;

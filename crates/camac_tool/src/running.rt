@@ -1,6 +1,6 @@
 // The engine of a run: from a plan, a script and the text of its answers to a listing and an event file.
 
-ghost use Rattle.std.specs.Prelude.{◌≡◌, ◌||◌, true, false, ℕ, List, Option};
+ghost use Rattle.std.specs.Prelude.{◌≡◌, ◌||◌, true, false};
 ghost use Rattle.camac_answer.specs.Answers.{left_in};
 ghost use Rattle.camac_answer.specs.declared.answers.Stage.TheVariants.{Running};
 ghost use Rattle.camac_tool_play.specs.Sent.{held};
@@ -8,7 +8,7 @@ ghost use Rattle.camac_tool.specs.Engine.{is_write_fault};
 ghost use Rattle.camac_tool.specs.Headline.{CheckedKeeps, JudgedKeeps, KeepsHeadline};
 ghost use Rattle.camac_tool.specs.Plan.{plan_failed};
 ghost use Rattle.camac_tool.specs.Reading.{is_read_fault};
-ghost use Rattle.camac_tool.specs.Run.{Refuses, Runs, RunsJudged, RunsScript, outcome_of};
+ghost use Rattle.camac_tool.specs.Run.{Runs, RunsJudged, RunsScript, outcome_of};
 ghost use Rattle.camac_tool.specs.Found.{StaysQuiet};
 ghost use Rattle.camac_tool.specs.RunInTurn.{FoundInTurn, JudgedInTurn, RunsInTurn, ScriptInTurn};
 ghost use Rattle.camac_word.specs.Watched.{inner_of, has_failed};
@@ -19,7 +19,6 @@ use crate::judging::{Judged, read_judged};
 use crate::outcome::Outcome;
 use crate::plan::PlanSource;
 use camac_check::Checked;
-use camac_report::Refusal;
 use camac_run_machine::End;
 use camac_tool_play::{Ending, PlayFault, play};
 use camac_word::Watched;
@@ -80,7 +79,7 @@ fn run_judged<A: Read, W: Write, E: Write>(
 {
     match judged {
         Judged::Accepted(checked) => run_checked(alloc, checked, answers, out, events),
-        Judged::Refused(refusal) => refuse_run(out, *refusal),
+        Judged::Refused(refusal) => refuse(out, *refusal),
     }
 }
 
@@ -117,13 +116,4 @@ pub fn outcome_of(ending: Ending) -> Outcome
         Ending::End(End::Overrun(_)) => Outcome::Refused,
         Ending::Refused { .. } => Outcome::Refused,
     }
-}
-
-// The line of a refusal, and nothing to the event file.
-pub fn refuse_run<W: Write>(out: &mut Watched<W>, refusal: Refusal) -> Result<Outcome, ToolFault>
-    ensures refuses { (e : Option (List ℕ)) → Refuses refusal (held (W.contents (inner_of out.old)) e) (held (W.contents (inner_of out.new)) e) result }
-    ensures failed { has_failed out.new ≡ (has_failed out.old || is_write_fault result) }
-    ensures no_read { is_read_fault result ≡ false }
-{
-    refuse(out, refusal)
 }

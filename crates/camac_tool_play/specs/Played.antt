@@ -10,10 +10,6 @@ use Rattle.camac_model.specs.Run.{the_run}
 use Rattle.camac_answer.specs.Reading.{Reading}
 use Rattle.camac_answer.specs.declared.fault.AnswerFault.{AnswerFault}
 use Rattle.camac_answer.specs.declared.fault.AnswerFault.TheVariants.{Broken}
-use Rattle.camac_answer.specs.declared.fault.AnswerRule.{AnswerRule}
-use Rattle.camac_answer.specs.declared.fault.AnswerRule.TheVariants as rule
-use Rattle.camac_report.specs.declared.code.AnswerCode.{AnswerCode}
-use Rattle.camac_report.specs.declared.code.AnswerCode.TheVariants as code
 use Rattle.camac_report.specs.declared.refusal.Refusal.TheVariants as refusal
 use Rattle.camac_report.specs.Refusal.{refusal_text}
 use Rattle.camac_run_machine.specs.Ends.{stop_in}
@@ -54,12 +50,6 @@ pieces_sent line n (p ∷ ps) = piece_sent line n p ++ pieces_sent line (number_
 abbrev pub told : Layout → Script → List Answer → List Sent
 told plan script answers = to_events (header Two) ++ pieces_sent (item_text script) 1 (pieces (the_run plan script answers))
 
--- the code of a rule of answer texts
-abbrev pub answer_code : AnswerRule → AnswerCode
-answer_code rule.LineShape = code.LineShape
-answer_code rule.BadDigit = code.BadDigit
-answer_code rule.TooMany = code.TooManyAnswers
-
 -- How a run ends, by why it stopped and what is wrong with the text of its answers. Such a fault counts only where the run comes to
 -- the end of the answers. A run of a checked script stops for no other reasons.
 abbrev pub ending_of : Option Stop → Option AnswerFault → Ending
@@ -71,7 +61,7 @@ ending_of stop fault = how.End end.Ended
 -- the last line of the listing, after so many events
 abbrev pub ending_text : Ending → ℕ → List ℕ
 ending_text (how.End e) n = end_text (stop_in e) n
-ending_text (how.Refused broken line) n = refusal_text (refusal.Answer (answer_code broken) line)
+ending_text (how.Refused broken line) n = refusal_text (refusal.Answer broken line)
 
 abbrev pub ending : Layout → Script → Reading → Ending
 ending plan script r = ending_of (stop_of (the_run plan script r.answers)) r.fault

@@ -14,8 +14,8 @@ use crate::feeding::{at_fault, end_of, wants_answer};
 use crate::following::{follow, request};
 use crate::step::Step;
 use camac_answer::Answers;
-use camac_check::Checked;
-use camac_run_machine::{End, Runner};
+use camac_check_result::Checked;
+use camac_run_machine::{End, FullRunner};
 use camac_word::Watched;
 use std::io::{Read, Write};
 
@@ -36,7 +36,7 @@ pub fn ask<R: Read, W: Write, E: Write>(
     ensures same_reader { answers.new.reader.ghost_name ≡ answers.old.reader.ghost_name }
 {
     checked.fits_greatest();
-    let mut runner = Runner::<64, 16, 4096>::start(checked);
+    let mut runner = FullRunner::start(checked);
     let mut count = 0;
     'answers: loop {
         request(&runner, requests)?;

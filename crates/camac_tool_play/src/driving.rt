@@ -14,7 +14,7 @@ use crate::ending::Ending;
 use crate::fault::PlayFault;
 use crate::playing::finish;
 use camac_answer::Answers;
-use camac_check::Checked;
+use camac_check_result::Checked;
 use camac_event::write_header;
 use camac_run::{requests_are_safe, runs_by_headline};
 use camac_word::Watched;

@@ -17,8 +17,8 @@ use crate::ending::Ending;
 use crate::fault::PlayFault;
 use crate::step::{Step, take_step};
 use camac_answer::{AnswerFault, Answers};
-use camac_check::Checked;
-use camac_run_machine::{End, Runner};
+use camac_check_result::Checked;
+use camac_run_machine::{End, FullRunner};
 use camac_word::Watched;
 use std::io::{Read, Write};
 
@@ -41,7 +41,7 @@ pub fn feed<R: Read, W: Write, E: Write>(
     ensures same_reader { answers.new.reader.ghost_name ≡ answers.old.reader.ghost_name }
 {
     checked.fits_greatest();
-    let mut runner = Runner::<64, 16, 4096>::start(checked);
+    let mut runner = FullRunner::start(checked);
     let mut count = 0;
     'answers: loop {
         let answer = match answers.next() {
@@ -60,7 +60,7 @@ pub fn feed<R: Read, W: Write, E: Write>(
 }
 
 // How a run ends where no answer is left.
-pub fn end_of(runner: &Runner<'_, 64, 16, 4096>) -> End
+pub fn end_of(runner: &FullRunner<'_>) -> End
     ensures stop { stop_in result ≡ stop_of (rest runner.now []) }
     ensures out { IsOut (stop_of (rest runner.now [])) }
     ensures quiet { pieces (rest runner.now []) ≡ [] }
@@ -73,7 +73,7 @@ pub fn end_of(runner: &Runner<'_, 64, 16, 4096>) -> End
 }
 
 // The fact that without a further answer a run tells nothing more, and stops for no other reason than that.
-pub fn wants_answer(runner: &Runner<'_, 64, 16, 4096>)
+pub fn wants_answer(runner: &FullRunner<'_>)
     ensures stop { IsOut (stop_of (rest runner.now [])) }
     ensures quiet { pieces (rest runner.now []) ≡ [] }
 {

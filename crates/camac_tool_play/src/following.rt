@@ -13,13 +13,13 @@ use crate::step::{Step, count_after};
 use crate::telling::{Left, write_event};
 use camac_branch::Answer;
 use camac_report::{write_request, write_unlocks};
-use camac_run_machine::{Progress, Runner};
+use camac_run_machine::{FullRunner, Progress};
 use camac_word::{CrateNo, Watched, Word24, WriteFault};
 use std::io::Write;
 
 /// Writes the request for the operation that a run wants.
 pub fn request<W: Write>(
-    runner: &Runner<'_, 64, 16, 4096>,
+    runner: &FullRunner<'_>,
     requests: &mut Watched<W>,
 ) -> Result<(), WriteFault>
     requires first { runner.now.overrun ≡ None }
@@ -36,7 +36,7 @@ pub fn request<W: Write>(
 
 /// Feeds a run that has left so many events an answer, and writes which locks were released and the event that a service left.
 pub fn follow<W: Write, E: Write>(
-    runner: &mut Runner<'_, 64, 16, 4096>,
+    runner: &mut FullRunner<'_>,
     answer: Answer,
     count: u32,
     requests: &mut Watched<W>,

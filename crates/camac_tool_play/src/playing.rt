@@ -17,7 +17,7 @@ use crate::fault::PlayFault;
 use crate::feeding::feed;
 use crate::telling::close;
 use camac_answer::Answers;
-use camac_check::Checked;
+use camac_check_result::Checked;
 use camac_event::write_header;
 use camac_run::runs_by_headline;
 use camac_word::Watched;

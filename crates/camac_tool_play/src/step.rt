@@ -7,8 +7,8 @@ ghost use Rattle.camac_word.specs.Watched.{inner_of, has_failed};
 
 use crate::telling::{Left, tell};
 use camac_branch::{Answer, Overrun};
-use camac_check::Checked;
-use camac_run_machine::{Progress, Runner};
+use camac_check_result::Checked;
+use camac_run_machine::{FullRunner, Progress};
 use camac_word::{Watched, WriteFault};
 use std::io::Write;
 
@@ -24,7 +24,7 @@ pub enum Step {
 /// Feeds a run that has left so many events an answer, and writes what it did.
 pub fn take_step<W: Write, E: Write>(
     checked: &Checked,
-    runner: &mut Runner<'_, 64, 16, 4096>,
+    runner: &mut FullRunner<'_>,
     answer: Answer,
     count: u32,
     out: &mut Watched<W>,

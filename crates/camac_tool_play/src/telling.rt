@@ -2,7 +2,7 @@
 
 ghost use Rattle.std.specs.Prelude.{◌≡◌, ◌≤◌, ◌||◌, ◌++◌, length, is_err, IfSome};
 ghost use Rattle.camac_report.specs.Items.{item_text, unlock_texts};
-ghost use Rattle.camac_tool_play.specs.Played.{answer_code, ending_text};
+ghost use Rattle.camac_tool_play.specs.Played.{ending_text};
 ghost use Rattle.camac_tool_play.specs.Sent.{held, to_listing, to_events, SendsBy};
 ghost use Rattle.camac_tool_play.specs.Telling.{event_record};
 ghost use Rattle.camac_run_machine.specs.Held.{piece_of};
@@ -10,10 +10,9 @@ ghost use Rattle.camac_word.specs.Watched.{inner_of, has_failed};
 ghost use Rattle.camac_word.specs.Writing.{Writes};
 
 use crate::ending::Ending;
-use camac_answer::AnswerRule;
-use camac_check::Checked;
+use camac_check_result::Checked;
 use camac_event::{Usage, write_record};
-use camac_report::{AnswerCode, Refusal, write_end, write_items, write_refusal};
+use camac_report::{Refusal, write_end, write_items, write_refusal};
 use camac_run_machine::Item;
 use camac_word::{CrateNo, GlBit, Watched, Word24, WriteFault};
 use std::io::Write;
@@ -69,20 +68,9 @@ pub fn close<W: Write>(out: &mut Watched<W>, ending: &Ending, events: u32) -> Re
         Ending::Refused { rule, line } => write_refusal(
             out,
             Refusal::Answer {
-                code: answer_code(*rule),
+                rule: *rule,
                 line: *line,
             },
         ),
-    }
-}
-
-// The code of a rule of answer texts.
-fn answer_code(rule: AnswerRule) -> AnswerCode
-    ensures { result ≡ answer_code rule }
-{
-    match rule {
-        AnswerRule::LineShape => AnswerCode::LineShape,
-        AnswerRule::BadDigit => AnswerCode::BadDigit,
-        AnswerRule::TooMany => AnswerCode::TooManyAnswers,
     }
 }

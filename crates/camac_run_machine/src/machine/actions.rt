@@ -3,7 +3,7 @@
 ghost use Rattle.std.specs.Prelude.{◌≡◌, IsTrue, ◌+◌, ◌*◌, ◌-◌, ◌<◌, ◌≤◌, length, None, Some, slice_set};
 ghost use Rattle.camac_branch.specs.Address.{Address};
 ghost use Rattle.camac_branch.specs.Allowed.{width};
-ghost use Rattle.camac_check.specs.Kinds.{is_plain, is_cycle};
+ghost use Rattle.camac_lang.specs.Kinds.{is_plain, is_cycle};
 ghost use Rattle.camac_lang.specs.View.{expression_of, move_of, statement_of};
 ghost use Rattle.camac_lang.specs.Tree.{assign, set_register, single, put, crate_call, lam_call, call};
 ghost use Rattle.camac_model.specs.Cycle.{sized};

@@ -2,11 +2,11 @@
 
 ghost use Rattle.std.specs.Prelude.{◌≡◌, IsTrue, ◌||◌, ℕ, suc, ◌+◌, ◌*◌, ◌-◌, ◌<◌, ◌∷◌, ◌++◌, [], List, map, None, Some};
 ghost use Rattle.camac_branch.specs.Branch.{Answer};
-ghost use Rattle.camac_check.specs.Kinds.{is_choice, is_count, is_repeat};
+ghost use Rattle.camac_lang.specs.Kinds.{is_choice, is_for, is_while};
 ghost use Rattle.camac_lang.specs.View.{expression_of, part_of, statement_of, statements_of};
-ghost use Rattle.camac_lang.specs.Tree.{done, choose_else, count, locked, call};
+ghost use Rattle.camac_lang.specs.Tree.{done, choose_else, for_, locked, call};
 ghost use Rattle.camac_model.specs.Fine.{most_turns};
-ghost use Rattle.camac_model.specs.Meaning.{effect, block_meaning, count_turns, turns as while_turns};
+ghost use Rattle.camac_model.specs.Meaning.{effect, block_meaning, for_turns, turns as while_turns};
 ghost use Rattle.camac_model.specs.Value.{value};
 ghost use Rattle.camac_run_machine.specs.Held.{context_in, reach, state_of, owner_in, open_in, opens_in, holds, free, FineThen, HasRoomFor, HasRoom, Advances, Enters, Wants};
 ghost use Rattle.camac_run_machine.specs.Rest.{releases, owed, left_of};
@@ -52,8 +52,8 @@ impl<'a, const V: usize, const DEPTH: usize, const CAP: usize> Machine<'a, V, DE
         requires room { HasRoom self.old }
         requires variable { variable < (reach self.old).variables }
         requires body { Opens (reach self.old) (free self.old) (statements_of body.now) }
-        requires fine { FineThen self.old (λ c. count_turns (suc (last - value)) turns variable value last (block_meaning c most_turns (statements_of body.now))) }
-        ensures { Advances self.old (λ c. count_turns (suc (last - value)) turns variable value last (block_meaning c most_turns (statements_of body.now))) None self.new }
+        requires fine { FineThen self.old (λ c. for_turns (suc (last - value)) turns variable value last (block_meaning c most_turns (statements_of body.now))) }
+        ensures { Advances self.old (λ c. for_turns (suc (last - value)) turns variable value last (block_meaning c most_turns (statements_of body.now))) None self.new }
     {
         self.set_variable(variable, value);
         self.steps += 1;
@@ -76,8 +76,8 @@ impl<'a, const V: usize, const DEPTH: usize, const CAP: usize> Machine<'a, V, DE
         requires from { Refers (reach self.old).variables (expression_of from.now) }
         requires to { Refers (reach self.old).variables (expression_of to.now) }
         requires body { Opens (reach self.old) (free self.old) (statements_of body.now) }
-        requires fine { FineThen self.old (λ c. effect c most_turns (count 0 variable (expression_of from.now) (expression_of to.now) [] (statements_of body.now))) }
-        ensures { Advances self.old (λ c. effect c most_turns (count 0 variable (expression_of from.now) (expression_of to.now) [] (statements_of body.now))) None self.new }
+        requires fine { FineThen self.old (λ c. effect c most_turns (for_ 0 variable (expression_of from.now) (expression_of to.now) [] (statements_of body.now))) }
+        ensures { Advances self.old (λ c. effect c most_turns (for_ 0 variable (expression_of from.now) (expression_of to.now) [] (statements_of body.now))) None self.new }
     {
         let first = self.value_of(from);
         let last = self.value_of(to);
@@ -178,7 +178,7 @@ impl<'a, const V: usize, const DEPTH: usize, const CAP: usize> Machine<'a, V, DE
     // A loop: its first turn, if it has one.
     pub fn loop_statement(&mut self, statement: &'a Stmt)
         requires room { HasRoom self.old }
-        requires kind { IsTrue (is_count (statement_of statement.now) || is_repeat (statement_of statement.now)) }
+        requires kind { IsTrue (is_for (statement_of statement.now) || is_while (statement_of statement.now)) }
         requires fits { StatementFits (reach self.old) (free self.old) (statement_of statement.now) }
         requires fine { FineThen self.old (λ c. effect c most_turns (statement_of statement.now)) }
         ensures { Advances self.old (λ c. effect c most_turns (statement_of statement.now)) None self.new }

@@ -2,7 +2,7 @@
 
 ghost use Rattle.std.specs.Prelude.{◌≡◌, IsTrue, ◌*◌, ◌-◌, ◌<◌, ◌≤◌, length, None, Some, IsSome, ◌^◌, ◌%◌};
 ghost use Rattle.camac_branch.specs.Allowed.{width};
-ghost use Rattle.camac_check.specs.Kinds.{is_transfer};
+ghost use Rattle.camac_lang.specs.Kinds.{is_transfer};
 ghost use Rattle.camac_lang.specs.View.{expression_of, statement_of};
 ghost use Rattle.camac_lang.specs.Tree.{done, address_scan, q_stop, q_repeat};
 ghost use Rattle.camac_model.specs.Fine.{most_turns};

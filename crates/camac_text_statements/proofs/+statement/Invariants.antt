@@ -8,17 +8,17 @@ use Rattle.camac_text_statements.proofs.+statement.Given as goal
 abbrev pub decreases-statements::block : goal.decreases-statements::block
 decreases-statements::block l = 9 * l.room
 
-abbrev pub decreases-nesting::choice : goal.decreases-nesting::choice
-decreases-nesting::choice l = 9 * l.room + 1
+abbrev pub decreases-nesting::if_statement : goal.decreases-nesting::if_statement
+decreases-nesting::if_statement l = 9 * l.room + 1
 
-abbrev pub decreases-nesting::counting : goal.decreases-nesting::counting
-decreases-nesting::counting l = 9 * l.room + 2
+abbrev pub decreases-nesting::for_statement : goal.decreases-nesting::for_statement
+decreases-nesting::for_statement l = 9 * l.room + 2
 
-abbrev pub decreases-nesting::repetition : goal.decreases-nesting::repetition
-decreases-nesting::repetition l = 9 * l.room + 3
+abbrev pub decreases-nesting::while_statement : goal.decreases-nesting::while_statement
+decreases-nesting::while_statement l = 9 * l.room + 3
 
-abbrev pub decreases-nesting::locking : goal.decreases-nesting::locking
-decreases-nesting::locking l = 9 * l.room + 4
+abbrev pub decreases-nesting::lock_statement : goal.decreases-nesting::lock_statement
+decreases-nesting::lock_statement l = 9 * l.room + 4
 
 abbrev pub decreases-nesting::nested : goal.decreases-nesting::nested
 decreases-nesting::nested l = 9 * l.room + 5

@@ -16,9 +16,9 @@ accept_block-statements-init t c =
     let Cut : Bounds → Type 0 = λ a. capped a ≡ a in
     record {
       rest =
-          ap (λ a. rest_rule context around (verdict c.args.known a) block) c.new.ensures
+          ap (λ a. rest_rule context around (verdict c.args.known a) block) c.new-costs.ensures
           ∙ block_starts context around block c.args.known;
-      cut = subst Cut (sym c.new.ensures) refl;
+      cut = subst Cut (sym c.new-costs.ensures) refl;
     }
 
 pub accept_block-returns-in-Err : goal.accept_block-returns-in-Err
@@ -28,10 +28,11 @@ accept_block-returns-in-Err t c =
     let xs = c.args.block.now in
     let i = c.statements.statement-index in
     let lt : i < length xs = omega arith in
-    let found = c.statements.found in
+    let known = c.statements.here in
+    let costs = c.statements.costs in
     subst (λ r. Fails c.in-Err.fault r)
-    (ap (λ b. rest_rule context around (verdict_of found) b) (sym (next_of xs i c.statement-item.result lt c.statement-item.is)) ∙ c.statements.invariant.rest)
-    (block_stops context around found.known found.costs (statement_of c.statement-item.result) (statements_of (drop (i + 1) xs)) c.in-Err.fault c.in-Err.ensures)
+    (ap (λ b. rest_rule context around (verdict known costs) b) (sym (next_of xs i c.statement-item.result lt c.statement-item.is)) ∙ c.statements.invariant.rest)
+    (block_stops context around known costs (statement_of c.statement-item.result) (statements_of (drop (i + 1) xs)) c.in-Err.fault c.in-Err.ensures)
 
 pub accept_block-statements-preserved : goal.accept_block-statements-preserved
 accept_block-statements-preserved t c =
@@ -40,16 +41,17 @@ accept_block-statements-preserved t c =
     let xs = c.args.block.now in
     let i = c.statements.statement-index in
     let lt : i < length xs = omega arith in
-    let found = c.statements.found in
+    let known = c.statements.here in
+    let costs = c.statements.costs in
     let rest = statements_of (drop (i + 1) xs) in
     let Cut : Bounds → Type 0 = λ a. capped a ≡ a in
     record {
       rest =
-          ap (λ a. rest_rule context around (verdict c.in-Ok.next.known a) rest) c.then.ensures
-          ∙ block_goes_on context around found.known found.costs (statement_of c.statement-item.result) rest (verdict_of c.in-Ok.next) c.in-Ok.ensures
-          ∙ ap (λ b. rest_rule context around (verdict_of found) b) (sym (next_of xs i c.statement-item.result lt c.statement-item.is))
+          ap (λ a. rest_rule context around (verdict c.in-Ok.next.known a) rest) c.then-costs.ensures
+          ∙ block_goes_on context around known costs (statement_of c.statement-item.result) rest (verdict_of c.in-Ok.next) c.in-Ok.ensures
+          ∙ ap (λ b. rest_rule context around (verdict known costs) b) (sym (next_of xs i c.statement-item.result lt c.statement-item.is))
           ∙ c.statements.invariant.rest;
-      cut = subst Cut (sym c.then.ensures) (capped_twice (plus found.costs c.in-Ok.next.costs));
+      cut = subst Cut (sym c.then-costs.ensures) (capped_twice (plus costs c.in-Ok.next.costs));
     }
 
 pub accept_block-returns : goal.accept_block-returns
@@ -57,8 +59,9 @@ accept_block-returns t c =
     let context = c.args.context.now in
     let around = c.args.around.now in
     let xs = c.args.block.now in
-    let found = c.statements.found in
+    let known = c.statements.here in
+    let costs = c.statements.costs in
     let le : length xs ≤ c.statements.statement-index = omega arith in
     sym c.statements.invariant.rest
-    ∙ ap (λ l. rest_rule context around (verdict_of found) (statements_of l)) (drop_all c.statements.statement-index xs le)
-    ∙ block_ends context around (verdict_of found) c.statements.invariant.cut
+    ∙ ap (λ l. rest_rule context around (verdict known costs) (statements_of l)) (drop_all c.statements.statement-index xs le)
+    ∙ block_ends context around (verdict known costs) c.statements.invariant.cut

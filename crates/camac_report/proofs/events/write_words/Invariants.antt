@@ -1,4 +1,4 @@
-use Rattle.std.proofs.Common.{◌≡◌, drop}
+use Rattle.std.proofs.Common.{◌≡◌, ◌<◌, ◌++◌, codes, drop, length}
 use Rattle.std.specs.List.{flat_map}
 use Rattle.camac_word.specs.Watched.{inner_of, has_failed}
 use Rattle.camac_word.proofs.Fronts.{IsUnderWay}
@@ -7,6 +7,7 @@ use Rattle.camac_report.proofs.events.write_words.Given as goal
 
 abbrev pub invariant-words : goal.invariant-words
 invariant-words g l =
-    IsUnderWay (flat_map word_text l.words) (flat_map word_text (drop l.word-index l.words))
-    (g.W.Write.contents (inner_of l.fn.out)) (g.W.Write.contents (inner_of l.out))
-    × (has_failed l.out ≡ has_failed l.fn.out)
+    IsUnderWay (l.initial.line ++ flat_map word_text l.words ++ codes "\n") (l.line ++ flat_map word_text (drop l.word-index l.words) ++ codes "\n")
+    (g.W.Write.contents (inner_of l.initial.out)) (g.W.Write.contents (inner_of l.out))
+    × (has_failed l.out ≡ has_failed l.initial.out)
+    × (length l.line < 256)

@@ -1,7 +1,5 @@
 use Rattle.std.proofs.Common.{◌∙◌, refl, ap, Err}
 use Rattle.std.proofs.lemmas.Result.{err_from_is_err_and}
-use Rattle.camac_report.specs.declared.refusal.Refusal.TheVariants as refusal
-use Rattle.camac_tool.specs.declared.judging.Judged.TheVariants as judged
 use Rattle.camac_tool.proofs.Found.{plan_unread, plan_judged}
 use Rattle.camac_tool.proofs.judging.read_judged.Goals as goal
 
@@ -16,4 +14,4 @@ returns-in-Ok-clause-reads g c =
 
 pub returns-in-Err-clause-reads : goal.returns-in-Err-clause-reads
 returns-in-Err-clause-reads g c =
-    (Err c.in-Err.rule, rw c.in-Err.is at c.in_ok-says.ensures.reads, (refl, ap (λ code. judged.Refused (refusal.Plan code)) c.plan_code.ensures))
+    (Err c.in-Err.rule, rw c.in-Err.is at c.in_ok-says.ensures.reads, (refl, refl))

@@ -1,9 +1,11 @@
 use Rattle.std.proofs.Common.{refl}
 use Rattle.camac_word.specs.Watched.{inner_of}
+use Rattle.camac_tool.proofs.Runs.{refuses}
 use Rattle.camac_tool.proofs.running.run_judged.Goals as goal
 
 pub returns-in-Refused-clause-runs : goal.returns-in-Refused-clause-runs
-returns-in-Refused-clause-runs g c = rw c.in-Refused.is (c.refuse_run.ensures.refuses (g.E.Write.contents (inner_of c.args.events.now)))
+returns-in-Refused-clause-runs g c = rw c.in-Refused.is
+    (refuses c.refuse.result _ (g.W.Write.contents (inner_of c.args.out.now)) (g.W.Write.contents (inner_of c.refuse.new.out)) (g.E.Write.contents (inner_of c.args.events.now)) c.refuse.ensures.shows)
 
 pub returns-in-Accepted-clause-headline : goal.returns-in-Accepted-clause-headline
 returns-in-Accepted-clause-headline g c = rw c.in-Accepted.is c.run_checked.ensures.headline

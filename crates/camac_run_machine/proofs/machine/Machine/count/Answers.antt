@@ -1,9 +1,9 @@
 use Rattle.std.proofs.Common.{◌-◌, suc, [], sym, rules}
 use Rattle.std.specs.Prelude.{None}
-use Rattle.camac_lang.specs.Tree.{count}
+use Rattle.camac_lang.specs.Tree.{for_}
 use Rattle.camac_lang.specs.View.{expression_of, statements_of}
 use Rattle.camac_model.specs.Fine.{most_turns}
-use Rattle.camac_model.specs.Meaning.{effect, count_turns, block_meaning}
+use Rattle.camac_model.specs.Meaning.{effect, for_turns, block_meaning}
 use Rattle.camac_model.specs.Value.{value}
 use Rattle.camac_run_machine.specs.Held.{variables_here}
 use Rattle.camac_run_machine.proofs.Actions.{has_value, known}
@@ -37,7 +37,7 @@ turn-requires g c =
           c.requires.variable,
           (
             c.requires.body,
-            fine_as h (λ k. effect k most_turns (count 0 x e1 e2 [] b)) (λ k. count_turns (suc (w - v)) 65535 x v w (block_meaning k most_turns b))
+            fine_as h (λ k. effect k most_turns (for_ 0 x e1 e2 [] b)) (λ k. for_turns (suc (w - v)) 65535 x v w (block_meaning k most_turns b))
                 (count_goes h x e1 e2 b v w c.value_of-first.ensures c.value_of-last.ensures c.if-first-last.true) c.requires.fine,
           ),
         ),
@@ -53,7 +53,7 @@ returns-then-first-last g c =
     let b = statements_of c.args.body.now in
     let v = c.value_of-first.result in
     let w = c.value_of-last.result in
-    advances_as h (λ k. count_turns (suc (w - v)) 65535 x v w (block_meaning k most_turns b)) (λ k. effect k most_turns (count 0 x e1 e2 [] b)) None c.turn.new.self
+    advances_as h (λ k. for_turns (suc (w - v)) 65535 x v w (block_meaning k most_turns b)) (λ k. effect k most_turns (for_ 0 x e1 e2 [] b)) None c.turn.new.self
     (λ answers. sym (count_goes h x e1 e2 b v w c.value_of-first.ensures c.value_of-last.ensures c.if-first-last.true answers)) c.turn.ensures
 
 pub returns-else-first-last : goal.returns-else-first-last
@@ -63,4 +63,4 @@ returns-else-first-last g c =
     let e1 = expression_of c.args.from.now in
     let e2 = expression_of c.args.to.now in
     let b = statements_of c.args.body.now in
-    unchanged h (λ k. effect k most_turns (count 0 x e1 e2 [] b)) (count_none h x e1 e2 b c.value_of-first.result c.value_of-last.result c.value_of-first.ensures c.value_of-last.ensures c.if-first-last.false) c.requires.room
+    unchanged h (λ k. effect k most_turns (for_ 0 x e1 e2 [] b)) (count_none h x e1 e2 b c.value_of-first.result c.value_of-last.result c.value_of-first.ensures c.value_of-last.ensures c.if-first-last.false) c.requires.room

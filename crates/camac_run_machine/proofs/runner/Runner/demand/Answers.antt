@@ -5,7 +5,7 @@ use Rattle.camac_branch.specs.Crates.{branch_of}
 use Rattle.camac_model.specs.Behaviour.{does, demanded}
 use Rattle.std.specs.Borrow.{Bor}
 use Rattle.arrayvec.specs.ArrayVec.{ArrayVec}
-use Rattle.camac_check.specs.Checked.{CheckedScript}
+use Rattle.camac_check_result.specs.Checked.{CheckedScript}
 use Rattle.camac_model.specs.Fine.{most_turns}
 use Rattle.camac_model.specs.Run.{Chosen, service_for, service_meaning}
 use Rattle.camac_run_machine.specs.Held.{context_in, want_of}

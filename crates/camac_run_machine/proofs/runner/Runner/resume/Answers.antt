@@ -2,7 +2,7 @@ use Rattle.std.proofs.Common.{◌≡◌, ℕ, ◌+◌, Some, refl, sym, ap, ◌�
 use Rattle.std.specs.Prelude.{None}
 use Rattle.std.specs.Borrow.{Bor}
 use Rattle.arrayvec.specs.ArrayVec.{ArrayVec}
-use Rattle.camac_check.specs.Checked.{CheckedScript}
+use Rattle.camac_check_result.specs.Checked.{CheckedScript}
 use Rattle.camac_model.specs.Behaviour.{does, then_do}
 use Rattle.camac_run_machine.specs.declared.machine.Machine.{Machine}
 use Rattle.camac_run_machine.specs.Held.{context_in, state_of, left_in, want_of, piece_of}

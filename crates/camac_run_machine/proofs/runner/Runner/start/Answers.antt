@@ -5,8 +5,8 @@ use Rattle.camac_lang.specs.Scope.{is_well_formed}
 use Rattle.camac_lang.specs.Tree.{Script}
 use Rattle.camac_branch.specs.Branch.{Branch}
 use Rattle.camac_branch.specs.Crates.{branch_of}
-use Rattle.camac_check.specs.Checked.{CheckedScript, IsChecked}
-use Rattle.camac_size.specs.Fits.{fits}
+use Rattle.camac_check_result.specs.Checked.{CheckedScript, IsChecked}
+use Rattle.camac_lang.specs.Fits.{fits}
 use Rattle.camac_model.specs.Meaning.{context}
 use Rattle.camac_model.specs.Run.{rounds}
 use Rattle.camac_run_machine.specs.Held.{context_in}

@@ -1,0 +1,214 @@
+// How many brackets and braces are open at once.
+
+ghost use Rattle.std.specs.Prelude.{◌≡◌, ◌≤◌, suc, [], length, map, slice_get};
+ghost use Rattle.camac_lang.specs.Depth.{expression_depth, test_depth, part_depth, move_depth, depth_of, statement_depth, inner_depth, callable, callables_after, script_depth};
+ghost use Rattle.camac_lang.specs.Tests.{most};
+ghost use Rattle.camac_lang.specs.View.{expression_of, test_of, part_of, move_of, statement_of, statements_of, procedure_of, service_of, callable_of};
+
+use crate::limits::PROCEDURES;
+use crate::script::{Procedure, Script, Service};
+use crate::tree::{Expr, Move, Part, Stmt, Test};
+use arrayvec::ArrayVec;
+
+/// A procedure as its callers see it: how many arguments a call gives, and how many brackets and braces are open at most from its own
+/// brace on, calls counted.
+#[derive(Clone, Copy, Debug, Default, PartialEq, Eq)]
+pub struct Callable {
+    pub parameters: usize,
+    pub depth: u32,
+}
+
+impl Callable {
+    /// A procedure as its callers see it, where these can be called in its body.
+    pub fn new(procedure: &Procedure, callables: &[Callable]) -> Callable
+        requires { suc (inner_depth (map callable_of callables.now) (procedure_of procedure.now).body) ≤ 16 }
+        ensures { callable_of result ≡ callable (map callable_of callables.now) (procedure_of procedure.now) }
+    {
+        Callable {
+            parameters: procedure.parameters.len(),
+            depth: 1 + block_depth(callables, &procedure.body),
+        }
+    }
+}
+
+/// The depth of a script, calls counted.
+pub fn script_depth(script: &Script) -> u32
+    ensures { result ≡ script_depth script.now }
+{
+    script.well_formed();
+    let callables = callables_of(script.procedures());
+    let procedures = deepest(&callables);
+    let services = services_depth(&callables, script.services());
+    procedures.max(services)
+}
+
+// What can be called after these procedures.
+fn callables_of(procedures: &[Procedure]) -> ArrayVec<Callable, PROCEDURES>
+    requires room { length procedures.now ≤ 16 }
+    requires shallow { most (λ q. q.depth) (callables_after [] (map procedure_of procedures.now)) ≤ 16 }
+    ensures { map callable_of result.items ≡ callables_after [] (map procedure_of procedures.now) }
+{
+    let mut callables = ArrayVec::new();
+    'procedures: for procedure in procedures {
+        let callable = Callable::new(procedure, &callables);
+        callables.push(callable);
+    }
+    callables
+}
+
+fn deepest(callables: &[Callable]) -> u32
+    ensures { result ≡ most (λ q. q.depth) (map callable_of callables.now) }
+{
+    match callables {
+        [] => 0,
+        [callable, rest @ ..] => callable.depth.max(deepest(rest)),
+    }
+}
+
+fn services_depth(callables: &[Callable], services: &[Service]) -> u32
+    requires { most (λ v. suc (inner_depth (map callable_of callables.now) v.body)) (map service_of services.now) ≤ 16 }
+    ensures { result ≡ most (λ v. suc (inner_depth (map callable_of callables.now) v.body)) (map service_of services.now) }
+{
+    match services {
+        [] => 0,
+        [service, rest @ ..] => {
+            let depth = 1 + block_depth(callables, &service.body);
+            depth.max(services_depth(callables, rest))
+        }
+    }
+}
+
+// Of a block inside its braces, where these can be called.
+#[cycle(depth)]
+fn block_depth(callables: &[Callable], block: &[Stmt]) -> u32
+    requires { inner_depth (map callable_of callables.now) (statements_of block.now) ≤ 16 }
+    ensures { result ≡ inner_depth (map callable_of callables.now) (statements_of block.now) }
+{
+    let mut deepest = 0;
+    'statements: for statement in block {
+        deepest = statement_depth(callables, statement).max(deepest);
+    }
+    deepest
+}
+
+#[cycle(depth)]
+fn statement_depth(callables: &[Callable], statement: &Stmt) -> u32
+    requires { statement_depth (map callable_of callables.now) (statement_of statement.now) ≤ 16 }
+    ensures { result ≡ statement_depth (map callable_of callables.now) (statement_of statement.now) }
+{
+    match statement {
+        Stmt::LamCall { .. } => 0,
+        Stmt::Assign { value, .. } | Stmt::Put { value, .. } => expression_depth(value),
+        Stmt::SetRegister {
+            crate_no,
+            station,
+            sub_address,
+            ..
+        } => expression_depth(crate_no).max(expression_depth(station).max(expression_depth(
+            sub_address,
+        ))),
+        Stmt::Single { data, .. } => move_depth(data),
+        Stmt::Scan { max, .. } | Stmt::QStop { max, .. } => expression_depth(max),
+        Stmt::QRepeat { max, limit, .. } => expression_depth(max).max(expression_depth(limit)),
+        Stmt::CrateCall { crate_no, .. } => expression_depth(crate_no),
+        Stmt::If { test, then, .. } => parts_depth(&test.parts).max(
+            1 + block_depth(callables, then),
+        ),
+        Stmt::IfElse {
+            test,
+            then,
+            otherwise,
+            ..
+        } => parts_depth(&test.parts).max(
+            (1 + block_depth(callables, then)).max(1 + block_depth(callables, otherwise)),
+        ),
+        Stmt::For { from, to, body, .. } => expression_depth(from).max(expression_depth(to).max(
+            1 + block_depth(callables, body),
+        )),
+        Stmt::While { test, body, .. } => {
+            parts_depth(&test.parts).max(1 + block_depth(callables, body))
+        }
+        Stmt::Lock { crate_no, body, .. } => {
+            expression_depth(crate_no).max(1 + block_depth(callables, body))
+        }
+        Stmt::Call {
+            procedure,
+            arguments,
+            ..
+        } => (1 + arguments_depth(arguments)).max(called_depth(callables, *procedure)),
+    }
+}
+
+// Of the procedure with this number.
+#[tactic(auto, using(crate::proofs::Depths::callable_found))]
+fn called_depth(callables: &[Callable], procedure: usize) -> u32
+    ensures { result ≡ depth_of (slice_get (map callable_of callables.now) procedure) }
+{
+    match callables.get(procedure) {
+        Some(callable) => callable.depth,
+        None => 0,
+    }
+}
+
+fn parts_depth(parts: &[Part]) -> u32
+    requires { most part_depth (map part_of parts.now) ≤ 16 }
+    ensures { result ≡ most part_depth (map part_of parts.now) }
+{
+    match parts {
+        [] => 0,
+        [part, rest @ ..] => part_depth(part).max(parts_depth(rest)),
+    }
+}
+
+fn part_depth(part: &Part) -> u32
+    requires { part_depth (part_of part.now) ≤ 16 }
+    ensures { result ≡ part_depth (part_of part.now) }
+{
+    match part {
+        Part::Plain(test) | Part::Not(test) => test_depth(test),
+    }
+}
+
+fn test_depth(test: &Test) -> u32
+    requires { test_depth (test_of test.now) ≤ 16 }
+    ensures { result ≡ test_depth (test_of test.now) }
+{
+    match test {
+        Test::Q | Test::X => 0,
+        Test::Compare(a, _, b) => expression_depth(a).max(expression_depth(b)),
+    }
+}
+
+fn move_depth(moved: &Move) -> u32
+    requires { move_depth (move_of moved.now) ≤ 16 }
+    ensures { result ≡ move_depth (move_of moved.now) }
+{
+    match moved {
+        Move::NoData | Move::Into(_) => 0,
+        Move::From(value) => expression_depth(value),
+    }
+}
+
+fn arguments_depth(arguments: &[Expr]) -> u32
+    requires { most expression_depth (map expression_of arguments.now) ≤ 16 }
+    ensures { result ≡ most expression_depth (map expression_of arguments.now) }
+{
+    match arguments {
+        [] => 0,
+        [argument, rest @ ..] => expression_depth(argument).max(arguments_depth(rest)),
+    }
+}
+
+fn expression_depth(e: &Expr) -> u32
+    requires { expression_depth (expression_of e.now) ≤ 16 }
+    ensures { result ≡ expression_depth (expression_of e.now) }
+{
+    match e {
+        Expr::Num(_) | Expr::Var(_) => 0,
+        Expr::Group(e) => 1 + expression_depth(e),
+        Expr::Add(a, b) | Expr::Sub(a, b) | Expr::Mul(a, b) => {
+            expression_depth(a).max(expression_depth(b))
+        }
+        Expr::Div(e, _) | Expr::Rem(e, _) => expression_depth(e),
+    }
+}

@@ -1,5 +1,0 @@
-use Rattle.std.proofs.Common.{length}
-use Rattle.camac_size.proofs.depth.+arguments_depth.Given as goal
-
-abbrev pub decreases-arguments_depth : goal.decreases-arguments_depth
-decreases-arguments_depth l = length l.arguments.now

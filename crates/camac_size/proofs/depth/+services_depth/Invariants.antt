@@ -1,5 +1,0 @@
-use Rattle.std.proofs.Common.{length}
-use Rattle.camac_size.proofs.depth.+services_depth.Given as goal
-
-abbrev pub decreases-services_depth : goal.decreases-services_depth
-decreases-services_depth l = length l.services.now

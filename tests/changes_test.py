@@ -1,0 +1,84 @@
+#!/usr/bin/env python3
+"""Texts and event files that are cut after each byte, and that have each byte changed: each is answered, by lines of its own or by one refusal.
+
+usage: tests/changes_test.py [-v] [TEST ..]     from any folder; takes about half a minute
+
+The program is crates/camac/out/camac (cd crates/camac && rt run makes it), or what the environment variable CAMAC_PROGRAM names.
+"""
+import concurrent.futures
+import os
+import subprocess
+import sys
+import unittest
+
+from rows_test import FILE_ONE, FILE_TWO, PROGRAM, SAMPLE, STRAIGHT_LINE
+
+BYTES = (0x00, 0x0A, 0x21, 0x7B, 0xFF)
+
+# A script with most forms of the language.
+FORMS = b"""table g = 1 2 3
+cdlam adc 1 1 5 12
+proc get(s in 0..11) within 3 cycles event 1 words steps 3 {
+cdreg r 1 1 5 s
+cfsa 0 r -> s
+put s
+}
+var v k t
+service adc within 35 cycles event 6 words {
+cdreg a 1 1 5 0
+cdreg b 1 1 6 0
+cfmad 0 a b max 3 tally t
+cfubr 16 b table g max 3 limit 4 tally t
+lock 1 { call get(3) }
+k = 9
+while k > 0 and not q turns 9 by k keep v in 0..4 { k = k - 1 }
+if k < 3 and x { cclm adc on } else { ccci 1 off }
+for v = 1 to 2 { put v % 3 * 2 }
+}
+"""
+
+
+def answer(words, text):
+    """Status, standard output and standard error of the program on this standard input."""
+    ran = subprocess.run([PROGRAM, *words.split()], input=text, stdout=subprocess.PIPE, stderr=subprocess.PIPE, timeout=60)
+    return ran.returncode, ran.stdout, ran.stderr
+
+
+def changed(text):
+    """The text cut after each byte, and with each byte set to each of BYTES."""
+    for front in range(len(text)):
+        yield text[:front]
+    for place in range(len(text)):
+        for byte in BYTES:
+            yield text[:place] + bytes([byte]) + text[place + 1 :]
+
+
+class Changes(unittest.TestCase):
+    def expect_answers(self, words, text, refusals):
+        """Each is answered by lines, or by one refusal of these codes."""
+        with concurrent.futures.ThreadPoolExecutor(2) as pool:
+            for it, (status, out, err) in zip(changed(text), pool.map(lambda it: answer(words, it), changed(text))):
+                self.assertIn(status, (0, 1), it)
+                self.assertEqual((err, out[-1:]), (b"", b"\n"), it)
+                if status:
+                    self.assertRegex(out, rb"\Arefused [%s][0-9]+( line [0-9]+| byte [0-9]+)?: [^\n]+\n\Z" % refusals, it)
+                else:
+                    self.assertNotIn(b"refused", out, it)
+
+    def test_plan(self):
+        self.expect_answers("plan @in", SAMPLE, b"P")
+
+    def test_scripts(self):
+        self.assertEqual(answer("check @sample @in", FORMS)[0], 0)
+        self.expect_answers("check @sample @in", FORMS, b"SLE")
+        self.expect_answers("check @sample @in", STRAIGHT_LINE.inputs["SCRIPT"], b"SLE")
+
+    def test_event_files(self):
+        self.expect_answers("events @in", FILE_ONE, b"V")
+        self.expect_answers("events @in", FILE_TWO, b"V")
+
+
+if __name__ == "__main__":
+    if not os.access(PROGRAM, os.X_OK):
+        sys.exit(f"{PROGRAM} is not there: cd crates/camac && rt run makes it, or CAMAC_PROGRAM names another")
+    unittest.main()
