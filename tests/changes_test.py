@@ -46,8 +46,8 @@ def answer(words, text):
 
 def changed(text):
     """The text cut after each byte, and with each byte set to each of BYTES."""
-    for front in range(len(text)):
-        yield text[:front]
+    for size in range(len(text)):
+        yield text[:size]
     for place in range(len(text)):
         for byte in BYTES:
             yield text[:place] + bytes([byte]) + text[place + 1 :]

@@ -331,8 +331,8 @@ class EventFiles(Playing):
     def expect_truncated(self, file, fields):
         """Each prefix of the file that ends inside one of the fields, which begin at these bytes, is refused there."""
         for first, after in zip(fields, [*fields[1:], len(file)]):
-            for front in range(max(first, 9), after):
-                self.expect_refused(file[:front], f"V7 byte {first}: truncated")
+            for size in range(max(first, 9), after):
+                self.expect_refused(file[:size], f"V7 byte {first}: truncated")
 
     def test_event_file_one(self):
         self.expect_listing(FILE_ONE, b"event 1 gl 3 words 1 000fff\nevents 1\n")

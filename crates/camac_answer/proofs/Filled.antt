@@ -5,14 +5,14 @@ use Rattle.std.proofs.KnownBytes.{Consumes-trans}
 use Rattle.std.specs.Io.KnownBytes.{Consumes}
 use borrow.Rule.Slice.PartMut.{put_mid, same_len_mid}
 
--- n bytes were read behind those before them
+-- n bytes were read after those before them
 take_filled : (line part : List ℕ) (len room n : ℕ) → len ≤ length line → n ≤ length part → take (len + n) (put_mid len room line part) ≡ take len line ++ take n part
 take_filled line part len room n within few =
-    let front = length-take-le len line within in
+    let prefix = length-take-le len line within in
     sym (take-take (len + n) (len + length part) (put_mid len room line part) (omega (arith, few)))
     ∙ ap (take (len + n)) (take-put_mid len room line part (len + length part) (omega arith) within)
     ∙ take-add len n (take len line ++ part)
-    ∙ (λ k. take_at (take len line) part len front k ++ take n (drop_at (take len line) part len front k))
+    ∙ (λ k. take_at (take len line) part len prefix k ++ take n (drop_at (take len line) part len prefix k))
 
 pub filled : (line part : List ℕ) (len room n : ℕ) (a b c : Option (List ℕ)) → len ≤ length line → n ≤ length part
     → Consumes a b (take len line) → Consumes b c (take n part) → Consumes a c (take (len + n) (put_mid len room line part))

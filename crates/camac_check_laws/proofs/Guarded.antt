@@ -9,7 +9,7 @@ use Rattle.camac_model.specs.State.{State, stepped}
 use Rattle.camac_model.specs.Behaviour.{lock_taken, Behaviour, does, ends, stops, wrong, stop_of, Action, then_do, given, decide, unless_wrong}
 use Rattle.camac_model.specs.Value.{value, values, truth}
 use Rattle.camac_model.specs.Cycle.{if_permitted, next_answer, after_lock, take_lock, release}
-use Rattle.camac_model.specs.Meaning.{Context, counted, for_turns, for_from, turns, entered, returned, enter, effect, block_meaning, bare, context, routines_with}
+use Rattle.camac_model.specs.Meaning.{Context, for_state, for_turns, for_from, turns, entered, returned, enter, effect, block_meaning, bare, context, routines_with}
 use Rattle.camac_check_laws.specs.Calls.{guarded, begins_in_ranges, guarded_routines, guarded_context, GuardsOnlyStop}
 
 abbrev pub IsRight : {A : Type 0} → Behaviour A → Type 0
@@ -48,7 +48,7 @@ counts_same : (k n x v last : ℕ) (body body' : Action) → SameAction body bod
 counts_same zero n x v last body body' h s = λ r. refl
 counts_same (suc k) zero x v last body body' h s = λ r. refl
 counts_same (suc k) (suc n) x v last body body' h s =
-    then_same (body (counted x v s)) (body' (counted x v s)) (for_turns k n x (v + 1) last body) (for_turns k n x (v + 1) last body') (h (counted x v s))
+    then_same (body (for_state x v s)) (body' (for_state x v s)) (for_turns k n x (v + 1) last body) (for_turns k n x (v + 1) last body') (h (for_state x v s))
     (counts_same k n x (v + 1) last body body' h)
 
 count_same : (k n x v last : ℕ) (body body' : Action) → SameAction body body' → SameAction (for_from k n x v last body) (for_from k n x v last body')

@@ -34,7 +34,7 @@ abbrev pub guarded_routines : Context → List Procedure → List (ℕ → Actio
 guarded_routines c [] = c.routines
 guarded_routines c (p ∷ ps) = guarded_routines (with_guarded c p) ps
 
--- what stands behind these procedures of a script may refer to
+-- what stands after these procedures of a script may refer to
 abbrev pub guarded_after : Layout → Script → List Procedure → Context
 guarded_after plan script ps = record (bare plan script) { routines = guarded_routines (bare plan script) ps }
 

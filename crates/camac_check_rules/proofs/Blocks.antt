@@ -12,8 +12,8 @@ use Rattle.camac_func.specs.declared.data.DataMove.TheVariants as moved
 use Rattle.camac_branch.specs.Address.{Address}
 use Rattle.camac_esone.specs.Transfers.{tally, q_stop_wanted, q_repeat_wanted}
 use Rattle.camac_esone.proofs.Parts.{tally_more, tally_most}
-use Rattle.camac_esone.proofs.StopLists as stop
-use Rattle.camac_esone.proofs.RepeatLists as repeats
+use Rattle.camac_esone.proofs.QStopLists as stop
+use Rattle.camac_esone.proofs.QRepeatLists as repeats
 use Rattle.camac_model.specs.State.{stepped}
 use Rattle.camac_model.specs.Behaviour.{Action, given}
 use Rattle.camac_model.specs.Value.{value}
@@ -111,8 +111,8 @@ module _ (c : Setting) (narrow : HasWidths c.plan) (around : Place) (f r : ℕ) 
   abbrev Stops : ℕ → List Bool → Type 0
   Stops m qs = length qs ≤ m
 
-  stop_bounded : (at : Address) (m : ℕ) → InRegion g at → m ≤ most → m ≤ greatest → IsBounded c.plan f data'.table (q_stop_wanted at m) g.crates most most (event_words t most) (Stops m)
-  stop_bounded at m inside le small = record {
+  q_stop_bounded : (at : Address) (m : ℕ) → InRegion g at → m ≤ most → m ≤ greatest → IsBounded c.plan f data'.table (q_stop_wanted at m) g.crates most most (event_words t most) (Stops m)
+  q_stop_bounded at m inside le small = record {
     first = omega arith;
     each = λ qs to j e.
         let h = stop.wanted_goes_on at to m qs e in
@@ -132,8 +132,8 @@ module _ (c : Setting) (narrow : HasWidths c.plan) (around : Place) (f r : ℕ) 
   some_cycles : (n limit : ℕ) → 0 < n → q_repeat_cycles n limit ≡ limit
   some_cycles n limit pos = cond_both (nat_eq n 0) 0 limit (λ z. z ≡ limit) (λ e. absurd (let none = eqb-true n 0 e in omega arith)) (λ e. refl)
 
-  repeat_bounded : (at : Address) (m l limit : ℕ) → InRegion g at → m ≤ most → m ≤ greatest → l ≤ limit → IsBounded c.plan f data'.table (q_repeat_wanted at m l) g.crates (q_repeat_cycles most limit) (min most limit) (event_words t (min most limit)) (Repeats m l)
-  repeat_bounded at m l limit inside le small le' = record {
+  q_repeat_bounded : (at : Address) (m l limit : ℕ) → InRegion g at → m ≤ most → m ≤ greatest → l ≤ limit → IsBounded c.plan f data'.table (q_repeat_wanted at m l) g.crates (q_repeat_cycles most limit) (min most limit) (event_words t (min most limit)) (Repeats m l)
+  q_repeat_bounded at m l limit inside le small le' = record {
     first = record { words = omega arith; cycles = omega arith };
     each = λ qs to j e.
         let h = repeats.wanted_goes_on at to m l qs e in
@@ -151,8 +151,8 @@ module _ (c : Setting) (narrow : HasWidths c.plan) (around : Place) (f r : ℕ) 
         record { most = omega arith; small = omega arith; words = data'.words qs (min most limit) (omega arith) };
   }
 
-pub stop_sound : (c : Setting) → HasWidths c.plan → (around : Place) (line f r : ℕ) (t : Option ℕ) (e : Expression) (x : ℕ) (k : Facts) → Allows (q_stop_rule (seen c) (around_of around) line f r t e x k) (SoundFor c.plan around (Some k) (λ n s. effect (of c) n (q_stop line f r t e x) (stepped s)))
-stop_sound c narrow around line f r t e x k =
+pub q_stop_sound : (c : Setting) → HasWidths c.plan → (around : Place) (line f r : ℕ) (t : Option ℕ) (e : Expression) (x : ℕ) (k : Facts) → Allows (q_stop_rule (seen c) (around_of around) line f r t e x k) (SoundFor c.plan around (Some k) (λ n s. effect (of c) n (q_stop line f r t e x) (stepped s)))
+q_stop_sound c narrow around line f r t e x k =
     then_allowed (range_each line e k.ranges) (λ most gives.
     then_allowed (region_allowed c around line f r t most.hi x k) (λ g may. allowed (record {
       each = λ n le s i.
@@ -165,11 +165,11 @@ stop_sound c narrow around line f r t e x k =
           (with_given c.plan around v.after v.costs s (stepped s) (s.registers r) (λ at. given (value e s.variables) (go at)) a.at a.is
           (with_given c.plan around v.after v.costs s (stepped s) (value e s.variables) (go a.at) m.number m.is
           (transfer_sound c.plan narrow around k f table.table (q_stop_wanted a.at m.number) x g.crates most.hi most.hi (event_words t most.hi) (Stops c narrow around f r t most.hi x k g may m.number)
-          (stop_bounded c narrow around f r t most.hi x k g may a.at m.number a.inside m.fits.within.high m.fits.small) may.may s i)));
+          (q_stop_bounded c narrow around f r t most.hi x k g may a.at m.number a.inside m.fits.within.high m.fits.small) may.may s i)));
     })))
 
-pub repeat_sound : (c : Setting) → HasWidths c.plan → (around : Place) (line f r : ℕ) (t : Option ℕ) (e1 e2 : Expression) (x : ℕ) (k : Facts) → Allows (q_repeat_rule (seen c) (around_of around) line f r t e1 e2 x k) (SoundFor c.plan around (Some k) (λ n s. effect (of c) n (q_repeat line f r t e1 e2 x) (stepped s)))
-repeat_sound c narrow around line f r t e1 e2 x k =
+pub q_repeat_sound : (c : Setting) → HasWidths c.plan → (around : Place) (line f r : ℕ) (t : Option ℕ) (e1 e2 : Expression) (x : ℕ) (k : Facts) → Allows (q_repeat_rule (seen c) (around_of around) line f r t e1 e2 x k) (SoundFor c.plan around (Some k) (λ n s. effect (of c) n (q_repeat line f r t e1 e2 x) (stepped s)))
+q_repeat_sound c narrow around line f r t e1 e2 x k =
     then_allowed (range_each line e1 k.ranges) (λ most gives_m.
     then_allowed (range_each line e2 k.ranges) (λ limit gives_l.
     then_allowed (region_allowed c around line f r t most.hi x k) (λ g may. allowed (record {
@@ -187,5 +187,5 @@ repeat_sound c narrow around line f r t e1 e2 x k =
           (with_given c.plan around v.after v.costs s (stepped s) (value e1 s.variables) (λ n. given (value e2 s.variables) (go a.at n)) m.number m.is
           (with_given c.plan around v.after v.costs s (stepped s) (value e2 s.variables) (go a.at m.number) l.number l.is
           (transfer_sound c.plan narrow around k f table.table (q_repeat_wanted a.at m.number l.number) x g.crates cycles kept (event_words t kept) (Repeats c narrow around f r t most.hi x k g may m.number l.number)
-          (repeat_bounded c narrow around f r t most.hi x k g may a.at m.number l.number limit.hi a.inside m.fits.within.high m.fits.small l.fits.within.high) may.may s i))));
+          (q_repeat_bounded c narrow around f r t most.hi x k g may a.at m.number l.number limit.hi a.inside m.fits.within.high m.fits.small l.fits.within.high) may.may s i))));
     }))))

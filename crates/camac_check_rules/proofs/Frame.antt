@@ -18,7 +18,7 @@ use Rattle.camac_model.specs.Moments.{Meets}
 use Rattle.camac_model.specs.Value.{value, values, truth}
 use Rattle.camac_model.specs.Cycle.{cycle, after_cycle, sized, kept, after_lock, take_lock, release}
 use Rattle.camac_model.specs.Transfer.{keep_word}
-use Rattle.camac_model.specs.Meaning.{Context, crate_address, crate_function, lam_function, fits_size, act, transfer_to, sent, counted, for_from, enter, effect, block_meaning}
+use Rattle.camac_model.specs.Meaning.{Context, crate_address, crate_function, lam_function, fits_size, act, transfer_to, sent, for_state, for_from, enter, effect, block_meaning}
 use Rattle.camac_model.proofs.Rules.{then_meets, given_meets, decide_meets, unless_meets, cycle_meets, lock_meets, enter_meets, transfer_meets, turns_meet, counts_meet}
 use Rattle.camac_check_rules.specs.Writes.{reads_into, writes, block_writes}
 
@@ -91,8 +91,8 @@ set_other x y v f e = cond-false (nat_eq y x) v (f y) e
 pub same_written : (w g : ℕ → Bool) (x v : ℕ) (s t : State) → ((y : ℕ) → w y ≡ false → nat_eq y x ≡ false) → Same w g s t → Same w g s (with_variable x v t)
 same_written w g x v s t f h = record { variables = λ y e. set_other x y v t.variables (f y e) ∙ h.variables y e; registers = h.registers }
 
-pub same_counted : (w g : ℕ → Bool) (x v : ℕ) (s t : State) → Same w g s (with_variable x v t) → Same w g s (counted x v t)
-same_counted w g x v s t h = record { variables = h.variables; registers = h.registers }
+pub same_for_state : (w g : ℕ → Bool) (x v : ℕ) (s t : State) → Same w g s (with_variable x v t) → Same w g s (for_state x v t)
+same_for_state w g x v s t h = record { variables = h.variables; registers = h.registers }
 
 given_leaves : {A : Type 0} (w g : ℕ → Bool) (s : State) (o : Option A) (go : A → Action) → ((v : A) → Leaves w g s (go v s)) → Leaves w g s (given o go s)
 given_leaves w g s o go h = given_meets step AnyPiece AnyStop (Left w g s) tt o go s (λ e. tt) (λ v e. h v)
@@ -213,17 +213,17 @@ module _ (c : Context) (n : ℕ) where
         let g : ℕ → Bool = block_sets body in
         let second : ℕ → ℕ → Action = λ first last. for_from (last + 1 - first) n x first last (block_meaning c n body) in
         given_leaves w g s (value e1 s.variables) (λ first. given (value e2 s.variables) (second first)) (λ first.
-        given_leaves w g s (value e2 s.variables) (second first) (λ last. counting (λ t. block_leaves body t) (last + 1 - first) first last))
+        given_leaves w g s (value e2 s.variables) (second first) (λ last. all_turns (λ t. block_leaves body t) (last + 1 - first) first last))
       where
-        counting : ((t : State) → Leaves (block_writes body) (block_sets body) t (block_meaning c n body t)) → (m first last : ℕ) → Leaves (writes (for_ line x e1 e2 keeps body)) (block_sets body) s (for_from m n x first last (block_meaning c n body) s)
-        counting each zero first last = same_self (writes (for_ line x e1 e2 keeps body)) (block_sets body) s
-        counting each (suc m) first last =
+        all_turns : ((t : State) → Leaves (block_writes body) (block_sets body) t (block_meaning c n body t)) → (m first last : ℕ) → Leaves (writes (for_ line x e1 e2 keeps body)) (block_sets body) s (for_from m n x first last (block_meaning c n body) s)
+        all_turns each zero first last = same_self (writes (for_ line x e1 e2 keeps body)) (block_sets body) s
+        all_turns each (suc m) first last =
             let w : ℕ → Bool = writes (for_ line x e1 e2 keeps body) in
             let g : ℕ → Bool = block_sets body in
             counts_meet step AnyPiece AnyStop (Left w g s) x last (block_meaning c n body) (λ u k v t. Same w g s t) (λ u k v t i. tt)
-            (λ u k v t i. leaves_from (block_writes body) g w g s (counted x v t) (block_meaning c n body (counted x v t))
+            (λ u k v t i. leaves_from (block_writes body) g w g s (for_state x v t) (block_meaning c n body (for_state x v t))
             (λ y f. (or_parts (nat_eq y x) (block_writes body y) f).1) (λ r f. f)
-            (same_counted w g x v s t (same_written w g x v s t (λ y f. (or_parts (nat_eq y x) (block_writes body y) f).0) i)) (each (counted x v t)))
+            (same_for_state w g x v s t (same_written w g x v s t (λ y f. (or_parts (nat_eq y x) (block_writes body y) f).0) i)) (each (for_state x v t)))
             (λ u v t i. same_written w g x last s t (λ y f. (or_parts (nat_eq y x) (block_writes body y) f).0) i) (suc m) n tt first s (same_self w g s)
     statement_leaves (while_ line test most m keeps body) s =
         let w : ℕ → Bool = block_writes body in

@@ -16,9 +16,9 @@ pub mod Settings
 pub mod Frame
 pub mod Heads
 pub mod Turns
-pub mod Counted
+pub mod ForLoops
 pub mod Falls
-pub mod Repeated
+pub mod WhileLoops
 pub mod Driven
 pub mod Blocks
 pub mod Windows

@@ -99,7 +99,7 @@ procedures_in (next_variables line n ∷ rest) = procedures_in rest
 procedures_in (next_procedure ∷ rest) = procedures_in rest + 1
 procedures_in (next_service ∷ rest) = procedures_in rest
 
--- these procedures, of which so many are named, stand behind those that are done
+-- these procedures, of which so many are named, stand after those that are done
 pub record AreSound (plan : Layout) (script : Script) (n : ℕ) (done ps : List Procedure) : Type 0 where
   pub all : n ≡ length ps → Matched plan (context plan script).routines (done ++ ps)
 

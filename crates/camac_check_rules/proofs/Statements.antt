@@ -24,9 +24,9 @@ use Rattle.camac_check_rules.proofs.Sound.{words_push, Sound, SoundFor, paid_not
 use Rattle.camac_check_rules.proofs.Actions.{Setting, of, HasWidths, seen, with_given, value_of, inside_written, written_other, single_sound}
 use Rattle.camac_check_rules.proofs.Calls.{crate_sound, lam_sound}
 use Rattle.camac_check_rules.proofs.Held.{MayLock, lock_allowed, lock_sound}
-use Rattle.camac_check_rules.proofs.Counted.{limits_allowed, for_sound}
-use Rattle.camac_check_rules.proofs.Repeated.{head_allowed, while_sound}
-use Rattle.camac_check_rules.proofs.Blocks.{stop_sound, repeat_sound}
+use Rattle.camac_check_rules.proofs.ForLoops.{limits_allowed, for_sound}
+use Rattle.camac_check_rules.proofs.WhileLoops.{head_allowed, while_sound}
+use Rattle.camac_check_rules.proofs.Blocks.{q_stop_sound, q_repeat_sound}
 use Rattle.camac_check_rules.proofs.Scans.{scan_sound}
 use Rattle.camac_check_rules.proofs.Lockless.{has_lock, block_has_lock}
 use Rattle.camac_check_rules.proofs.Routines.{Serves, call_sound}
@@ -141,8 +141,8 @@ mutual
   statement_sound c narrow serves around (crate_call line which e) may k = crate_sound c around line which e k
   statement_sound c narrow serves around (lam_call line which l) may k = lam_sound c around line which l k
   statement_sound c narrow serves around (address_scan line f r1 r2 max x) may k = scan_sound c narrow around line f r1 r2 max x k
-  statement_sound c narrow serves around (q_stop line f r t max x) may k = stop_sound c narrow around line f r t max x k
-  statement_sound c narrow serves around (q_repeat line f r t max limit x) may k = repeat_sound c narrow around line f r t max limit x k
+  statement_sound c narrow serves around (q_stop line f r t max x) may k = q_stop_sound c narrow around line f r t max x k
+  statement_sound c narrow serves around (q_repeat line f r t max limit x) may k = q_repeat_sound c narrow around line f r t max limit x k
   statement_sound c narrow serves around (for_ line x e1 e2 keeps body) may k =
       then_allowed (limits_allowed around line x e1 e2 keeps k) (λ l m.
       then_allowed (reached_sound c (fixing x around) body (for_head x l keeps body k) (λ q. block_sound c narrow serves (fixing x around) body may q)) (λ turn h.

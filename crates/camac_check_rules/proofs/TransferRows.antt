@@ -98,8 +98,8 @@ scan_final_unset = refl
 abbrev stop : ℕ → ℕ → Option ℕ → ℕ → Result Verdict Fault
 stop f n table most = q_stop_rule checking nothing_around 5 f 0 table (number most) 0 (facts [] (at 1 n 0 ∷ []))
 
-abbrev repeating : ℕ → ℕ → Option ℕ → ℕ → ℕ → Result Verdict Fault
-repeating f n table most limit =
+abbrev q_repeating : ℕ → ℕ → Option ℕ → ℕ → ℕ → Result Verdict Fault
+q_repeating f n table most limit =
     q_repeat_rule checking nothing_around 5 f 0 table (number most) (number limit) 0 (facts [] (at 1 n 0 ∷ []))
 
 abbrev moved : ℕ → ℕ → Bounds → Result Verdict Fault
@@ -134,17 +134,17 @@ read_code_written : stop 0 6 (Some 0) 1 ≡ Err (broken WrongDirection 5)
 unfolding go_on required given
 read_code_written = refl
 
-repeat_until_q : repeating 0 5 None 2 3 ≡ moved 5 2 (costs 9 2 4)
+q_repeat_until_q : q_repeating 0 5 None 2 3 ≡ moved 5 2 (costs 9 2 4)
 unfolding go_on required given
-repeat_until_q = refl
+q_repeat_until_q = refl
 
-repeat_at_most : repeating 0 5 None 4 3 ≡ moved 5 3 (costs 9 3 4)
+q_repeat_at_most : q_repeating 0 5 None 4 3 ≡ moved 5 3 (costs 9 3 4)
 unfolding go_on required given
-repeat_at_most = refl
+q_repeat_at_most = refl
 
-repeat_not : repeating 0 5 None 0 3 ≡ moved 5 0 (costs 0 0 1)
+q_repeat_not : q_repeating 0 5 None 0 3 ≡ moved 5 0 (costs 0 0 1)
 unfolding go_on required given
-repeat_not = refl
+q_repeat_not = refl
 
 -- scan-by-count as a script, one below its heading, and the tally after it
 abbrev scanning : ℕ → ℕ → ℕ → Expression → Script

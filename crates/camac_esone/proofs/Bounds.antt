@@ -7,10 +7,10 @@ use Rattle.camac_branch.specs.Address.{Address}
 use Rattle.camac_esone.specs.Transfers.{Wanted, tally, next_station, successor, address_after, is_by, q_stop_wanted, q_repeat_wanted, scan_wanted}
 use Rattle.camac_esone.specs.Lists.{Cycle, replies}
 use Rattle.camac_esone.specs.Laws.{IsDriven}
-use Rattle.camac_esone.specs.Bounds.{place, addresses, StopIsBounded, RepeatIsBounded, ScanIsBounded, ScanIsWithinAddresses}
+use Rattle.camac_esone.specs.Bounds.{place, addresses, QStopIsBounded, QRepeatIsBounded, ScanIsBounded, ScanIsWithinAddresses}
 use Rattle.camac_esone.proofs.Parts.{replies-append, length-replies, tally-append, tally_most}
-use Rattle.camac_esone.proofs.StopLists as stop
-use Rattle.camac_esone.proofs.RepeatLists as repeat
+use Rattle.camac_esone.proofs.QStopLists as stop
+use Rattle.camac_esone.proofs.QRepeatLists as repeat
 use Rattle.camac_esone.proofs.ScanLists as scan
 
 -- a number falls with each reply that was wanted
@@ -39,8 +39,8 @@ stop_left_falls at max qs q to e =
     let parts = length-append qs (q ∷ []) in
     omega (arith, g.less)
 
-pub stop_bounded : StopIsBounded
-stop_bounded at max cycles h =
+pub q_stop_bounded : QStopIsBounded
+q_stop_bounded at max cycles h =
     let count = bounded (q_stop_wanted at max) (λ qs. max - length qs) (stop_left_falls at max) cycles h in
     let words = tally_most (replies cycles) in
     let same = length-replies cycles in
@@ -52,8 +52,8 @@ repeat_left_falls at max limit qs q to e =
     let parts = length-append qs (q ∷ []) in
     omega (arith, g.room)
 
-pub repeat_bounded : RepeatIsBounded
-repeat_bounded = repeat.up_to
+pub q_repeat_bounded : QRepeatIsBounded
+q_repeat_bounded = repeat.up_to
 
 -- after Q=1 the station is the same or the next
 same_or_next : (at : Address) → at.station ≤ (successor true at).station

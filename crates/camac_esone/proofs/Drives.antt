@@ -6,7 +6,7 @@ use Rattle.camac_branch.specs.Address.{Address}
 use Rattle.camac_esone.specs.Transfers.{Wanted}
 use Rattle.camac_esone.specs.Lists.{Cycle, replies}
 use Rattle.camac_esone.specs.Laws.{IsDriven, IsDrivenToEnd, IsDrivenSoFar, GivesExactly, IsDrivenBy, AnyRepliesDrive}
-use Rattle.camac_esone.proofs.Parts.{replies-append, each_front, each_more, each_none}
+use Rattle.camac_esone.proofs.Parts.{replies-append, each_prefix, each_more, each_none}
 
 -- what a test wants, or that it wants no more
 pub record Wants (wanted : Option Address) : Type 0 where
@@ -24,10 +24,10 @@ asks_some (Some at) h = record { at = at; same = refl }
 pub is_some : (wanted : Option Address) (at : Address) → wanted ≡ Some at → IsSome wanted
 is_some wanted at e = subst IsSome (sym e) refl
 
--- The front of a list that was driven was driven, and more was wanted.
-pub front_driven : (wanted : Wanted) (cycles rest : List Cycle) (c : Cycle) → IsDriven wanted (cycles ++ c ∷ rest) → IsDrivenSoFar wanted cycles
-front_driven wanted cycles rest c h = record {
-  driven = each_front (λ before d. wanted (replies before) ≡ Some d.at) cycles (c ∷ rest) h;
+-- The prefix of a list that was driven was driven, and more was wanted.
+pub prefix_driven : (wanted : Wanted) (cycles rest : List Cycle) (c : Cycle) → IsDriven wanted (cycles ++ c ∷ rest) → IsDrivenSoFar wanted cycles
+prefix_driven wanted cycles rest c h = record {
+  driven = each_prefix (λ before d. wanted (replies before) ≡ Some d.at) cycles (c ∷ rest) h;
   goes_on = is_some (wanted (replies cycles)) c.at (h cycles rest c refl);
 }
 
@@ -79,7 +79,7 @@ pub gives : (wanted : Wanted) (IsList : List Cycle → Type 0) (left : List Bool
 gives wanted IsList left falls same = record {
   whole = same;
   cut = λ cycles. (
-    λ k. front_driven wanted cycles k.rest k.next ((same (cycles ++ k.next ∷ k.rest)).0 k.whole).driven,
+    λ k. prefix_driven wanted cycles k.rest k.next ((same (cycles ++ k.next ∷ k.rest)).0 k.whole).driven,
     λ h. let w = asks_some (wanted (replies cycles)) h.goes_on in
         let more = with_zero cycles w.at in
         let f = finishes wanted left falls (left (replies more)) more (omega arith) (more_driven wanted cycles (zero_at w.at) h.driven w.same) in

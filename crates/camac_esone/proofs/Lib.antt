@@ -1,7 +1,7 @@
 pub mod Parts
 pub mod Drives
-pub mod StopLists
-pub mod RepeatLists
+pub mod QStopLists
+pub mod QRepeatLists
 pub mod ScanLists
 pub mod Bounds
 pub mod Standing

@@ -1,4 +1,4 @@
--- Lists of cycles, their fronts and their ends.
+-- Lists of cycles, their prefixes and their ends.
 use Rattle.std.proofs.Common.{◌≡◌, ◌+◌, ◌≤◌, Bool, true, false, List, [], ◌∷◌, ◌++◌, length, refl, sym, ap, ◌∙◌, subst, arith, Some, None, inl, inr, append_assoc}
 use Rattle.std.specs.Prelude.{◌⊎◌}
 use Rattle.std.proofs.lemmas.List.{map-append, same_from_push, length-map}
@@ -14,20 +14,20 @@ length-replies xs = length-map xs (λ c. c.q)
 
 -- a list is empty or has a last element
 pub record Ending (xs : List Cycle) : Type 0 where
-  pub front : List Cycle
+  pub prefix : List Cycle
   pub last : Cycle
-  pub parts : front ++ last ∷ [] ≡ xs
+  pub parts : prefix ++ last ∷ [] ≡ xs
 
 pub ending_of : (c : Cycle) (cs : List Cycle) → Ending (c ∷ cs)
-ending_of c [] = record { front = []; last = c; parts = refl }
-ending_of c (d ∷ cs) = let e = ending_of d cs in record { front = c ∷ e.front; last = e.last; parts = ap (λ l. c ∷ l) e.parts }
+ending_of c [] = record { prefix = []; last = c; parts = refl }
+ending_of c (d ∷ cs) = let e = ending_of d cs in record { prefix = c ∷ e.prefix; last = e.last; parts = ap (λ l. c ∷ l) e.parts }
 
 pub empty_or_ending : (xs : List Cycle) → (xs ≡ []) ⊎ Ending xs
 empty_or_ending [] = inl refl
 empty_or_ending (c ∷ cs) = inr (ending_of c cs)
 
-pub each_front : (P : List Cycle → Cycle → Type 0) (xs ys : List Cycle) → EachCycle P (xs ++ ys) → EachCycle P xs
-each_front P xs ys h before after c e = h before (after ++ ys) c (sym (append_assoc before (c ∷ after) ys) ∙ ap (λ l. l ++ ys) e)
+pub each_prefix : (P : List Cycle → Cycle → Type 0) (xs ys : List Cycle) → EachCycle P (xs ++ ys) → EachCycle P xs
+each_prefix P xs ys h before after c e = h before (after ++ ys) c (sym (append_assoc before (c ∷ after) ys) ∙ ap (λ l. l ++ ys) e)
 
 -- a place in a list with one element more is the last one or in the list
 pub record PlaceIn (before : List Cycle) (c : Cycle) (xs : List Cycle) : Type 0 where
@@ -38,9 +38,9 @@ pub last_or_in : (before after xs : List Cycle) (c d : Cycle) → before ++ c �
 last_or_in before [] xs c d e = inl (same_from_push before xs c d e)
 last_or_in before (a ∷ after) xs c d e =
     let end = ending_of a after in
-    let moved : (before ++ c ∷ end.front) ++ end.last ∷ [] ≡ xs ++ d ∷ []
-    = append_assoc before (c ∷ end.front) (end.last ∷ []) ∙ ap (λ l. before ++ c ∷ l) end.parts ∙ e in
-    inr (record { after = end.front; parts = (same_from_push (before ++ c ∷ end.front) xs end.last d moved).0 })
+    let moved : (before ++ c ∷ end.prefix) ++ end.last ∷ [] ≡ xs ++ d ∷ []
+    = append_assoc before (c ∷ end.prefix) (end.last ∷ []) ∙ ap (λ l. before ++ c ∷ l) end.parts ∙ e in
+    inr (record { after = end.prefix; parts = (same_from_push (before ++ c ∷ end.prefix) xs end.last d moved).0 })
 
 pub each_more : (P : List Cycle → Cycle → Type 0) (xs : List Cycle) (d : Cycle) → EachCycle P xs → P xs d → EachCycle P (xs ++ d ∷ [])
 each_more P xs d h k before after c e =

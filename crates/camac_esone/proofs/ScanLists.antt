@@ -57,23 +57,23 @@ by_replies first (c ∷ cs) h =
     (λ before after d e. h (c ∷ before) after d (ap (λ l. c ∷ l) e) ∙ ap (λ a. address_after (successor c.q a) (replies before)) (sym at))
     ∙ ap (λ a. address_after (successor c.q a) (replies cs)) at
 
-front : (P : List Cycle → Cycle → Type 0) (cycles xs ys : List Cycle) → xs ++ ys ≡ cycles → EachCycle P cycles → EachCycle P xs
-front P cycles xs ys same h before after c e =
+prefix : (P : List Cycle → Cycle → Type 0) (cycles xs ys : List Cycle) → xs ++ ys ≡ cycles → EachCycle P cycles → EachCycle P xs
+prefix P cycles xs ys same h before after c e =
     h before (after ++ ys) c (sym (append_assoc before (c ∷ after) ys) ∙ ap (λ l. l ++ ys) e ∙ same)
 
 place : (first last : Address) (max : ℕ) (cycles before after : List Cycle) (c : Cycle) → IsScanList first last max cycles → before ++ c ∷ after ≡ cycles → c.at ≡ address_after first (replies before)
 place first last max cycles before after c h e =
     h.successors before after c e
-    ∙ by_cycles first before (front (λ before c. c.at ≡ next_after first before) cycles before (c ∷ after) e h.successors)
+    ∙ by_cycles first before (prefix (λ before c. c.at ≡ next_after first before) cycles before (c ∷ after) e h.successors)
 
 fewer : (first last : Address) (max : ℕ) (cycles before after : List Cycle) (c : Cycle) → IsScanList first last max cycles → before ++ c ∷ after ≡ cycles → tally (replies before) < max
 fewer first last max cycles before after c h e =
     let end = ending_of c after in
-    let whole : (before ++ end.front) ++ end.last ∷ [] ≡ cycles
-    = append_assoc before end.front (end.last ∷ []) ∙ ap (λ l. before ++ l) end.parts ∙ e in
-    let less : tally (replies (before ++ end.front)) < max = h.before (before ++ end.front) end.last whole in
-    let parts : tally (replies (before ++ end.front)) ≡ tally (replies before) + tally (replies end.front)
-    = ap tally (replies-append before end.front) ∙ tally-append (replies before) (replies end.front) in
+    let whole : (before ++ end.prefix) ++ end.last ∷ [] ≡ cycles
+    = append_assoc before end.prefix (end.last ∷ []) ∙ ap (λ l. before ++ l) end.parts ∙ e in
+    let less : tally (replies (before ++ end.prefix)) < max = h.before (before ++ end.prefix) end.last whole in
+    let parts : tally (replies (before ++ end.prefix)) ≡ tally (replies before) + tally (replies end.prefix)
+    = ap tally (replies-append before end.prefix) ∙ tally-append (replies before) (replies end.prefix) in
     omega arith
 
 goes_on_before : (first last : Address) (max : ℕ) (cycles before after : List Cycle) (c : Cycle) → IsScanList first last max cycles → before ++ c ∷ after ≡ cycles → GoesOn first last max (replies before)
@@ -118,10 +118,10 @@ pub up_to : (first last : Address) (max : ℕ) (cycles : List Cycle) → IsDrive
 up_to first last max cycles h =
     elim (empty_or_ending cycles) [
       | inl e ↦ subst (λ l. tally (replies l) ≤ max) (sym e) (omega arith)
-      | inr end ↦ let g = (wanted_goes_on first last end.last.at max (replies end.front) (h end.front [] end.last end.parts)).0 in
-          let more = tally_more (replies end.front) end.last.q in
-          let words : tally (replies (end.front ++ end.last ∷ [])) ≤ max
-          = subst (λ l. tally l ≤ max) (sym (replies-append end.front (end.last ∷ []))) (omega (arith, g.fewer)) in
+      | inr end ↦ let g = (wanted_goes_on first last end.last.at max (replies end.prefix) (h end.prefix [] end.last end.parts)).0 in
+          let more = tally_more (replies end.prefix) end.last.q in
+          let words : tally (replies (end.prefix ++ end.last ∷ [])) ≤ max
+          = subst (λ l. tally l ≤ max) (sym (replies-append end.prefix (end.last ∷ []))) (omega (arith, g.fewer)) in
           subst (λ l. tally (replies l) ≤ max) end.parts words
     ]
 
@@ -135,7 +135,7 @@ from_end first last max cycles h =
     record {
       one_crate = λ before after c e. ap (λ a. a.crate_no) (at before after c e) ∙ same_crate first (replies before);
       successors = λ before after c e. at before after c e
-          ∙ sym (by_replies first before (front (λ before c. c.at ≡ address_after first (replies before)) cycles before (c ∷ after) e at));
+          ∙ sym (by_replies first before (prefix (λ before c. c.at ≡ address_after first (replies before)) cycles before (c ∷ after) e at));
       not_past = λ before after c e.
           subst (λ a. is_by last a ≡ true) (sym (at before after c e))
           (wanted_goes_on first last c.at max (replies before) (h.driven before after c e)).0.by;

@@ -6,11 +6,11 @@ use Rattle.camac_esone.specs.Transfers.{Wanted, tally, q_stop_wanted, q_repeat_w
 use Rattle.camac_esone.specs.Lists.{Cycle, replies}
 use Rattle.camac_esone.specs.Laws.{IsDriven, GivesExactly}
 use Rattle.camac_esone.specs.Progress.{Left, Continues, StandsAt, with_cycle, AddsCycle, LeadsOn}
-use Rattle.camac_esone.specs.Held.{LeadsAlongStop, LeadsAlongRepeat, LeadsAlongScan}
+use Rattle.camac_esone.specs.InProgress.{LeadsAlongQStop, LeadsAlongQRepeat, LeadsAlongScan}
 use Rattle.camac_esone.proofs.Parts.{replies-append, each_more, each_none, tally-append}
 use Rattle.camac_esone.proofs.Drives.{asks, is_some}
-use Rattle.camac_esone.proofs.StopLists.{stop_gives}
-use Rattle.camac_esone.proofs.RepeatLists.{repeat_gives}
+use Rattle.camac_esone.proofs.QStopLists.{q_stop_gives}
+use Rattle.camac_esone.proofs.QRepeatLists.{q_repeat_gives}
 use Rattle.camac_esone.proofs.ScanLists.{scan_gives}
 
 -- before the first cycle
@@ -45,12 +45,12 @@ leads_on wanted IsList left cycles (Some at) g e h = λ q.
       | inr some ↦ inr ((g.cut more).1 (record { driven = driven; goes_on = is_some (wanted (replies more)) some.at some.same }))
     ]
 
-pub leads_along_stop : (left : Left) (next : Option Address) → left.wanted [] ≡ next → LeadsAlongStop left next
-leads_along_stop left next e at max cycles h = leads_on (q_stop_wanted at max) _ left cycles next (stop_gives at max) e h
+pub leads_along_q_stop : (left : Left) (next : Option Address) → left.wanted [] ≡ next → LeadsAlongQStop left next
+leads_along_q_stop left next e at max cycles h = leads_on (q_stop_wanted at max) _ left cycles next (q_stop_gives at max) e h
 
-pub leads_along_repeat : (left : Left) (next : Option Address) → left.wanted [] ≡ next → LeadsAlongRepeat left next
-leads_along_repeat left next e at max limit cycles h =
-    leads_on (q_repeat_wanted at max limit) _ left cycles next (repeat_gives at max limit) e h
+pub leads_along_q_repeat : (left : Left) (next : Option Address) → left.wanted [] ≡ next → LeadsAlongQRepeat left next
+leads_along_q_repeat left next e at max limit cycles h =
+    leads_on (q_repeat_wanted at max limit) _ left cycles next (q_repeat_gives at max limit) e h
 
 pub leads_along_scan : (left : Left) (next : Option Address) → left.wanted [] ≡ next → LeadsAlongScan left next
 leads_along_scan left next e first last max cycles h =

@@ -22,11 +22,11 @@ place at = 16 * at.station + at.sub_address
 abbrev pub addresses : Address → Address → ℕ
 addresses first last = 16 * last.station + min 15 last.sub_address + 1 - place first
 
-abbrev pub StopIsBounded : Type 0
-StopIsBounded = (at : Address) (max : ℕ) (cycles : List Cycle) → IsDriven (q_stop_wanted at max) cycles → IsUpTo max max cycles
+abbrev pub QStopIsBounded : Type 0
+QStopIsBounded = (at : Address) (max : ℕ) (cycles : List Cycle) → IsDriven (q_stop_wanted at max) cycles → IsUpTo max max cycles
 
-abbrev pub RepeatIsBounded : Type 0
-RepeatIsBounded =
+abbrev pub QRepeatIsBounded : Type 0
+QRepeatIsBounded =
     (at : Address) (max limit : ℕ) (cycles : List Cycle) → IsDriven (q_repeat_wanted at max limit) cycles → IsUpTo limit max cycles
 
 -- A scan leaves a station at each Q=0.

@@ -2,7 +2,7 @@
 use Rattle.std.specs.Prelude.{◌≡◌, ℕ, List, [], ◌++◌, ◌⊎◌, ◌↔◌, Some, None, IsSome, Bool}
 use Rattle.camac_branch.specs.Address.{Address}
 use Rattle.camac_esone.specs.Transfers.{Wanted, q_stop_wanted, q_repeat_wanted, scan_wanted}
-use Rattle.camac_esone.specs.Lists.{Cycle, replies, EachCycle, IsStopList, IsRepeatList, IsScanList, IsCut}
+use Rattle.camac_esone.specs.Lists.{Cycle, replies, EachCycle, IsQStopList, IsQRepeatList, IsScanList, IsCut}
 
 -- Each cycle is wanted after those before it, and goes where it is wanted.
 abbrev pub IsDriven : Wanted → List Cycle → Type 0
@@ -24,10 +24,10 @@ pub record GivesExactly (wanted : Wanted) (IsList : List Cycle → Type 0) : Typ
   pub cut : (cycles : List Cycle) → IsCut IsList cycles ↔ IsDrivenSoFar wanted cycles
 
 abbrev pub StopTestGivesQStop : Type 0
-StopTestGivesQStop = (at : Address) (max : ℕ) → GivesExactly (q_stop_wanted at max) (IsStopList at max)
+StopTestGivesQStop = (at : Address) (max : ℕ) → GivesExactly (q_stop_wanted at max) (IsQStopList at max)
 
 abbrev pub RepeatTestGivesQRepeat : Type 0
-RepeatTestGivesQRepeat = (at : Address) (max limit : ℕ) → GivesExactly (q_repeat_wanted at max limit) (IsRepeatList at max limit)
+RepeatTestGivesQRepeat = (at : Address) (max limit : ℕ) → GivesExactly (q_repeat_wanted at max limit) (IsQRepeatList at max limit)
 
 abbrev pub ScanTestGivesScan : Type 0
 ScanTestGivesScan = (first last : Address) (max : ℕ) → GivesExactly (scan_wanted first last max) (IsScanList first last max)

@@ -3,5 +3,5 @@ pub mod Lists
 pub mod Laws
 pub mod Bounds
 pub mod Progress
-pub mod Held
+pub mod InProgress
 pub mod Calls

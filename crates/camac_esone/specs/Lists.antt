@@ -27,7 +27,7 @@ first_zero (false ∷ qs) = Some 1
 first_zero (true ∷ qs) = option_map suc (first_zero qs)
 
 -- Q-stop: the number of cycles is the place of the first Q=0 among the first max, that cycle included, else max.
-pub record IsStopList (at : Address) (max : ℕ) (cycles : List Cycle) : Type 0 where
+pub record IsQStopList (at : Address) (max : ℕ) (cycles : List Cycle) : Type 0 where
   pub address : AreAt at cycles
   pub count : length cycles ≡ unwrap_or (first_zero (take max (replies cycles))) max
 
@@ -42,7 +42,7 @@ pub record IsTooFew (max : ℕ) (cycles : List Cycle) : Type 0 where
   pub before : EachCycle (λ before c. tally (replies before) < max) cycles
 
 -- Q-repeat: the shortest list with max replies of Q=1, or limit cycles where none of at most limit has that many.
-pub record IsRepeatList (at : Address) (max limit : ℕ) (cycles : List Cycle) : Type 0 where
+pub record IsQRepeatList (at : Address) (max limit : ℕ) (cycles : List Cycle) : Type 0 where
   pub address : AreAt at cycles
   pub count : (IsShortest max cycles × (length cycles ≤ limit)) ⊎ (IsTooFew max cycles × (length cycles ≡ limit))
 

@@ -1,7 +1,7 @@
 // The address scan (ESONE's CFMAD).
 
 ghost use Rattle.std.specs.Prelude.{◌≡◌, ◌<◌, ◌^◌, ◌∷◌, [], IsSome, IsTrue};
-ghost use Rattle.camac_esone.specs.Held.{scan_left, LeadsAlongScan};
+ghost use Rattle.camac_esone.specs.InProgress.{scan_left, LeadsAlongScan};
 ghost use Rattle.camac_esone.specs.Progress.{Continues, StandsAt, AddsCycle, IsTally};
 ghost use Rattle.camac_esone.specs.Transfers.{is_by, scan_wanted};
 
@@ -25,9 +25,9 @@ pub struct Scan {
 impl Model for Scan {
     ghost use Rattle.std.specs.Prelude.{◌+◌, ◌<◌, ◌^◌};
     ghost use Rattle.camac_branch.specs.Address.{address};
-    ghost use Rattle.camac_esone.specs.Held.{ScanHeld};
+    ghost use Rattle.camac_esone.specs.InProgress.{ScanState};
 
-    ghost Value = { ScanHeld };
+    ghost Value = { ScanState };
 
     ghost view = { λ t. record { at = address t.c t.n t.a; last = t.last; words = t.words; tally = t.tally } };
 

@@ -1,15 +1,15 @@
 // Each law of the transfers as the contract of a function that does nothing.
 
 ghost use Rattle.camac_esone.specs.Laws.{StopTestGivesQStop, RepeatTestGivesQRepeat, ScanTestGivesScan, AnyRepliesDrive};
-ghost use Rattle.camac_esone.specs.Bounds.{StopIsBounded, RepeatIsBounded, ScanIsBounded, ScanIsWithinAddresses};
+ghost use Rattle.camac_esone.specs.Bounds.{QStopIsBounded, QRepeatIsBounded, ScanIsBounded, ScanIsWithinAddresses};
 
 /// The test of Q-stop for one more cycle gives exactly the lists of Q-stop, and cut short their prefixes.
-pub fn stop_test_gives_q_stop()
+pub fn q_stop_test_gives_its_lists()
     ensures { StopTestGivesQStop }
 {}
 
 /// The test of Q-repeat for one more cycle gives exactly the lists of Q-repeat, and cut short their prefixes.
-pub fn repeat_test_gives_q_repeat()
+pub fn q_repeat_test_gives_its_lists()
     ensures { RepeatTestGivesQRepeat }
 {}
 
@@ -24,13 +24,13 @@ pub fn any_replies_drive()
 {}
 
 /// Q-stop makes at most `max` cycles.
-pub fn stop_is_bounded()
-    ensures { StopIsBounded }
+pub fn q_stop_is_bounded()
+    ensures { QStopIsBounded }
 {}
 
 /// Q-repeat makes at most `limit` cycles, and at most `max` with Q=1.
-pub fn repeat_is_bounded()
-    ensures { RepeatIsBounded }
+pub fn q_repeat_is_bounded()
+    ensures { QRepeatIsBounded }
 {}
 
 /// A scan makes at most `max` cycles with Q=1, and at most one with Q=0 at each station.

@@ -1,7 +1,7 @@
 // Q-repeat (ESONE's CFUBR).
 
 ghost use Rattle.std.specs.Prelude.{◌≡◌, ◌∷◌, [], IsSome};
-ghost use Rattle.camac_esone.specs.Held.{q_repeat_left, LeadsAlongRepeat};
+ghost use Rattle.camac_esone.specs.InProgress.{q_repeat_left, LeadsAlongQRepeat};
 ghost use Rattle.camac_esone.specs.Progress.{Continues, StandsAt, AddsCycle, IsTally};
 ghost use Rattle.camac_esone.specs.Transfers.{q_repeat_wanted};
 
@@ -22,9 +22,9 @@ pub struct QRepeat {
 
 impl Model for QRepeat {
     ghost use Rattle.std.specs.Prelude.{◌+◌, ◌<◌, ◌^◌};
-    ghost use Rattle.camac_esone.specs.Held.{RepeatHeld};
+    ghost use Rattle.camac_esone.specs.InProgress.{QRepeatState};
 
-    ghost Value = { RepeatHeld };
+    ghost Value = { QRepeatState };
 
     ghost view = { λ t. record { at = t.address; words = t.words; cycles = t.cycles; tally = t.tally } };
 
@@ -50,7 +50,7 @@ impl QRepeat {
     /// Where the next cycle goes, or none at the end.
     pub fn next(&self) -> Option<Address>
         ensures wanted { result ≡ (q_repeat_left self.now).wanted [] }
-        ensures list { LeadsAlongRepeat (q_repeat_left self.now) result }
+        ensures list { LeadsAlongQRepeat (q_repeat_left self.now) result }
     {
         if self.words > 0 && self.cycles > 0 {
             Some(self.address)

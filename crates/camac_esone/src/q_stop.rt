@@ -1,7 +1,7 @@
 // Q-stop (ESONE's CFUBC).
 
 ghost use Rattle.std.specs.Prelude.{◌≡◌, ◌∷◌, [], IsSome};
-ghost use Rattle.camac_esone.specs.Held.{q_stop_left, LeadsAlongStop};
+ghost use Rattle.camac_esone.specs.InProgress.{q_stop_left, LeadsAlongQStop};
 ghost use Rattle.camac_esone.specs.Progress.{Continues, StandsAt, AddsCycle, IsTally};
 ghost use Rattle.camac_esone.specs.Transfers.{q_stop_wanted};
 
@@ -19,9 +19,9 @@ pub struct QStop {
 
 impl Model for QStop {
     ghost use Rattle.std.specs.Prelude.{◌+◌, ◌<◌, ◌^◌};
-    ghost use Rattle.camac_esone.specs.Held.{StopHeld};
+    ghost use Rattle.camac_esone.specs.InProgress.{QStopState};
 
-    ghost Value = { StopHeld };
+    ghost Value = { QStopState };
 
     ghost view = { λ t. record { at = t.address; cycles = t.cycles; tally = t.tally } };
 
@@ -46,7 +46,7 @@ impl QStop {
     /// Where the next cycle goes, or none at the end.
     pub fn next(&self) -> Option<Address>
         ensures wanted { result ≡ (q_stop_left self.now).wanted [] }
-        ensures list { LeadsAlongStop (q_stop_left self.now) result }
+        ensures list { LeadsAlongQStop (q_stop_left self.now) result }
     {
         if self.cycles > 0 {
             Some(self.address)

@@ -43,7 +43,7 @@ done x = Ok x
 pub ok_is : {A : Type 0} (x y : A) → done x ≡ done y → x ≡ y
 ok_is x y e = cc
 
--- what a reader took from the front
+-- what a reader took from the prefix
 pub record Takes (bytes text rest : List ℕ) : Type 0 where
   pub parts : bytes ≡ text ++ rest
   pub rest_fits : IsBytes rest
@@ -76,8 +76,8 @@ number_takes width wide total bytes n rest fits e =
     let n-is : big_number width bytes ≡ n = ap (λ (p : ℕ × List ℕ). p.0) g.1 in
     let rest-is : drop width bytes ≡ rest = ap (λ (p : ℕ × List ℕ). p.1) g.1 in
     let first : big_number width (take width bytes) ≡ n = big_from-take 0 width width bytes (omega arith) ∙ n-is in
-    let front : big_bytes width n ≡ take width bytes = rw (← first) (wide.back (take width bytes) (omega (arith, length-take width bytes)) (IsBytes-take width bytes fits)) in
-    (record { parts = rw (front, ← rest-is) (sym (take-append-drop width bytes)); rest_fits = rw (← rest-is) (IsBytes-drop width bytes fits) }, rw (← n-is) (big_from-lt 0 width bytes fits))
+    let prefix : big_bytes width n ≡ take width bytes = rw (← first) (wide.back (take width bytes) (omega (arith, length-take width bytes)) (IsBytes-take width bytes fits)) in
+    (record { parts = rw (prefix, ← rest-is) (sym (take-append-drop width bytes)); rest_fits = rw (← rest-is) (IsBytes-drop width bytes fits) }, rw (← n-is) (big_from-lt 0 width bytes fits))
 
 pub number_again : (width total n : ℕ) (rest : List ℕ) → n < 256 ^ width → number_at width total (big_bytes width n ++ rest) ≡ Ok (n, rest)
 number_again width total n rest lt =

@@ -14,10 +14,10 @@ use Rattle.camac_event.proofs.Records.{record_takes, record_again}
 
 -- ---- headers
 
-pub front_is : (bytes front : List ℕ) → starts_with nat_eq bytes front ≡ true → bytes ≡ front ++ drop (length front) bytes
-front_is bytes front h =
-    let same : front ≡ take (length front) bytes = (pointwise_decides {E = nat_eq} (λ x y. (eqb-true x y, eq-eqb x y)) front (take (length front) bytes)).0 h in
-    sym (take-append-drop (length front) bytes) ∙ ap (λ (t : List ℕ). t ++ drop (length front) bytes) (sym same)
+pub prefix_is : (bytes prefix : List ℕ) → starts_with nat_eq bytes prefix ≡ true → bytes ≡ prefix ++ drop (length prefix) bytes
+prefix_is bytes prefix h =
+    let same : prefix ≡ take (length prefix) bytes = (pointwise_decides {E = nat_eq} (λ x y. (eqb-true x y, eq-eqb x y)) prefix (take (length prefix) bytes)).0 h in
+    sym (take-append-drop (length prefix) bytes) ∙ ap (λ (t : List ℕ). t ++ drop (length prefix) bytes) (sym same)
 
 chosen : {A : Type 0} (b : Bool) (x y z : A) → cond b x y ≡ z → ((b ≡ true) × (x ≡ z)) ⊎ ((b ≡ false) × (y ≡ z))
 chosen true x y z e = inl (refl, e)
@@ -29,9 +29,9 @@ header_takes total bytes x fits e =
     let last : Result (Version × List ℕ) Flaw = Err (flaw_at total bytes WrongHeader) in
     let second : Result (Version × List ℕ) Flaw = cond (starts_with nat_eq bytes (header Two)) (Ok (Two, drop 8 bytes)) last in
     elim (chosen (starts_with nat_eq bytes (header One)) (Ok (One, drop 8 bytes)) second (Ok x) e) [
-      | inl h ↦ subst (λ (y : Version × List ℕ). Takes bytes (header y.0) y.1) (ok_is (One, drop 8 bytes) x h.1) (record { parts = front_is bytes (header One) h.0; rest_fits = IsBytes-drop 8 bytes fits })
+      | inl h ↦ subst (λ (y : Version × List ℕ). Takes bytes (header y.0) y.1) (ok_is (One, drop 8 bytes) x h.1) (record { parts = prefix_is bytes (header One) h.0; rest_fits = IsBytes-drop 8 bytes fits })
       | inr k ↦ elim (chosen (starts_with nat_eq bytes (header Two)) (Ok (Two, drop 8 bytes)) last (Ok x) k.1) [
-        | inl h ↦ subst (λ (y : Version × List ℕ). Takes bytes (header y.0) y.1) (ok_is (Two, drop 8 bytes) x h.1) (record { parts = front_is bytes (header Two) h.0; rest_fits = IsBytes-drop 8 bytes fits })
+        | inl h ↦ subst (λ (y : Version × List ℕ). Takes bytes (header y.0) y.1) (ok_is (Two, drop 8 bytes) x h.1) (record { parts = prefix_is bytes (header Two) h.0; rest_fits = IsBytes-drop 8 bytes fits })
         | inr h ↦ let bad : last ≡ Ok x = h.1 in absurd cc
       ]
     ]

@@ -358,13 +358,13 @@ late_records zero version number (v ∷ es) right below total (b ∷ before) aft
     let same : b.bytes ≡ big_bytes 2 0xCA4D = sym (ap (λ (x : Field). x.bytes) (head_is _ b _ (before ++ after) are)) in
     let two = length-bytes_high_first 2 0xCA4D in
     let whole = length-append (b.bytes ++ joined before) rest in
-    let front = length-append b.bytes (joined before) in
+    let prefix = length-append b.bytes (joined before) in
     let size : length b.bytes ≡ 2 = ap length same ∙ two in
-    absurd (omega (arith, whole, front, size, few))
+    absurd (omega (arith, whole, prefix, size, few))
 late_records (suc most) version number (v ∷ es) right below total (b ∷ before) after rest f few are e =
     late_record most version number v right.0 (omega (arith, below)) (records_then most version number) (fields_from (number + 1) es)
     (λ first t left d wrong. records_forward most version (number + 1) t left d (err_only (records_at most version (number + 1) t left) (λ others. first ∷ others) d wrong))
-    (λ t front back left d less same wrong. late_records most version (number + 1) es right.1 (omega (arith, below)) t front back left d less same (err_only (records_at most version (number + 1) t (joined front ++ left)) (λ others. v ∷ others) d wrong))
+    (λ t prefix back left d less same wrong. late_records most version (number + 1) es right.1 (omega (arith, below)) t prefix back left d less same (err_only (records_at most version (number + 1) t (joined prefix ++ left)) (λ others. v ∷ others) d wrong))
     total (b ∷ before) after rest f few are (first_record most version number total (joined (b ∷ before) ++ rest) f e)
 
 late_file : (version : Version) (es : List Entry) → AreEvents version es → (before after : List Field) (rest : List ℕ) (f : Flaw)

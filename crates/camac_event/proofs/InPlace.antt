@@ -40,7 +40,7 @@ words_in-fits (suc count) bytes (suc i) lt fits =
     let same : drop (4 * i) (drop 4 bytes) ≡ drop (4 * suc i) bytes = drop-drop (4 * i) 4 bytes ∙ ap (λ (n : ℕ). drop n bytes) (omega arith) in
     subst (λ (l : List ℕ). big_number 4 l < 2 ^ 24) same (words_in-fits count (drop 4 bytes) i (omega (arith, lt)) fits.1)
 
--- the words of the front are those of all
+-- the words of the prefix are those of all
 words_in-take : (count : ℕ) (bytes : List ℕ) → words_in count (take (4 * count) bytes) ≡ words_in count bytes
 unfolding words_in
 words_in-take zero bytes = refl
@@ -136,22 +136,22 @@ first_is version number bytes gl usage count after (e ∷ es) some r h =
       rest = record { spelled = back; right = r.right.1; few = omega (arith, r.few) };
     }
 
--- the same where the bytes after the fields were split behind the words
-pub record IsSplit (version : Version) (number : ℕ) (gl : ℕ) (usage : Option Usage) (count : ℕ) (front back : List ℕ) (es : List Entry) : Type 0 where
-  pub words : AreWords count front
-  pub first : es ≡ record { gl = gl; usage = usage; words = words_in count front } ∷ events_in version (number + 1) back
-  pub right : IsEvent version (record { gl = gl; usage = usage; words = words_in count front })
+-- the same where the bytes after the fields were split after the words
+pub record IsSplit (version : Version) (number : ℕ) (gl : ℕ) (usage : Option Usage) (count : ℕ) (prefix back : List ℕ) (es : List Entry) : Type 0 where
+  pub words : AreWords count prefix
+  pub first : es ≡ record { gl = gl; usage = usage; words = words_in count prefix } ∷ events_in version (number + 1) back
+  pub right : IsEvent version (record { gl = gl; usage = usage; words = words_in count prefix })
   pub rest : AreRecords version (number + 1) back (events_in version (number + 1) back)
 
-pub first_split : (version : Version) (number : ℕ) (gl : ℕ) (usage : Option Usage) (count : ℕ) (after front back : List ℕ) (es : List Entry) → IsFirst version number gl usage count after es
-    → front ≡ take (4 * count) after → back ≡ drop (4 * count) after → IsSplit version number gl usage count front back es
-first_split version number gl usage count after front back es f fore aft =
+pub first_split : (version : Version) (number : ℕ) (gl : ℕ) (usage : Option Usage) (count : ℕ) (after prefix back : List ℕ) (es : List Entry) → IsFirst version number gl usage count after es
+    → prefix ≡ take (4 * count) after → back ≡ drop (4 * count) after → IsSplit version number gl usage count prefix back es
+first_split version number gl usage count after prefix back es f fore aft =
     let rest : AreRecords version (number + 1) back f.others = subst (λ (l : List ℕ). AreRecords version (number + 1) l f.others) (sym aft) f.rest in
     record {
       words = subst (AreWords count) (sym fore) f.words;
       first = f.first
           ∙ ap (λ (l : List ℕ). record { gl = gl; usage = usage; words = words_in count l } ∷ f.others) (sym fore)
-          ∙ ap (λ (others : List Entry). record { gl = gl; usage = usage; words = words_in count front } ∷ others) (sym (events_in-is version (number + 1) back f.others rest));
+          ∙ ap (λ (others : List Entry). record { gl = gl; usage = usage; words = words_in count prefix } ∷ others) (sym (events_in-is version (number + 1) back f.others rest));
       right = subst (λ (l : List ℕ). IsEvent version (record { gl = gl; usage = usage; words = words_in count l })) (sym fore) f.right;
       rest = are_records version (number + 1) back f.others rest;
     }

@@ -5,38 +5,38 @@ use Rattle.std.specs.Result.{IsErr}
 use Rattle.std.specs.List.{flat_map}
 use Rattle.std.specs.Io.KnownBytes.{Appends}
 use Rattle.std.proofs.KnownBytes.{Appends-trans}
-use Rattle.camac_word.specs.Writing.{AppendsFront, Writes}
-use Rattle.camac_word.proofs.Fronts.{IsUnderWay}
+use Rattle.camac_word.specs.Writing.{AppendsPrefix, Writes}
+use Rattle.camac_word.proofs.Prefixes.{IsUnderWay}
 
 -- the next piece was written
 pub under_way_next : (text rest piece after : List ℕ) (a b c : Option (List ℕ)) → IsUnderWay text rest a b → rest ≡ piece ++ after → Appends b c piece → IsUnderWay text after a c
 under_way_next text rest piece after a b c so_far parts p = record {
-  front = so_far.front ++ piece;
-  parts = so_far.parts ∙ ap (λ (l : List ℕ). so_far.front ++ l) parts ∙ sym (append_assoc so_far.front piece after);
-  written = Appends-trans a b c so_far.front piece so_far.written p;
+  prefix = so_far.prefix ++ piece;
+  parts = so_far.parts ∙ ap (λ (l : List ℕ). so_far.prefix ++ l) parts ∙ sym (append_assoc so_far.prefix piece after);
+  written = Appends-trans a b c so_far.prefix piece so_far.written p;
 }
 
--- a front of the next piece was written
-pub under_way_stops : (text rest piece after : List ℕ) (a b c : Option (List ℕ)) → IsUnderWay text rest a b → rest ≡ piece ++ after → AppendsFront b c piece → AppendsFront a c text
-under_way_stops text rest piece after a b c so_far parts (front, left, split, some, p) = (
-  so_far.front ++ front,
+-- a prefix of the next piece was written
+pub under_way_stops : (text rest piece after : List ℕ) (a b c : Option (List ℕ)) → IsUnderWay text rest a b → rest ≡ piece ++ after → AppendsPrefix b c piece → AppendsPrefix a c text
+under_way_stops text rest piece after a b c so_far parts (prefix, left, split, some, p) = (
+  so_far.prefix ++ prefix,
   left ++ after,
-  so_far.parts ∙ ap (λ (l : List ℕ). so_far.front ++ l) (parts ∙ ap (λ (l : List ℕ). l ++ after) split ∙ append_assoc front left after) ∙ sym (append_assoc so_far.front front (left ++ after)),
+  so_far.parts ∙ ap (λ (l : List ℕ). so_far.prefix ++ l) (parts ∙ ap (λ (l : List ℕ). l ++ after) split ∙ append_assoc prefix left after) ∙ sym (append_assoc so_far.prefix prefix (left ++ after)),
   omega (arith, length-append left after),
-  Appends-trans a b c so_far.front front so_far.written p,
+  Appends-trans a b c so_far.prefix prefix so_far.written p,
 )
 
 -- the last piece of a text was written, as far as it went
 pub under_way_last : {T E : Type 0} (r : Result T E) (text rest last : List ℕ) (a b c : Option (List ℕ)) → IsUnderWay text rest a b → rest ≡ last → Writes b c r last → Writes a c r text
 under_way_last (Ok v) text rest last a b c so_far same p =
-    let whole : text ≡ so_far.front ++ last = so_far.parts ∙ ap (λ (l : List ℕ). so_far.front ++ l) same in
-    subst (λ (t : List ℕ). Appends a c t) (sym whole) (Appends-trans a b c so_far.front last so_far.written p)
+    let whole : text ≡ so_far.prefix ++ last = so_far.parts ∙ ap (λ (l : List ℕ). so_far.prefix ++ l) same in
+    subst (λ (t : List ℕ). Appends a c t) (sym whole) (Appends-trans a b c so_far.prefix last so_far.written p)
 under_way_last (Err e) text rest last a b c so_far same p = under_way_stops text rest last [] a b c so_far (same ∙ sym (append-nil last)) p
 
 -- what an error leaves
-pub Writes-at_err : {T E : Type 0} (r : Result T E) (a c : Option (List ℕ)) (text : List ℕ) → IsErr r → AppendsFront a c text → Writes a c r text
-Writes-at_err (Ok x) a c text is front = cc
-Writes-at_err (Err e) a c text is front = front
+pub Writes-at_err : {T E : Type 0} (r : Result T E) (a c : Option (List ℕ)) (text : List ℕ) → IsErr r → AppendsPrefix a c text → Writes a c r text
+Writes-at_err (Ok x) a c text is prefix = cc
+Writes-at_err (Err e) a c text is prefix = prefix
 
 -- the texts of a list's elements from one of them on
 flat_map-drop : {X : Type 0} (f : X → List ℕ) (xs : List X) (i : ℕ) (x : X) → i < length xs → x ≡ get_or xs i x → flat_map f (drop i xs) ≡ f x ++ flat_map f (drop (suc i) xs)
@@ -52,7 +52,7 @@ pub flat_map-next : {X : Type 0} (f : X → List ℕ) (xs : List X) (i : ℕ) (x
 flat_map-next f xs i x piece lt is text =
     flat_map-drop f xs i x lt is ∙ ap (λ (l : List ℕ). l ++ flat_map f (drop (suc i) xs)) (sym text) ∙ ap (λ (j : ℕ). piece ++ flat_map f (drop j xs)) (sym (add-one i))
 
--- an element's text was laid behind others
+-- an element's text was laid after others
 pub laid_next : {X : Type 0} (f : X → List ℕ) (xs : List X) (i : ℕ) (x : X) (old new : List ℕ) → i < length xs → x ≡ get_or xs i x → new ≡ old ++ f x
     → old ++ flat_map f (drop i xs) ≡ new ++ flat_map f (drop (i + 1) xs)
 laid_next f xs i x old new lt is laid =

@@ -89,14 +89,14 @@ stops_here total bytes next after f e = record {
 }
 
 -- after whole fields
-stops_after : (total : ℕ) (bytes : List ℕ) (front fields : List Field) (rest : List ℕ) (f : Flaw) → bytes ≡ joined front ++ rest → StopsIn total rest fields f → StopsIn total bytes (front ++ fields) f
-stops_after total bytes front fields rest f parts s = record {
-  before = front ++ s.before;
+stops_after : (total : ℕ) (bytes : List ℕ) (prefix fields : List Field) (rest : List ℕ) (f : Flaw) → bytes ≡ joined prefix ++ rest → StopsIn total rest fields f → StopsIn total bytes (prefix ++ fields) f
+stops_after total bytes prefix fields rest f parts s = record {
+  before = prefix ++ s.before;
   next = s.next;
   after = s.after;
   rest = s.rest;
-  are_fields = ap (λ (t : List Field). front ++ t) s.are_fields ∙ sym (append_assoc front s.before (s.next ∷ s.after));
-  parts = parts ∙ ap (λ (t : List ℕ). joined front ++ t) s.parts ∙ sym (append_assoc (joined front) (joined s.before) s.rest) ∙ ap (λ (t : List ℕ). t ++ s.rest) (sym (joined-append front s.before));
+  are_fields = ap (λ (t : List Field). prefix ++ t) s.are_fields ∙ sym (append_assoc prefix s.before (s.next ∷ s.after));
+  parts = parts ∙ ap (λ (t : List ℕ). joined prefix ++ t) s.parts ∙ sym (append_assoc (joined prefix) (joined s.before) s.rest) ∙ ap (λ (t : List ℕ). t ++ s.rest) (sym (joined-append prefix s.before));
   offset = s.offset;
   rule = s.rule;
 }

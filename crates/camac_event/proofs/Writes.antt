@@ -20,12 +20,12 @@ records_from-push number (x ∷ xs) e =
 pub records_more : (es : List Event) (i : ℕ) (e : Event) (number : ℕ) (old mid new : List ℕ) → i < length es → e ≡ get_or es i e → number ≡ i
     → mid ≡ old ++ records_from 1 (entries_of (take i es)) → new ≡ mid ++ record_of (number + 1) (entry_of e) → new ≡ old ++ records_from 1 (entries_of (take (i + 1) es))
 records_more es i e number old mid new lt is number_is before after =
-    let front = entries_of (take i es) in
-    let longer : entries_of (take (i + 1) es) ≡ front ++ entry_of e ∷ [] =
+    let prefix = entries_of (take i es) in
+    let longer : entries_of (take (i + 1) es) ≡ prefix ++ entry_of e ∷ [] =
     ap entries_of (take_more es i e lt ∙ ap (λ (x : Event). take i es ++ x ∷ []) (sym is)) ∙ map_push entry_of (take i es) e in
-    let count : number + 1 ≡ 1 + length front = rw length-map (omega (arith, length-take i es)) in
-    after ∙ ap (λ (t : List ℕ). t ++ record_of (number + 1) (entry_of e)) before ∙ append_assoc old (records_from 1 front) (record_of (number + 1) (entry_of e))
-    ∙ ap (λ (t : List ℕ). old ++ t) (ap (λ (n : ℕ). records_from 1 front ++ record_of n (entry_of e)) count ∙ sym (records_from-push 1 front (entry_of e)) ∙ ap (records_from 1) (sym longer))
+    let count : number + 1 ≡ 1 + length prefix = rw length-map (omega (arith, length-take i es)) in
+    after ∙ ap (λ (t : List ℕ). t ++ record_of (number + 1) (entry_of e)) before ∙ append_assoc old (records_from 1 prefix) (record_of (number + 1) (entry_of e))
+    ∙ ap (λ (t : List ℕ). old ++ t) (ap (λ (n : ℕ). records_from 1 prefix ++ record_of n (entry_of e)) count ∙ sym (records_from-push 1 prefix (entry_of e)) ∙ ap (records_from 1) (sym longer))
 
 words_short : (version : Version) (es : List Event) → AllByRecursion (IsEvent version) (entries_of es) → AllByRecursion (λ e. length e.words.items ≤ 4096) es
 words_short version [] fits = tt

@@ -17,7 +17,7 @@ pub struct EventHead {
     pub words: usize,
 }
 
-// Each reader takes its field from the front of `bytes`, what is left of a file of `total` bytes.
+// Each reader takes its field from the prefix of `bytes`, what is left of a file of `total` bytes.
 
 /// A rule broken by the field before which `left` bytes of the file were left.
 fn broken(total: usize, left: usize, rule: EventRule) -> EventFlaw

@@ -48,8 +48,8 @@ fn first_line(text: &[u8]) -> &[u8] {
 }
 
 fn add_shown(shown: &mut Vec<u8>, line: &[u8]) -> Result<(), AllocError> {
-    let front = &line[..line.len().min(LONGEST_SHOWN)];
-    for byte in front {
+    let prefix = &line[..line.len().min(LONGEST_SHOWN)];
+    for byte in prefix {
         let is_control = (*byte < 32 && *byte != b'\t') || *byte == 127;
         shown.push(if is_control { b'?' } else { *byte })?;
     }

@@ -47,7 +47,7 @@ pub fn pieces(alloc: Global, text: &[u8]) -> Result<Vec<Piece>, AllocError> {
     let mut at = 0;
     while at < text.len() {
         let rest = &text[at..];
-        let (size, kind) = front(rest);
+        let (size, kind) = prefix(rest);
         let end = at + size;
         if let Some(kind) = kind {
             found.push(Piece {
@@ -65,8 +65,8 @@ pub fn pieces(alloc: Global, text: &[u8]) -> Result<Vec<Piece>, AllocError> {
     Ok(found)
 }
 
-// How long what stands at the front is, and its kind unless it is a blank or a comment.
-fn front(rest: &[u8]) -> (usize, Option<Kind>)
+// How long what stands at the start is, and its kind unless it is a blank or a comment.
+fn prefix(rest: &[u8]) -> (usize, Option<Kind>)
     requires { 0 < length rest.now }
     ensures { (0 < result.0) × (result.0 ≤ length rest.now) }
 {
@@ -97,7 +97,7 @@ fn is_name_byte(b: u8) -> bool {
     b.is_ascii_alphabetic() || b.is_ascii_digit() || b == b'_'
 }
 
-// The number of bytes at the front that pass a test, which the first one does.
+// The number of bytes at the start that pass a test, which the first one does.
 fn size_of_run<F: Fn(u8) -> bool>(rest: &[u8], test: F) -> usize
     requires callable { F.IsAlwaysCallable test }
     requires some { 0 < length rest.now }

@@ -17,10 +17,10 @@ record Extends (s t : Script) : Type 0 where
   procedures : (i : ℕ) → Implies (slice_get s.procedures i) (slice_get t.procedures i)
   services : (i : ℕ) → Implies (slice_get s.services i) (slice_get t.services i)
 
-front : {A : Type 0} (xs ys : List A) (i : ℕ) → Implies (slice_get xs i) (slice_get (xs ++ ys) i)
-front [] ys i x e = absurd (cc)
-front (y ∷ xs) ys zero x e = e
-front (y ∷ xs) ys (suc i) x e = front xs ys i x e
+in_prefix : {A : Type 0} (xs ys : List A) (i : ℕ) → Implies (slice_get xs i) (slice_get (xs ++ ys) i)
+in_prefix [] ys i x e = absurd (cc)
+in_prefix (y ∷ xs) ys zero x e = e
+in_prefix (y ∷ xs) ys (suc i) x e = in_prefix xs ys i x e
 
 part : (xs ys : List Text) (k n : ℕ) → length (take n (drop k xs)) ≡ n → take n (drop k (xs ++ ys)) ≡ take n (drop k xs)
 part xs ys k zero e = refl
@@ -93,7 +93,7 @@ grows xs x n e = let l : length (xs ++ x ∷ []) ≡ length xs + 1 = length-appe
 pub one_table : (s : Script) (e : Before) (t : Table) → Declares s e → table_stands e t ≡ true → Declares (record s { order = s.order ++ next_table ∷ []; tables = s.tables ++ t ∷ [] }) (with_table t.name e)
 one_table s e t d h =
     let more : Script = record s { order = s.order ++ next_table ∷ []; tables = s.tables ++ t ∷ [] } in
-    let wide : Extends s more = record { tables = front s.tables (t ∷ []); lams = kept s.lams; variables = λ k n _. refl; procedures = kept s.procedures; services = kept s.services } in
+    let wide : Extends s more = record { tables = in_prefix s.tables (t ∷ []); lams = kept s.lams; variables = λ k n _. refl; procedures = kept s.procedures; services = kept s.services } in
     let at : declared more e next_table ≡ Some (with_table t.name e) =
     then_is (λ r. unless_broken (table_stands e r) (with_table r.name e)) (slice_get more.tables e.tables) t (with_table t.name e) (at_end s.tables t e.tables d.tables) (unless_is (table_stands e t) (with_table t.name e) h) in
     record {
@@ -108,7 +108,7 @@ one_table s e t d h =
 pub one_lam : (s : Script) (e : Before) (l : Lam) → Declares s e → lam_stands e l ≡ true → Declares (record s { order = s.order ++ next_lam ∷ []; lams = s.lams ++ l ∷ [] }) (with_lam l.name e)
 one_lam s e l d h =
     let more : Script = record s { order = s.order ++ next_lam ∷ []; lams = s.lams ++ l ∷ [] } in
-    let wide : Extends s more = record { tables = kept s.tables; lams = front s.lams (l ∷ []); variables = λ k n _. refl; procedures = kept s.procedures; services = kept s.services } in
+    let wide : Extends s more = record { tables = kept s.tables; lams = in_prefix s.lams (l ∷ []); variables = λ k n _. refl; procedures = kept s.procedures; services = kept s.services } in
     let at : declared more e next_lam ≡ Some (with_lam l.name e) =
     then_is (λ r. unless_broken (lam_stands e r) (with_lam r.name e)) (slice_get more.lams e.lams) l (with_lam l.name e) (at_end s.lams l e.lams d.lams) (unless_is (lam_stands e l) (with_lam l.name e) h) in
     record {
@@ -123,7 +123,7 @@ one_lam s e l d h =
 pub one_procedure : (s : Script) (e : Before) (p : Procedure) → Declares s e → procedure_stands e p ≡ true → Declares (record s { order = s.order ++ next_procedure ∷ []; procedures = s.procedures ++ p ∷ [] }) (with_procedure p e)
 one_procedure s e p d h =
     let more : Script = record s { order = s.order ++ next_procedure ∷ []; procedures = s.procedures ++ p ∷ [] } in
-    let wide : Extends s more = record { tables = kept s.tables; lams = kept s.lams; variables = λ k n _. refl; procedures = front s.procedures (p ∷ []); services = kept s.services } in
+    let wide : Extends s more = record { tables = kept s.tables; lams = kept s.lams; variables = λ k n _. refl; procedures = in_prefix s.procedures (p ∷ []); services = kept s.services } in
     let at : declared more e next_procedure ≡ Some (with_procedure p e) =
     then_is (λ r. unless_broken (procedure_stands e r) (with_procedure r e)) (slice_get more.procedures e.procedures) p (with_procedure p e) (at_end s.procedures p e.procedures d.procedures) (unless_is (procedure_stands e p) (with_procedure p e) h) in
     record {
@@ -138,7 +138,7 @@ one_procedure s e p d h =
 pub one_service : (s : Script) (e : Before) (v : Service) → Declares s e → service_stands e v ≡ true → Declares (record s { order = s.order ++ next_service ∷ []; services = s.services ++ v ∷ [] }) (with_service e)
 one_service s e v d h =
     let more : Script = record s { order = s.order ++ next_service ∷ []; services = s.services ++ v ∷ [] } in
-    let wide : Extends s more = record { tables = kept s.tables; lams = kept s.lams; variables = λ k n _. refl; procedures = kept s.procedures; services = front s.services (v ∷ []) } in
+    let wide : Extends s more = record { tables = kept s.tables; lams = kept s.lams; variables = λ k n _. refl; procedures = kept s.procedures; services = in_prefix s.services (v ∷ []) } in
     let at : declared more e next_service ≡ Some (with_service e) =
     then_is (λ r. unless_broken (service_stands e r) (with_service e)) (slice_get more.services e.services) v (with_service e) (at_end s.services v e.services d.services) (unless_is (service_stands e v) (with_service e) h) in
     record {

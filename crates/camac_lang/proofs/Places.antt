@@ -26,10 +26,10 @@ total_at f [] i x e = absurd (cc)
 total_at f (y ∷ xs) zero x e = let same : y ≡ x = cc in let g : f y ≡ f x = ap f same in omega (arith, g)
 total_at f (y ∷ xs) (suc i) x e = let h : f x ≤ total f xs = total_at f xs i x e in omega (arith, h)
 
-front : {A : Type 0} (xs ys : List A) (i : ℕ) (x : A) → slice_get xs i ≡ Some x → slice_get (xs ++ ys) i ≡ Some x
-front [] ys i x e = absurd (cc)
-front (y ∷ xs) ys zero x e = e
-front (y ∷ xs) ys (suc i) x e = front xs ys i x e
+in_prefix : {A : Type 0} (xs ys : List A) (i : ℕ) (x : A) → slice_get xs i ≡ Some x → slice_get (xs ++ ys) i ≡ Some x
+in_prefix [] ys i x e = absurd (cc)
+in_prefix (y ∷ xs) ys zero x e = e
+in_prefix (y ∷ xs) ys (suc i) x e = in_prefix xs ys i x e
 
 take_one : {A : Type 0} (xs : List A) (i : ℕ) (x : A) → slice_get xs i ≡ Some x → take (suc i) xs ≡ take i xs ++ x ∷ []
 take_one [] i x e = absurd (cc)
@@ -106,7 +106,7 @@ module _ (s : Script) where
       subst (Between b) p.1 one
   declared_between b m next_procedure h =
       let p = procedure_parts b m h in
-      let one : Between b (with_procedure p.0 b) = record { tables = omega arith; lams = omega arith; variables = omega arith; callables = front b.callables (callable b.callables p.0 ∷ []) } in
+      let one : Between b (with_procedure p.0 b) = record { tables = omega arith; lams = omega arith; variables = omega arith; callables = prefix b.callables (callable b.callables p.0 ∷ []) } in
       subst (Between b) p.3 one
   declared_between b m next_service h =
       let p = service_parts b m h in

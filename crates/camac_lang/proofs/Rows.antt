@@ -75,19 +75,19 @@ by_zero : fits [] (put 4 (divide (number 1) 0) ∷ []) ≡ false
 unfolding is_well_formed
 by_zero = refl
 
-abbrev counting : ℕ → ℕ → ℕ → Statement
-counting x low high =
+abbrev for_row : ℕ → ℕ → ℕ → Statement
+for_row x low high =
     for_ 4 0 (number 0) (number 3) (record { variable = x; low = low; high = high } ∷ []) done
 
-kept : fits [] (counting 1 0 4294967295 ∷ []) ≡ true
+kept : fits [] (for_row 1 0 4294967295 ∷ []) ≡ true
 unfolding is_well_formed
 kept = refl
 
-kept_itself : fits [] (counting 0 0 3 ∷ []) ≡ false
+kept_itself : fits [] (for_row 0 0 3 ∷ []) ≡ false
 unfolding is_well_formed
 kept_itself = refl
 
-kept_too_large : fits [] (counting 1 0 4294967296 ∷ []) ≡ false
+kept_too_large : fits [] (for_row 1 0 4294967296 ∷ []) ≡ false
 unfolding is_well_formed
 kept_too_large = refl
 

@@ -141,7 +141,7 @@ module _ (c d : Scope) (wide : IsWider c d) where
   inner_depth_wider : (n : ℕ) (o : Option ℕ) (b : Block) → SameDepth b → option_and_then (λ k. after_block c k b) o ≡ Some n → inner_depth c.callables b ≡ inner_depth d.callables b
   inner_depth_wider n o b ih h = let p = then_parts (λ k. after_block c k b) o n h in ih p.0 n p.2
 
-  -- calls for_ the same depth in the wider scope
+  -- calls count the same depth in the wider scope
   mutual
     pub statement_depth_wider : (seen n : ℕ) (s : Statement) → after c seen s ≡ Some n → statement_depth c.callables s ≡ statement_depth d.callables s
     statement_depth_wider seen n (choose line t a) h =

@@ -10,18 +10,18 @@ use Rattle.camac_lang.specs.contracts.word.LamCall as lam_call_word
 use Rattle.camac_lang.specs.contracts.word.WordSize as word_size
 use Rattle.camac_lang.specs.Tree.{Text, Expression, number, variable, group, add, subtract, multiply, divide, remainder, Test, flag_q, flag_x, compare, Part, plain, negated, Move, no_data, into, from, Keep, Statement, assign, set_register, single, address_scan, q_stop, q_repeat, put, crate_call, lam_call, choose, choose_else, for_, while_, locked, call, Block, done, next, Table, Lam, Parameter, Procedure, Service, Item, next_table, next_lam, next_variables, next_procedure, next_service, Script}
 
--- the number at the front of a code
+-- the number at the start of a code
 abbrev pub tag : Gv → ℕ
 tag gnil = 0
 tag (gnum n) = n
-tag (gcons a b) = front a
+tag (gcons a b) = prefix a
   where
-    front : Gv → ℕ
-    front gnil = 0
-    front (gnum n) = n
-    front (gcons a b) = 0
+    prefix : Gv → ℕ
+    prefix gnil = 0
+    prefix (gnum n) = n
+    prefix (gcons a b) = 0
 
--- codes with different numbers at the front are not equal
+-- codes with different numbers at the start are not equal
 pub clash : {A : Type 0} (x y : Gv) → x ≡ y → eqb (tag x) (tag y) ≡ false → A
 clash x y e h = let same : eqb (tag x) (tag y) ≡ true = eq-eqb (tag x) (tag y) (ap tag e) in absurd (cc)
 

@@ -16,7 +16,7 @@ use Rattle.camac_model.specs.Behaviour.{Behaviour, does, ends, stops, Stop, shor
 use Rattle.camac_model.specs.Value.{value, truth}
 use Rattle.camac_model.specs.Cycle.{if_permitted, next_answer, after_cycle, make_cycle, cycle, kept, sized, after_lock, take_lock}
 use Rattle.camac_model.specs.Transfer.{transfer_data, keep_word, request, transfer}
-use Rattle.camac_model.specs.Meaning.{fits_size, act, transfer_to, counted, for_turns, for_from, turns, entered, returned, enter}
+use Rattle.camac_model.specs.Meaning.{fits_size, act, transfer_to, for_state, for_turns, for_from, turns, entered, returned, enter}
 use Rattle.camac_model.specs.Laws.{longer, Extends, SameEnd}
 
 -- which stops are open, how many turns are allowed before and after, and the answers that are added
@@ -160,7 +160,7 @@ module _ (open' : Stop → Bool) (bs : List Answer) where
   counts_extend (suc i) zero m k x v last body body' h s = λ e. ap (λ j. for_turns (suc i) j x v last body' (longer bs s)) (sym (k.same_turns e))
   counts_extend (suc i) (suc n) zero k x v last body body' h s = let le = k.turns in absurd (omega arith)
   counts_extend (suc i) (suc n) (suc m) k x v last body body' h s =
-      then_extends (SameEnd bs) (body (counted x v s)) (body' (longer bs (counted x v s))) (for_turns i n x (v + 1) last body) (for_turns i m x (v + 1) last body') (h (counted x v s))
+      then_extends (SameEnd bs) (body (for_state x v s)) (body' (longer bs (for_state x v s))) (for_turns i n x (v + 1) last body) (for_turns i m x (v + 1) last body') (h (for_state x v s))
       (counts_extend i n m (fewer n m k) x (v + 1) last body body' h)
 
   pub count_extends : (i n m : ℕ) → Further open' n m bs → (x v last : ℕ) (body body' : Action) → ((t : State) → Goes (body t) (body' (longer bs t))) → (s : State) → Goes (for_from i n x v last body s) (for_from i m x v last body' (longer bs s))

@@ -16,7 +16,7 @@ use Rattle.camac_model.specs.Behaviour.{Piece, cycled, lock_taken, lock_released
 use Rattle.camac_model.specs.Value.{value, values, truth}
 use Rattle.camac_model.specs.Cycle.{after_cycle, cycle, sized, kept, after_lock, take_lock, after_release, release}
 use Rattle.camac_model.specs.Transfer.{keep_word}
-use Rattle.camac_model.specs.Meaning.{Context, crate_address, crate_function, lam_function, fits_size, act, transfer_to, sent, counted, for_from, turns, entered, returned, enter, effect, block_meaning, context}
+use Rattle.camac_model.specs.Meaning.{Context, crate_address, crate_function, lam_function, fits_size, act, transfer_to, sent, for_state, for_from, turns, entered, returned, enter, effect, block_meaning, context}
 use Rattle.camac_model.proofs.Contexts.{AllRoutines, script_block}
 use Rattle.camac_model.proofs.Rules.{Meets, then_meets, given_meets, decide_meets, unless_meets, cycle_meets, lock_meets, transfer_meets, turns_meet, counts_meet}
 
@@ -94,7 +94,7 @@ module _ {X : Type 0} (step : X → Piece → X) (S : X → Piece → Type 0) (I
     count_keeps zero n v first last body h x s j = j
     count_keeps (suc i) n v first last body h x s j =
         counts_meet step S Still I v last body (λ y _ _ t. I y t) (λ y _ _ t j. j)
-        (λ y _ w t j. h y (counted v w t) (k.on_step y (with_variable v w t) (k.on_store y _ _ t j)))
+        (λ y _ w t j. h y (for_state v w t) (k.on_step y (with_variable v w t) (k.on_store y _ _ t j)))
         (λ y _ t j. k.on_store y _ _ t j) (suc i) n x first s j
 
     enter_keeps : (body : Action) → Keeps body → (vs : List ℕ) → Keeps (enter body vs)

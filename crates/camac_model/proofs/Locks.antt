@@ -20,7 +20,7 @@ use Rattle.camac_model.specs.Behaviour.{Piece, Behaviour, does, ends, stops, Sto
 use Rattle.camac_model.specs.Value.{value, values, truth}
 use Rattle.camac_model.specs.Cycle.{after_cycle, cycle, sized, kept, after_lock, take_lock, release}
 use Rattle.camac_model.specs.Transfer.{keep_word}
-use Rattle.camac_model.specs.Meaning.{Context, crate_address, crate_function, lam_function, fits_size, act, transfer_to, sent, counted, for_from, turns, entered, enter, effect, block_meaning, context}
+use Rattle.camac_model.specs.Meaning.{Context, crate_address, crate_function, lam_function, fits_size, act, transfer_to, sent, for_state, for_from, turns, entered, enter, effect, block_meaning, context}
 use Rattle.camac_model.specs.Laws.{EndsWith, NoneLocked, ServicesUnlock}
 use Rattle.camac_model.proofs.Contexts.{AllRoutines, script_block}
 use Rattle.camac_model.proofs.Rules.{Meets, then_meets, weaker, given_meets, decide_meets, unless_meets, cycle_meets, lock_meets, enter_meets, after_one, transfer_meets, turns_meet, counts_meet}
@@ -122,7 +122,7 @@ counts_leave : (k n x v last : ℕ) (body : Action) → ((t : State) → Leaves 
 counts_leave zero n x v last body h s = same s.branch
 counts_leave (suc k) n x v last body h s =
     counts_meet step AnyPiece AnyStop (Keeps s) x last body (λ _ _ _ t. SameLocks s.branch t.branch) (λ _ _ _ _ _. tt)
-    (λ _ _ w t i. weaker step AnyPiece AnyStop (Keeps (counted x w t)) (Keeps s) tt (body (counted x w t)) (h (counted x w t)) (λ _ u g. further s.branch t.branch u.branch i g)) (λ _ _ t i. i) (suc k) n tt v s (same s.branch)
+    (λ _ _ w t i. weaker step AnyPiece AnyStop (Keeps (for_state x w t)) (Keeps s) tt (body (for_state x w t)) (h (for_state x w t)) (λ _ u g. further s.branch t.branch u.branch i g)) (λ _ _ t i. i) (suc k) n tt v s (same s.branch)
 
 abbrev LeavesWithin : (ℕ → Action) → Type 0
 LeavesWithin body = (n : ℕ) (s : State) → Leaves s (body n s)

@@ -16,7 +16,7 @@ use Rattle.camac_model.specs.Value.{truth}
 pub use Rattle.camac_model.specs.Moments.{Meets}
 use Rattle.camac_model.specs.Cycle.{if_permitted, next_answer, after_cycle, make_cycle, cycle, kept, after_lock, take_lock}
 use Rattle.camac_model.specs.Transfer.{transfer_data, keep_word, request, transfer}
-use Rattle.camac_model.specs.Meaning.{counted, for_turns, turns, entered, returned, enter}
+use Rattle.camac_model.specs.Meaning.{for_state, for_turns, turns, entered, returned, enter}
 
 -- keeping a word uses no answer
 pub keeps_answers : (g : Option (List ℕ)) (w : ℕ) (r : Reply) (s : State) → (keep_word g w r s).answers ≡ s.answers
@@ -124,20 +124,20 @@ module _ {X : Type 0} (step : X → Piece → X) (S : X → Piece → Type 0) (P
   -- a `for` keeps an invariant on the turns to come, the next value and the state
   module _ (Q : X → State → Type 0) (v' last : ℕ) (body : Action) (I : X → ℕ → ℕ → State → Type 0)
       (limit : (x : X) (k v : ℕ) (s : State) → I x (suc k) v s → P x more s)
-      (turn : (x : X) (k v : ℕ) (s : State) → I x (suc k) v s → Meets step S P (λ y. I y k (v + 1)) x (body (counted v' v s)))
+      (turn : (x : X) (k v : ℕ) (s : State) → I x (suc k) v s → Meets step S P (λ y. I y k (v + 1)) x (body (for_state v' v s)))
       (out : (x : X) (v : ℕ) (s : State) → I x zero v s → Q x (with_variable v' last s)) where
     pub counts_meet : (k n : ℕ) (x : X) (v : ℕ) (s : State) → I x k v s → Meets step S P Q x (for_turns k n v' v last body s)
     counts_meet zero n x v s i = out x v s i
     counts_meet (suc k) zero x v s i = limit x k v s i
     counts_meet (suc k) (suc n) x v s i =
-        then_meets (λ y. I y k (v + 1)) Q x (body (counted v' v s)) (for_turns k n v' (v + 1) last body) (turn x k v s i) (λ y t j. counts_meet k n y (v + 1) t j)
+        then_meets (λ y. I y k (v + 1)) Q x (body (for_state v' v s)) (for_turns k n v' (v + 1) last body) (turn x k v s i) (λ y t j. counts_meet k n y (v + 1) t j)
 
   -- the same where all its turns are allowed
   module _ (Q : X → State → Type 0) (v' last : ℕ) (body : Action) (I : X → ℕ → ℕ → State → Type 0)
-      (turn : (x : X) (k v : ℕ) (s : State) → I x (suc k) v s → Meets step S P (λ y. I y k (v + 1)) x (body (counted v' v s)))
+      (turn : (x : X) (k v : ℕ) (s : State) → I x (suc k) v s → Meets step S P (λ y. I y k (v + 1)) x (body (for_state v' v s)))
       (out : (x : X) (v : ℕ) (s : State) → I x zero v s → Q x (with_variable v' last s)) where
     pub counts_meet_within : (k n : ℕ) → k ≤ n → (x : X) (v : ℕ) (s : State) → I x k v s → Meets step S P Q x (for_turns k n v' v last body s)
     counts_meet_within zero n le x v s i = out x v s i
     counts_meet_within (suc k) zero le x v s i = absurd (omega arith)
     counts_meet_within (suc k) (suc n) le x v s i =
-        then_meets (λ y. I y k (v + 1)) Q x (body (counted v' v s)) (for_turns k n v' (v + 1) last body) (turn x k v s i) (λ y t j. counts_meet_within k n (omega arith) y (v + 1) t j)
+        then_meets (λ y. I y k (v + 1)) Q x (body (for_state v' v s)) (for_turns k n v' (v + 1) last body) (turn x k v s i) (λ y t j. counts_meet_within k n (omega arith) y (v + 1) t j)

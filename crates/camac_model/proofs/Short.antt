@@ -16,7 +16,7 @@ use Rattle.camac_model.specs.Behaviour.{Piece, Behaviour, does, ends, stops, Sto
 use Rattle.camac_model.specs.Value.{value, values, truth}
 use Rattle.camac_model.specs.Cycle.{after_cycle, cycle, sized, kept, after_lock, take_lock, release}
 use Rattle.camac_model.specs.Transfer.{keep_word}
-use Rattle.camac_model.specs.Meaning.{Context, crate_address, crate_function, lam_function, fits_size, act, transfer_to, sent, counted, for_from, turns, entered, enter, effect, block_meaning, context}
+use Rattle.camac_model.specs.Meaning.{Context, crate_address, crate_function, lam_function, fits_size, act, transfer_to, sent, for_state, for_from, turns, entered, enter, effect, block_meaning, context}
 use Rattle.camac_model.specs.Laws.{ShortOnlyOf, ServicesShort}
 use Rattle.camac_model.proofs.Contexts.{AllRoutines, script_block}
 use Rattle.camac_model.proofs.Rules.{keeps_answers, Meets, then_meets, given_meets, decide_meets, unless_meets, cycle_meets, lock_meets, enter_meets, transfer_meets, turns_meet, counts_meet}
@@ -110,7 +110,7 @@ module _ (total : ℕ) where
   counts_spend zero n x v last body h s i = i
   counts_spend (suc k) n x v last body h s i =
       counts_meet step AnyPiece AtStop AtEnd x last body (λ _ _ _ t. Spent t) (λ _ _ _ _ _. tt)
-      (λ _ _ w t j. h (counted x w t) (ready_spent (stepped t) (spent_step t j))) (λ _ _ t j. j) (suc k) n tt v s i
+      (λ _ _ w t j. h (for_state x w t) (ready_spent (stepped t) (spent_step t j))) (λ _ _ t j. j) (suc k) n tt v s i
 
   abbrev SpendsWithin : (ℕ → Action) → Type 0
   SpendsWithin body = (n : ℕ) (s : State) → Spent s → Spends (body n s)

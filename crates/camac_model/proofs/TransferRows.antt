@@ -76,24 +76,24 @@ scan_backwards_run : served scan_backwards [] ≡ doing (called ∷ event_left (
 scan_backwards_run = refl
 
 -- repeat-until-q: three cycles and one word; with max 0 none, and the flags stay
-abbrev again : ℕ → Script
-again max = script 9 2 with_r (register r 5 0 ∷ q_repeat 5 0 r None (number max) (number 3) t ∷ [])
+abbrev resent : ℕ → Script
+resent max = script 9 2 with_r (register r 5 0 ∷ q_repeat 5 0 r None (number max) (number 3) t ∷ [])
 
-again_stands : is_well_formed (again 2) ≡ true
+resent_stands : is_well_formed (resent 2) ≡ true
 unfolding is_well_formed
-again_stands = refl
+resent_stands = refl
 
-again_once : events (served (again 2) (answer true false 9 0 0 ∷ answer true true 0x1234 0 0 ∷ answer true false 9 0 0 ∷ [])) ≡ event 3 3 0 (0x234 ∷ []) ∷ []
-again_once = refl
+resent_once : events (served (resent 2) (answer true false 9 0 0 ∷ answer true true 0x1234 0 0 ∷ answer true false 9 0 0 ∷ [])) ≡ event 3 3 0 (0x234 ∷ []) ∷ []
+resent_once = refl
 
-again_tally : option_map (λ u. u.variables t) (left_by (again 2) (answer true false 9 0 0 ∷ answer true true 0x1234 0 0 ∷ answer true false 9 0 0 ∷ [])) ≡ Some 1
-again_tally = refl
+resent_tally : option_map (λ u. u.variables t) (left_by (resent 2) (answer true false 9 0 0 ∷ answer true true 0x1234 0 0 ∷ answer true false 9 0 0 ∷ [])) ≡ Some 1
+resent_tally = refl
 
-again_steps : option_map (λ u. u.steps) (left_by (again 2) (busy 3)) ≡ Some 5
-again_steps = refl
+resent_steps : option_map (λ u. u.steps) (left_by (resent 2) (busy 3)) ≡ Some 5
+resent_steps = refl
 
-again_none : served (again 0) [] ≡ doing (called ∷ event_left (event 3 0 0 []) ∷ [])
-again_none = refl
+resent_none : served (resent 0) [] ≡ doing (called ∷ event_left (event 3 0 0 []) ∷ [])
+resent_none = refl
 
 -- table-write: the words 1 and 2 are sent
 abbrev numbers : List ℕ → List Table

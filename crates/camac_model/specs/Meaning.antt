@@ -50,13 +50,13 @@ sent c (Some k) = option_map Some (slice_get c.tables k)
 
 -- a turn of a `for` begins
 abbrev pub counted : ℕ → ℕ → State → State
-counted x v s = stepped (with_variable x v s)
+for_state x v s = stepped (with_variable x v s)
 
 -- k further turns of a `for`, from v up to the last
 abbrev pub for_turns : ℕ → ℕ → ℕ → ℕ → ℕ → Action → Action
 for_turns zero n x v last body s = ends (with_variable x last s)
 for_turns (suc k) zero x v last body s = stops more s
-for_turns (suc k) (suc n) x v last body s = then_do (body (counted x v s)) (for_turns k n x (v + 1) last body)
+for_turns (suc k) (suc n) x v last body s = then_do (body (for_state x v s)) (for_turns k n x (v + 1) last body)
 
 -- a `for` of k turns; without a turn the variable stays
 abbrev pub for_from : ℕ → ℕ → ℕ → ℕ → ℕ → Action → Action

@@ -46,10 +46,10 @@ none_on lams l [] e k u at = absurd (none_is_some u at)
 none_on lams l (v ∷ vs) e zero u at = let (here, later) = or_parts (is_on l (slice_get lams v.lam)) (is_served lams l vs) e in ap (λ (w : Service). is_on l (slice_get lams w.lam)) (sym (same_Some v u at)) ∙ here
 none_on lams l (v ∷ vs) e (suc k) u at = let (here, later) = or_parts (is_on l (slice_get lams v.lam)) (is_served lams l vs) e in none_on lams l vs later k u at
 
-front_at : (xs ys : List Service) (k : ℕ) → k < length xs → slice_get (xs ++ ys) k ≡ slice_get xs k
-front_at [] ys k h = absurd (omega (arith, h))
-front_at (x ∷ xs) ys zero h = refl
-front_at (x ∷ xs) ys (suc k) h = front_at xs ys k (omega (arith, h))
+prefix_at : (xs ys : List Service) (k : ℕ) → k < length xs → slice_get (xs ++ ys) k ≡ slice_get xs k
+prefix_at [] ys k h = absurd (omega (arith, h))
+prefix_at (x ∷ xs) ys zero h = refl
+prefix_at (x ∷ xs) ys (suc k) h = prefix_at xs ys k (omega (arith, h))
 
 -- service i of these, after others
 record IsApart (plan : Layout) (lams : List Lam) (all : List Service) (n : ℕ) (v : Service) : Type 0 where
@@ -69,7 +69,7 @@ apart_at plan lams earlier (x ∷ vs) e zero v at =
       lam = is.lam;
       is_its = is.is_its;
       has_bit = is.has_bit;
-      apart = λ k u below found. none_on lams is.lam earlier is.free k u (sym (front_at earlier (x ∷ vs) k (omega (arith, below))) ∙ found);
+      apart = λ k u below found. none_on lams is.lam earlier is.free k u (sym (prefix_at earlier (x ∷ vs) k (omega (arith, below))) ∙ found);
     }
 apart_at plan lams earlier (x ∷ vs) e (suc i) v at =
     let (here, later) = both_none (service_fault plan lams earlier x) (services_fault plan lams (earlier ++ x ∷ []) vs) e in

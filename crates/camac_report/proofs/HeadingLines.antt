@@ -2,7 +2,7 @@
 use Rattle.std.proofs.Common.{◌≡◌, ℕ, ◌+◌, ◌-◌, ◌<◌, ◌≤◌, List, [], ◌∷◌, ◌++◌, codes, length, get_or, take, drop, map, Option, ap, sym, ◌∙◌, zero, suc, refl, add-one, arith}
 use Rattle.std.proofs.KnownBytes.{Appends-nil}
 use Rattle.std.proofs.lemmas.List.{take_rest}
-use Rattle.camac_word.proofs.Fronts.{IsUnderWay}
+use Rattle.camac_word.proofs.Prefixes.{IsUnderWay}
 use Rattle.camac_lang.specs.Tree.{Lam, next_procedure, next_service}
 use Rattle.camac_lang.specs.View.{item_of, parameter_of, procedure_of, service_of}
 use Rattle.camac_lang.specs.declared.script.Item as rust_item
@@ -14,13 +14,13 @@ use Rattle.camac_report.specs.Verdict.{lam_name}
 
 -- nothing was written
 pub under_way_begins : (text rest : List ℕ) (a : Option (List ℕ)) → text ≡ rest → IsUnderWay text rest a a
-under_way_begins text rest a same = record { front = []; parts = same; written = Appends-nil a }
+under_way_begins text rest a same = record { prefix = []; parts = same; written = Appends-nil a }
 
 -- nothing of the next was written
 pub under_way_same : (text rest after : List ℕ) (a b : Option (List ℕ)) → IsUnderWay text rest a b → rest ≡ after → IsUnderWay text after a b
 under_way_same text rest after a b so_far same = record {
-  front = so_far.front;
-  parts = so_far.parts ∙ ap (λ (l : List ℕ). so_far.front ++ l) same;
+  prefix = so_far.prefix;
+  parts = so_far.parts ∙ ap (λ (l : List ℕ). so_far.prefix ++ l) same;
   written = so_far.written;
 }
 

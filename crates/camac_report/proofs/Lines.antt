@@ -4,8 +4,8 @@ use Rattle.std.specs.Prelude.{slice_get, Result, Ok, Err}
 use Rattle.std.specs.Result.{IsErr}
 use Rattle.std.proofs.KnownBytes.{Appends-trans}
 use Rattle.std.specs.Io.KnownBytes.{Appends}
-use Rattle.camac_word.specs.Writing.{AppendsFront, Writes}
-use Rattle.camac_word.proofs.Fronts.{IsUnderWay}
+use Rattle.camac_word.specs.Writing.{AppendsPrefix, Writes}
+use Rattle.camac_word.proofs.Prefixes.{IsUnderWay}
 use Rattle.camac_lang.specs.Tree.{Lam, Service}
 use Rattle.camac_branch.specs.Plan.{Layout}
 use Rattle.camac_model.specs.Fine.{Bounds}
@@ -14,27 +14,27 @@ use Rattle.camac_report.specs.Verdict.{service_text, service_texts}
 -- the next line was written
 pub under_way_next : (text rest line after : List ℕ) (a b c : Option (List ℕ)) → IsUnderWay text rest a b → rest ≡ line ++ after → Appends b c line → IsUnderWay text after a c
 under_way_next text rest line after a b c so_far parts p = record {
-  front = so_far.front ++ line;
-  parts = so_far.parts ∙ ap (λ (l : List ℕ). so_far.front ++ l) parts ∙ sym (append_assoc so_far.front line after);
-  written = Appends-trans a b c so_far.front line so_far.written p;
+  prefix = so_far.prefix ++ line;
+  parts = so_far.parts ∙ ap (λ (l : List ℕ). so_far.prefix ++ l) parts ∙ sym (append_assoc so_far.prefix line after);
+  written = Appends-trans a b c so_far.prefix line so_far.written p;
 }
 
--- a front of the next line was written
-pub under_way_stops : (text rest line after : List ℕ) (a b c : Option (List ℕ)) → IsUnderWay text rest a b → rest ≡ line ++ after → AppendsFront b c line → AppendsFront a c text
-under_way_stops text rest line after a b c so_far parts (front, left, split, some, p) = (
-  so_far.front ++ front,
+-- a prefix of the next line was written
+pub under_way_stops : (text rest line after : List ℕ) (a b c : Option (List ℕ)) → IsUnderWay text rest a b → rest ≡ line ++ after → AppendsPrefix b c line → AppendsPrefix a c text
+under_way_stops text rest line after a b c so_far parts (prefix, left, split, some, p) = (
+  so_far.prefix ++ prefix,
   left ++ after,
-  so_far.parts ∙ ap (λ (l : List ℕ). so_far.front ++ l) (parts ∙ ap (λ (l : List ℕ). l ++ after) split ∙ append_assoc front left after) ∙ sym (append_assoc so_far.front front (left ++ after)),
+  so_far.parts ∙ ap (λ (l : List ℕ). so_far.prefix ++ l) (parts ∙ ap (λ (l : List ℕ). l ++ after) split ∙ append_assoc prefix left after) ∙ sym (append_assoc so_far.prefix prefix (left ++ after)),
   omega (arith, length-append left after),
-  Appends-trans a b c so_far.front front so_far.written p,
+  Appends-trans a b c so_far.prefix prefix so_far.written p,
 )
 
--- a front of a text's first part was written
-pub front_longer : (line after : List ℕ) (a c : Option (List ℕ)) → AppendsFront a c line → AppendsFront a c (line ++ after)
-front_longer line after a c (front, left, split, some, p) = (
-  front,
+-- a prefix of a text's first part was written
+pub prefix_longer : (line after : List ℕ) (a c : Option (List ℕ)) → AppendsPrefix a c line → AppendsPrefix a c (line ++ after)
+prefix_longer line after a c (prefix, left, split, some, p) = (
+  prefix,
   left ++ after,
-  ap (λ (l : List ℕ). l ++ after) split ∙ append_assoc front left after,
+  ap (λ (l : List ℕ). l ++ after) split ∙ append_assoc prefix left after,
   omega (arith, length-append left after),
   p,
 )
@@ -69,6 +69,6 @@ service_texts-next plan lams vs ks i line in_vs in_ks is =
     ∙ ap (λ (j : ℕ). line ++ service_texts plan lams (drop j vs) (drop j ks)) (sym (add-one i))
 
 -- what an error leaves
-pub Writes-at_err : {T E : Type 0} (r : Result T E) (a c : Option (List ℕ)) (text : List ℕ) → IsErr r → AppendsFront a c text → Writes a c r text
-Writes-at_err (Ok x) a c text is front = cc
-Writes-at_err (Err e) a c text is front = front
+pub Writes-at_err : {T E : Type 0} (r : Result T E) (a c : Option (List ℕ)) (text : List ℕ) → IsErr r → AppendsPrefix a c text → Writes a c r text
+Writes-at_err (Ok x) a c text is prefix = cc
+Writes-at_err (Err e) a c text is prefix = prefix

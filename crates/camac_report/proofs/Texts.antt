@@ -5,24 +5,24 @@ use Rattle.std.proofs.lemmas.Option.{slice_get_within, get_or_from_slice_get}
 use Rattle.std.specs.List.{flat_map, range_with_len}
 use Rattle.std.specs.Io.KnownBytes.{Appends}
 use Rattle.std.proofs.KnownBytes.{Appends-trans}
-use Rattle.camac_word.proofs.Fronts.{IsUnderWay}
-use Rattle.camac_word.specs.Writing.{AppendsFront, Writes}
+use Rattle.camac_word.proofs.Prefixes.{IsUnderWay}
+use Rattle.camac_word.specs.Writing.{AppendsPrefix, Writes}
 use Rattle.camac_report.specs.Plan.{texts}
 
--- a front of the second text
-pub front_after : (x y : List ℕ) (a b c : Option (List ℕ)) → Appends a b x → AppendsFront b c y → AppendsFront a c (x ++ y)
-front_after x y a b c p (front, left, split, some, q) = (
-  x ++ front,
+-- a prefix of the second text
+pub prefix_after : (x y : List ℕ) (a b c : Option (List ℕ)) → Appends a b x → AppendsPrefix b c y → AppendsPrefix a c (x ++ y)
+prefix_after x y a b c p (prefix, left, split, some, q) = (
+  x ++ prefix,
   left,
-  ap (λ (l : List ℕ). x ++ l) split ∙ sym (append_assoc x front left),
+  ap (λ (l : List ℕ). x ++ l) split ∙ sym (append_assoc x prefix left),
   some,
-  Appends-trans a b c x front p q,
+  Appends-trans a b c x prefix p q,
 )
 
 -- the second text, as far as it went
 pub Writes-after : {T E : Type 0} (r : Result T E) (x y : List ℕ) (a b c : Option (List ℕ)) → Appends a b x → Writes b c r y → Writes a c r (x ++ y)
 Writes-after (Ok v) x y a b c p q = Appends-trans a b c x y p q
-Writes-after (Err e) x y a b c p q = front_after x y a b c p q
+Writes-after (Err e) x y a b c p q = prefix_after x y a b c p q
 
 -- the first text, and then the others
 pub texts-next : (f : ℕ → List ℕ) (i end j : ℕ) → i < end → j ≡ i → texts f i (end - i) ≡ f j ++ texts f (i + 1) (end - (i + 1))
@@ -41,14 +41,14 @@ texts-none f i end le =
 -- all was written
 pub under_way_ends : (text rest : List ℕ) (a b : Option (List ℕ)) → IsUnderWay text rest a b → rest ≡ [] → Appends a b text
 under_way_ends text rest a b so_far none =
-    let whole : text ≡ so_far.front = so_far.parts ∙ ap (λ (l : List ℕ). so_far.front ++ l) none ∙ append-nil so_far.front in
+    let whole : text ≡ so_far.prefix = so_far.parts ∙ ap (λ (l : List ℕ). so_far.prefix ++ l) none ∙ append-nil so_far.prefix in
     subst (λ (t : List ℕ). Appends a b t) (sym whole) so_far.written
 
 -- the last of a text was written
 pub under_way_last : {T E : Type 0} (r : Result T E) (text rest last : List ℕ) (a b c : Option (List ℕ)) → IsUnderWay text rest a b → rest ≡ last → Writes b c r last → Writes a c r text
 under_way_last r text rest last a b c so_far same p =
-    let whole : text ≡ so_far.front ++ last = so_far.parts ∙ ap (λ (l : List ℕ). so_far.front ++ l) same in
-    subst (λ (t : List ℕ). Writes a c r t) (sym whole) (Writes-after r so_far.front last a b c so_far.written p)
+    let whole : text ≡ so_far.prefix ++ last = so_far.parts ∙ ap (λ (l : List ℕ). so_far.prefix ++ l) same in
+    subst (λ (t : List ℕ). Writes a c r t) (sym whole) (Writes-after r so_far.prefix last a b c so_far.written p)
 
 -- the texts of a list's elements from one of them on
 flat_map-drop : {X : Type 0} (f : X → List ℕ) (xs : List X) (i : ℕ) (x : X) → i < length xs → x ≡ get_or xs i x → flat_map f (drop i xs) ≡ f x ++ flat_map f (drop (suc i) xs)
@@ -69,7 +69,7 @@ pub under_way_as : (text rest renamed : List ℕ) (a b c : Option (List ℕ)) �
 under_way_as text rest renamed a b c so_far same new =
     subst (λ (o : Option (List ℕ)). IsUnderWay text renamed a o) new (subst (λ (l : List ℕ). IsUnderWay text l a b) same so_far)
 
--- an element's text was laid behind others
+-- an element's text was laid after others
 pub laid_next : (f : ℕ → List ℕ) (xs : List ℕ) (i x : ℕ) (old line new : List ℕ) → i < length xs → x ≡ get_or xs i x → line ≡ f x → new ≡ old ++ line
     → old ++ flat_map f (drop i xs) ≡ new ++ flat_map f (drop (i + 1) xs)
 laid_next f xs i x old line new lt is text laid =

@@ -2,7 +2,7 @@
 
 ghost use Rattle.std.specs.Prelude.{◌≡◌, ◌≤◌, ◌+◌, ◌||◌, ◌++◌, length, is_err};
 ghost use Rattle.camac_report.specs.Items.{service_name, called_text, demand_text, lock_text, unlock_text, unlock_texts, item_text};
-ghost use Rattle.camac_run_machine.specs.Held.{piece_of};
+ghost use Rattle.camac_run_machine.specs.MachineState.{piece_of};
 ghost use Rattle.camac_word.specs.Watched.{inner_of, has_failed};
 ghost use Rattle.camac_word.specs.Writing.{Writes};
 

@@ -14,9 +14,9 @@ use Rattle.camac_model.specs.Fine.{Bounds}
 use Rattle.camac_model.specs.Run.{the_run}
 use Rattle.camac_run_machine.specs.declared.item.Item.{Item}
 use Rattle.camac_run_machine.specs.declared.item.Item.TheVariants as item
-use Rattle.camac_run_machine.specs.Held.{piece_of}
+use Rattle.camac_run_machine.specs.MachineState.{piece_of}
 use Rattle.camac_run_machine.specs.Rest.{says}
-use Rattle.camac_run_machine.specs.Runner.{Held, Left, rest, state_in, with_event, last_words_in, GoesOn, Stops}
+use Rattle.camac_run_machine.specs.Runner.{RunnerState, Left, rest, state_in, with_event, last_words_in, GoesOn, Stops}
 use Rattle.camac_run.specs.Headline.{entry_of, entries_in, event_file, Headline, RunsByHeadline, LeavesFewEvents}
 use Rattle.camac_run.specs.Log.{IsLogOf, left_entries, unlock_items}
 use Rattle.camac_run.specs.declared.log.Log.{Log}
@@ -32,13 +32,13 @@ from_index (y ∷ xs) (suc i) x lt is =
     let same : suc (i + 1) ≡ suc i + 1 = omega arith in
     from_index xs i x (omega arith) is ∙ ap (λ (j : ℕ). x ∷ drop j (y ∷ xs)) same
 
-item_is : (told : Item) → item_of (piece_of told) ≡ piece_of told ∷ []
+item_is : (item : Item) → item_of (piece_of item) ≡ piece_of item ∷ []
 item_is (item.Cycle d) = refl
 item_is (item.Lock c w) = refl
 item_is (item.Unlock c) = refl
 item_is (item.Demand p v) = refl
 
-no_event : (told : Item) → event_in (piece_of told) ≡ []
+no_event : (item : Item) → event_in (piece_of item) ≡ []
 no_event (item.Cycle d) = refl
 no_event (item.Lock c w) = refl
 no_event (item.Unlock c) = refl
@@ -64,18 +64,18 @@ released [] = refl
 released (k ∷ ks) = ap (λ (ps : List Piece). lock_released k ∷ ps) (released ks)
 
 -- an answer was used for an item; then these locks were released, and an event may have been left
-module _ (whole old new : Run) (told : Item) (ks : List ℕ) (event : Option Left) (words : List ℕ) (e : old ≡ does (piece_of told) (says ks (with_event event words new))) where
-  pub items_told : (xs ys zs : List Item) → items whole ≡ map piece_of xs ++ items old → ys ≡ xs ++ told ∷ [] → zs ≡ ys ++ unlock_items ks → items whole ≡ map piece_of zs ++ items new
+module _ (whole old new : Run) (item : Item) (ks : List ℕ) (event : Option Left) (words : List ℕ) (e : old ≡ does (piece_of item) (says ks (with_event event words new))) where
+  pub items_told : (xs ys zs : List Item) → items whole ≡ map piece_of xs ++ items old → ys ≡ xs ++ item ∷ [] → zs ≡ ys ++ unlock_items ks → items whole ≡ map piece_of zs ++ items new
   items_told xs ys zs h p n =
       let later : List Piece = map lock_released ks ++ items new in
       let first : List Piece = map piece_of xs in
-      let pushed : map piece_of ys ≡ first ++ piece_of told ∷ [] = ap (map piece_of) p ∙ map-append piece_of xs (told ∷ []) in
+      let pushed : map piece_of ys ≡ first ++ piece_of item ∷ [] = ap (map piece_of) p ∙ map-append piece_of xs (item ∷ []) in
       let noted : map piece_of zs ≡ map piece_of ys ++ map lock_released ks =
       ap (map piece_of) n ∙ map-append piece_of ys (unlock_items ks) ∙ ap (λ (ps : List Piece). map piece_of ys ++ ps) (released ks) in
-      let here : items old ≡ piece_of told ∷ later =
-      ap (λ (b : Run). items b) e ∙ ap (λ (ps : List Piece). ps ++ items (says ks (with_event event words new))) (item_is told) ∙ ap (λ (ps : List Piece). piece_of told ∷ ps) (says_items ks event words new) in
+      let here : items old ≡ piece_of item ∷ later =
+      ap (λ (b : Run). items b) e ∙ ap (λ (ps : List Piece). ps ++ items (says ks (with_event event words new))) (item_is item) ∙ ap (λ (ps : List Piece). piece_of item ∷ ps) (says_items ks event words new) in
       h ∙ ap (λ (ps : List Piece). first ++ ps) here
-      ∙ sym (append_assoc first (piece_of told ∷ []) later)
+      ∙ sym (append_assoc first (piece_of item ∷ []) later)
       ∙ ap (λ (ps : List Piece). ps ++ later) (sym pushed)
       ∙ sym (append_assoc (map piece_of ys) (map lock_released ks) (items new))
       ∙ ap (λ (ps : List Piece). ps ++ items new) (sym noted)
@@ -83,7 +83,7 @@ module _ (whole old new : Run) (told : Item) (ks : List ℕ) (event : Option Lef
   pub events_told : (first kept : List Entry) → entries_in whole ≡ first ++ entries_in old → kept ≡ first ++ left_entries event words → entries_in whole ≡ kept ++ entries_in new
   events_told first kept h p =
       let here : entries_in old ≡ left_entries event words ++ entries_in new =
-      ap (λ (b : Run). entries_in b) e ∙ ap (λ (es : List Event). map entry_of (es ++ events (says ks (with_event event words new)))) (no_event told) ∙ says_events ks event words new in
+      ap (λ (b : Run). entries_in b) e ∙ ap (λ (es : List Event). map entry_of (es ++ events (says ks (with_event event words new)))) (no_event item) ∙ says_events ks event words new in
       h ∙ ap (λ (es : List Entry). first ++ es) here
       ∙ sym (append_assoc first (left_entries event words) (entries_in new))
       ∙ ap (λ (es : List Entry). es ++ entries_in new) (sym p)
@@ -102,9 +102,9 @@ few_left first kept event words n p le =
     omega arith
 
 -- what an answer was used for
-pub goes_here : (old new : Held) (answer : Answer) (told : Item) (ks : List ℕ) (event : Option Left) → GoesOn old answer told ks event new → (answers : List Answer) (i : ℕ) → i < length answers → answer ≡ get_or answers i answer
-    → rest old (drop i answers) ≡ does (piece_of told) (says ks (with_event event (last_words_in new) (rest new (drop (i + 1) answers))))
-goes_here old new answer told ks event g answers i lt is = ap (rest old) (from_index answers i answer lt is) ∙ g.goes (drop (i + 1) answers)
+pub goes_here : (old new : RunnerState) (answer : Answer) (item : Item) (ks : List ℕ) (event : Option Left) → GoesOn old answer item ks event new → (answers : List Answer) (i : ℕ) → i < length answers → answer ≡ get_or answers i answer
+    → rest old (drop i answers) ≡ does (piece_of item) (says ks (with_event event (last_words_in new) (rest new (drop (i + 1) answers))))
+goes_here old new answer item ks event g answers i lt is = ap (rest old) (from_index answers i answer lt is) ∙ g.goes (drop (i + 1) answers)
 
 stops_now : (o : Option Overrun) (P : Type 0) → o ≡ None → IfNone o P → P
 stops_now None P e h = h
@@ -123,7 +123,7 @@ over_at left now stop e h = record {
   stop_is = ap (λ (b : Run). stop_of b) e ∙ h.stop_is;
 }
 
-pub stopped : (old new : Held) (answer : Answer) (o : Overrun) → old.overrun ≡ None → Stops old answer o new → (answers : List Answer) (i : ℕ) → i < length answers → answer ≡ get_or answers i answer → Over (rest old (drop i answers)) (Some (overrun o.c o.wait))
+pub stopped : (old new : RunnerState) (answer : Answer) (o : Overrun) → old.overrun ≡ None → Stops old answer o new → (answers : List Answer) (i : ℕ) → i < length answers → answer ≡ get_or answers i answer → Over (rest old (drop i answers)) (Some (overrun o.c o.wait))
 stopped old new answer o first s answers i lt is =
     let after : List Answer = drop (i + 1) answers in
     over_at (rest old (drop i answers)) (stops (overrun o.c o.wait) (state_in old (answer ∷ after))) (Some (overrun o.c o.wait))
@@ -137,7 +137,7 @@ past_end [] (suc i) le = refl
 past_end (x ∷ xs) zero le = absurd (omega arith)
 past_end (x ∷ xs) (suc i) le = past_end xs i (omega arith)
 
-pub used_up : (held : Held) (answers : List Answer) (i : ℕ) (stop : Option Stop) → length answers ≤ i → items (rest held []) ≡ [] → events (rest held []) ≡ [] → stop ≡ stop_of (rest held []) → Over (rest held (drop i answers)) stop
+pub used_up : (held : RunnerState) (answers : List Answer) (i : ℕ) (stop : Option Stop) → length answers ≤ i → items (rest held []) ≡ [] → events (rest held []) ≡ [] → stop ≡ stop_of (rest held []) → Over (rest held (drop i answers)) stop
 used_up held answers i stop le no_items no_events is =
     over_at (rest held (drop i answers)) (rest held []) stop (ap (rest held) (past_end answers i le))
     (record { no_items = no_items; no_events = ap (map entry_of) no_events; stop_is = sym is })

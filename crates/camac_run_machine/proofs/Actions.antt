@@ -30,12 +30,12 @@ use Rattle.camac_model.specs.Transfer.{transfer}
 use Rattle.camac_model.specs.Value.{value, values, truth}
 use Rattle.camac_run_machine.specs.declared.machine.Machine.{Machine}
 use Rattle.camac_run_machine.specs.declared.machine.Wanting.TheVariants.{Cycle, Read, Lock}
-use Rattle.camac_run_machine.specs.Held.{registers_here, variables_here, context_in, reach, state_of, bounds_of, left_in, free, IsFineHere, FineThen, Wants}
+use Rattle.camac_run_machine.specs.MachineState.{registers_here, variables_here, context_in, reach, state_of, bounds_of, left_in, free, IsFineHere, FineThen, Wants}
 use Rattle.camac_run_machine.specs.Rest.{address_of, awaited}
 use Rattle.camac_run_machine.specs.Within.{Reach, StatementFits, Opens}
 use Rattle.camac_run_machine.proofs.Transfers.{transfer_within}
 use Rattle.camac_run_machine.proofs.Procedures.{before, procedure_of_routine}
-use Rattle.camac_run_machine.proofs.Fine.{some_is, blank, fine_given, fine_unless, fine_decide, fine_lock, lock_within, fine_first, keeps_block, keeps_rest, fine_cycle, cycle_steps, fine_word, keeps_counts, keeps_turns}
+use Rattle.camac_run_machine.proofs.Fine.{some_is, blank, fine_given, fine_unless, fine_decide, fine_lock, lock_within, fine_first, keeps_block, keeps_rest, fine_cycle, cycle_steps, fine_word, keeps_for, keeps_turns}
 
 module _ {V D C : ℕ} (h : Machine V D C) where
   abbrev plan : Layout
@@ -242,7 +242,7 @@ module _ {V D C : ℕ} (h : Machine V D C) where
   count_steps : (j x v w : ℕ) (b : Block) (s : State) → IsFineHere h (then_do (for_from j most_turns x v w (block_meaning (context_in h.checked.now) most_turns b) s) (left_in h)) → IsWithin (bounds_of h) s
   count_steps zero x v w b s fine = keeps s fine
   count_steps (suc j) x v w b s fine =
-      keeps_counts plan (bounds_of h) h.checked.now.script b (suc j) most_turns x v w s
+      keeps_for plan (bounds_of h) h.checked.now.script b (suc j) most_turns x v w s
       (fine_first plan (bounds_of h) (for_turns (suc j) most_turns x v w (block_meaning (context_in h.checked.now) most_turns b) s) (left_in h) (λ t f. keeps t f) fine)
 
   -- a call of a procedure

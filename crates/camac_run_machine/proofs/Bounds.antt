@@ -16,7 +16,7 @@ use Rattle.camac_lang.specs.Fits.{fits}
 use Rattle.camac_model.specs.Fine.{Bounds, IsFineService, AreFine}
 use Rattle.camac_model.specs.Headline.{IsWithinHeading, AreWithinHeadings}
 use Rattle.camac_model.specs.Value.{greatest}
-use Rattle.camac_run_machine.specs.Held.{bounds_at}
+use Rattle.camac_run_machine.specs.MachineState.{bounds_at}
 use Rattle.camac_run_machine.specs.Store.{seen_by_service}
 use Rattle.camac_run_machine.specs.Within.{reach_of, ScopeFits, Opens}
 use Rattle.camac_run_machine.proofs.Fitted.{block_fits}

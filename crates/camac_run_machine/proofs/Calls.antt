@@ -26,7 +26,7 @@ use Rattle.camac_run_machine.specs.declared.machine.Frame.{Frame}
 use Rattle.camac_run_machine.specs.declared.machine.Machine.{Machine}
 use Rattle.camac_run_machine.specs.declared.machine.Owner.TheVariants.{Return}
 use Rattle.camac_run_machine.specs.declared.scope.Scope.{Scope}
-use Rattle.camac_run_machine.specs.Held.{context_in, open_of, opens_of, opens_in, AreHeld, variables_here, reach, state_of, left_in, free, HasRoom, Enters}
+use Rattle.camac_run_machine.specs.MachineState.{context_in, open_of, opens_of, opens_in, AreHeld, variables_here, reach, state_of, left_in, free, HasRoom, Enters}
 use Rattle.camac_run_machine.specs.Rest.{owed, Open, left_of, rest_in}
 use Rattle.camac_run_machine.specs.Store.{size, held_at, variables_in, registers_in, seen_by_procedure}
 use Rattle.camac_run_machine.specs.Within.{reach_of, ScopeFits, CallFits, Opens, OpenFit}
@@ -213,7 +213,7 @@ module _ {V D C : ℕ} (h : Machine V D C) (i : ℕ) (es : List Expression) (roo
   as_many : length es ≡ length p.parameters
   as_many = parameters h i es room may ∙ ap (λ (q : Procedure). length q.parameters) own
 
-  -- there is room for them behind the caller's places
+  -- there is room for them after the caller's places
   pub variables_room : (h.scope.variables.end ≤ sc.variables.start) × (sc.variables.start + length es ≤ V)
   variables_room =
       let f = (seen_fits h i es room may p own).more_variables in

@@ -33,7 +33,7 @@ use Rattle.camac_run_machine.specs.declared.machine.Wanting.TheVariants.{Cycle, 
 use Rattle.camac_run_machine.specs.declared.transfer.Course.{Course}
 use Rattle.camac_run_machine.specs.declared.transfer.Transfer as held
 use Rattle.camac_run_machine.specs.Course.{left_at, words_from, words_sent, data_of, words_after}
-use Rattle.camac_run_machine.specs.Held.{variables_here, registers_here, reach, with_value, context_in, state_of, bounds_of, left_in, stands, made, want_of, transferred, IsFineHere, FineThen, HasRoom, IsWanting, Advances, Proceeds, Settles, Makes, IsRefused, Takes, Overruns}
+use Rattle.camac_run_machine.specs.MachineState.{variables_here, registers_here, reach, with_value, context_in, state_of, bounds_of, left_in, stands, made, want_of, transferred, IsFineHere, FineThen, HasRoom, IsWanting, Advances, Proceeds, Settles, Makes, IsRefused, Takes, Overruns}
 use Rattle.camac_run_machine.specs.Rest.{address_of, transfers, awaited, follows, transfer_left, rest_in, says}
 use Rattle.camac_run_machine.proofs.Actions.{known}
 use Rattle.camac_run_machine.proofs.Commands.{on_branch}
@@ -215,47 +215,47 @@ module _ {V D C : ℕ} (h : Machine V D C) where
 
   -- Q-repeat
   module _ (f r : ℕ) (g : Option ℕ) (max limit : Expression) (x : ℕ) (fine : FineThen h (λ c. effect c most_turns (q_repeat 0 f r g max limit x))) where
-    abbrev repeats_up : Option (List ℕ) → Address → ℕ → ℕ → Action
-    repeats_up table at m n = transfer_to plan f table (q_repeat_wanted at m n) x
+    abbrev q_repeats_up : Option (List ℕ) → Address → ℕ → ℕ → Action
+    q_repeats_up table at m n = transfer_to plan f table (q_repeat_wanted at m n) x
 
-    abbrev repeats_for : Option (List ℕ) → Address → ℕ → Action
-    repeats_for table at m = given (value limit (variables_here h)) (repeats_up table at m)
+    abbrev q_repeats_for : Option (List ℕ) → Address → ℕ → Action
+    q_repeats_for table at m = given (value limit (variables_here h)) (q_repeats_up table at m)
 
-    abbrev repeats_at : Option (List ℕ) → Address → Action
-    repeats_at table at = given (value max (variables_here h)) (repeats_for table at)
+    abbrev q_repeats_at : Option (List ℕ) → Address → Action
+    q_repeats_at table at = given (value max (variables_here h)) (q_repeats_for table at)
 
-    abbrev repeats_with : Option (List ℕ) → Action
-    repeats_with table = given (registers_here h r) (repeats_at table)
+    abbrev q_repeats_with : Option (List ℕ) → Action
+    q_repeats_with table = given (registers_here h r) (q_repeats_at table)
 
-    pub repeat_sent : IsSome (sent (context_in h.checked.now) g)
-    repeat_sent = has_some (sent (context_in h.checked.now) g) repeats_with (fine [])
+    pub q_repeat_sent : IsSome (sent (context_in h.checked.now) g)
+    q_repeat_sent = has_some (sent (context_in h.checked.now) g) q_repeats_with (fine [])
 
     module _ (table : Option (List ℕ)) (is1 : sent (context_in h.checked.now) g ≡ Some table) where
-      of_table : IsFineHere h (then_do (repeats_with table (state_of h [])) (left_in h))
-      of_table = known h (sent (context_in h.checked.now) g) table repeats_with [] is1 (fine [])
+      of_table : IsFineHere h (then_do (q_repeats_with table (state_of h [])) (left_in h))
+      of_table = known h (sent (context_in h.checked.now) g) table q_repeats_with [] is1 (fine [])
 
-      pub repeat_set : IsSome (registers_here h r)
-      repeat_set = has_some (registers_here h r) (repeats_at table) of_table
+      pub q_repeat_set : IsSome (registers_here h r)
+      q_repeat_set = has_some (registers_here h r) (q_repeats_at table) of_table
 
       module _ (at : Address) (is2 : registers_here h r ≡ Some at) where
-        at_address : IsFineHere h (then_do (repeats_at table at (state_of h [])) (left_in h))
-        at_address = known h (registers_here h r) at (repeats_at table) [] is2 of_table
+        at_address : IsFineHere h (then_do (q_repeats_at table at (state_of h [])) (left_in h))
+        at_address = known h (registers_here h r) at (q_repeats_at table) [] is2 of_table
 
-        pub repeat_max : IsSome (value max (variables_here h))
-        repeat_max = has_some (value max (variables_here h)) (repeats_for table at) at_address
+        pub q_repeat_max : IsSome (value max (variables_here h))
+        q_repeat_max = has_some (value max (variables_here h)) (q_repeats_for table at) at_address
 
         module _ (m : ℕ) (is3 : value max (variables_here h) ≡ Some m) where
-          pub repeat_limit : IsSome (value limit (variables_here h))
-          repeat_limit =
-              has_some (value limit (variables_here h)) (repeats_up table at m)
-              (known h (value max (variables_here h)) m (repeats_for table at) [] is3 at_address)
+          pub q_repeat_limit : IsSome (value limit (variables_here h))
+          q_repeat_limit =
+              has_some (value limit (variables_here h)) (q_repeats_up table at m)
+              (known h (value max (variables_here h)) m (q_repeats_for table at) [] is3 at_address)
 
           pub repeat_goes : (n : ℕ) → value limit (variables_here h) ≡ Some n → (answers : List Answer) → effect (context_in h.checked.now) most_turns (q_repeat 0 f r g max limit x) (state_of h answers) ≡ transfer_to plan f table (q_repeat_wanted at m n) x (state_of h answers)
           repeat_goes n is4 answers =
-              ap (λ o. given o repeats_with (state_of h answers)) is1
-              ∙ ap (λ o. given o (repeats_at table) (state_of h answers)) is2
-              ∙ ap (λ o. given o (repeats_for table at) (state_of h answers)) is3
-              ∙ ap (λ o. given o (repeats_up table at m) (state_of h answers)) is4
+              ap (λ o. given o q_repeats_with (state_of h answers)) is1
+              ∙ ap (λ o. given o (q_repeats_at table) (state_of h answers)) is2
+              ∙ ap (λ o. given o (q_repeats_for table at) (state_of h answers)) is3
+              ∙ ap (λ o. given o (q_repeats_up table at m) (state_of h answers)) is4
 
   -- what goes on at once is begun like any statement
   pub proceeds_advance : (st : Statement) (next' : Option Wanting) (new : Machine V D C) → Proceeds (record h { steps = h.steps + 1 }) (λ c. effect c most_turns st) next' new → Advances h (λ c s. effect c most_turns st (stepped s)) next' new
@@ -268,7 +268,7 @@ module _ {V D C : ℕ} (h : Machine V D C) where
         service = ap (λ (m : Machine V D C). m.service) p.same;
         wants = p.wants;
         pace = omega (arith, steps, frames);
-        told = [];
+        released = [];
         unlocks = ap (λ (m : Machine V D C). m.unlocks.items) p.same ∙ sym (append-nil h.unlocks.items);
         goes = p.goes;
       }

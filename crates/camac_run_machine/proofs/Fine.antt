@@ -15,14 +15,14 @@ use Rattle.camac_model.specs.Meaning.{context, counted, for_turns, turns, block_
 use Rattle.camac_model.specs.Safe.{IsSafe}
 use Rattle.camac_model.specs.Value.{truth}
 use Rattle.camac_model.proofs.Grown.{counts_grow}
-use Rattle.camac_run_machine.specs.Rest.{Owner, nothing, releases, counts, repeats, returns, owed, Open, left_of, rest_in, says}
+use Rattle.camac_run_machine.specs.Rest.{Owner, nothing, releases, for_loop, while_loop, returns, owed, Open, left_of, rest_in, says}
 
 pub some_is : {A : Type 0} (o : Option A) (v : A) → o ≡ Some v → IsSome o
 some_is o v e = rw e refl
 
-front_words : (xs ys : List ℕ) → AreWords (xs ++ ys) → AreWords xs
-front_words [] ys h = tt
-front_words (x ∷ xs) ys h = (h.0, front_words xs ys h.1)
+prefix_words : (xs ys : List ℕ) → AreWords (xs ++ ys) → AreWords xs
+prefix_words [] ys h = tt
+prefix_words (x ∷ xs) ys h = (h.0, prefix_words xs ys h.1)
 
 last_word : (xs : List ℕ) (v : ℕ) → AreWords (xs ++ v ∷ []) → v < 2 ^ 24
 last_word [] v h = h.0
@@ -62,7 +62,7 @@ module _ (plan : Layout) (k : Bounds) where
         cycles = omega (arith, h.cycles, cycles);
         words = omega (arith, length-append s.words g.words.0, few);
         steps = omega (arith, h.steps, steps);
-        are_words = front_words s.words g.words.0 (subst AreWords g.words.1 h.are_words);
+        are_words = prefix_words s.words g.words.0 (subst AreWords g.words.1 h.are_words);
       }
 
   pub keeps_block : (script : Script) (n : ℕ) (b : Block) (s : State) → IsFine plan k (block_meaning (context plan script) n b s) → IsWithin k s
@@ -76,14 +76,14 @@ module _ (plan : Layout) (k : Bounds) where
   before_turn : (x v : ℕ) (s : State) → IsWithin k (counted x v s) → IsWithin k s
   before_turn x v s h = record { cycles = h.cycles; words = h.words; steps = let le = h.steps in omega (arith, le); are_words = h.are_words }
 
-  pub keeps_counts : (script : Script) (b : Block) (j n x v last : ℕ) (s : State) → IsFine plan k (for_turns j n x v last (block_meaning (context plan script) most_turns b) s) → IsWithin k s
-  keeps_counts script b zero n x v last s h = record { cycles = h.cycles; words = h.words; steps = h.steps; are_words = h.are_words }
-  keeps_counts script b (suc j) zero x v last s h = absurd h.0
-  keeps_counts script b (suc j) (suc n) x v last s h =
+  pub keeps_for : (script : Script) (b : Block) (j n x v last : ℕ) (s : State) → IsFine plan k (for_turns j n x v last (block_meaning (context plan script) most_turns b) s) → IsWithin k s
+  keeps_for script b zero n x v last s h = record { cycles = h.cycles; words = h.words; steps = h.steps; are_words = h.are_words }
+  keeps_for script b (suc j) zero x v last s h = absurd h.0
+  keeps_for script b (suc j) (suc n) x v last s h =
       let body : Action = block_meaning (context plan script) most_turns b in
       before_turn x v s
       (keeps_block script most_turns b (counted x v s)
-      (fine_first (body (counted x v s)) (for_turns j n x (v + 1) last body) (λ t f. keeps_counts script b j n x (v + 1) last t f) h))
+      (fine_first (body (counted x v s)) (for_turns j n x (v + 1) last body) (λ t f. keeps_for script b j n x (v + 1) last t f) h))
 
   pub keeps_turns : (script : Script) (b : Block) (test : Condition) (n : ℕ) (s : State) → IsFine plan k (turns n test (block_meaning (context plan script) most_turns b) s) → IsWithin k s
   keeps_turns script b test zero s h = go (truth test s.variables s.q s.x) h
@@ -108,8 +108,8 @@ module _ (plan : Layout) (k : Bounds) where
   keeps_owed script (releases c) s h =
       let steps = h.1.steps in
       record { cycles = h.1.cycles; words = h.1.words; steps = omega (arith, steps); are_words = h.1.are_words }
-  keeps_owed script (counts x v last n b) s h = keeps_counts script b (last - v) n x (v + 1) last s h
-  keeps_owed script (repeats test n b) s h = keeps_turns script b test n s h
+  keeps_owed script (for_loop x v last n b) s h = keeps_for script b (last - v) n x (v + 1) last s h
+  keeps_owed script (while_loop test n b) s h = keeps_turns script b test n s h
   keeps_owed script (returns p vs rs) s h = record { cycles = h.cycles; words = h.words; steps = h.steps; are_words = h.are_words }
 
   keeps_left : (script : Script) (o : Open) (s : State) → IsFine plan k (left_of (context plan script) o s) → IsWithin k s

@@ -13,7 +13,7 @@ use Rattle.camac_lang.specs.declared.word.CrateCall.{CrateCall}
 use Rattle.camac_lang.specs.declared.word.LamCall.{LamCall}
 use Rattle.camac_lang.specs.declared.word.WordSize.{WordSize}
 use Rattle.camac_lang.specs.View.{statement_of}
-use Rattle.camac_run_machine.proofs.Trees.{assign_is, register_is, single_is, scan_is, q_stop_is, q_repeat_is, put_is, crate_is, lam_is, choose_is, choose_else_is, count_is, repeat_is}
+use Rattle.camac_run_machine.proofs.Trees.{assign_is, register_is, single_is, scan_is, q_stop_is, q_repeat_is, put_is, crate_is, lam_is, choose_is, choose_else_is, for_is, while_is}
 
 pub plain_is : (s : Stmt) → ((line x : ℕ) × (e : Expr) × (s ≡ rust.Assign line x e)) ⊎ (((line r : ℕ) × (k n a : Expr) × (s ≡ rust.SetRegister line r k n a)) ⊎ ((line : ℕ) × (e : Expr) × (s ≡ rust.Put line e))) → IsTrue (is_plain (statement_of s))
 plain_is s (inl (line, x, e, is)) = rw (is, assign_is line x e) refl
@@ -35,5 +35,5 @@ choice_is s (inl (line, c, a, is)) = rw (is, choose_is line c a) refl
 choice_is s (inr (line, c, a, b, is)) = rw (is, choose_else_is line c a b) refl
 
 pub loop_is : (s : Stmt) → ((line x : ℕ) × (e f : Expr) × (keeps : Vec Keep Global) × (a : Vec Stmt Global) × (s ≡ rust.For line x e f keeps a)) ⊎ ((line : ℕ) × (t : Cond) × (most measure : ℕ) × (keeps : Vec Keep Global) × (a : Vec Stmt Global) × (s ≡ rust.While line t most measure keeps a)) → IsTrue (is_for (statement_of s) || is_while (statement_of s))
-loop_is s (inl (line, x, e, f, keeps, a, is)) = rw (is, count_is line x e f keeps a) refl
-loop_is s (inr (line, t, most, measure, keeps, a, is)) = rw (is, repeat_is line t most measure keeps a) refl
+loop_is s (inl (line, x, e, f, keeps, a, is)) = rw (is, for_is line x e f keeps a) refl
+loop_is s (inr (line, t, most, measure, keeps, a, is)) = rw (is, while_is line t most measure keeps a) refl

@@ -23,7 +23,7 @@ use Rattle.camac_run_machine.specs.declared.machine.Wanting.{Wanting}
 use Rattle.camac_run_machine.specs.declared.scope.Scope.{Scope}
 use Rattle.camac_run_machine.specs.Rest.{nothing, owed, Open, left_of, rest_in, says}
 use Rattle.camac_run_machine.specs.Within.{StatementFits, Opens, OwnerFits, outer, OpenFit}
-use Rattle.camac_run_machine.specs.Held.{bounds_at, bounds_of, open_in, opens_in, holds, AreHeld, free, reach, context_in, state_of, left_in, stands, IsFineHere, HasRoomFor, HasRoom, Wants, Enters, Advances}
+use Rattle.camac_run_machine.specs.MachineState.{bounds_at, bounds_of, open_in, opens_in, holds, AreHeld, free, reach, context_in, state_of, left_in, stands, IsFineHere, HasRoomFor, HasRoom, Wants, Enters, Advances}
 use Rattle.camac_run_machine.proofs.Blocks.{then_ends, rest_push, opens_push, opens_pop, says_more, measure_falls}
 use Rattle.camac_run_machine.proofs.Locks.{held_push, held_same}
 
@@ -138,7 +138,7 @@ module _ {V D C : ℕ} (h : Machine V D C) where
     service = refl;
     wants = k.wants;
     pace = omega arith;
-    told = [];
+    released = [];
     unlocks = sym (append-nil h.unlocks.items);
     goes = λ answers. ap (λ b. then_do b (left_in h)) (k.goes answers);
   }
@@ -170,7 +170,7 @@ module _ {V D C : ℕ} (h : Machine V D C) where
     service = k.service;
     wants = tt;
     pace = let n = k.blocks in let m = k.steps in omega (arith, n, m);
-    told = [];
+    released = [];
     unlocks = ap (λ (us : ArrayVec ℕ). us.items) k.unlocks ∙ sym (append-nil h.unlocks.items);
     goes = k.goes;
   }
@@ -183,7 +183,7 @@ module _ {V D C : ℕ} (h : Machine V D C) where
     service = k.service;
     wants = k.wants;
     pace = let p = k.pace in omega arith;
-    told = k.told;
+    released = k.released;
     unlocks = k.unlocks;
     goes = k.goes;
   }
@@ -208,10 +208,10 @@ smaller new h fs f e1 e2 within pace popped =
     more gs g = omega (arith, length-append gs (g ∷ []))
 
 -- what was left, after what the frame that was taken came to
-pub goes_further : {V D C : ℕ} (h new : Machine V D C) (f : Frame) (fs : ArrayVec Frame) → h.frames.items ≡ fs.items ++ f ∷ [] → (told : List ℕ) → new.unlocks.items ≡ h.unlocks.items ++ told → (w : Option Wanting) (answers : List Answer)
-    → says told (stands w new answers) ≡ then_do (left_of (context_in h.checked.now) (open_in h f) (state_of h answers)) (left_in (record h { frames = fs }))
+pub goes_further : {V D C : ℕ} (h new : Machine V D C) (f : Frame) (fs : ArrayVec Frame) → h.frames.items ≡ fs.items ++ f ∷ [] → (released : List ℕ) → new.unlocks.items ≡ h.unlocks.items ++ released → (w : Option Wanting) (answers : List Answer)
+    → says released (stands w new answers) ≡ then_do (left_of (context_in h.checked.now) (open_in h f) (state_of h answers)) (left_in (record h { frames = fs }))
     → says new.unlocks.items (stands w new answers) ≡ says h.unlocks.items (stands None h answers)
-goes_further h new f fs popped told e w answers goes =
+goes_further h new f fs popped released e w answers goes =
     ap (λ us. says us (stands w new answers)) e
-    ∙ says_more h.unlocks.items told (stands w new answers)
+    ∙ says_more h.unlocks.items released (stands w new answers)
     ∙ ap (says h.unlocks.items) (goes ∙ sym (goes_popped h f fs popped (state_of h answers)))

@@ -18,8 +18,8 @@ use Rattle.camac_branch.specs.Crates.{Crates, branch_of}
 use Rattle.camac_model.specs.Behaviour.{does, lock_released, ends, then_do}
 use Rattle.camac_model.specs.Cycle.{after_release}
 use Rattle.camac_run_machine.specs.declared.machine.Machine.{Machine}
-use Rattle.camac_run_machine.specs.Held.{with_value, open_in, opens_in, AreHeld, locked_among, state_of, bounds_of, left_in, FineThen, HasRoomFor, HasRoom, Advances, holds, free, reach, context_in}
-use Rattle.camac_run_machine.specs.Rest.{nothing, releases, owed, Owner, Open, counts, repeats, returns, rest_in}
+use Rattle.camac_run_machine.specs.MachineState.{with_value, open_in, opens_in, AreHeld, locked_among, state_of, bounds_of, left_in, FineThen, HasRoomFor, HasRoom, Advances, holds, free, reach, context_in}
+use Rattle.camac_run_machine.specs.Rest.{nothing, releases, owed, Owner, Open, for_loop, while_loop, returns, rest_in}
 use Rattle.camac_run_machine.proofs.Blocks.{LastFits, opens_pop}
 use Rattle.camac_run_machine.proofs.Fine.{keeps_rest}
 use Rattle.camac_run_machine.proofs.Frames.{room_with}
@@ -49,7 +49,7 @@ module _ {V D C : ℕ} (h : Machine V D C) where
     service = refl;
     wants = tt;
     pace = omega arith;
-    told = [];
+    released = [];
     unlocks = sym (append-nil h.unlocks.items);
     goes = λ answers. refl;
   }
@@ -80,7 +80,7 @@ module _ {V D C : ℕ} (h : Machine V D C) where
     release_steps fine =
         (keeps_rest h.checked.now.plan (bounds_of h) h.checked.now.script _ (after_release k (state_of h [])) (fine []).1).steps
 
-    module _ (b : Crates) (us : ArrayVec ℕ) (freed : branch_of b ≡ with_lock k false (branch_of h.branch)) (told : us.items ≡ h.unlocks.items ++ k ∷ []) where
+    module _ (b : Crates) (us : ArrayVec ℕ) (freed : branch_of b ≡ with_lock k false (branch_of h.branch)) (released : us.items ≡ h.unlocks.items ++ k ∷ []) where
       abbrev after : Machine V D C
       after = record h { branch = b; steps = h.steps + 1; unlocks = us }
 
@@ -88,7 +88,7 @@ module _ {V D C : ℕ} (h : Machine V D C) where
       room_after =
           let few = room.unlocks in
           let one = one_fewer in
-          let n : length us.items ≡ length h.unlocks.items + 1 = ap length told ∙ length-append h.unlocks.items (k ∷ []) in
+          let n : length us.items ≡ length h.unlocks.items + 1 = ap length released ∙ length-append h.unlocks.items (k ∷ []) in
           let among : locked_among (branch_of b) 7 ≡ locked_among (with_lock k false (branch_of h.branch)) 7 = ap (λ (d : Branch). locked_among d 7) freed in
           record {
             variables = room.variables;
@@ -113,8 +113,8 @@ module _ {V D C : ℕ} (h : Machine V D C) where
         service = refl;
         wants = tt;
         pace = omega arith;
-        told = k ∷ [];
-        unlocks = told;
+        released = k ∷ [];
+        unlocks = released;
         goes = λ answers. ap (λ (d : Branch). does (lock_released k) (left_in h (record (state_of after answers) { branch = d }))) freed;
       }
 
@@ -151,7 +151,7 @@ module _ {V D C : ℕ} (h : Machine V D C) where
       service = refl;
       wants = tt;
       pace = omega arith;
-      told = [];
+      released = [];
       unlocks = sym (append-nil h.unlocks.items);
       goes = λ answers.
           ap (λ ws. left_in h (record (state_of h answers) { variables = variables_in ws; registers = registers_in (held_at p.registers h.registers) })) (sym e)
@@ -160,33 +160,33 @@ module _ {V D C : ℕ} (h : Machine V D C) where
 
   -- a `for` goes on
   module _ (x v w n : ℕ) (b : Block) where
-    turn_next : v < w → (answers : List Answer) → owed (context_in h.checked.now) (counts x v w n b) (state_of h answers) ≡ for_turns (suc (w - (v + 1))) n x (v + 1) w (block_meaning (context_in h.checked.now) most_turns b) (state_of h answers)
+    turn_next : v < w → (answers : List Answer) → owed (context_in h.checked.now) (for_loop x v w n b) (state_of h answers) ≡ for_turns (suc (w - (v + 1))) n x (v + 1) w (block_meaning (context_in h.checked.now) most_turns b) (state_of h answers)
     unfolding owed
     turn_next lt answers =
         let e : w - v ≡ suc (w - (v + 1)) = omega (arith, lt) in
         ap (λ k. for_turns k n x (v + 1) w (block_meaning (context_in h.checked.now) most_turns b) (state_of h answers)) e
 
-    turn_last : w ≤ v → (answers : List Answer) → owed (context_in h.checked.now) (counts x v w n b) (state_of h answers) ≡ ends (with_variable x w (state_of h answers))
+    turn_last : w ≤ v → (answers : List Answer) → owed (context_in h.checked.now) (for_loop x v w n b) (state_of h answers) ≡ ends (with_variable x w (state_of h answers))
     unfolding owed
     turn_last le answers =
         let e : w - v ≡ 0 = omega (arith, le) in
         ap (λ k. for_turns k n x (v + 1) w (block_meaning (context_in h.checked.now) most_turns b) (state_of h answers)) e
 
-    pub next_fine : v < w → FineThen h (λ c. owed c (counts x v w n b)) → FineThen h (λ c. for_turns (suc (w - (v + 1))) n x (v + 1) w (block_meaning c most_turns b))
-    next_fine lt fine = fine_as h (λ c. owed c (counts x v w n b)) (λ c. for_turns (suc (w - (v + 1))) n x (v + 1) w (block_meaning c most_turns b)) (turn_next lt) fine
+    pub next_fine : v < w → FineThen h (λ c. owed c (for_loop x v w n b)) → FineThen h (λ c. for_turns (suc (w - (v + 1))) n x (v + 1) w (block_meaning c most_turns b))
+    next_fine lt fine = fine_as h (λ c. owed c (for_loop x v w n b)) (λ c. for_turns (suc (w - (v + 1))) n x (v + 1) w (block_meaning c most_turns b)) (turn_next lt) fine
 
-    pub next_leaves : v < w → (new : Machine V D C) → Advances h (λ c. for_turns (suc (w - (v + 1))) n x (v + 1) w (block_meaning c most_turns b)) None new → Advances h (λ c. owed c (counts x v w n b)) None new
+    pub next_leaves : v < w → (new : Machine V D C) → Advances h (λ c. for_turns (suc (w - (v + 1))) n x (v + 1) w (block_meaning c most_turns b)) None new → Advances h (λ c. owed c (for_loop x v w n b)) None new
     next_leaves lt new k =
-        advances_as h (λ c. for_turns (suc (w - (v + 1))) n x (v + 1) w (block_meaning c most_turns b)) (λ c. owed c (counts x v w n b)) None new (λ answers. sym (turn_next lt answers)) k
+        advances_as h (λ c. for_turns (suc (w - (v + 1))) n x (v + 1) w (block_meaning c most_turns b)) (λ c. owed c (for_loop x v w n b)) None new (λ answers. sym (turn_next lt answers)) k
 
-    pub last_leaves : w ≤ v → x < (reach h).variables → (new : Machine V D C) → new ≡ with_value h x w → HasRoom h → Advances h (λ c. owed c (counts x v w n b)) None new
-    last_leaves le lt new same r = subst (λ m. Advances h (λ c. owed c (counts x v w n b)) None m) (sym same) (record {
+    pub last_leaves : w ≤ v → x < (reach h).variables → (new : Machine V D C) → new ≡ with_value h x w → HasRoom h → Advances h (λ c. owed c (for_loop x v w n b)) None new
+    last_leaves le lt new same r = subst (λ m. Advances h (λ c. owed c (for_loop x v w n b)) None m) (sym same) (record {
       room = room_written h x w r;
       checked = refl;
       service = refl;
       wants = tt;
       pace = omega arith;
-      told = [];
+      released = [];
       unlocks = sym (append-nil h.unlocks.items);
       goes = λ answers.
           ap (λ os. rest_in (context_in h.checked.now) os (state_of (with_value h x w) answers)) (sym (opens_written h x w r))
@@ -196,10 +196,10 @@ module _ {V D C : ℕ} (h : Machine V D C) where
 
   -- a `while` goes on
   module _ (test : Condition) (n : ℕ) (b : Block) where
-    pub while_fine : FineThen h (λ c. owed c (repeats test n b)) → FineThen h (λ c. turns n test (block_meaning c most_turns b))
+    pub while_fine : FineThen h (λ c. owed c (while_loop test n b)) → FineThen h (λ c. turns n test (block_meaning c most_turns b))
     unfolding owed
     while_fine fine = fine
 
-    pub while_leaves : (new : Machine V D C) → Advances h (λ c. turns n test (block_meaning c most_turns b)) None new → Advances h (λ c. owed c (repeats test n b)) None new
+    pub while_leaves : (new : Machine V D C) → Advances h (λ c. turns n test (block_meaning c most_turns b)) None new → Advances h (λ c. owed c (while_loop test n b)) None new
     unfolding owed
     while_leaves new k = k

@@ -4,7 +4,7 @@ use Rattle.std.proofs.lemmas.Bool.{eqb-true, false≢true}
 use Rattle.std.specs.Prelude.{nat_eq, if◌then◌else◌}
 use Rattle.camac_lang.specs.Tree.{Block}
 use Rattle.camac_branch.specs.Branch.{Branch, with_lock}
-use Rattle.camac_run_machine.specs.Held.{holds, times_held, AreHeld, locked_among}
+use Rattle.camac_run_machine.specs.MachineState.{holds, times_held, AreHeld, locked_among}
 use Rattle.camac_run_machine.specs.Rest.{releases, Open}
 
 abbrev bit : Bool → ℕ

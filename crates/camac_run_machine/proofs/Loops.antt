@@ -17,9 +17,9 @@ use Rattle.camac_run_machine.specs.declared.machine.Frame.{Frame}
 use Rattle.camac_run_machine.specs.declared.machine.Machine.{Machine}
 use Rattle.camac_run_machine.specs.declared.machine.Owner.TheVariants.{For, While}
 use Rattle.camac_run_machine.specs.declared.machine.Wanting.{Wanting}
-use Rattle.camac_run_machine.specs.Held.{reach, with_value, variables_here, open_in, context_in, state_of, bounds_of, left_in, IsFineHere, FineThen, HasRoom, Advances}
+use Rattle.camac_run_machine.specs.MachineState.{reach, with_value, variables_here, open_in, context_in, state_of, bounds_of, left_in, IsFineHere, FineThen, HasRoom, Advances}
 use Rattle.camac_run_machine.specs.Rest.{owed, left_of, rest_in}
-use Rattle.camac_run_machine.proofs.Fine.{fine_first, fine_decide, keeps_block, keeps_counts, keeps_turns, keeps_rest}
+use Rattle.camac_run_machine.proofs.Fine.{fine_first, fine_decide, keeps_block, keeps_for, keeps_turns, keeps_rest}
 use Rattle.camac_run_machine.proofs.Frames.{left_pushed}
 use Rattle.camac_run_machine.proofs.Serving.{turns_are}
 use Rattle.camac_run_machine.proofs.Scopes.{opens_written, variables_written}
@@ -45,7 +45,7 @@ module _ {V D C : ℕ} (h : Machine V D C) where
     service = k.service;
     wants = k.wants;
     pace = k.pace;
-    told = k.told;
+    released = k.released;
     unlocks = k.unlocks;
     goes = λ answers. k.goes answers ∙ ap (λ b. then_do b (left_in h)) (e answers);
   }
@@ -58,7 +58,7 @@ module _ {V D C : ℕ} (h : Machine V D C) where
     service = refl;
     wants = tt;
     pace = omega arith;
-    told = [];
+    released = [];
     unlocks = sym (append-nil h.unlocks.items);
     goes = λ answers. ap (λ b. then_do b (left_in h)) (sym (e answers));
   }
@@ -73,7 +73,7 @@ module _ {V D C : ℕ} (h : Machine V D C) where
       let s : State = state_of h [] in
       let f = first_fine (then_do (does_all b (counted x value s)) (for_turns (last - value) n x (value + 1) last (does_all b))) (fine []) in
       let g = fine_first h.checked.now.plan (bounds_of h) (does_all b (counted x value s)) (for_turns (last - value) n x (value + 1) last (does_all b))
-      (λ t k. keeps_counts h.checked.now.plan (bounds_of h) h.checked.now.script b (last - value) n x (value + 1) last t k) f in
+      (λ t k. keeps_for h.checked.now.plan (bounds_of h) h.checked.now.script b (last - value) n x (value + 1) last t k) f in
       (omega arith, (keeps_block h.checked.now.plan (bounds_of h) h.checked.now.script most_turns b (counted x value s) g).steps)
 
   abbrev turning : ℕ → ℕ → ℕ → ℕ → Bor (List Stmt) → Frame
@@ -95,7 +95,7 @@ module _ {V D C : ℕ} (h : Machine V D C) where
         service = refl;
         wants = tt;
         pace = omega (arith, long);
-        told = [];
+        released = [];
         unlocks = sym (append-nil h.unlocks.items);
         goes = λ answers.
             ap (λ (gs : List Frame). rest_in ctx (map (open_in (with_value h x value)) gs) (record (state_of h answers) { variables = variables_here (with_value h x value); steps = h.steps + 1 })) pushed
@@ -132,40 +132,40 @@ module _ {V D C : ℕ} (h : Machine V D C) where
 
   -- a `while`
   module _ (test : Condition) (b : Block) where
-    pub again_has : (n : ℕ) → FineThen h (λ c. turns n test (block_meaning c most_turns b)) → IsSome (truth test (variables_here h) h.q h.x)
-    again_has zero fine = fine_decide h.checked.now.plan (bounds_of h) (truth test (variables_here h) h.q h.x) (stops more) ends (state_of h []) (left_in h) (fine [])
-    again_has (suc n) fine =
+    pub while_test_has : (n : ℕ) → FineThen h (λ c. turns n test (block_meaning c most_turns b)) → IsSome (truth test (variables_here h) h.q h.x)
+    while_test_has zero fine = fine_decide h.checked.now.plan (bounds_of h) (truth test (variables_here h) h.q h.x) (stops more) ends (state_of h []) (left_in h) (fine [])
+    while_test_has (suc n) fine =
         fine_decide h.checked.now.plan (bounds_of h) (truth test (variables_here h) h.q h.x) (λ t. then_do (does_all b (stepped t)) (turns n test (does_all b))) ends (state_of h []) (left_in h) (fine [])
 
-    again_ends : (n : ℕ) → truth test (variables_here h) h.q h.x ≡ Some false → (answers : List Answer) → turns n test (does_all b) (state_of h answers) ≡ ends (state_of h answers)
-    again_ends zero e answers = ap (λ o. decide o (stops more) ends (state_of h answers)) e
-    again_ends (suc n) e answers = ap (λ o. decide o (λ t. then_do (does_all b (stepped t)) (turns n test (does_all b))) ends (state_of h answers)) e
+    while_test_ends : (n : ℕ) → truth test (variables_here h) h.q h.x ≡ Some false → (answers : List Answer) → turns n test (does_all b) (state_of h answers) ≡ ends (state_of h answers)
+    while_test_ends zero e answers = ap (λ o. decide o (stops more) ends (state_of h answers)) e
+    while_test_ends (suc n) e answers = ap (λ o. decide o (λ t. then_do (does_all b (stepped t)) (turns n test (does_all b))) ends (state_of h answers)) e
 
-    pub again_stops : (n : ℕ) → truth test (variables_here h) h.q h.x ≡ Some false → HasRoom h → Advances h (λ c. turns n test (block_meaning c most_turns b)) None h
-    again_stops n e r = unchanged (λ c. turns n test (block_meaning c most_turns b)) (again_ends n e) r
+    pub while_test_stops : (n : ℕ) → truth test (variables_here h) h.q h.x ≡ Some false → HasRoom h → Advances h (λ c. turns n test (block_meaning c most_turns b)) None h
+    while_test_stops n e r = unchanged (λ c. turns n test (block_meaning c most_turns b)) (while_test_ends n e) r
 
-    again_goes : (n : ℕ) → truth test (variables_here h) h.q h.x ≡ Some true → (answers : List Answer) → turns (suc n) test (does_all b) (state_of h answers) ≡ then_do (does_all b (stepped (state_of h answers))) (turns n test (does_all b))
-    again_goes n e answers = ap (λ o. decide o (λ t. then_do (does_all b (stepped t)) (turns n test (does_all b))) ends (state_of h answers)) e
+    while_test_goes : (n : ℕ) → truth test (variables_here h) h.q h.x ≡ Some true → (answers : List Answer) → turns (suc n) test (does_all b) (state_of h answers) ≡ then_do (does_all b (stepped (state_of h answers))) (turns n test (does_all b))
+    while_test_goes n e answers = ap (λ o. decide o (λ t. then_do (does_all b (stepped t)) (turns n test (does_all b))) ends (state_of h answers)) e
 
-    pub again_fine : (n : ℕ) → truth test (variables_here h) h.q h.x ≡ Some true → FineThen h (λ c. turns n test (block_meaning c most_turns b)) → (0 < n) × (h.steps + 1 ≤ (bounds_of h).steps)
-    again_fine zero e fine = absurd (subst (λ o. IsFineHere h (then_do (decide o (stops more) ends (state_of h [])) (left_in h))) e (fine [])).0
-    again_fine (suc n) e fine =
+    pub while_test_fine : (n : ℕ) → truth test (variables_here h) h.q h.x ≡ Some true → FineThen h (λ c. turns n test (block_meaning c most_turns b)) → (0 < n) × (h.steps + 1 ≤ (bounds_of h).steps)
+    while_test_fine zero e fine = absurd (subst (λ o. IsFineHere h (then_do (decide o (stops more) ends (state_of h [])) (left_in h))) e (fine [])).0
+    while_test_fine (suc n) e fine =
         let s : State = state_of h [] in
-        let f = first_fine (then_do (does_all b (stepped s)) (turns n test (does_all b))) (subst (λ o. IsFineHere h (then_do o (left_in h))) (again_goes n e []) (fine [])) in
+        let f = first_fine (then_do (does_all b (stepped s)) (turns n test (does_all b))) (subst (λ o. IsFineHere h (then_do o (left_in h))) (while_test_goes n e []) (fine [])) in
         let g = fine_first h.checked.now.plan (bounds_of h) (does_all b (stepped s)) (turns n test (does_all b)) (λ t k. keeps_turns h.checked.now.plan (bounds_of h) h.checked.now.script b test n t k) f in
         (omega arith, (keeps_block h.checked.now.plan (bounds_of h) h.checked.now.script most_turns b (stepped s) g).steps)
 
-  abbrev repeating : Bor (List rust_part.Part) → ℕ → Bor (List Stmt) → Frame
-  repeating test n body = record { rest = body; owner = While test n body }
+  abbrev while_frame : Bor (List rust_part.Part) → ℕ → Bor (List Stmt) → Frame
+  while_frame test n body = record { rest = body; owner = While test n body }
 
-  again_left : (test : Bor (List rust_part.Part)) (n : ℕ) (body : Bor (List Stmt)) (s : State) → left_of ctx (open_in h (repeating test n body)) s ≡ then_do (does_all (statements_of body.now) s) (turns n (map part_of test.now) (does_all (statements_of body.now)))
+  while_test_left : (test : Bor (List rust_part.Part)) (n : ℕ) (body : Bor (List Stmt)) (s : State) → left_of ctx (open_in h (while_frame test n body)) s ≡ then_do (does_all (statements_of body.now) s) (turns n (map part_of test.now) (does_all (statements_of body.now)))
   unfolding owed
-  again_left test n body s = refl
+  while_test_left test n body s = refl
 
-  again_turned : (test : Bor (List rust_part.Part)) (n : ℕ) (body : Bor (List Stmt)) (new : Machine V D C) → truth (map part_of test.now) (variables_here h) h.q h.x ≡ Some true → new ≡ record h { steps = h.steps + 1; frames = new.frames } → new.frames.items ≡ h.frames.items ++ repeating test n body ∷ [] → HasRoom new
+  while_test_turned : (test : Bor (List rust_part.Part)) (n : ℕ) (body : Bor (List Stmt)) (new : Machine V D C) → truth (map part_of test.now) (variables_here h) h.q h.x ≡ Some true → new ≡ record h { steps = h.steps + 1; frames = new.frames } → new.frames.items ≡ h.frames.items ++ while_frame test n body ∷ [] → HasRoom new
       → Advances h (λ c. turns (suc n) (map part_of test.now) (block_meaning c most_turns (statements_of body.now))) None new
-  again_turned test n body new e same pushed room =
-      let f : Frame = repeating test n body in
+  while_test_turned test n body new e same pushed room =
+      let f : Frame = while_frame test n body in
       let A : Machine V D C → Type 0 = λ m. HasRoom m → Advances h (λ c. turns (suc n) (map part_of test.now) (block_meaning c most_turns (statements_of body.now))) None m in
       let long : length new.frames.items ≡ length h.frames.items + 1 = ap length pushed ∙ length-append h.frames.items (f ∷ []) in
       subst A (sym same) (λ k. record {
@@ -174,21 +174,21 @@ module _ {V D C : ℕ} (h : Machine V D C) where
         service = refl;
         wants = tt;
         pace = omega (arith, long);
-        told = [];
+        released = [];
         unlocks = sym (append-nil h.unlocks.items);
         goes = λ answers.
             ap (λ (gs : List Frame). rest_in ctx (map (open_in h) gs) (stepped (state_of h answers))) pushed
             ∙ left_pushed ctx (open_in h) h.frames.items f (stepped (state_of h answers))
-            ∙ ap (λ b. then_do b (left_in h)) (again_left test n body (stepped (state_of h answers)) ∙ sym (again_goes (map part_of test.now) (statements_of body.now) n e answers));
+            ∙ ap (λ b. then_do b (left_in h)) (while_test_left test n body (stepped (state_of h answers)) ∙ sym (while_test_goes (map part_of test.now) (statements_of body.now) n e answers));
       }) room
 
-  pub again_advances : (test : Bor (List rust_part.Part)) (n : ℕ) (body : Bor (List Stmt)) (new : Machine V D C) → 0 < n → truth (map part_of test.now) (variables_here h) h.q h.x ≡ Some true → new ≡ record h { steps = h.steps + 1; frames = new.frames } → new.frames.items ≡ h.frames.items ++ repeating test (n - 1) body ∷ [] → HasRoom new
+  pub while_test_advances : (test : Bor (List rust_part.Part)) (n : ℕ) (body : Bor (List Stmt)) (new : Machine V D C) → 0 < n → truth (map part_of test.now) (variables_here h) h.q h.x ≡ Some true → new ≡ record h { steps = h.steps + 1; frames = new.frames } → new.frames.items ≡ h.frames.items ++ while_frame test (n - 1) body ∷ [] → HasRoom new
       → Advances h (λ c. turns n (map part_of test.now) (block_meaning c most_turns (statements_of body.now))) None new
-  again_advances test n body new some e same pushed room =
+  while_test_advances test n body new some e same pushed room =
       let same_n : suc (n - 1) ≡ n = omega (arith, some) in
       advances_as (λ c. turns (suc (n - 1)) (map part_of test.now) (block_meaning c most_turns (statements_of body.now))) (λ c. turns n (map part_of test.now) (block_meaning c most_turns (statements_of body.now))) None new
       (λ answers. ap (λ j. turns j (map part_of test.now) (does_all (statements_of body.now)) (state_of h answers)) same_n)
-      (again_turned test (n - 1) body new e same pushed room)
+      (while_test_turned test (n - 1) body new e same pushed room)
 
   -- a `while` that begins, with its parts and its block as they are kept
   pub while_begins : (n : ℕ) (ps qs : List rust_part.Part) (ss ts : List Stmt) → most_turns ≡ n → ps ≡ qs → ss ≡ ts → FineThen h (λ c. turns most_turns (map part_of qs) (block_meaning c most_turns (statements_of ts))) → FineThen h (λ c. turns n (map part_of ps) (block_meaning c most_turns (statements_of ss)))

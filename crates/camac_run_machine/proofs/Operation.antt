@@ -19,10 +19,10 @@ use Rattle.camac_model.specs.Fine.{most_turns}
 use Rattle.camac_model.specs.Meaning.{block_meaning}
 use Rattle.camac_model.specs.Transfer.{keep_word, transfer}
 use Rattle.camac_run_machine.specs.Course.{left_at, words_from, words_sent}
-use Rattle.camac_run_machine.specs.Held.{context_in, left_in, stands, state_of, want_of, IsWanting}
+use Rattle.camac_run_machine.specs.MachineState.{context_in, left_in, stands, state_of, want_of, IsWanting}
 use Rattle.camac_run_machine.specs.Rest.{address_of, awaited, onward, served}
 use Rattle.camac_run_machine.specs.Runner.{bit_at, rest}
-use Rattle.camac_run_machine.specs.Sound.{held}
+use Rattle.camac_run_machine.specs.Sound.{runner_state}
 use Rattle.camac_run_machine.specs.Operation.{StopsAt, Begins, CanLock, operation}
 use Rattle.camac_run_machine.specs.declared.item.Wanted.{Wanted}
 use Rattle.camac_run_machine.specs.declared.item.Wanted.TheVariants as wanted
@@ -68,7 +68,7 @@ module _ (plan : Layout) (c : ℕ) (body : Action) (s : State) (a : Answer) (ans
   lock_begins = lock_by (is_permitted plan s.branch c a.wait) refl
 
 -- what is waited for, and is a lock, can be taken
-pub can_lock : {V D C : ℕ} (h : Machine V D C) (w : Wanting) (wanting : Option Wanting) (fed n : ℕ) (has : Bool) (o : Option Overrun) → wanting ≡ Some w → IfSome wanting (IsWanting h) → CanLock (held h wanting fed n has o) (Some (operation w))
+pub can_lock : {V D C : ℕ} (h : Machine V D C) (w : Wanting) (wanting : Option Wanting) (fed n : ℕ) (has : Bool) (o : Option Overrun) → wanting ≡ Some w → IfSome wanting (IsWanting h) → CanLock (runner_state h wanting fed n has o) (Some (operation w))
 can_lock h (Cycle k) wanting fed n has o e p = tt
 can_lock h (Read k x bits) wanting fed n has o e p = tt
 can_lock h (Lock c body) wanting fed n has o e p = let q : IsWanting h (Lock c body) = rw e at p in (q.0, q.1.0)
@@ -99,10 +99,10 @@ module _ {V D C : ℕ} (h : Machine V D C) (a : Answer) (answers : List Answer) 
 
   module _ (fed n : ℕ) (has : Bool) (o : Option Overrun) where
     -- an answer that is wanted is used for what is wanted
-    pub wanted_begins : (wanting : Option Wanting) (w : Wanting) → wanting ≡ Some w → IfSome wanting (IsWanting h) → Begins (operation w) a (rest (held h wanting fed n has o) (a ∷ answers))
+    pub wanted_begins : (wanting : Option Wanting) (w : Wanting) → wanting ≡ Some w → IfSome wanting (IsWanting h) → Begins (operation w) a (rest (runner_state h wanting fed n has o) (a ∷ answers))
     wanted_begins wanting w e p = let q : IsWanting h w = rw e at p in rw e (rest_begins w q)
 
     -- and where no service is in progress, for a graded-L operation
-    pub idle_begins : (wanting : Option Wanting) → wanting ≡ None → Begins wanted.Demand a (rest (held h wanting fed n has o) (a ∷ answers))
+    pub idle_begins : (wanting : Option Wanting) → wanting ≡ None → Begins wanted.Demand a (rest (runner_state h wanting fed n has o) (a ∷ answers))
     unfolding onward
     idle_begins wanting e = rw e refl

@@ -35,10 +35,10 @@ before_set xs ys a v e =
     ∙ take-take a (a + 1) (set xs a v) (omega arith)
     ∙ take-set-le a xs a v (omega arith)
 
-module _ (e : Expression) (es : List Expression) (p : Places) (place v : ℕ) (old : List ℕ) (behind : p.end ≤ place) where
-  -- a write behind the caller's places leaves what it sees
+module _ (e : Expression) (es : List Expression) (p : Places) (place v : ℕ) (old : List ℕ) (after : p.end ≤ place) where
+  -- a write after the caller's places leaves what it sees
   same_caller : held_at p (set old place v) ≡ held_at p old
-  same_caller = held_before p place (set old place v) old behind (take-set-le place old place v (omega arith))
+  same_caller = held_before p place (set old place v) old after (take-set-le place old place v (omega arith))
 
   -- one argument more
   pub pass_more : (n : ℕ) (new : List ℕ) → place < length old → length new ≡ length old → value e (variables_in (held_at p old)) ≡ Some v

@@ -15,8 +15,8 @@ use Rattle.camac_run_machine.specs.declared.machine.Machine.{Machine}
 use Rattle.camac_run_machine.specs.declared.machine.Owner as rust
 use Rattle.camac_run_machine.specs.declared.scope.Scope.{Scope}
 use Rattle.camac_run_machine.specs.declared.scope.Places.{Places}
-use Rattle.camac_run_machine.specs.Held.{owner_of, opens_of, opens_in, AreHeld, reach, with_value, state_of, variables_here, HasRoom}
-use Rattle.camac_run_machine.specs.Rest.{Owner, nothing, releases, counts, repeats, returns, Open}
+use Rattle.camac_run_machine.specs.MachineState.{owner_of, opens_of, opens_in, AreHeld, reach, with_value, state_of, variables_here, HasRoom}
+use Rattle.camac_run_machine.specs.Rest.{Owner, nothing, releases, for_loop, while_loop, returns, Open}
 use Rattle.camac_run_machine.specs.Within.{OwnerFits, outer, outside, OpenFit}
 use Rattle.camac_run_machine.specs.Store.{size, held_at}
 use Rattle.camac_run_machine.proofs.Stores.{set_is, all_same}
@@ -62,8 +62,8 @@ module _ (v : ℕ) (s : Script) (c : Scope) (d : ℕ) where
   outer_before : (u : Scope) (d : ℕ) (o : Owner) → OwnerFits v s u d o → ((outer u o).variables.start ≤ u.variables.start) × ((outer u o).registers.start ≤ u.registers.start)
   outer_before u d nothing h = (omega arith, omega arith)
   outer_before u d (releases k) h = (omega arith, omega arith)
-  outer_before u d (counts x i last n body) h = (omega arith, omega arith)
-  outer_before u d (repeats test n body) h = (omega arith, omega arith)
+  outer_before u d (for_loop x i last n body) h = (omega arith, omega arith)
+  outer_before u d (while_loop test n body) h = (omega arith, omega arith)
   outer_before u d (returns p vs rs) h =
       let a = h.0.0 in
       let b = h.0.1 in
@@ -89,7 +89,7 @@ module _ (v : ℕ) (s : Script) (c : Scope) (vs ws : List ℕ) (rs qs : List (Op
       ap (λ l. returns p l (held_at p.registers rs)) (held_before p.variables c.variables.start vs ws (omega (arith, a, k.0)) variables)
       ∙ ap (returns p (held_at p.variables ws)) (held_before p.registers c.registers.start rs qs (omega (arith, b, k.1)) registers)
 
-  -- what callers hold lies before the places of the last block, so that a write behind them leaves it
+  -- what callers hold lies before the places of the last block, so that a write after them leaves it
   pub opens_same : (d : ℕ) (fs : List Frame) → OpenFit v s c d (opens_of vs rs fs) → opens_of vs rs fs ≡ opens_of ws qs fs
   opens_same d [] h = refl
   opens_same d (f ∷ fs) h =

@@ -8,7 +8,7 @@ grow k e m h = omega arith
 plus : (e n m : ℕ) → m ≤ e → m ≤ e + n
 plus e n m h = omega arith
 
--- the other fields of a runner stand behind its machine
+-- the other fields of a runner stand after its machine
 pub machine_fits : (m : ℕ) → up 8 (up 4 (up 1 (up 4 (up 4 (up 8 (0 + m) + 120) + 4) + 4) + 1) + 12) < 9223372036854775808 → m < 9223372036854775808
 machine_fits m h =
     let zero_first : m ≤ 0 + m = omega arith in

@@ -16,7 +16,7 @@ use Rattle.camac_run_machine.specs.declared.machine.Frame.{Frame}
 use Rattle.camac_run_machine.specs.declared.machine.Machine.{Machine}
 use Rattle.camac_run_machine.specs.declared.scope.Scope.{Scope}
 use Rattle.camac_run_machine.specs.declared.machine.Owner.TheVariants.{Plain}
-use Rattle.camac_run_machine.specs.Held.{context_in, owner_of, open_in, open_of, opens_of, holds, AreHeld, bounds_at, state_of, stands, HasRoom}
+use Rattle.camac_run_machine.specs.MachineState.{context_in, owner_of, open_in, open_of, opens_of, holds, AreHeld, bounds_at, state_of, stands, HasRoom}
 use Rattle.camac_run_machine.specs.Rest.{owed, rest_in}
 use Rattle.camac_run_machine.specs.Within.{reach_of, ScopeFits, Opens, OwnerFits, OpenFit}
 use Rattle.camac_run_machine.proofs.Blocks.{then_ends}

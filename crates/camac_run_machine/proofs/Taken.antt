@@ -24,7 +24,7 @@ use Rattle.camac_run_machine.specs.declared.machine.Frame.{Frame}
 use Rattle.camac_run_machine.specs.declared.machine.Machine.{Machine}
 use Rattle.camac_run_machine.specs.declared.machine.Owner.TheVariants.{Locked}
 use Rattle.camac_run_machine.specs.declared.machine.Wanting.TheVariants.{Lock}
-use Rattle.camac_run_machine.specs.Held.{context_in, open_in, opens_in, AreHeld, locked_among, reach, state_of, bounds_of, left_in, stands, IsFineHere, HasRoom, IsWanting, TakesLock, IsRefused, Takes, Overruns}
+use Rattle.camac_run_machine.specs.MachineState.{context_in, open_in, opens_in, AreHeld, locked_among, reach, state_of, bounds_of, left_in, stands, IsFineHere, HasRoom, IsWanting, TakesLock, IsRefused, Takes, Overruns}
 use Rattle.camac_run_machine.specs.Rest.{awaited, follows, owed, Open, rest_in}
 use Rattle.camac_run_machine.specs.Within.{Opens, OpenFit}
 use Rattle.camac_run_machine.proofs.Blocks.{opens_push}

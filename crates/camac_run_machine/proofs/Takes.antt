@@ -23,7 +23,7 @@ use Rattle.camac_run_machine.specs.declared.machine.Machine.{Machine}
 use Rattle.camac_run_machine.specs.declared.machine.Wanting.{Wanting}
 use Rattle.camac_run_machine.specs.declared.item.Item.TheVariants as item
 use Rattle.camac_run_machine.specs.declared.machine.Wanting.TheVariants.{Cycle, Read, Lock, Transfer}
-use Rattle.camac_run_machine.specs.Held.{reach, with_value, context_in, opens_in, want_of, made, state_of, bounds_of, left_in, stands, IsFineHere, HasRoom, IsWanting, Makes, IsRefused, Takes, Overruns}
+use Rattle.camac_run_machine.specs.MachineState.{reach, with_value, context_in, opens_in, want_of, made, state_of, bounds_of, left_in, stands, IsFineHere, HasRoom, IsWanting, Makes, IsRefused, Takes, Overruns}
 use Rattle.camac_esone.specs.Transfers.{tally}
 use Rattle.camac_run_machine.specs.Course.{left_at, words_from, words_sent}
 use Rattle.camac_run_machine.specs.Rest.{address_of, awaited, follows, rest_in}

@@ -20,10 +20,10 @@ use Rattle.camac_run_machine.specs.declared.machine.Machine.{Machine}
 use Rattle.camac_run_machine.specs.declared.machine.Wanting.{Wanting}
 use Rattle.camac_run_machine.specs.declared.machine.Wanting.TheVariants as wanting
 use Rattle.camac_run_machine.specs.declared.machine.Wanting.TheVariants.{Cycle, Read, Lock}
-use Rattle.camac_run_machine.specs.Held.{bounds_at, bounds_of, opens_in, locked_among, context_in, state_of, left_in, stands, want_of, FineThen, IsFineHere, HasRoom, IsWanting, Takes, Settles, Serves}
+use Rattle.camac_run_machine.specs.MachineState.{bounds_at, bounds_of, opens_in, locked_among, context_in, state_of, left_in, stands, want_of, FineThen, IsFineHere, HasRoom, IsWanting, Takes, Settles, Serves}
 use Rattle.camac_run_machine.specs.Rest.{follows, rest_in, says, served}
 use Rattle.camac_run_machine.specs.Runner.{Left, bit_at, rest, last_words_in, with_event}
-use Rattle.camac_run_machine.specs.Sound.{held, event_here, IsSound}
+use Rattle.camac_run_machine.specs.Sound.{runner_state, event_here, IsSound}
 use Rattle.camac_run_machine.proofs.Bounds.{fine_at}
 use Rattle.camac_run_machine.proofs.Fine.{fine_says}
 use Rattle.camac_run_machine.proofs.Frames.{fine_along}
@@ -36,7 +36,7 @@ module _ {V D C : ℕ} where
   pub told : (new : Machine V D C) (next' : Option Wanting) (event : Option Left) (fed n' : ℕ) (has : Bool) (o : Option Overrun) (answers : List Answer)
       → IfNone next' (new.frames.items ≡ []) → IfNone next' (event ≡ Some (event_here new n')) → OnSome next' (event ≡ None) → IfNone next' (has ≡ true)
       → served (context_in new.checked.now) new.checked.now.script.services (bit_at new.checked.now new.service) (stands next' new answers)
-      ≡ with_event event (last_words_in (held new next' fed n' has o)) (rest (held new next' fed n' has o) answers)
+      ≡ with_event event (last_words_in (runner_state new next' fed n' has o)) (rest (runner_state new next' fed n' has o) answers)
   unfolding served rest_in
   told new None event fed n' has o answers f a b t = rw (f, a, t) refl
   told new (Some w) event fed n' has o answers f a b t = rw b refl
@@ -45,14 +45,14 @@ module _ {V D C : ℕ} where
   numbered new None event n n' few a b x y = rw a (tt, (x, refl, few), omega arith)
   numbered new (Some w) event n n' few a b x y = rw b (y, tt, omega arith)
 
-  pub quiet : (new : Machine V D C) (next' : Option Wanting) (event : Option Left) (fed n' : ℕ) (has : Bool) (o : Option Overrun) → IfNone next' (event ≡ Some (event_here new n')) → OnSome next' (has ≡ false) → IfNone event (last_words_in (held new next' fed n' has o) ≡ [])
+  pub quiet : (new : Machine V D C) (next' : Option Wanting) (event : Option Left) (fed n' : ℕ) (has : Bool) (o : Option Overrun) → IfNone next' (event ≡ Some (event_here new n')) → OnSome next' (has ≡ false) → IfNone event (last_words_in (runner_state new next' fed n' has o) ≡ [])
   quiet new None event fed n' has o a t = rw a tt
   quiet new (Some w) event fed n' has o a t = go event
     where
-      silent : last_words_in (held new (Some w) fed n' has o) ≡ []
+      silent : last_words_in (runner_state new (Some w) fed n' has o) ≡ []
       silent = rw t refl
 
-      go : (e : Option Left) → IfNone e (last_words_in (held new (Some w) fed n' has o) ≡ [])
+      go : (e : Option Left) → IfNone e (last_words_in (runner_state new (Some w) fed n' has o) ≡ [])
       go None = silent
       go (Some e) = tt
 
@@ -112,7 +112,7 @@ module _ {V D C : ℕ} where
   along_told : (new : Machine V D C) (ck : Bor CheckedScript) (i bit : ℕ) (next' : Option Wanting) (event : Option Left) (fed n' : ℕ) (has : Bool) (o : Option Overrun) (answers : List Answer)
       → new.checked ≡ ck → new.service ≡ i → bit_at ck.now i ≡ bit
       → IfNone next' (new.frames.items ≡ []) → IfNone next' (event ≡ Some (event_here new n')) → OnSome next' (event ≡ None) → IfNone next' (has ≡ true)
-      → served (context_in ck.now) ck.now.script.services bit (stands next' new answers) ≡ with_event event (last_words_in (held new next' fed n' has o)) (rest (held new next' fed n' has o) answers)
+      → served (context_in ck.now) ck.now.script.services bit (stands next' new answers) ≡ with_event event (last_words_in (runner_state new next' fed n' has o)) (rest (runner_state new next' fed n' has o) answers)
   along_told new ck i bit next' event fed n' has o answers e1 e2 e3 f a b t =
       ap (λ k. served (context_in ck.now) ck.now.script.services k (stands next' new answers)) (sym e3)
       ∙ ap (λ j. served (context_in ck.now) ck.now.script.services (bit_at ck.now j) (stands next' new answers)) (sym e2)
@@ -123,7 +123,7 @@ module _ {V D C : ℕ} where
   pub told_along : (new : Machine V D C) (ck : Bor CheckedScript) (i bit : ℕ) (next' : Option Wanting) (event : Option Left) (fed n' : ℕ) (has : Bool) (o : Option Overrun) (answers : List Answer)
       → new.checked ≡ ck → new.service ≡ i → bit_at ck.now i ≡ bit
       → IfNone next' (new.frames.items ≡ []) → IfNone next' (event ≡ Some (event_here new n')) → OnSome next' (event ≡ None) → IfNone next' (has ≡ true)
-      → (us : List ℕ) → served (context_in ck.now) ck.now.script.services bit (says us (stands next' new answers)) ≡ says us (with_event event (last_words_in (held new next' fed n' has o)) (rest (held new next' fed n' has o) answers))
+      → (us : List ℕ) → served (context_in ck.now) ck.now.script.services bit (says us (stands next' new answers)) ≡ says us (with_event event (last_words_in (runner_state new next' fed n' has o)) (rest (runner_state new next' fed n' has o) answers))
   told_along new ck i bit next' event fed n' has o answers e1 e2 e3 f a b t us =
       served_says (context_in ck.now) ck.now.script.services bit us (stands next' new answers)
       ∙ ap (says us) (along_told new ck i bit next' event fed n' has o answers e1 e2 e3 f a b t)
@@ -153,14 +153,14 @@ module _ {V D C : ℕ} where
       (fine_along new mid s.checked s.service (says new.unlocks.items (stands next' new answers)) (then_do (go (context_in mid.checked.now) (state_of mid answers)) (left_in mid)) (s.goes answers) (fine answers))
 
   -- with no answer, a run is short in the service in progress, or over
-  pub rest_short : (h : Machine V D C) (wanting : Option Wanting) (w : Wanting) (fed n : ℕ) (has : Bool) (o : Option Overrun) → wanting ≡ Some w → IfSome wanting (IsWanting h) → rest (held h wanting fed n has o) [] ≡ stops short (state_of h [])
+  pub rest_short : (h : Machine V D C) (wanting : Option Wanting) (w : Wanting) (fed n : ℕ) (has : Bool) (o : Option Overrun) → wanting ≡ Some w → IfSome wanting (IsWanting h) → rest (runner_state h wanting fed n has o) [] ≡ stops short (state_of h [])
   rest_short h wanting w fed n has o e p =
       let q : IsWanting h w = rw e at p in
       let c = context_in h.checked.now in
       rw e (ap (λ b. served c h.checked.now.script.services (bit_at h.checked.now h.service) (then_do b (rest_in c (opens_in h)))) (waits_first h w q)
       ∙ served_stops c h.checked.now.script.services (bit_at h.checked.now h.service) short (state_of h []))
 
-  pub rest_over : (h : Machine V D C) (wanting : Option Wanting) (fed n : ℕ) (has : Bool) (o : Option Overrun) → wanting ≡ None → rest (held h wanting fed n has o) [] ≡ ends tt
+  pub rest_over : (h : Machine V D C) (wanting : Option Wanting) (fed n : ℕ) (has : Bool) (o : Option Overrun) → wanting ≡ None → rest (runner_state h wanting fed n has o) [] ≡ ends tt
   rest_over h wanting fed n has o e = rw e (onward_over (context_in h.checked.now) h.checked.now.script.services (branch_of h.branch))
 
 pub none_mapped : {A : Type 0} (o : Option A) (P Q : Type 0) → IfNone o P → (P → Q) → IfNone o Q

@@ -52,11 +52,11 @@ choose_else_is line c a b = ap statement_of (sym (rust.rolls-IfElse line c a b))
 pub lock_is : (line : ℕ) (e : Expr) (a : Vec Stmt Global) → statement_of (rust.Lock line e a) ≡ locked line (expression_of e) (statements_of a.items)
 lock_is line e a = ap statement_of (sym (rust.rolls-Lock line e a)) ∙ fold-roll-Stmt Statement statement_step (layer.Lock line e a)
 
-pub count_is : (line x : ℕ) (e f : Expr) (keeps : Vec Keep Global) (a : Vec Stmt Global) → statement_of (rust.For line x e f keeps a) ≡ for_ line x (expression_of e) (expression_of f) (map keep_of keeps.items) (statements_of a.items)
-count_is line x e f keeps a = ap statement_of (sym (rust.rolls-For line x e f keeps a)) ∙ fold-roll-Stmt Statement statement_step (layer.For line x e f keeps a)
+pub for_is : (line x : ℕ) (e f : Expr) (keeps : Vec Keep Global) (a : Vec Stmt Global) → statement_of (rust.For line x e f keeps a) ≡ for_ line x (expression_of e) (expression_of f) (map keep_of keeps.items) (statements_of a.items)
+for_is line x e f keeps a = ap statement_of (sym (rust.rolls-For line x e f keeps a)) ∙ fold-roll-Stmt Statement statement_step (layer.For line x e f keeps a)
 
-pub repeat_is : (line : ℕ) (t : Cond) (most measure : ℕ) (keeps : Vec Keep Global) (a : Vec Stmt Global) → statement_of (rust.While line t most measure keeps a) ≡ while_ line (condition_of t) most measure (map keep_of keeps.items) (statements_of a.items)
-repeat_is line t most measure keeps a = ap statement_of (sym (rust.rolls-While line t most measure keeps a)) ∙ fold-roll-Stmt Statement statement_step (layer.While line t most measure keeps a)
+pub while_is : (line : ℕ) (t : Cond) (most measure : ℕ) (keeps : Vec Keep Global) (a : Vec Stmt Global) → statement_of (rust.While line t most measure keeps a) ≡ while_ line (condition_of t) most measure (map keep_of keeps.items) (statements_of a.items)
+while_is line t most measure keeps a = ap statement_of (sym (rust.rolls-While line t most measure keeps a)) ∙ fold-roll-Stmt Statement statement_step (layer.While line t most measure keeps a)
 
 pub call_is : (line p : ℕ) (es : Vec Expr Global) → statement_of (rust.Call line p es) ≡ call line p (map expression_of es.items)
 call_is line p es = ap statement_of (sym (rust.rolls-Call line p es)) ∙ fold-roll-Stmt Statement statement_step (Stmt-F.Call line p es)

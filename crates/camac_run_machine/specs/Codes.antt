@@ -10,7 +10,7 @@ use Rattle.camac_lang.specs.Code.{clash, condition_coded, block_coded}
 use Rattle.camac_lang.specs.Tree.{Block}
 use Rattle.camac_run_machine.specs.contracts.scope.Scope as scope
 use Rattle.camac_run_machine.specs.contracts.transfer.Course as course
-use Rattle.camac_run_machine.specs.Rest.{Want, makes, reads, locks, transfers, Owner, nothing, releases, counts, repeats, returns, Open}
+use Rattle.camac_run_machine.specs.Rest.{Want, makes, reads, locks, transfers, Owner, nothing, releases, for_loop, while_loop, returns, Open}
 
 abbrev pub table_coded : Coded (Option (List ℕ))
 table_coded = coded_option (coded_list coded_ℕ)
@@ -46,16 +46,16 @@ registers_coded = coded_list (coded_option address.the_row.coded)
 abbrev pub owner_code : Owner → Gv
 owner_code nothing = gcons (gnum 0) gnil
 owner_code (releases k) = gcons (gnum 1) (gnum k)
-owner_code (counts x v last n body) = gcons (gnum 2) (gcons (gnum x) (gcons (gnum v) (gcons (gnum last) (gcons (gnum n) (block_coded.code body)))))
-owner_code (repeats test n body) = gcons (gnum 3) (gcons (condition_coded.code test) (gcons (gnum n) (block_coded.code body)))
+owner_code (for_loop x v last n body) = gcons (gnum 2) (gcons (gnum x) (gcons (gnum v) (gcons (gnum last) (gcons (gnum n) (block_coded.code body)))))
+owner_code (while_loop test n body) = gcons (gnum 3) (gcons (condition_coded.code test) (gcons (gnum n) (block_coded.code body)))
 owner_code (returns p vs rs) = gcons (gnum 4) (gcons (scope.the_row.coded.code p) (gcons (variables_coded.code vs) (registers_coded.code rs)))
 
 pub same_owner : (a b : Owner) → owner_code a ≡ owner_code b → a ≡ b
 same_owner nothing nothing e = refl
 same_owner (releases k) (releases l) e = cc
-same_owner (counts x v last n a) (counts y w top m b) e =
+same_owner (for_loop x v last n a) (counts y w top m b) e =
     let h : block_coded.code a ≡ block_coded.code b = cc in cc (block_coded.inj a b h)
-same_owner (repeats t n a) (repeats u m b) e =
+same_owner (while_loop t n a) (while_loop u m b) e =
     let g : condition_coded.code t ≡ condition_coded.code u = cc in
     let h : block_coded.code a ≡ block_coded.code b = cc in
     cc (condition_coded.inj t u g, block_coded.inj a b h)

@@ -3,7 +3,7 @@ use Rattle.std.specs.Prelude.{ℕ, List, [], ◌∷◌, ◌++◌, Option, Some, 
 use Rattle.std.specs.Borrow.{Bor}
 use Rattle.camac_func.specs.declared.data.DataMove.{DataMove}
 use Rattle.camac_branch.specs.Branch.{Reply}
-use Rattle.camac_esone.specs.Held.{q_stop_left, q_repeat_left, scan_left}
+use Rattle.camac_esone.specs.InProgress.{q_stop_left, q_repeat_left, scan_left}
 use Rattle.camac_esone.specs.Progress.{Left}
 use Rattle.camac_model.specs.Cycle.{kept}
 use Rattle.camac_model.specs.Transfer.{transfer_data}

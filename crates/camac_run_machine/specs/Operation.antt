@@ -6,7 +6,7 @@ use Rattle.camac_branch.specs.Crates.{branch_of}
 use Rattle.camac_branch.specs.Plan.{Layout, crate_waits}
 use Rattle.camac_model.specs.Behaviour.{Behaviour, does, ends, stops, Piece, pieces, demanded, cycled, lock_taken, lock_released, event_left, Stop, short, overrun, wrong, more}
 use Rattle.camac_model.specs.Run.{the_run}
-use Rattle.camac_run_machine.specs.Runner.{Held, rest}
+use Rattle.camac_run_machine.specs.Runner.{RunnerState, rest}
 use Rattle.camac_run_machine.specs.declared.item.Wanted.{Wanted}
 use Rattle.camac_run_machine.specs.declared.item.Wanted.TheVariants.{Demand, Cycle, Lock}
 use Rattle.camac_run_machine.specs.declared.machine.Wanting.{Wanting}
@@ -51,12 +51,12 @@ Begins o a (ends x) = ⊥
 Begins o a (stops w s) = StopsAt o a w
 
 -- whatever the next answer is, and those after it, it is used for this operation; a run wants none after a wait that was not permitted
-abbrev pub Wants : Held → Option Wanted → Type 0
+abbrev pub Wants : RunnerState → Option Wanted → Type 0
 Wants h (Some o) = (h.overrun ≡ None) × ((a : Answer) (answers : List Answer) → Begins o a (rest h (a ∷ answers)))
 Wants h None = IsSome h.overrun
 
 -- a lock that is wanted is of a crate of the plan which is not locked
-abbrev pub CanLock : Held → Option Wanted → Type 0
+abbrev pub CanLock : RunnerState → Option Wanted → Type 0
 CanLock h None = Unit {0}
 CanLock h (Some Demand) = Unit {0}
 CanLock h (Some (Cycle k)) = Unit {0}

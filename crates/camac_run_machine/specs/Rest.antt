@@ -57,8 +57,8 @@ follows c (transfers course f table x) s = transfer_left c.plan f table (left_at
 pub data Owner : Type 0 where
   nothing : Owner
   releases : (crate_no : ℕ) → Owner
-  counts : (variable current last left : ℕ) → Block → Owner
-  repeats : Condition → (left : ℕ) → Block → Owner
+  for_loop : (variable current last left : ℕ) → Block → Owner
+  while_loop : Condition → (left : ℕ) → Block → Owner
   returns : Scope → (variables : List ℕ) → (registers : List (Option Address)) → Owner
 
 -- an open block, by what is left of it
@@ -69,8 +69,8 @@ pub record Open : Type 0 where
 unfoldable pub owed : Context → Owner → Action
 owed c nothing s = ends s
 owed c (releases k) s = release k s
-owed c (counts x v last n body) s = for_turns (last - v) n x (v + 1) last (block_meaning c most_turns body) s
-owed c (repeats test n body) s = turns n test (block_meaning c most_turns body) s
+owed c (for_loop x v last n body) s = for_turns (last - v) n x (v + 1) last (block_meaning c most_turns body) s
+owed c (while_loop test n body) s = turns n test (block_meaning c most_turns body) s
 owed c (returns p vs rs) s = ends (record s { variables = variables_in vs; registers = registers_in rs })
 
 abbrev pub left_of : Context → Open → Action

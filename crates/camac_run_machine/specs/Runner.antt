@@ -12,11 +12,11 @@ use Rattle.camac_names.specs.Linked.{bit_of_service}
 use Rattle.camac_run_machine.specs.declared.item.Item.{Item}
 use Rattle.camac_run_machine.specs.declared.item.Progress.{Progress}
 use Rattle.camac_run_machine.specs.declared.item.Progress.TheVariants as progress
-use Rattle.camac_run_machine.specs.Held.{context_in, piece_of}
+use Rattle.camac_run_machine.specs.MachineState.{context_in, piece_of}
 use Rattle.camac_run_machine.specs.Rest.{Want, awaited, Open, rest_in, says, onward, served}
 use Rattle.camac_run_machine.specs.Store.{variables_in, registers_in}
 
-pub record Held : Type 0 where
+pub record RunnerState : Type 0 where
   pub checked : CheckedScript
   -- the number of the service in progress, or of the last one
   pub service : ℕ
@@ -41,7 +41,7 @@ pub record Held : Type 0 where
   -- the wait that was not permitted
   pub overrun : Option Overrun
 
-abbrev pub state_in : Held → List Answer → State
+abbrev pub state_in : RunnerState → List Answer → State
 state_in h answers = record {
   branch = branch_of h.crates;
   variables = variables_in h.variables;
@@ -60,17 +60,17 @@ abbrev pub bit_at : CheckedScript → ℕ → ℕ
 bit_at c i = unwrap_or (bit_of_service (linked_of c) i) 0
 
 -- the run from what a runner holds
-abbrev pub rest_from : Option Want → Held → List Answer → Behaviour (Unit {0})
+abbrev pub rest_from : Option Want → RunnerState → List Answer → Behaviour (Unit {0})
 rest_from None h answers = onward (context_in h.checked) h.checked.script.services (branch_of h.crates) answers
 rest_from (Some w) h answers =
     served (context_in h.checked) h.checked.script.services (bit_at h.checked h.service)
     (then_do (awaited (context_in h.checked) w (state_in h answers)) (rest_in (context_in h.checked) h.blocks))
 
-abbrev pub rest : Held → List Answer → Behaviour (Unit {0})
+abbrev pub rest : RunnerState → List Answer → Behaviour (Unit {0})
 rest h answers = rest_from h.wanting h answers
 
 -- the words of the event that the last answer left, if it left one
-abbrev pub last_words_in : Held → List ℕ
+abbrev pub last_words_in : RunnerState → List ℕ
 last_words_in h = if h.has_event then h.words else []
 
 -- an event's number, its bit and its usage
@@ -84,11 +84,11 @@ with_event (Some e) words b =
     does (event_left (record { bit = e.1; cycles = e.2.cycles; missed = e.2.missed; words = words })) b
 
 -- the answer was used for this item, and then these locks were released
-pub record GoesOn (old : Held) (answer : Answer) (told : Item) (unlocks : List ℕ) (event : Option Left) (new : Held) : Type 0 where
+pub record GoesOn (old : RunnerState) (answer : Answer) (item : Item) (unlocks : List ℕ) (event : Option Left) (new : RunnerState) : Type 0 where
   pub first : old.overrun ≡ None
   pub goes :
       (answers : List Answer)
-      → rest old (answer ∷ answers) ≡ does (piece_of told) (says unlocks (with_event event (last_words_in new) (rest new answers)))
+      → rest old (answer ∷ answers) ≡ does (piece_of item) (says unlocks (with_event event (last_words_in new) (rest new answers)))
   pub fed : new.fed ≡ old.fed + 1
   pub same : IfNone event (new.events ≡ old.events)
   pub next : IfSome event (λ e. (e.0 ≡ old.events + 1) × (new.events ≡ e.0) × (e.2.missed ≤ e.2.cycles))
@@ -97,7 +97,7 @@ pub record GoesOn (old : Held) (answer : Answer) (told : Item) (unlocks : List �
   pub checked : new.checked ≡ old.checked
 
 -- the answer's wait is not permitted, or an earlier one was not; nothing else changes
-pub record Stops (old : Held) (answer : Answer) (o : Overrun) (new : Held) : Type 0 where
+pub record Stops (old : RunnerState) (answer : Answer) (o : Overrun) (new : RunnerState) : Type 0 where
   pub now :
       IfNone old.overrun
       ((answers : List Answer)
@@ -105,8 +105,8 @@ pub record Stops (old : Held) (answer : Answer) (o : Overrun) (new : Held) : Typ
   pub again : IfSome old.overrun (λ earlier. o ≡ earlier)
   pub same : new ≡ record old { overrun = Some o }
 
-abbrev pub Progresses : Held → Answer → Progress → Held → Type 0
-Progresses old answer (progress.Went told unlocks event) new = GoesOn old answer told unlocks.items event new
+abbrev pub Progresses : RunnerState → Answer → Progress → RunnerState → Type 0
+Progresses old answer (progress.Went item unlocks event) new = GoesOn old answer item unlocks.items event new
 Progresses old answer (progress.Overrun o) new = Stops old answer o new
 
 -- the steps, and the words, of the service that a run stops in

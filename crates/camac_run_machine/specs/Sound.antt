@@ -7,13 +7,13 @@ use Rattle.camac_check_result.specs.Checked.{IsChecked}
 use Rattle.camac_lang.specs.Fits.{fits}
 use Rattle.camac_run_machine.specs.declared.machine.Machine.{Machine}
 use Rattle.camac_run_machine.specs.declared.machine.Wanting.{Wanting}
-use Rattle.camac_run_machine.specs.Held.{opens_in, want_of, stands, IsFineHere, HasRoom, IsWanting}
+use Rattle.camac_run_machine.specs.MachineState.{opens_in, want_of, stands, IsFineHere, HasRoom, IsWanting}
 use Rattle.camac_run_machine.specs.Store.{held_at}
-use Rattle.camac_run_machine.specs.Runner.{Held, Left, bit_at}
+use Rattle.camac_run_machine.specs.Runner.{RunnerState, Left, bit_at}
 
 module _ {V D C : ℕ} where
-  abbrev pub held : Machine V D C → Option Wanting → ℕ → ℕ → Bool → Option Overrun → Held
-  held h wanting fed events has_event overrun = record {
+  abbrev pub runner_state : Machine V D C → Option Wanting → ℕ → ℕ → Bool → Option Overrun → RunnerState
+  runner_state h wanting fed events has_event overrun = record {
     checked = h.checked.now;
     service = h.service;
     blocks = opens_in h;

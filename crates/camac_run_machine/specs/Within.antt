@@ -4,7 +4,7 @@ use Rattle.camac_lang.specs.Depth.{callables_after}
 use Rattle.camac_lang.specs.Expressions.{Callable, refers}
 use Rattle.camac_lang.specs.Tests.{total}
 use Rattle.camac_lang.specs.Tree.{Expression, Test, flag_q, flag_x, compare, Part, plain, negated, Condition, Move, no_data, into, from, Script, Statement, assign, set_register, single, address_scan, q_stop, q_repeat, put, crate_call, lam_call, choose, choose_else, for_, while_, locked, call, Block, done, next}
-use Rattle.camac_run_machine.specs.Rest.{Owner, nothing, releases, counts, repeats, returns, Open}
+use Rattle.camac_run_machine.specs.Rest.{Owner, nothing, releases, for_loop, while_loop, returns, Open}
 use Rattle.camac_run_machine.specs.Store.{size}
 use Rattle.camac_run_machine.specs.declared.scope.Scope.{Scope}
 
@@ -96,23 +96,23 @@ abbrev pub Opens : Reach → ℕ → Block → Type 0
 Opens r d b = (0 < d) × BlockFits r (d - 1) b
 
 -- the places of a caller lie before those of the procedure
-abbrev pub IsBehind : (caller procedure : Scope) → Type 0
-IsBehind p c = (p.variables.end ≤ c.variables.start) × (p.registers.end ≤ c.registers.start)
+abbrev pub IsAfter : (caller procedure : Scope) → Type 0
+IsAfter p c = (p.variables.end ≤ c.variables.start) × (p.registers.end ≤ c.registers.start)
 
 -- what goes on after a block of a body that sees this of a script, where d can be open
 abbrev pub OwnerFits : ℕ → Script → Scope → ℕ → Owner → Type 0
 OwnerFits v s c d nothing = Unit {0}
 OwnerFits v s c d (releases k) = (1 ≤ k) × (k ≤ 7)
-OwnerFits v s c d (counts x i last n body) = (x < size c.variables) × Opens (reach_of s c) d body
-OwnerFits v s c d (repeats test n body) = PartsRefer (size c.variables) test × Opens (reach_of s c) d body
-OwnerFits v s c d (returns p vs rs) = IsBehind p c × ScopeFits v s p
+OwnerFits v s c d (for_loop x i last n body) = (x < size c.variables) × Opens (reach_of s c) d body
+OwnerFits v s c d (while_loop test n body) = PartsRefer (size c.variables) test × Opens (reach_of s c) d body
+OwnerFits v s c d (returns p vs rs) = IsAfter p c × ScopeFits v s p
 
 -- what is seen once a block is over
 abbrev pub outer : Scope → Owner → Scope
 outer c nothing = c
 outer c (releases k) = c
-outer c (counts x i last n body) = c
-outer c (repeats test n body) = c
+outer c (for_loop x i last n body) = c
+outer c (while_loop test n body) = c
 outer c (returns p vs rs) = p
 
 -- what is seen once all these blocks are over, the last of which sees c

@@ -14,7 +14,7 @@ use camac_lang::Expr;
 /// Sets the places from this one on to the values of arguments, in their order. The caller sees none of these places.
 pub fn pass(arguments: &[Expr], caller: Places, place: usize, variables: &mut [u32])
     requires caller { caller.start ≤ caller.end }
-    requires behind { caller.end ≤ place }
+    requires after { caller.end ≤ place }
     requires room { place + length arguments.now ≤ length variables.old }
     requires declared { AllRefer (size caller) (map expression_of arguments.now) }
     requires have_values { IsSome (values (map expression_of arguments.now) (variables_in (held_at caller variables.old))) }

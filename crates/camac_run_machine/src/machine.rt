@@ -11,7 +11,7 @@ ghost use Rattle.camac_model.specs.Fine.{most_turns};
 ghost use Rattle.camac_model.specs.Meaning.{effect};
 ghost use Rattle.camac_model.specs.State.{stepped};
 ghost use Rattle.camac_model.specs.Value.{value, truth};
-ghost use Rattle.camac_run_machine.specs.Held.{variables_here, registers_here, reach, holds, stands, free, IsFineHere, FineThen, HasRoom, Advances, Settles, Serves};
+ghost use Rattle.camac_run_machine.specs.MachineState.{variables_here, registers_here, reach, holds, stands, free, IsFineHere, FineThen, HasRoom, Advances, Settles, Serves};
 ghost use Rattle.camac_lang.specs.Fits.{fits};
 ghost use Rattle.camac_run_machine.specs.Sound.{event_here};
 ghost use Rattle.camac_run_machine.specs.Store.{registers_in, held_at};

@@ -2,7 +2,7 @@
 
 ghost use Rattle.std.specs.Prelude.{◌≡◌, ◌+◌, ◌<◌, ◌≤◌, ◌^◌, List, [], length, true, Some, None, false, IsSome, IfNone, OnSome, if◌then◌else◌};
 ghost use Rattle.camac_branch.specs.Branch.{Answer};
-ghost use Rattle.camac_run_machine.specs.Held.{bounds_at};
+ghost use Rattle.camac_run_machine.specs.MachineState.{bounds_at};
 ghost use Rattle.camac_lang.specs.Fits.{fits};
 ghost use Rattle.camac_model.specs.Behaviour.{stops, short, ends};
 ghost use Rattle.camac_model.specs.Run.{the_run};
@@ -47,14 +47,14 @@ impl<'a, const V: usize, const DEPTH: usize, const CAP: usize> Model for Runner<
     ghost use Rattle.std.specs.Coded.{codes};
     ghost use Rattle.camac_check_result.specs.Checked.{checked_coded};
     ghost use Rattle.camac_run_machine.specs.Codes.{want_coded, open_coded};
-    ghost use Rattle.camac_run_machine.specs.Runner.{Held};
-    ghost use Rattle.camac_run_machine.specs.Sound.{held, IsSound};
+    ghost use Rattle.camac_run_machine.specs.Runner.{RunnerState};
+    ghost use Rattle.camac_run_machine.specs.Sound.{runner_state, IsSound};
 
-    ghost Value = { Held };
+    ghost Value = { RunnerState };
 
     ghost coded = { Prim.hlevel (codes, checked_coded, want_coded, open_coded) };
 
-    ghost view = { λ r. held r.machine r.wanting r.fed r.events r.has_event r.overrun };
+    ghost view = { λ r. runner_state r.machine r.wanting r.fed r.events r.has_event r.overrun };
 
     ghost invariant = { λ r. IsSound r.machine r.wanting r.fed r.events };
 }

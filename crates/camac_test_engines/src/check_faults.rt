@@ -45,10 +45,10 @@ fn a_writer_takes_a_byte_at_a_time(rt: HostRuntime) -> Result<(), Fail> {
 
 #[test]
 fn reads_fail_each_in_turn(rt: HostRuntime) -> Result<(), Fail> {
-    for front in 0..STRAIGHT_LINE.len() {
+    for prefix in 0..STRAIGHT_LINE.len() {
         let mut plan = PlanSource::<&[u8]>::Sample;
         let mut script = Watched::new(Broken {
-            bytes: &STRAIGHT_LINE[..front],
+            bytes: &STRAIGHT_LINE[..prefix],
         });
         let mut out = Watched::new(Vec::new(rt.alloc()));
         let answer = engine_check(rt.alloc(), &mut plan, &mut script, &mut out);

@@ -44,9 +44,9 @@ fn a_writer_takes_a_byte_at_a_time(rt: HostRuntime) -> Result<(), Fail> {
 
 #[test]
 fn reads_fail_each_in_turn(rt: HostRuntime) -> Result<(), Fail> {
-    for front in 0..FILE_TWO.len() {
+    for prefix in 0..FILE_TWO.len() {
         let mut input = Watched::new(Broken {
-            bytes: &FILE_TWO[..front],
+            bytes: &FILE_TWO[..prefix],
         });
         let mut out = Watched::new(Vec::new(rt.alloc()));
         let answer = engine_events(rt.alloc(), &mut input, &mut out);

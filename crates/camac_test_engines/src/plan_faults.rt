@@ -45,9 +45,9 @@ fn a_writer_takes_a_byte_at_a_time(rt: HostRuntime) -> Result<(), Fail> {
 
 #[test]
 fn reads_fail_each_in_turn(rt: HostRuntime) -> Result<(), Fail> {
-    for front in 0..SAMPLE.len() {
+    for prefix in 0..SAMPLE.len() {
         let mut plan = PlanSource::Text(Watched::new(Broken {
-            bytes: &SAMPLE[..front],
+            bytes: &SAMPLE[..prefix],
         }));
         let mut out = Watched::new(Vec::new(rt.alloc()));
         let answer = engine_plan(rt.alloc(), &mut plan, &mut out);

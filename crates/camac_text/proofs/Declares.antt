@@ -12,10 +12,10 @@ use Rattle.camac_text_cursor.specs.Readers.{new_name, new_variable, is_name as n
 use Rattle.camac_text_statements.specs.Statements.{block_at}
 use Rattle.camac_text.specs.Declarations.{with_lam, lam_declaration, one_more_variable, with_variables_of, variable_declaration, with_service, service_declaration, declaration_by, declaration_at, is_token}
 use Rattle.camac_text_cursor.proofs.Steps.{then_ok, ok_is, err_no_ok, Progresses, while_keeps}
-use Rattle.camac_text_cursor.proofs.Moves.{AllFit, Moves, kind_fit, behind_less, stays, moved, then_moves, one_moves, check_ok, any_number_ok, branch_ok, sub_address_ok, expect_ok, new_name_ok}
+use Rattle.camac_text_cursor.proofs.Moves.{AllFit, Moves, kind_fit, after_less, stays, moved, then_moves, one_moves, check_ok, any_number_ok, branch_ok, sub_address_ok, expect_ok, new_name_ok}
 use Rattle.camac_text_cursor.proofs.Uses.{used_lam_ok}
 use Rattle.camac_text_cursor.proofs.Registers.{below_le}
-use Rattle.camac_text_statements.proofs.Blocks.{Body, behind_moves}
+use Rattle.camac_text_statements.proofs.Blocks.{Body, after_moves}
 use Rattle.camac_text_statements.proofs.Bodies.{block_ok}
 use Rattle.camac_text.proofs.Variables.{DeclaresVariables, new_variable_ok, no_variables, one_variable_more, variables_turn}
 use Rattle.camac_text.proofs.ProceduresRead.{ProcedureDeclaration, procedure_is}
@@ -50,7 +50,7 @@ variables_is s k line y next e =
     let all = at_least t 1 a.0.1 (omega arith) b.0 one b.1 in
     let d = all.0 in
     let left : y.1 ≡ with_variables_of line b.0.0 b.0.1 = sym (ap (λ (p : Unit {0} × State). p.1) (ok_is (tt, with_variables_of line b.0.0 b.0.1) y b.2)) in
-    let less : length (after_first s.rest) < length s.rest = behind_less s.rest k next in
+    let less : length (after_first s.rest) < length s.rest = after_less s.rest k next in
     let shorter : length b.0.1.rest ≤ length (after_first s.rest) = d.declares.shorter in
     record {
       line = line;
@@ -109,7 +109,7 @@ lam_is s k line y next e =
     let to_d : Moves s d.0.1 = then_moves s c.0.1 d.0.1 to_c (one_moves c.0.1 (kind.Number d.0.0) d.0.1 station) in
     let from_t : Moves t f.0.1 = then_moves t a.0.1 f.0.1 (subst (λ (w : State). Moves t w) (sym h.left) (stays t)) (then_moves a.0.1 u f.0.1 (moved a.0.1) (then_moves u b.0.1 f.0.1 (one_moves u (kind.Number branch.0) b.0.1 branch.1) (then_moves b.0.1 c.0.1 f.0.1 (one_moves b.0.1 (kind.Number c.0.0) c.0.1 crate_no) (then_moves c.0.1 d.0.1 f.0.1 (one_moves c.0.1 (kind.Number d.0.0) d.0.1 station) (one_moves d.0.1 (kind.Number f.0.0) f.0.1 sub_address.one))))) in
     let left : y.1 ≡ with_lam l f.0.1 = sym (ap (λ (p : Unit {0} × State). p.1) (ok_is (tt, with_lam l f.0.1) y f.2)) in
-    let less : length (after_first s.rest) < length s.rest = behind_less s.rest k next in
+    let less : length (after_first s.rest) < length s.rest = after_less s.rest k next in
     let shorter : length f.0.1.rest ≤ length (after_first s.rest) = from_t.shorter in
     record {
       lam = l;
@@ -164,9 +164,9 @@ service_is s k line y next e =
     let to_f : Moves t f.0.1 = then_moves t d.0.1 f.0.1 to_d (expect_ok word.Event d.0.1 f.0 f.1) in
     let to_g : Moves t g.0.1 = then_moves t f.0.1 g.0.1 to_f (one_moves f.0.1 (kind.Number g.0.0) g.0.1 words) in
     let to_h : Moves t h.0.1 = then_moves t g.0.1 h.0.1 to_g (expect_ok word.Words g.0.1 h.0 h.1) in
-    let inner : Body 16 t i.0.0 i.0.1 = behind_moves 16 t h.0.1 i.0.0 i.0.1 to_h body in
+    let inner : Body 16 t i.0.0 i.0.1 = after_moves 16 t h.0.1 i.0.0 i.0.1 to_h body in
     let left : y.1 ≡ with_service line a.0.0 c.0.0 g.0.0 i.0.0 i.0.1 = sym (ap (λ (p : Unit {0} × State). p.1) (ok_is (tt, with_service line a.0.0 c.0.0 g.0.0 i.0.0 i.0.1) y i.2)) in
-    let less : length (after_first s.rest) < length s.rest = behind_less s.rest k next in
+    let less : length (after_first s.rest) < length s.rest = after_less s.rest k next in
     let shorter : length i.0.1.rest ≤ length (after_first s.rest) = inner.shorter in
     record {
       line = line;
@@ -175,7 +175,7 @@ service_is s k line y next e =
       words = g.0.0;
       statements = i.0.0;
       between = i.0.1;
-      body = behind_moves 16 s t i.0.0 i.0.1 (moved s) inner;
+      body = after_moves 16 s t i.0.0 i.0.1 (moved s) inner;
       room = ltb-true (length s.services) 24 c0.0;
       lam_fits = lam.0;
       cycles_fit = λ fits. kind_fit b.0.1.rest (kind.Number c.0.0) cycles.next (to_b.fit ((moved s).fit fits));

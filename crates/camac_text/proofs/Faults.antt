@@ -9,7 +9,7 @@ use Rattle.camac_text_tokens.specs.Scanning.{tokens_of, last_line}
 use Rattle.camac_text_cursor.specs.Reading.{State}
 use Rattle.camac_text.specs.Declarations.{declarations_at}
 use Rattle.camac_text.specs.Parser.{start, tree_in, tree_of_tokens, tree_after, script_of}
-use Rattle.camac_text.specs.Places.{IsPlaced, HasFaultBehind, HasFault, FaultIs}
+use Rattle.camac_text.specs.Places.{IsPlaced, HasFaultAfter, HasFault, FaultIs}
 use Rattle.camac_text.proofs.LocalDeclarations.{local_declarations}
 
 no_tree : (r : Result (Unit {0} × State) Fault) (f : Fault) → tree_in r ≡ Err f → r ≡ Err f
@@ -31,9 +31,9 @@ placed tokens end_line f e =
       settled = λ t after_first others last here. ap tree_in (a.again t after_first others last here);
     }
 
-fault_behind : (made : Result (List Token) Fault) (end_line : ℕ) (f : Fault) → tree_after made end_line ≡ Err f → HasFaultBehind made end_line f
-fault_behind (Ok tokens) end_line f e = placed tokens end_line f e
-fault_behind (Err first) end_line f e = sym (first_is first f e) where
+fault_after : (made : Result (List Token) Fault) (end_line : ℕ) (f : Fault) → tree_after made end_line ≡ Err f → HasFaultAfter made end_line f
+fault_after (Ok tokens) end_line f e = placed tokens end_line f e
+fault_after (Err first) end_line f e = sym (first_is first f e) where
   first_is : (d f : Fault) → (let r : Result Script Fault = Err d in r) ≡ Err f → d ≡ f
   first_is d f e = cc
 
@@ -41,4 +41,4 @@ pub fault_placed : (text : List ℕ) (r : Result Script TextFault) → Answers r
 unfolding script_of
 fault_placed text (Ok x) e = tt
 fault_placed text (Err text_fault.OutOfMemory) e = tt
-fault_placed text (Err (text_fault.Broken rule line)) e = fault_behind (tokens_of text) (last_line text) (record { rule = rule; line = line }) e
+fault_placed text (Err (text_fault.Broken rule line)) e = fault_after (tokens_of text) (last_line text) (record { rule = rule; line = line }) e

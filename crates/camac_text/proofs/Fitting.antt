@@ -7,35 +7,35 @@ use Rattle.camac_text_tokens.specs.declared.token.Keyword.{Keyword}
 use Rattle.camac_text_tokens.specs.declared.token.Sign.{Sign}
 use Rattle.camac_text_tokens.specs.declared.token.Token.{Token}
 use Rattle.camac_text_tokens.specs.declared.token.TokenKind.TheVariants as kind
-use Rattle.camac_text_tokens.specs.declared.scanner.Front.{Front}
-use Rattle.camac_text_tokens.specs.declared.scanner.Front.TheVariants as front
+use Rattle.camac_text_tokens.specs.declared.scanner.Start.{Start}
+use Rattle.camac_text_tokens.specs.declared.scanner.Start.TheVariants as start
 use Rattle.camac_text_tokens.specs.declared.fault.TextRule.TheVariants.{LimitPassed}
 use Rattle.camac_text_tokens.specs.Fault.{Fault}
 use Rattle.camac_text_tokens.specs.Words.{keyword}
-use Rattle.camac_text_tokens.specs.Scanning.{is_name_byte, is_blank, decimal_value, keyword_or, pair_at, single_at, pair_or_single, front_of, line_number, line_after, with_first, tokens_by, tokens_from, tokens_of}
+use Rattle.camac_text_tokens.specs.Scanning.{is_name_byte, is_blank, decimal_value, keyword_or, pair_at, single_at, pair_or_single, start_of, line_number, line_after, with_first, tokens_by, tokens_from, tokens_of}
 use Rattle.camac_text_tokens.proofs.Scans.{run_some, name_begins}
 use Rattle.camac_text_cursor.proofs.Moves.{kind_fits, AllFit}
 use Rattle.camac_text_cursor.proofs.Registers.{both, below_le}
 
-abbrev FrontFits : Front → Type 0
-FrontFits (front.Found k n) = kind_fits k ≡ true
-FrontFits _ = Unit {0}
+abbrev StartFits : Start → Type 0
+StartFits (start.Found k n) = kind_fits k ≡ true
+StartFits _ = Unit {0}
 
-fits_if : (b : Bool) (f g : Front) → (b ≡ true → FrontFits f) → (b ≡ false → FrontFits g) → FrontFits (cond b f g)
+fits_if : (b : Bool) (f g : Start) → (b ≡ true → StartFits f) → (b ≡ false → StartFits g) → StartFits (cond b f g)
 fits_if true f g on off = on refl
 fits_if false f g on off = off refl
 
 not_longer : (n : ℕ) → ltb 32 n ≡ false → n ≤ 32
 not_longer n e = grind arith
 
-name_fits : (text : List ℕ) → 0 < length text → FrontFits (cond (ltb 32 (length text)) (front.Wrong LimitPassed) (front.Found (kind.Name text) (length text)))
+name_fits : (text : List ℕ) → 0 < length text → StartFits (cond (ltb 32 (length text)) (start.Wrong LimitPassed) (start.Found (kind.Name text) (length text)))
 name_fits text some = fits_if (ltb 32 (length text)) _ _ (λ _. tt) (λ off. both (nat_le 1 (length text)) (nat_le (length text) 32) (below_le 1 (length text) (omega arith)) (below_le (length text) 32 (not_longer (length text) off)))
 
-keyword_fits : (k : Option Keyword) (text : List ℕ) → 0 < length text → FrontFits (keyword_or k text)
+keyword_fits : (k : Option Keyword) (text : List ℕ) → 0 < length text → StartFits (keyword_or k text)
 keyword_fits (Some w) text some = refl
 keyword_fits None text some = name_fits text some
 
-sign_fits : (p q : Option Sign) → FrontFits (pair_or_single p q)
+sign_fits : (p q : Option Sign) → StartFits (pair_or_single p q)
 sign_fits (Some w) q = refl
 sign_fits None (Some w) = refl
 sign_fits None None = tt
@@ -43,9 +43,9 @@ sign_fits None None = tt
 number_fits : (n : ℕ) → ltb n 4294967296 ≡ true → nat_le n 4294967295 ≡ true
 number_fits n e = let below : n < 4294967296 = ltb-true n 4294967296 e in below_le n 4294967295 (omega arith)
 
-front_fits : (b : ℕ) (bs : List ℕ) → FrontFits (front_of b (b ∷ bs))
-unfolding front_of
-front_fits b bs =
+start_fits : (b : ℕ) (bs : List ℕ) → StartFits (start_of b (b ∷ bs))
+unfolding start_of
+start_fits b bs =
     fits_if (is_blank b) _ _ (λ _. tt) (λ _.
     fits_if (eqb b 35) _ _ (λ _. tt) (λ _.
     fits_if (is_ascii_alphabetic b) _ _ (λ is. keyword_fits (keyword (take_while is_name_byte (b ∷ bs))) (take_while is_name_byte (b ∷ bs)) (run_some is_name_byte b bs (name_begins b is))) (λ _.
@@ -59,15 +59,15 @@ first_fits : (t : Token) (r : Result (List Token) Fault) (ts : List Token) → k
 first_fits t (Ok us) ts fits rest e = subst (λ (w : List Token). AllFit w) (list_is (t ∷ us) ts e) (fits, rest us refl)
 first_fits t (Err d) ts fits rest e = absurd cc
 
-step_fits : (f : Front) (line : ℕ) (more : ℕ → Result (List Token) Fault) (ts : List Token) → FrontFits f → ((n : ℕ) (us : List Token) → more n ≡ Ok us → AllFit us) → tokens_by f line more ≡ Ok ts → AllFit ts
-step_fits (front.Gap n) line more ts fits rest e = rest (n - 1) ts e
-step_fits (front.Found k n) line more ts fits rest e = first_fits (record { kind = k; line = line_number line }) (more (n - 1)) ts fits (λ us h. rest (n - 1) us h) e
-step_fits (front.Wrong rule) line more ts fits rest e = absurd cc
+step_fits : (f : Start) (line : ℕ) (more : ℕ → Result (List Token) Fault) (ts : List Token) → StartFits f → ((n : ℕ) (us : List Token) → more n ≡ Ok us → AllFit us) → tokens_by f line more ≡ Ok ts → AllFit ts
+step_fits (start.Gap n) line more ts fits rest e = rest (n - 1) ts e
+step_fits (start.Found k n) line more ts fits rest e = first_fits (record { kind = k; line = line_number line }) (more (n - 1)) ts fits (λ us h. rest (n - 1) us h) e
+step_fits (start.Wrong rule) line more ts fits rest e = absurd cc
 
 from_fits : (bs : List ℕ) (skip line : ℕ) (ts : List Token) → tokens_from skip line bs ≡ Ok ts → AllFit ts
 unfolding tokens_from
 from_fits [] skip line ts e = subst (λ (w : List Token). AllFit w) (list_is [] ts e) tt
-from_fits (b ∷ bs) zero line ts e = step_fits (front_of b (b ∷ bs)) line (λ skip. tokens_from skip (line_after line b) bs) ts (front_fits b bs) (λ n us h. from_fits bs n (line_after line b) us h) e
+from_fits (b ∷ bs) zero line ts e = step_fits (start_of b (b ∷ bs)) line (λ skip. tokens_from skip (line_after line b) bs) ts (start_fits b bs) (λ n us h. from_fits bs n (line_after line b) us h) e
 from_fits (b ∷ bs) (suc skip) line ts e = from_fits bs skip (line_after line b) ts e
 
 pub tokens_fit : (text : List ℕ) (ts : List Token) → tokens_of text ≡ Ok ts → AllFit ts

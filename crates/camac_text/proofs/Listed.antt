@@ -47,9 +47,9 @@ new_same (x ∷ xs) ys zs same =
 pub declarable_same : (xs ys zs : List Text) → ((x : Text) → is_new x ys ≡ is_new x zs) → are_declarable xs ys ≡ are_declarable xs zs
 declarable_same xs ys zs same = ap (λ (b : Bool). each is_name xs && b) (new_same xs ys zs same)
 
--- names in front are as good as names after
-pub front_or_behind : (names known : List Text) (xs : List Text) → ((x : Text) → is_new x known ≡ is_new x xs) → (x : Text) → is_new x (names ++ known) ≡ is_new x (xs ++ names)
-front_or_behind names known xs same x =
+-- names before are as good as names after
+pub prefix_or_after : (names known : List Text) (xs : List Text) → ((x : Text) → is_new x known ≡ is_new x xs) → (x : Text) → is_new x (names ++ known) ≡ is_new x (xs ++ names)
+prefix_or_after names known xs same x =
     each_append _ names known ∙ ap (λ (b : Bool). is_new x names && b) (same x) ∙ and_comm (is_new x names) (is_new x xs) ∙ sym (each_append _ xs names)
 
 -- ---- declarations

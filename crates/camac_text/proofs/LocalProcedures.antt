@@ -64,30 +64,30 @@ local_heading s =
 
 -- ---- the whole procedure
 
-abbrev behind_body : ℕ → Text → Heading → List Text → ℕ → List Statement → Reader (Unit {0})
-behind_body line name h variables names body = ask (λ s. s.registers) >>= λ registers. change (with_procedure (procedure_made line name h registers body) variables names)
+abbrev after_body : ℕ → Text → Heading → List Text → ℕ → List Statement → Reader (Unit {0})
+after_body line name h variables names body = ask (λ s. s.registers) >>= λ registers. change (with_procedure (procedure_made line name h registers body) variables names)
 
-abbrev behind_names : ℕ → Text → List Text → ℕ → Reader (Unit {0})
-behind_names line name variables names = heading_at >>= λ h. block_at 16 >>= λ body. behind_body line name h variables names body
+abbrev after_names : ℕ → Text → List Text → ℕ → Reader (Unit {0})
+after_names line name variables names = heading_at >>= λ h. block_at 16 >>= λ body. after_body line name h variables names body
 
-abbrev behind_name : ℕ → Text → Reader (Unit {0})
-behind_name line name = ask (λ s. s.variables) >>= λ variables. change (in_heading name) >> (ask (λ s. length s.declared) >>= λ names. behind_names line name variables names)
+abbrev after_name : ℕ → Text → Reader (Unit {0})
+after_name line name = ask (λ s. s.variables) >>= λ variables. change (in_heading name) >> (ask (λ s. length s.declared) >>= λ names. after_names line name variables names)
 
-local_behind_names : (line : ℕ) (name : Text) (variables : List Text) (names : ℕ) (s : State) → IsLocal (behind_names line name variables names) s
-local_behind_names line name variables names s =
-    local_then heading_at (λ h. block_at 16 >>= λ body. behind_body line name h variables names body) s (local_heading s) (λ h u _.
-    local_then (block_at 16) (λ body. behind_body line name h variables names body) u (local_block 16 u) (λ body v _.
+local_after_names : (line : ℕ) (name : Text) (variables : List Text) (names : ℕ) (s : State) → IsLocal (after_names line name variables names) s
+local_after_names line name variables names s =
+    local_then heading_at (λ h. block_at 16 >>= λ body. after_body line name h variables names body) s (local_heading s) (λ h u _.
+    local_then (block_at 16) (λ body. after_body line name h variables names body) u (local_block 16 u) (λ body v _.
     local_ask (λ w. w.registers) (λ w ts n. refl) (λ registers. change (with_procedure (procedure_made line name h registers body) variables names)) v
     (local_change (with_procedure (procedure_made line name h v.registers body) variables names) (λ w ts n. refl) (λ w. refl) v)))
 
 pub local_procedure : (line : ℕ) (s : State) → IsLocal (procedure_declaration line) s
 unfolding procedure_declaration
 local_procedure line s =
-    local_ask (λ u. u.procedures) (λ w ts n. refl) (λ known. check (nat_lt (length known) 16) LimitPassed >> (advance >> (new_name >>= λ x. advance >> behind_name line x))) s
-    (local_check (nat_lt (length s.procedures) 16) LimitPassed (advance >> (new_name >>= λ x. advance >> behind_name line x)) s tt (λ _.
-    local_then advance (λ _. new_name >>= λ x. advance >> behind_name line x) s (local_advance s) (λ _ u _.
-    local_then new_name (λ x. advance >> behind_name line x) u (local_new_name u) (λ x u _.
-    local_then advance (λ _. behind_name line x) u (local_advance u) (λ _ u _.
-    local_ask (λ w. w.variables) (λ w ts n. refl) (λ variables. change (in_heading x) >> (ask (λ w. length w.declared) >>= λ names. behind_names line x variables names)) u
-    (local_then (change (in_heading x)) (λ _. ask (λ w. length w.declared) >>= λ names. behind_names line x u.variables names) u (local_change (in_heading x) (λ w ts n. refl) (λ w. refl) u) (λ _ v _.
-    local_ask (λ w. length w.declared) (λ w ts n. refl) (λ names. behind_names line x u.variables names) v (local_behind_names line x u.variables (length v.declared) v))))))))
+    local_ask (λ u. u.procedures) (λ w ts n. refl) (λ known. check (nat_lt (length known) 16) LimitPassed >> (advance >> (new_name >>= λ x. advance >> after_name line x))) s
+    (local_check (nat_lt (length s.procedures) 16) LimitPassed (advance >> (new_name >>= λ x. advance >> after_name line x)) s tt (λ _.
+    local_then advance (λ _. new_name >>= λ x. advance >> after_name line x) s (local_advance s) (λ _ u _.
+    local_then new_name (λ x. advance >> after_name line x) u (local_new_name u) (λ x u _.
+    local_then advance (λ _. after_name line x) u (local_advance u) (λ _ u _.
+    local_ask (λ w. w.variables) (λ w ts n. refl) (λ variables. change (in_heading x) >> (ask (λ w. length w.declared) >>= λ names. after_names line x variables names)) u
+    (local_then (change (in_heading x)) (λ _. ask (λ w. length w.declared) >>= λ names. after_names line x u.variables names) u (local_change (in_heading x) (λ w ts n. refl) (λ w. refl) u) (λ _ v _.
+    local_ask (λ w. length w.declared) (λ w ts n. refl) (λ names. after_names line x u.variables names) v (local_after_names line x u.variables (length v.declared) v))))))))

@@ -5,13 +5,13 @@ use Rattle.camac_text_tokens.specs.declared.fault.TextRule.TheVariants.{NumberTo
 use Rattle.camac_text_tokens.specs.declared.token.Sign.TheVariants as sign
 use Rattle.camac_text_cursor.specs.Reading.{State, ◌>>=◌, ◌>>◌, give, change, advance, check, while_next}
 use Rattle.camac_text_cursor.specs.Readers.{expect_sign, number_here, new_name}
-use Rattle.camac_text.specs.Tables.{word_behind, one_more_word, is_number, table_words, with_table, table_declaration}
+use Rattle.camac_text.specs.Tables.{word_after, one_more_word, is_number, table_words, with_table, table_declaration}
 use Rattle.camac_text_cursor.proofs.Places.{IsLocal, local_then, local_ask, local_change, local_give, local_advance, local_check, local_while}
 use Rattle.camac_text_cursor.proofs.Local.{local_take, local_expect_sign, local_number, number_at, local_new_name}
 use Rattle.camac_text.proofs.TablesRead.{words_progress}
 
-local_word : (count : ℕ) (s : State) → IsLocal (word_behind count) s
-unfolding word_behind
+local_word : (count : ℕ) (s : State) → IsLocal (word_after count) s
+unfolding word_after
 local_word count s =
     local_then number_here (λ n. check (nat_lt n 16777216) NumberTooLarge >> (check (nat_lt count 1024) LimitPassed >> (advance >> give n))) s (local_number s) (λ n u took.
     local_check (nat_lt n 16777216) NumberTooLarge (check (nat_lt count 1024) LimitPassed >> (advance >> give n)) u (n, number_at s n u took) (λ _.
@@ -20,9 +20,9 @@ local_word count s =
 local_words : (s : State) → IsLocal table_words s
 unfolding table_words
 local_words s =
-    local_then (word_behind 0) (λ first. while_next is_number one_more_word (first ∷ [])) s (local_word 0 s) (λ first u _.
+    local_then (word_after 0) (λ first. while_next is_number one_more_word (first ∷ [])) s (local_word 0 s) (λ first u _.
     local_while is_number one_more_word words_progress (λ ws v _.
-    local_then (word_behind (length ws)) (λ w. give (ws ++ w ∷ [])) v (local_word (length ws) v) (λ w z _. local_give (ws ++ w ∷ []) z)) (first ∷ []) u)
+    local_then (word_after (length ws)) (λ w. give (ws ++ w ∷ [])) v (local_word (length ws) v) (λ w z _. local_give (ws ++ w ∷ []) z)) (first ∷ []) u)
 
 abbrev made : ℕ → Text → List ℕ → Table
 made line x ws = record { line = line; name = x; words = ws }

@@ -6,7 +6,7 @@ use Rattle.camac_lang.specs.Scope.{are_declarable}
 use Rattle.camac_lang.specs.Tests.{each, is_name, is_new, are_new}
 use Rattle.camac_lang.specs.Tree.{Text}
 use Rattle.camac_text_cursor.proofs.Registers.{both, first_of_both, second_of_both}
-use Rattle.camac_text.proofs.Listed.{each_append, new_same, front_or_behind}
+use Rattle.camac_text.proofs.Listed.{each_append, new_same, prefix_or_after}
 
 swapped : (a b c : Bool) → (a && (b && c)) ≡ (b && (a && c))
 swapped true b c = refl
@@ -20,7 +20,7 @@ grouped false b c = refl
 abbrev is_other : Text → Text → Bool
 is_other z y = not (bytes_eq z y)
 
--- a name in front of others is as good as after them
+-- a name before others is as good as after them
 earlier : (z x : Text) (known xs : List Text) → is_new z (known ++ (x ∷ xs)) ≡ is_new z ((x ∷ known) ++ xs)
 earlier z x known xs =
     each_append (is_other z) known (x ∷ xs)
@@ -36,7 +36,7 @@ new_append (x ∷ xs) rs known more same e h =
 
 pub declarable_join : (x : Text) (xs rs known names : List Text) → ((z : Text) → is_new z names ≡ is_new z known) → is_name x ≡ true → is_new x known ≡ true → are_declarable xs (known ++ x ∷ []) ≡ true → are_declarable rs ((known ++ x ∷ []) ++ xs) ≡ true → are_declarable (x ∷ (xs ++ rs)) names ≡ true
 declarable_join x xs rs known names same name free first second =
-    let after_first = front_or_behind (x ∷ []) names known same in
+    let after_first = prefix_or_after (x ∷ []) names known same in
     let xs_new : are_new xs (x ∷ names) ≡ true = new_same xs (x ∷ names) (known ++ x ∷ []) after_first ∙ second_of_both (each is_name xs) (are_new xs (known ++ x ∷ [])) first in
     let rs_new : are_new rs ((known ++ x ∷ []) ++ xs) ≡ true = second_of_both (each is_name rs) (are_new rs ((known ++ x ∷ []) ++ xs)) second in
     both (is_name x && each is_name (xs ++ rs)) (is_new x names && are_new (xs ++ rs) (x ∷ names))

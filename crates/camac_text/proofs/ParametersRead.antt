@@ -15,7 +15,7 @@ use Rattle.camac_text_cursor.specs.Reading.{State, Reader, ◌>>=◌, ◌>>◌, 
 use Rattle.camac_text_cursor.specs.Readers.{is_sign, expect, expect_sign, any_number, new_name, added, new_parameter}
 use Rattle.camac_text.specs.Procedures.{parameter_at, next_parameter, parameter_list, parameters_at, Heading, heading_at}
 use Rattle.camac_text_cursor.proofs.Steps.{then_ok, ok_is, Progresses, while_keeps}
-use Rattle.camac_text_cursor.proofs.Moves.{AllFit, Moves, kind_fit, behind_less, moved, then_moves, one_moves, check_ok, any_number_ok, expect_ok, expect_sign_ok, new_name_ok}
+use Rattle.camac_text_cursor.proofs.Moves.{AllFit, Moves, kind_fit, after_less, moved, then_moves, one_moves, check_ok, any_number_ok, expect_ok, expect_sign_ok, new_name_ok}
 use Rattle.camac_text_cursor.proofs.Registers.{both, each_push}
 use Rattle.camac_text.proofs.Variables.{DeclaresOne, added_ok, one_variable_less, DeclaresNames, no_names, one_name_more, names_then_moves}
 
@@ -122,7 +122,7 @@ sign_some w None on = absurd cc
 pub next_parameter_less : (s : State) (y : Parameter × State) → is_sign sign.Comma (kind_of s.rest) ≡ true → next_parameter s ≡ Ok y → length y.1.rest < length s.rest
 next_parameter_less s y on e =
     let k = sign_some sign.Comma (kind_of s.rest) on in
-    let less : length (after_first s.rest) < length s.rest = behind_less s.rest k.0 k.1 in
+    let less : length (after_first s.rest) < length s.rest = after_less s.rest k.0 k.1 in
     let more : length y.1.rest < length (after_first s.rest) = parameter_less (record s { rest = after_first s.rest }) y.0 y.1 (next_parameter_ok s y e) in
     omega arith
 

@@ -11,7 +11,7 @@ use Rattle.camac_text_cursor.specs.Readers.{new_name}
 use Rattle.camac_text_statements.specs.Statements.{block_at}
 use Rattle.camac_text.specs.Procedures.{Heading, heading_at, in_heading, procedure_made, with_procedure, procedure_declaration}
 use Rattle.camac_text_cursor.proofs.Steps.{then_ok, ok_is}
-use Rattle.camac_text_cursor.proofs.Moves.{AllFit, kind_fit, behind_less, moved, check_ok, new_name_ok}
+use Rattle.camac_text_cursor.proofs.Moves.{AllFit, kind_fit, after_less, moved, check_ok, new_name_ok}
 use Rattle.camac_text_statements.proofs.Blocks.{Body}
 use Rattle.camac_text_statements.proofs.Bodies.{block_ok}
 use Rattle.camac_text.proofs.ParametersRead.{ReadsHeading, heading_ok}
@@ -36,19 +36,19 @@ pub record ProcedureDeclaration (s s' : State) : Type 0 where
   pub less : length s'.rest < length s.rest
 
 -- after its name
-abbrev behind_name : ℕ → Text → Reader (Unit {0})
-behind_name line name =
+abbrev after_name : ℕ → Text → Reader (Unit {0})
+after_name line name =
     ask (λ s. s.variables) >>= λ variables. change (in_heading name) >> (ask (λ s. length s.declared) >>= λ names. heading_at >>= λ h. block_at 16 >>= λ body. ask (λ s. s.registers) >>= λ registers. change (with_procedure (procedure_made line name h registers body) variables names))
 
 pub procedure_is : (s : State) (k : TokenKind) (line : ℕ) (y : Unit {0} × State) → kind_of s.rest ≡ Some k → procedure_declaration line s ≡ Ok y → ProcedureDeclaration s y.1
 unfolding procedure_declaration
 procedure_is s k line y next e =
     let t : State = record s { rest = after_first s.rest } in
-    let c0 = check_ok (nat_lt (length s.procedures) 16) LimitPassed (advance >> (new_name >>= λ name. advance >> behind_name line name)) s y e in
-    let a = then_ok (new_name t) (λ name. advance >> behind_name line name) y c0.1 in
+    let c0 = check_ok (nat_lt (length s.procedures) 16) LimitPassed (advance >> (new_name >>= λ name. advance >> after_name line name)) s y e in
+    let a = then_ok (new_name t) (λ name. advance >> after_name line name) y c0.1 in
     let h = new_name_ok t a.0 a.1 in
     let u : State = record s { rest = after_first (after_first s.rest) } in
-    let at : behind_name line a.0.0 u ≡ Ok y = subst (λ (w : State). (advance >> behind_name line a.0.0) w ≡ Ok y) h.left a.2 in
+    let at : after_name line a.0.0 u ≡ Ok y = subst (λ (w : State). (advance >> after_name line a.0.0) w ≡ Ok y) h.left a.2 in
     let v : State = in_heading a.0.0 u in
     let b = then_ok (heading_at v) (λ g. block_at 16 >>= λ body. ask (λ w. w.registers) >>= λ registers. change (with_procedure (procedure_made line a.0.0 g registers body) s.variables (length v.declared))) y at in
     let heading = heading_ok v b.0 (omega arith) b.1 in
@@ -56,7 +56,7 @@ procedure_is s k line y next e =
     let body = block_ok 16 b.0.1 c.0 c.1 in
     let last : State = c.0.1 in
     let left : y.1 ≡ with_procedure (procedure_made line a.0.0 b.0.0 last.registers c.0.0) s.variables (length v.declared) last = sym (ap (λ (p : Unit {0} × State). p.1) (ok_is (tt, with_procedure (procedure_made line a.0.0 b.0.0 last.registers c.0.0) s.variables (length v.declared) last) y c.2)) in
-    let less : length (after_first s.rest) < length s.rest = behind_less s.rest k next in
+    let less : length (after_first s.rest) < length s.rest = after_less s.rest k next in
     let less_u : length (after_first (after_first s.rest)) ≤ length (after_first s.rest) = (moved t).shorter in
     let shorter_b : length b.0.1.rest ≤ length (after_first (after_first s.rest)) = heading.parameters.names.shorter in
     let shorter_c : length last.rest ≤ length b.0.1.rest = body.shorter in

@@ -17,7 +17,7 @@ use Rattle.camac_text_cursor.proofs.Registers.{both, below_le, limits_of, Regist
 use Rattle.camac_text_cursor.proofs.Uses.{scope_of}
 use Rattle.camac_text.proofs.ParametersRead.{names_of, names_counted}
 use Rattle.camac_text.proofs.ProceduresRead.{ProcedureDeclaration}
-use Rattle.camac_text.proofs.Listed.{declared_push, at_place, total_push, same_number, front_or_behind}
+use Rattle.camac_text.proofs.Listed.{declared_push, at_place, total_push, same_number, prefix_or_after}
 use Rattle.camac_text.proofs.NamesStand.{declarable_join}
 use Rattle.camac_text.proofs.ServicesStand.{no_registers_fit}
 use Rattle.camac_text.proofs.Sofar.{before_of, Extends, Sofar}
@@ -34,8 +34,8 @@ module _ (s s' : State) (so : Sofar s) (d : ProcedureDeclaration s s') where
   inside = (s.declared ++ d.name ∷ []) ++ names_of ps
 
   -- the state after it
-  abbrev behind_it : State
-  behind_it = record s {
+  abbrev after_it : State
+  after_it = record s {
     rest = d.last.rest;
     variable_count = s.variable_count + length (names_of ps);
     declared = s.declared ++ d.name ∷ [];
@@ -47,12 +47,12 @@ module _ (s s' : State) (so : Sofar s) (d : ProcedureDeclaration s s') where
     order = s.order ++ next_procedure ∷ [];
   }
 
-  is_behind : s' ≡ behind_it
-  is_behind =
+  is_after : s' ≡ after_it
+  is_after =
       d.left
       ∙ ap (λ (z : State). procedure_added p s.variables (length (s.declared ++ d.name ∷ [])) z) d.reads_body.same
       ∙ ap (λ (z : State). procedure_added p s.variables (length (s.declared ++ d.name ∷ [])) (record z { rest = d.last.rest; registers = d.last.registers; statements = z.statements + statements (block_of d.body) })) d.reads_heading.parameters.names.same
-      ∙ ap (λ (ds : List Text). record behind_it { declared = ds }) (take-append_seam (s.declared ++ d.name ∷ []) (names_of ps))
+      ∙ ap (λ (ds : List Text). record after_it { declared = ds }) (take-append_seam (s.declared ++ d.name ∷ []) (names_of ps))
 
   fit_between : AllFit d.between.rest
   fit_between = d.reads_heading.parameters.names.fit (d.fit so.fit)
@@ -111,7 +111,7 @@ module _ (s s' : State) (so : Sofar s) (d : ProcedureDeclaration s s') where
 
   -- ---- all declarations
 
-  extends : (t : Script) → Extends behind_it t → Extends s t
+  extends : (t : Script) → Extends after_it t → Extends s t
   extends t x = record {
     tables = x.tables;
     tables_are = x.tables_are;
@@ -125,11 +125,11 @@ module _ (s s' : State) (so : Sofar s) (d : ProcedureDeclaration s s') where
     services_are = x.services_are;
   }
 
-  next_one : (t : Script) → Extends behind_it t → declared t (before_of so.names s) next_procedure ≡ Some (before_of (d.name ∷ so.names) behind_it)
+  next_one : (t : Script) → Extends after_it t → declared t (before_of so.names s) next_procedure ≡ Some (before_of (d.name ∷ so.names) after_it)
   next_one t x =
       ap (option_and_then (λ (q : Procedure). unless_broken (procedure_stands (before_of so.names s) q) (with_procedure q (before_of so.names s)))) (ap (λ (qs : List Procedure). slice_get qs (length s.procedures)) x.procedures_are ∙ at_place s.procedures p x.procedures)
       ∙ ap (λ (b : Bool). unless_broken b (with_procedure p (before_of so.names s))) stands
-      ∙ ap (λ (n : ℕ). Some (record (before_of (d.name ∷ so.names) behind_it) { procedures = n })) (sym (length-append s.procedures (p ∷ [])))
+      ∙ ap (λ (n : ℕ). Some (record (before_of (d.name ∷ so.names) after_it) { procedures = n })) (sym (length-append s.procedures (p ∷ [])))
 
   pub procedure_sofar : Sofar s'
   procedure_sofar =
@@ -147,14 +147,14 @@ module _ (s s' : State) (so : Sofar s) (d : ProcedureDeclaration s s') where
       let at_heading : d.between.statements ≡ s.statements = ap (λ (z : State). z.statements) d.reads_heading.parameters.names.same in
       let at_body : d.last.statements ≡ d.between.statements + statements (block_of d.body) = ap (λ (z : State). z.statements) d.reads_body.same in
       let few_before : s.statements ≤ 4096 = so.few_statements in
-      let few_behind : d.last.statements ≤ 4096 = d.reads_body.few (omega arith) in
-      subst (λ (z : State). Sofar z) (sym is_behind) (record {
+      let few_after : d.last.statements ≤ 4096 = d.reads_body.few (omega arith) in
+      subst (λ (z : State). Sofar z) (sym is_after) (record {
         fit = d.reads_body.fit fit_between;
         in_service = refl;
         no_registers = refl;
         names = d.name ∷ so.names;
-        same_names = front_or_behind (d.name ∷ []) so.names s.declared so.same_names;
-        walked = λ t x. declared_push t nothing_before s.order next_procedure (before_of so.names s) (before_of (d.name ∷ so.names) behind_it) (so.walked t (extends t x)) (next_one t x);
+        same_names = prefix_or_after (d.name ∷ []) so.names s.declared so.same_names;
+        walked = λ t x. declared_push t nothing_before s.order next_procedure (before_of so.names s) (before_of (d.name ∷ so.names) after_it) (so.walked t (extends t x)) (next_one t x);
         few_tables = so.few_tables;
         counted_variables = omega arith;
         few_variables = few_variables;

@@ -12,7 +12,7 @@ use Rattle.camac_text_cursor.proofs.Moves.{AllFit}
 use Rattle.camac_text_cursor.proofs.Registers.{both, below_le}
 use Rattle.camac_text.proofs.Declares.{VariableDeclaration, LamDeclaration}
 use Rattle.camac_text.proofs.TablesRead.{TableDeclaration}
-use Rattle.camac_text.proofs.Listed.{declared_push, at_place, between, same_number, declarable_same, front_or_behind}
+use Rattle.camac_text.proofs.Listed.{declared_push, at_place, between, same_number, declarable_same, prefix_or_after}
 
 -- ---- declarations
 
@@ -97,7 +97,7 @@ table_sofar s s' so d =
       in_service = so.in_service;
       no_registers = so.no_registers;
       names = g.name ∷ so.names;
-      same_names = front_or_behind (g.name ∷ []) so.names s.declared so.same_names;
+      same_names = prefix_or_after (g.name ∷ []) so.names s.declared so.same_names;
       walked = λ t x. declared_push t nothing_before s.order next_table (before_of so.names s) (before_of (g.name ∷ so.names) v) (so.walked t (table_extends s u g t x)) (table_next s u g so.names t x stands);
       few_tables = omega arith;
       counted_variables = so.counted_variables;
@@ -151,7 +151,7 @@ lam_sofar s s' so d =
       in_service = so.in_service;
       no_registers = so.no_registers;
       names = l.name ∷ so.names;
-      same_names = front_or_behind (l.name ∷ []) so.names s.declared so.same_names;
+      same_names = prefix_or_after (l.name ∷ []) so.names s.declared so.same_names;
       walked = λ t x. declared_push t nothing_before s.order next_lam (before_of so.names s) (before_of (l.name ∷ so.names) v) (so.walked t (lam_extends s u l t x)) (lam_next s u l so.names t x stands);
       few_tables = so.few_tables;
       counted_variables = so.counted_variables;
@@ -204,7 +204,7 @@ variables_sofar s s' so d =
       in_service = so.in_service;
       no_registers = so.no_registers;
       names = xs ++ so.names;
-      same_names = front_or_behind xs so.names s.declared so.same_names;
+      same_names = prefix_or_after xs so.names s.declared so.same_names;
       walked = λ t x. declared_push t nothing_before s.order (next_variables d.line d.count) (before_of so.names s) (before_of (xs ++ so.names) v) (so.walked t (variables_extend s u d.line d.count xs t x)) (variables_next s u d.line d.count xs so.names t x d.variables.counted d.some new);
       few_tables = so.few_tables;
       counted_variables = let longer : length (s.variables ++ xs) ≡ length s.variables + length xs = length-append s.variables xs in let before : s.variable_count ≡ length s.variables + total (λ (p : Procedure). length p.parameters) s.procedures = so.counted_variables in omega arith;

@@ -9,9 +9,9 @@ use Rattle.camac_text_tokens.specs.declared.token.TokenKind.{TokenKind}
 use Rattle.camac_text_tokens.specs.declared.token.TokenKind.TheVariants as kind
 use Rattle.camac_text_cursor.specs.Reading.{State, ◌>>◌, give, advance, check, kind_of, after_first, while_next}
 use Rattle.camac_text_cursor.specs.Readers.{expect_sign, number_here, new_name}
-use Rattle.camac_text.specs.Tables.{word_behind, one_more_word, is_number, table_words, with_table, table_declaration}
+use Rattle.camac_text.specs.Tables.{word_after, one_more_word, is_number, table_words, with_table, table_declaration}
 use Rattle.camac_text_cursor.proofs.Steps.{then_ok, ok_is, Progresses, while_keeps}
-use Rattle.camac_text_cursor.proofs.Moves.{AllFit, Moves, TakesOne, kind_fit, behind_less, stays, moved, then_moves, one_moves, one_less, check_ok, number_ok, expect_sign_ok, new_name_ok}
+use Rattle.camac_text_cursor.proofs.Moves.{AllFit, Moves, TakesOne, kind_fit, after_less, stays, moved, then_moves, one_moves, one_less, check_ok, number_ok, expect_sign_ok, new_name_ok}
 use Rattle.camac_text_cursor.proofs.Registers.{below_le, each_push}
 
 -- ---- words
@@ -21,8 +21,8 @@ pub record ReadsWord (count : ℕ) (s : State) (w : ℕ) (s' : State) : Type 0 w
   pub fits : is_word w ≡ true
   pub room : count < 1024
 
-pub word_ok : (count : ℕ) (s : State) (y : ℕ × State) → word_behind count s ≡ Ok y → ReadsWord count s y.0 y.1
-unfolding word_behind
+pub word_ok : (count : ℕ) (s : State) (y : ℕ × State) → word_after count s ≡ Ok y → ReadsWord count s y.0 y.1
+unfolding word_after
 word_ok count s y e =
     let m = then_ok (number_here s) (λ n. check (nat_lt n 16777216) NumberTooLarge >> (check (nat_lt count 1024) LimitPassed >> (advance >> give n))) y e in
     let h = number_ok s m.0 m.1 in
@@ -37,7 +37,7 @@ word_ok count s y e =
 
 pub words_progress : Progresses is_number one_more_word
 words_progress ws s y s' on took =
-    let m = then_ok (word_behind (length ws) s) (λ w. give (ws ++ w ∷ [])) (y, s') took in
+    let m = then_ok (word_after (length ws) s) (λ w. give (ws ++ w ∷ [])) (y, s') took in
     subst (λ (p : List ℕ × State). length p.1.rest < length s.rest) (ok_is (ws ++ m.0.0 ∷ [], m.0.1) (y, s') m.2) (one_less s (kind.Number m.0.0) m.0.1 (word_ok (length ws) s m.0 m.1).one)
 
 -- words are read
@@ -60,13 +60,13 @@ one_longer s ws u w t m fit read =
 
 words_turn : (s : State) (ws : List ℕ) (u : State) (xs : List ℕ) (t : State) → ReadsWords s ws u → one_more_word ws u ≡ Ok (xs, t) → ReadsWords s xs t
 words_turn s ws u xs t so e =
-    let m = then_ok (word_behind (length ws) u) (λ w. give (ws ++ w ∷ [])) (xs, t) e in
+    let m = then_ok (word_after (length ws) u) (λ w. give (ws ++ w ∷ [])) (xs, t) e in
     subst (λ (p : List ℕ × State). ReadsWords s p.0 p.1) (ok_is (ws ++ m.0.0 ∷ [], m.0.1) (xs, t) m.2) (one_longer s ws u m.0.0 m.0.1 so.moves so.fit (word_ok (length ws) u m.0 m.1))
 
 words_ok : (s : State) (y : List ℕ × State) → table_words s ≡ Ok y → ReadsWords s y.0 y.1
 unfolding table_words
 words_ok s y e =
-    let m = then_ok (word_behind 0 s) (λ first. while_next is_number one_more_word (first ∷ [])) y e in
+    let m = then_ok (word_after 0 s) (λ first. while_next is_number one_more_word (first ∷ [])) y e in
     while_keeps (λ (ws : List ℕ) (u : State). ReadsWords s ws u) is_number one_more_word (λ ws u xs t so on took. words_turn s ws u xs t so took) (m.0.0 ∷ []) m.0.1 y (one_longer s [] s m.0.0 m.0.1 (stays s) refl (word_ok 0 s m.0 m.1)) m.2
 
 -- ---- a table is declared
@@ -100,7 +100,7 @@ table_is s k line y next e =
     let to_b : Moves t b.0.1 = then_moves t u b.0.1 (then_moves t a.0.1 u to_a (moved a.0.1)) (expect_sign_ok sign.Equals u b.0 b.1) in
     let to_c : Moves t c.0.1 = then_moves t b.0.1 c.0.1 to_b read.moves in
     let left : y.1 ≡ with_table made c.0.1 = sym (ap (λ (p : Unit {0} × State). p.1) (ok_is (tt, with_table made c.0.1) y c.2)) in
-    let less : length (after_first s.rest) < length s.rest = behind_less s.rest k next in
+    let less : length (after_first s.rest) < length s.rest = after_less s.rest k next in
     let shorter : length c.0.1.rest ≤ length (after_first s.rest) = to_c.shorter in
     record {
       table = made;

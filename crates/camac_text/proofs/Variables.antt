@@ -11,7 +11,7 @@ use Rattle.camac_text_cursor.specs.Reading.{State, ◌>>◌, give, change, advan
 use Rattle.camac_text_cursor.specs.Readers.{new_name, with_variable, added, new_variable, is_name as next_is_name}
 use Rattle.camac_text.specs.Declarations.{one_more_variable}
 use Rattle.camac_text_cursor.proofs.Steps.{then_ok, ok_is, Progresses}
-use Rattle.camac_text_cursor.proofs.Moves.{AllFit, Moves, kind_fit, behind_less, moved, check_ok, new_name_ok}
+use Rattle.camac_text_cursor.proofs.Moves.{AllFit, Moves, kind_fit, after_less, moved, check_ok, new_name_ok}
 use Rattle.camac_text_cursor.proofs.Registers.{declarable_push, first_of_both, second_of_both}
 use Rattle.camac_text.proofs.Listed.{each_append}
 
@@ -41,7 +41,7 @@ new_variable_ok s y e =
     (m.0.0, added_ok s m.0.0 y h.next h.free (subst (λ (u : State). added m.0.0 u ≡ Ok y) h.left m.2))
 
 pub one_variable_less : (s : State) (x : Text) (s' : State) → DeclaresOne s x s' → length s'.rest < length s.rest
-one_variable_less s x s' d = subst (λ (u : State). length u.rest < length s.rest) (sym d.left) (behind_less s.rest (kind.Name x) d.next)
+one_variable_less s x s' d = subst (λ (u : State). length u.rest < length s.rest) (sym d.left) (after_less s.rest (kind.Name x) d.next)
 
 pub variables_progress : Progresses next_is_name one_more_variable
 variables_progress count s y s' on took =

@@ -19,13 +19,13 @@ pub record IsPlaced (tokens : List Token) (end_line : ℕ) (fault : Fault) : Typ
   pub rule : RuleFits fault.rule (kind_of left)
   pub settled : (t : Token) (after_first others : List Token) (last : ℕ) → left ≡ t ∷ after_first → tree_of_tokens (taken ++ t ∷ others) last ≡ Err fault
 
-abbrev pub HasFaultBehind : Result (List Token) Fault → ℕ → Fault → Type 0
-HasFaultBehind (Ok tokens) end_line fault = IsPlaced tokens end_line fault
-HasFaultBehind (Err first) end_line fault = fault ≡ first
+abbrev pub HasFaultAfter : Result (List Token) Fault → ℕ → Fault → Type 0
+HasFaultAfter (Ok tokens) end_line fault = IsPlaced tokens end_line fault
+HasFaultAfter (Err first) end_line fault = fault ≡ first
 
 -- the first token fault where there is one, else a fault at a token
 abbrev pub HasFault : List ℕ → Fault → Type 0
-HasFault text fault = HasFaultBehind (tokens_of text) (last_line text) fault
+HasFault text fault = HasFaultAfter (tokens_of text) (last_line text) fault
 
 abbrev pub FaultIs : {A : Type 0} → Result A TextFault → (Fault → Type 0) → Type 0
 FaultIs (Ok x) P = Unit {0}

@@ -9,8 +9,8 @@ use Rattle.camac_text_cursor.specs.Reading.{State, Reader, ◌>>=◌, ◌>>◌, 
 use Rattle.camac_text_cursor.specs.Readers.{expect_sign, number_here, new_name}
 
 -- a word after so many words
-unfoldable pub word_behind : ℕ → Reader ℕ
-word_behind count = do
+unfoldable pub word_after : ℕ → Reader ℕ
+word_after count = do
   n ← number_here
   check (nat_lt n 16777216) NumberTooLarge
   check (nat_lt count 1024) LimitPassed
@@ -18,7 +18,7 @@ word_behind count = do
   give n
 
 abbrev pub one_more_word : List ℕ → Reader (List ℕ)
-one_more_word words = word_behind (length words) >>= λ w. give (words ++ w ∷ [])
+one_more_word words = word_after (length words) >>= λ w. give (words ++ w ∷ [])
 
 abbrev pub is_number : Option TokenKind → Bool
 is_number (Some (kind.Number n)) = true
@@ -26,7 +26,7 @@ is_number _ = false
 
 unfoldable pub table_words : Reader (List ℕ)
 table_words = do
-  first ← word_behind 0
+  first ← word_after 0
   while_next is_number one_more_word (first ∷ [])
 
 abbrev pub with_table : Table → State → State

@@ -3,7 +3,7 @@
 ghost use Rattle.std.specs.Prelude.{◌≡◌};
 ghost use Rattle.camac_text_cursor.specs.Reading.{kind_of};
 ghost use Rattle.camac_text_cursor.specs.Parser.{state, Gives};
-ghost use Rattle.camac_text.specs.Tables.{is_number, word_behind, table_words, table_declaration};
+ghost use Rattle.camac_text.specs.Tables.{is_number, word_after, table_words, table_declaration};
 
 use camac_lang::{Item, Table, limits};
 use camac_text_cursor::Parser;
@@ -33,11 +33,11 @@ pub fn table_declaration(parser: &mut Parser<'_>, line: u32) -> Result<(), TextF
 fn table_words(parser: &mut Parser<'_>) -> Result<Vec<Word24>, TextFault>
     ensures { Gives (λ ws. ws.items) result parser.new (table_words (state parser.old)) }
 {
-    let first = word_behind(parser, 0)?;
+    let first = word_after(parser, 0)?;
     let mut words = Vec::new(parser.alloc);
     words.push(first)?;
     while next_is_number(parser) {
-        let word = word_behind(parser, words.len())?;
+        let word = word_after(parser, words.len())?;
         words.push(word)?;
     }
     Ok(words)
@@ -50,9 +50,9 @@ fn next_is_number(parser: &Parser<'_>) -> bool
 }
 
 /// A word after so many words.
-#[tactic(auto, unfolding(crate::specs::Tables::word_behind))]
-fn word_behind(parser: &mut Parser<'_>, count: usize) -> Result<Word24, TextFault>
-    ensures { Gives (λ w. w) result parser.new (word_behind count (state parser.old)) }
+#[tactic(auto, unfolding(crate::specs::Tables::word_after))]
+fn word_after(parser: &mut Parser<'_>, count: usize) -> Result<Word24, TextFault>
+    ensures { Gives (λ w. w) result parser.new (word_after count (state parser.old)) }
 {
     let number = parser.number_here()?;
     match Word24::new(number) {

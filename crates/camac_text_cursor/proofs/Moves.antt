@@ -35,17 +35,17 @@ pub record TakesOne (s : State) (k : TokenKind) (s' : State) : Type 0 where
   pub next : kind_of s.rest ≡ Some k
   pub left : s' ≡ record s { rest = after_first s.rest }
 
-behind_fit : (ts : List Token) → AllFit ts → AllFit (after_first ts)
-behind_fit [] h = tt
-behind_fit (t ∷ ts) h = h.1
+after_fit : (ts : List Token) → AllFit ts → AllFit (after_first ts)
+after_fit [] h = tt
+after_fit (t ∷ ts) h = h.1
 
-behind_shorter : (ts : List Token) → length (after_first ts) ≤ length ts
-behind_shorter [] = omega arith
-behind_shorter (t ∷ ts) = omega arith
+after_shorter : (ts : List Token) → length (after_first ts) ≤ length ts
+after_shorter [] = omega arith
+after_shorter (t ∷ ts) = omega arith
 
-pub behind_less : (ts : List Token) (k : TokenKind) → kind_of ts ≡ Some k → length (after_first ts) < length ts
-behind_less [] k e = absurd cc
-behind_less (t ∷ ts) k e = omega arith
+pub after_less : (ts : List Token) (k : TokenKind) → kind_of ts ≡ Some k → length (after_first ts) < length ts
+after_less [] k e = absurd cc
+after_less (t ∷ ts) k e = omega arith
 
 pub kind_fit : (ts : List Token) (k : TokenKind) → kind_of ts ≡ Some k → AllFit ts → kind_fits k ≡ true
 kind_fit [] k e h = absurd cc
@@ -55,7 +55,7 @@ pub stays : (s : State) → Moves s s
 stays s = record { same = refl; fit = λ h. h; shorter = omega arith }
 
 pub moved : (s : State) → Moves s (record s { rest = after_first s.rest })
-moved s = record { same = refl; fit = behind_fit s.rest; shorter = behind_shorter s.rest }
+moved s = record { same = refl; fit = after_fit s.rest; shorter = after_shorter s.rest }
 
 pub then_moves : (s t u : State) → Moves s t → Moves t u → Moves s u
 then_moves s t u a b = record {
@@ -68,7 +68,7 @@ pub one_moves : (s : State) (k : TokenKind) (s' : State) → TakesOne s k s' →
 one_moves s k s' t = subst (λ (u : State). Moves s u) (sym t.left) (moved s)
 
 pub one_less : (s : State) (k : TokenKind) (s' : State) → TakesOne s k s' → length s'.rest < length s.rest
-one_less s k s' t = subst (λ (u : State). length u.rest < length s.rest) (sym t.left) (behind_less s.rest k t.next)
+one_less s k s' t = subst (λ (u : State). length u.rest < length s.rest) (sym t.left) (after_less s.rest k t.next)
 
 -- a rule that was tested holds
 pub check_ok : {B : Type 0} (b : Bool) (rule : TextRule) (g : Reader B) (s : State) (y : B × State) → (check b rule >> g) s ≡ Ok y → (b ≡ true) × (g s ≡ Ok y)

@@ -10,14 +10,14 @@ use Rattle.camac_text_cursor.specs.Reading.{State, Reader, ◌>>=◌, ◌>>◌, 
 use Rattle.camac_text_cursor.specs.Readers.{expect_sign}
 use Rattle.camac_text_phrases.specs.Expressions.{Counted, counted, operator, divisor, factor_with, is_product_sign, product_by, product_turn, product_with, is_sum_sign, joined, sum_turn, sum_with, bracketed, expression_at}
 use Rattle.camac_text_cursor.proofs.Steps.{then_ok, ok_is, err_no_ok, Progresses}
-use Rattle.camac_text_cursor.proofs.Moves.{AllFit, Moves, behind_less, moved, then_moves, one_moves, expect_sign_ok}
+use Rattle.camac_text_cursor.proofs.Moves.{AllFit, Moves, after_less, moved, then_moves, one_moves, expect_sign_ok}
 use Rattle.camac_text_cursor.proofs.Uses.{scope_of}
 use Rattle.camac_text_cursor.proofs.Registers.{both, below_le}
 use Rattle.camac_text_phrases.proofs.ExpressionsRead.{Operator, operator_ok, divisor_ok, Reads, factor_ok, product_ok, sum_ok}
 
 -- what is read after the sign of an operator is read after the next token
-behind_operator : (so_far : ℕ) (s : State) (n : ℕ) (u : State) (y : Counted × State) → Operator so_far s n u → length y.1.rest ≤ length u.rest → length y.1.rest ≤ length (after_first s.rest)
-behind_operator so_far s n u y o h = subst (λ (w : State). length y.1.rest ≤ length w.rest) o.left h
+after_operator : (so_far : ℕ) (s : State) (n : ℕ) (u : State) (y : Counted × State) → Operator so_far s n u → length y.1.rest ≤ length u.rest → length y.1.rest ≤ length (after_first s.rest)
+after_operator so_far s n u y o h = subst (λ (w : State). length y.1.rest ≤ length w.rest) o.left h
 
 divided : (s : State) (d : ℕ × State) (x : Counted) (y : Counted × State) → divisor s ≡ Ok d → give x d.1 ≡ Ok y → length y.1.rest ≤ length s.rest
 divided s d x y took e = subst (λ (p : Counted × State). length p.1.rest ≤ length s.rest) (ok_is (x, d.1) y e) (one_moves s (kind.Number d.0) d.1 (divisor_ok s d took).one).shorter
@@ -37,16 +37,16 @@ module _ (room : ℕ) (inner : ℕ → Reader Counted) (inner_ok : (so_far : ℕ
   product_shorter x (Some (kind.Sign sign.Over)) s y e =
       let a = then_ok (operator x.operators s) (λ so_far. divisor >>= λ d. give (counted (divide x.value d) so_far)) y e in
       let b = then_ok (divisor a.0.1) (λ d. give (counted (divide x.value d) a.0.0)) y a.2 in
-      behind_operator x.operators s a.0.0 a.0.1 y (operator_ok x.operators s a.0 a.1) (divided a.0.1 b.0 (counted (divide x.value b.0.0) a.0.0) y b.1 b.2)
+      after_operator x.operators s a.0.0 a.0.1 y (operator_ok x.operators s a.0 a.1) (divided a.0.1 b.0 (counted (divide x.value b.0.0) a.0.0) y b.1 b.2)
   product_shorter x (Some (kind.Sign sign.Modulo)) s y e =
       let a = then_ok (operator x.operators s) (λ so_far. divisor >>= λ d. give (counted (remainder x.value d) so_far)) y e in
       let b = then_ok (divisor a.0.1) (λ d. give (counted (remainder x.value d) a.0.0)) y a.2 in
-      behind_operator x.operators s a.0.0 a.0.1 y (operator_ok x.operators s a.0 a.1) (divided a.0.1 b.0 (counted (remainder x.value b.0.0) a.0.0) y b.1 b.2)
+      after_operator x.operators s a.0.0 a.0.1 y (operator_ok x.operators s a.0 a.1) (divided a.0.1 b.0 (counted (remainder x.value b.0.0) a.0.0) y b.1 b.2)
   product_shorter x _ s y e =
       let a = then_ok (operator x.operators s) (λ so_far. factor_with inner so_far >>= λ right. give (counted (multiply x.value right.value) right.operators)) y e in
       let b = then_ok (factor_with inner a.0.0 a.0.1) (λ right. give (counted (multiply x.value right.value) right.operators)) y a.2 in
       let right = factor_ok room inner inner_ok a.0.0 a.0.1 b.0 b.1 in
-      behind_operator x.operators s a.0.0 a.0.1 y (operator_ok x.operators s a.0 a.1)
+      after_operator x.operators s a.0.0 a.0.1 y (operator_ok x.operators s a.0 a.1)
       (subst (λ (p : Counted × State). length p.1.rest ≤ length a.0.1.rest) (ok_is (counted (multiply x.value b.0.0.value) b.0.0.operators, b.0.1) y b.2) right.moves.shorter)
 
   pub product_progress : Progresses is_product_sign (product_turn inner)
@@ -54,7 +54,7 @@ module _ (room : ℕ) (inner : ℕ → Reader Counted) (inner_ok : (so_far : ℕ
   product_progress x s y s' on took =
       let k = product_sign_some (kind_of s.rest) on in
       let shorter : length s'.rest ≤ length (after_first s.rest) = product_shorter x (kind_of s.rest) s (y, s') took in
-      let less : length (after_first s.rest) < length s.rest = behind_less s.rest k.0 k.1 in
+      let less : length (after_first s.rest) < length s.rest = after_less s.rest k.0 k.1 in
       omega arith
 
   pub sum_progress : Progresses is_sum_sign (sum_turn inner)
@@ -64,10 +64,10 @@ module _ (room : ℕ) (inner : ℕ → Reader Counted) (inner_ok : (so_far : ℕ
       let a = then_ok (operator x.operators s) (λ so_far. product_with inner so_far >>= λ right. give (counted (joined k x.value right.value) right.operators)) (y, s') took in
       let b = then_ok (product_with inner a.0.0 a.0.1) (λ right. give (counted (joined k x.value right.value) right.operators)) (y, s') a.2 in
       let right = product_ok room inner inner_ok a.0.0 a.0.1 b.0 b.1 in
-      let shorter : length s'.rest ≤ length (after_first s.rest) = behind_operator x.operators s a.0.0 a.0.1 (y, s') (operator_ok x.operators s a.0 a.1)
+      let shorter : length s'.rest ≤ length (after_first s.rest) = after_operator x.operators s a.0.0 a.0.1 (y, s') (operator_ok x.operators s a.0 a.1)
       (subst (λ (p : Counted × State). length p.1.rest ≤ length a.0.1.rest) (ok_is (counted (joined k x.value b.0.0.value) b.0.0.operators, b.0.1) (y, s') b.2) right.moves.shorter) in
       let some = sum_sign_some (kind_of s.rest) on in
-      let less : length (after_first s.rest) < length s.rest = behind_less s.rest some.0 some.1 in
+      let less : length (after_first s.rest) < length s.rest = after_less s.rest some.0 some.1 in
       omega arith
 
 -- ---- brackets and whole expressions

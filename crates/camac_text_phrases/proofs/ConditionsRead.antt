@@ -18,7 +18,7 @@ use Rattle.camac_text_cursor.specs.Readers.{is_keyword, variable_here}
 use Rattle.camac_text_phrases.specs.Expressions.{expression_at}
 use Rattle.camac_text_phrases.specs.Conditions.{comparison_by, comparison_sign, compared, test_by, test_at, part_by, part_at, no_part_by, part_limit, and_part, one_more_part, condition_at}
 use Rattle.camac_text_cursor.proofs.Steps.{then_ok, ok_is, err_no_ok, Progresses, while_keeps}
-use Rattle.camac_text_cursor.proofs.Moves.{AllFit, Moves, behind_less, moved, then_moves}
+use Rattle.camac_text_cursor.proofs.Moves.{AllFit, Moves, after_less, moved, then_moves}
 use Rattle.camac_text_cursor.proofs.Uses.{scope_of, same_scope}
 use Rattle.camac_text_phrases.proofs.BracketsRead.{expression_ok}
 use Rattle.camac_text_cursor.proofs.Registers.{both, below_le, each_push}
@@ -180,7 +180,7 @@ keyword_some w None on = absurd cc
 pub and_part_less : (room count : ℕ) (s : State) (y : Part × State) → is_keyword word.And (kind_of s.rest) ≡ true → and_part room count s ≡ Ok y → length y.1.rest < length s.rest
 and_part_less room count s y on e =
     let k = keyword_some word.And (kind_of s.rest) on in
-    let less : length (after_first s.rest) < length s.rest = behind_less s.rest k.0 k.1 in
+    let less : length (after_first s.rest) < length s.rest = after_less s.rest k.0 k.1 in
     let shorter : length y.1.rest ≤ length (after_first s.rest) = (and_part_ok room count s y e).part.moves.shorter in
     omega arith
 

@@ -18,7 +18,7 @@ use Rattle.camac_text_cursor.specs.Reading.{State, Reader, ◌>>=◌, ◌>>◌, 
 use Rattle.camac_text_cursor.specs.Readers.{is_keyword, is_sign, expect, expect_sign, any_number, variable_here}
 use Rattle.camac_text_phrases.specs.Keeps.{taken, is_free, keep_at, next_keep, one_more_keep, keep_list, keeps_at}
 use Rattle.camac_text_cursor.proofs.Steps.{then_ok, ok_is, Progresses, while_keeps}
-use Rattle.camac_text_cursor.proofs.Moves.{AllFit, Moves, kind_fit, behind_less, stays, moved, then_moves, one_moves, check_ok, any_number_ok, expect_ok, expect_sign_ok}
+use Rattle.camac_text_cursor.proofs.Moves.{AllFit, Moves, kind_fit, after_less, stays, moved, then_moves, one_moves, check_ok, any_number_ok, expect_ok, expect_sign_ok}
 use Rattle.camac_text_cursor.proofs.Uses.{scope_of, variable_here_ok}
 use Rattle.camac_text_cursor.proofs.Registers.{both, first_of_both, second_of_both, each_push}
 
@@ -91,7 +91,7 @@ sign_some w None on = absurd cc
 pub next_keep_less : (own : ℕ) (keeps : List Keep) (s : State) (y : Keep × State) → is_sign sign.Comma (kind_of s.rest) ≡ true → next_keep own keeps s ≡ Ok y → length y.1.rest < length s.rest
 next_keep_less own keeps s y on e =
     let k = sign_some sign.Comma (kind_of s.rest) on in
-    let less : length (after_first s.rest) < length s.rest = behind_less s.rest k.0 k.1 in
+    let less : length (after_first s.rest) < length s.rest = after_less s.rest k.0 k.1 in
     let shorter : length y.1.rest ≤ length (after_first s.rest) = (next_keep_ok own keeps s y e).moves.shorter in
     omega arith
 

@@ -5,10 +5,10 @@ use Rattle.std.proofs.lemmas.List.{append-nil}
 use Rattle.camac_lang.specs.Tree.{Text, Table, Lam, Procedure, Service, Item, next_table, next_lam, next_variables, next_procedure, next_service, Script}
 use Rattle.camac_text_tokens.specs.declared.token.Token.{Token}
 use Rattle.camac_text.proofs.Listed.{at_place, between}
-use Rattle.camac_text_spelling.specs.Pieces.{Piece, Front}
+use Rattle.camac_text_spelling.specs.Pieces.{Piece, Prefix}
 use Rattle.camac_text_spelling.specs.Declarations as spell
 use Rattle.camac_text_spelling.specs.Declarations.{Passed, none_passed, pass}
-use Rattle.camac_text_spelling.proofs.Fronts.{front_join}
+use Rattle.camac_text_spelling.proofs.Prefixes.{prefix_join}
 
 -- a tree that has these declarations, and perhaps more
 pub record Extends (s t : Script) : Type 0 where
@@ -52,7 +52,7 @@ pub record Declares (s : Script) (ts : List Token) (s' : Script) (ts' : List Tok
   pub ordered : s'.order ≡ s.order ++ item ∷ []
   pub counted : counts s' ≡ pass item (counts s)
   pub fewer : (t : Script) → Extends s' t → Extends s t
-  pub front : (t : Script) → Extends s' t → Front ts (spell.declaration t (counts s) item) ts'
+  pub prefix : (t : Script) → Extends s' t → Prefix ts (spell.declaration t (counts s) item) ts'
 
 -- ---- each kind
 
@@ -73,15 +73,15 @@ table_fewer s l t x = record {
   services_are = x.services_are;
 }
 
-pub declares_table : (s : Script) (l : Table) (ts ts' : List Token) → Front ts (spell.table_declaration l) ts' → Declares s ts (with_table s l) ts'
+pub declares_table : (s : Script) (l : Table) (ts ts' : List Token) → Prefix ts (spell.table_declaration l) ts' → Declares s ts (with_table s l) ts'
 declares_table s l ts ts' f = record {
   item = next_table;
   ordered = refl;
   counted = ap (λ (k : ℕ). record (counts s) { tables = k }) (length-append s.tables (l ∷ []));
   fewer = table_fewer s l;
-  front = λ t x.
+  prefix = λ t x.
       let there : slice_get t.tables (length s.tables) ≡ Some l = ap (λ (ls : List Table). slice_get ls (length s.tables)) x.tables_are ∙ at_place s.tables l x.tables in
-      subst (λ (o : Option Table). Front ts (spell.if_there spell.table_declaration o) ts') (sym there) f;
+      subst (λ (o : Option Table). Prefix ts (spell.if_there spell.table_declaration o) ts') (sym there) f;
 }
 
 abbrev pub with_lam : Script → Lam → Script
@@ -101,15 +101,15 @@ lam_fewer s l t x = record {
   services_are = x.services_are;
 }
 
-pub declares_lam : (s : Script) (l : Lam) (ts ts' : List Token) → Front ts (spell.lam_declaration l) ts' → Declares s ts (with_lam s l) ts'
+pub declares_lam : (s : Script) (l : Lam) (ts ts' : List Token) → Prefix ts (spell.lam_declaration l) ts' → Declares s ts (with_lam s l) ts'
 declares_lam s l ts ts' f = record {
   item = next_lam;
   ordered = refl;
   counted = ap (λ (k : ℕ). record (counts s) { lams = k }) (length-append s.lams (l ∷ []));
   fewer = lam_fewer s l;
-  front = λ t x.
+  prefix = λ t x.
       let there : slice_get t.lams (length s.lams) ≡ Some l = ap (λ (ls : List Lam). slice_get ls (length s.lams)) x.lams_are ∙ at_place s.lams l x.lams in
-      subst (λ (o : Option Lam). Front ts (spell.if_there spell.lam_declaration o) ts') (sym there) f;
+      subst (λ (o : Option Lam). Prefix ts (spell.if_there spell.lam_declaration o) ts') (sym there) f;
 }
 
 abbrev pub with_variables : Script → ℕ → ℕ → List Text → Script
@@ -129,15 +129,15 @@ variables_fewer s line n xs t x = record {
   services_are = x.services_are;
 }
 
-pub declares_variables : (s : Script) (line n : ℕ) (xs : List Text) (ts ts' : List Token) → length xs ≡ n → Front ts (spell.variable_declaration line xs) ts' → Declares s ts (with_variables s line n xs) ts'
+pub declares_variables : (s : Script) (line n : ℕ) (xs : List Text) (ts ts' : List Token) → length xs ≡ n → Prefix ts (spell.variable_declaration line xs) ts' → Declares s ts (with_variables s line n xs) ts'
 declares_variables s line n xs ts ts' many f = record {
   item = next_variables line n;
   ordered = refl;
   counted = ap (λ (k : ℕ). record (counts s) { variables = k }) (length-append s.variables xs ∙ ap (λ (k : ℕ). length s.variables + k) many);
   fewer = variables_fewer s line n xs;
-  front = λ t x.
+  prefix = λ t x.
       let there : take n (drop (length s.variables) t.variables) ≡ xs = ap (λ (ys : List Text). take n (drop (length s.variables) ys)) x.variables_are ∙ ap (λ (m : ℕ). take m (drop (length s.variables) ((s.variables ++ xs) ++ x.variables))) (sym many) ∙ between s.variables xs x.variables in
-      subst (λ (ys : List Text). Front ts (spell.variable_declaration line ys) ts') (sym there) f;
+      subst (λ (ys : List Text). Prefix ts (spell.variable_declaration line ys) ts') (sym there) f;
 }
 
 abbrev pub with_service : Script → Service → Script
@@ -157,15 +157,15 @@ service_fewer s v t x = record {
   services_are = x.services_are ∙ append_assoc s.services (v ∷ []) x.services;
 }
 
-pub declares_service : (s : Script) (v : Service) (ts ts' : List Token) → ((t : Script) → Extends s t → Front ts (spell.service_declaration t v) ts') → Declares s ts (with_service s v) ts'
+pub declares_service : (s : Script) (v : Service) (ts ts' : List Token) → ((t : Script) → Extends s t → Prefix ts (spell.service_declaration t v) ts') → Declares s ts (with_service s v) ts'
 declares_service s v ts ts' f = record {
   item = next_service;
   ordered = refl;
   counted = ap (λ (k : ℕ). record (counts s) { services = k }) (length-append s.services (v ∷ []));
   fewer = service_fewer s v;
-  front = λ t x.
+  prefix = λ t x.
       let there : slice_get t.services (length s.services) ≡ Some v = ap (λ (vs : List Service). slice_get vs (length s.services)) x.services_are ∙ at_place s.services v x.services in
-      subst (λ (o : Option Service). Front ts (spell.if_there (spell.service_declaration t) o) ts') (sym there) (f t (service_fewer s v t x));
+      subst (λ (o : Option Service). Prefix ts (spell.if_there (spell.service_declaration t) o) ts') (sym there) (f t (service_fewer s v t x));
 }
 
 abbrev pub with_procedure : Script → Procedure → Script
@@ -185,15 +185,15 @@ procedure_fewer s v t x = record {
   services_are = x.services_are;
 }
 
-pub declares_procedure : (s : Script) (v : Procedure) (ts ts' : List Token) → ((t : Script) → Extends s t → Front ts (spell.procedure_declaration t v) ts') → Declares s ts (with_procedure s v) ts'
+pub declares_procedure : (s : Script) (v : Procedure) (ts ts' : List Token) → ((t : Script) → Extends s t → Prefix ts (spell.procedure_declaration t v) ts') → Declares s ts (with_procedure s v) ts'
 declares_procedure s v ts ts' f = record {
   item = next_procedure;
   ordered = refl;
   counted = ap (λ (k : ℕ). record (counts s) { procedures = k }) (length-append s.procedures (v ∷ []));
   fewer = procedure_fewer s v;
-  front = λ t x.
+  prefix = λ t x.
       let there : slice_get t.procedures (length s.procedures) ≡ Some v = ap (λ (vs : List Procedure). slice_get vs (length s.procedures)) x.procedures_are ∙ at_place s.procedures v x.procedures in
-      subst (λ (o : Option Procedure). Front ts (spell.if_there (spell.procedure_declaration t) o) ts') (sym there) (f t (procedure_fewer s v t x));
+      subst (λ (o : Option Procedure). Prefix ts (spell.if_there (spell.procedure_declaration t) o) ts') (sym there) (f t (procedure_fewer s v t x));
 }
 
 -- ---- all of them
@@ -215,16 +215,16 @@ declarations_push t (j ∷ js) i b =
 -- The declarations so far stand between these tokens.
 pub record Sofar (all : List Token) (s : Script) (ts : List Token) : Type 0 where
   pub counted : pass_all s.order none_passed ≡ counts s
-  pub front : (t : Script) → Extends s t → Front all (spell.declarations t none_passed s.order) ts
+  pub prefix : (t : Script) → Extends s t → Prefix all (spell.declarations t none_passed s.order) ts
 
 pub one_more : (all : List Token) (s : Script) (ts : List Token) (s' : Script) (ts' : List Token) → Sofar all s ts → Declares s ts s' ts' → Sofar all s' ts'
 one_more all s ts s' ts' so d =
     let counted : pass_all (s.order ++ d.item ∷ []) none_passed ≡ counts s' = pass_push s.order d.item none_passed ∙ ap (pass d.item) so.counted ∙ sym d.counted in
     record {
       counted = ap (λ (is : List Item). pass_all is none_passed) d.ordered ∙ counted;
-      front = λ t x.
-          let here = subst (λ (b : Passed). Front ts (spell.declaration t b d.item) ts') (sym so.counted) (d.front t x) in
-          let both = front_join all (spell.declarations t none_passed s.order) ts (spell.declaration t (pass_all s.order none_passed) d.item) ts' (so.front t (d.fewer t x)) here in
-          subst (λ (is : List Item). Front all (spell.declarations t none_passed is) ts') (sym d.ordered)
-          (subst (λ (ps : List Piece). Front all ps ts') (sym (declarations_push t s.order d.item none_passed)) both);
+      prefix = λ t x.
+          let here = subst (λ (b : Passed). Prefix ts (spell.declaration t b d.item) ts') (sym so.counted) (d.prefix t x) in
+          let both = prefix_join all (spell.declarations t none_passed s.order) ts (spell.declaration t (pass_all s.order none_passed) d.item) ts' (so.prefix t (d.fewer t x)) here in
+          subst (λ (is : List Item). Prefix all (spell.declarations t none_passed is) ts') (sym d.ordered)
+          (subst (λ (ps : List Piece). Prefix all ps ts') (sym (declarations_push t s.order d.item none_passed)) both);
     }

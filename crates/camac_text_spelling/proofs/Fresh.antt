@@ -10,7 +10,7 @@ use Rattle.camac_lang.specs.Tests.{most, total, is_new, are_new}
 use Rattle.camac_lang.specs.Tree.{Text}
 use Rattle.camac_text_cursor.specs.Names.{place_of}
 use Rattle.camac_text_cursor.proofs.Registers.{both, first_of_both, second_of_both}
-use Rattle.camac_text.proofs.Listed.{each_append, new_same, front_or_behind}
+use Rattle.camac_text.proofs.Listed.{each_append, new_same, prefix_or_after}
 use Rattle.camac_text_spelling.specs.Pieces.{text_at}
 
 -- each of new names is new
@@ -71,7 +71,7 @@ take_suc (y ∷ ys) (suc i) x e = ap (λ (w : List _). y ∷ w) (take_suc ys i x
 pub take_one : {A : Type 0} (xs : List A) (i : ℕ) (x : A) → slice_get xs i ≡ Some x → take (i + 1) xs ≡ take i xs ++ x ∷ []
 take_one xs i x e = let one : i + 1 ≡ suc i = omega arith in ap (λ (k : ℕ). take k xs) one ∙ take_suc xs i x e
 
--- names in front of others
+-- names before others
 pub text_before : (xs ys : List Text) (p : ℕ) → p < length xs → text_at (xs ++ ys) p ≡ text_at xs p
 text_before [] ys p below = absurd (omega arith)
 text_before (x ∷ xs) ys zero below = refl
@@ -84,12 +84,12 @@ new_push (y ∷ ys) x known e free new =
     (new_push ys x (y ∷ known) (second_of_both (is_new y known) _ e) (both (not (bytes_eq x y)) (is_new x known) (first_of_both (not (bytes_eq x y)) _ new) free) (second_of_both (not (bytes_eq x y)) _ new))
 
 -- more new names after such names
-pub new_behind : (xs vs ds : List Text) → are_new vs [] ≡ true → ((z : Text) → is_new z ds ≡ true → is_new z vs ≡ true) → are_new xs ds ≡ true → are_new (vs ++ xs) [] ≡ true
-new_behind [] vs ds e covers new = ap (λ (w : List Text). are_new w []) (append-nil vs) ∙ e
-new_behind (x ∷ xs) vs ds e covers new =
+pub new_after : (xs vs ds : List Text) → are_new vs [] ≡ true → ((z : Text) → is_new z ds ≡ true → is_new z vs ≡ true) → are_new xs ds ≡ true → are_new (vs ++ xs) [] ≡ true
+new_after [] vs ds e covers new = ap (λ (w : List Text). are_new w []) (append-nil vs) ∙ e
+new_after (x ∷ xs) vs ds e covers new =
     let here : is_new x ds ≡ true = first_of_both (is_new x ds) _ new in
     ap (λ (w : List Text). are_new w []) (sym (append_assoc vs (x ∷ []) xs))
-    ∙ new_behind xs (vs ++ x ∷ []) (x ∷ ds) (new_push vs x [] e refl (covers x here))
+    ∙ new_after xs (vs ++ x ∷ []) (x ∷ ds) (new_push vs x [] e refl (covers x here))
     (λ z h. each_append (λ y. not (bytes_eq z y)) vs (x ∷ []) ∙ both (is_new z vs) _ (covers z (second_of_both (not (bytes_eq z x)) _ h)) (both (not (bytes_eq z x)) true (first_of_both (not (bytes_eq z x)) _ h) refl))
     (second_of_both (is_new x ds) _ new)
 
@@ -98,13 +98,13 @@ pub new_parts : (xs ys ds : List Text) → are_new (xs ++ ys) ds ≡ true → (a
 new_parts [] ys ds e = (refl, ap (λ (w : List Text). are_new ys w) (append-nil ds) ∙ e)
 new_parts (x ∷ xs) ys ds e =
     let rest = new_parts xs ys (x ∷ ds) (second_of_both (is_new x ds) _ e) in
-    let here : (z : Text) → is_new z (ds ++ x ∷ xs) ≡ is_new z (x ∷ (ds ++ xs)) = λ z. sym (ap (λ (w : List Text). is_new z w) (append_assoc ds (x ∷ []) xs)) ∙ front_or_behind_one z in
+    let here : (z : Text) → is_new z (ds ++ x ∷ xs) ≡ is_new z (x ∷ (ds ++ xs)) = λ z. sym (ap (λ (w : List Text). is_new z w) (append_assoc ds (x ∷ []) xs)) ∙ prefix_or_after_one z in
     (both (is_new x ds) _ (first_of_both (is_new x ds) _ e) rest.0, new_same ys (ds ++ x ∷ xs) (x ∷ (ds ++ xs)) here ∙ rest.1)
   where
-    front_or_behind_one : (z : Text) → is_new z ((ds ++ x ∷ []) ++ xs) ≡ is_new z ((x ∷ ds) ++ xs)
-    front_or_behind_one z =
+    prefix_or_after_one : (z : Text) → is_new z ((ds ++ x ∷ []) ++ xs) ≡ is_new z ((x ∷ ds) ++ xs)
+    prefix_or_after_one z =
         each_append (λ y. not (bytes_eq z y)) (ds ++ x ∷ []) xs
-        ∙ ap (λ (b : Bool). b && is_new z xs) (sym (front_or_behind (x ∷ []) ds ds (λ y. refl) z))
+        ∙ ap (λ (b : Bool). b && is_new z xs) (sym (prefix_or_after (x ∷ []) ds ds (λ y. refl) z))
         ∙ sym (each_append (λ y. not (bytes_eq z y)) (x ∷ ds) xs)
 
 -- ---- sums and maxima over a list

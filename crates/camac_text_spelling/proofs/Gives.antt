@@ -1,4 +1,4 @@
--- What readers of single tokens answer in front of their pieces.
+-- What readers of single tokens answer before their pieces.
 use Rattle.std.proofs.Common.{◌≡◌, ℕ, ◌<◌, Bool, true, false, cond, nat_lt, List, length, Option, Some, Result, Ok, refl, ap, ◌∙◌}
 use Rattle.std.proofs.lemmas.Bool.{ltb-true}
 use denote.Enum.Bare.{true_same}

@@ -28,10 +28,10 @@ use Rattle.camac_text_statements.specs.Statements.{assignment, register_setting,
 use Rattle.camac_text_cursor.proofs.Uses.{scope_of}
 use Rattle.camac_text_statements.proofs.Acts.{begun}
 use Rattle.camac_text_cursor.proofs.Registers.{first_of_both, second_of_both}
-use Rattle.camac_text_spelling.specs.Pieces.{Piece, word, sign, numeral, name_at, text_at, Names, Front}
+use Rattle.camac_text_spelling.specs.Pieces.{Piece, word, sign, numeral, name_at, text_at, Names, Prefix}
 use Rattle.camac_text_spelling.specs.Phrases as phrase
 use Rattle.camac_text_spelling.specs.Statements as spell
-use Rattle.camac_text_spelling.proofs.Fronts.{front_split, front_first, front_line}
+use Rattle.camac_text_spelling.proofs.Prefixes.{prefix_split, prefix_first, prefix_line}
 use Rattle.camac_text_spelling.proofs.Gives.{at, ok, after, left, expected_sign, branch_given, function_given, variable_seen, register_given, lam_given}
 use Rattle.camac_text_spelling.proofs.GivesExpressions.{NoSign, expression_given}
 use Rattle.camac_text_spelling.proofs.GivesPhrases.{value_begins, value_no_sign, no_sign}
@@ -40,14 +40,14 @@ use Rattle.camac_text_spelling.proofs.Runs.{Runs, left_at, begin_given, first_gi
 
 -- A statement that is spelled is read.
 abbrev pub IsGiven : Names → Statement → Type 0
-IsGiven n x = (room : ℕ) (s : State) (rest : List Token) (j k m : ℕ) → Runs n s j k m room (reached_by (scope_of s) j x) (statement_depth s.callables x) (statements_in x) → Front s.rest (spell.statement n x) rest → Ends (kind_of rest) → statement_with room (block_at room) s ≡ ok x (left_at n s rest k m)
+IsGiven n x = (room : ℕ) (s : State) (rest : List Token) (j k m : ℕ) → Runs n s j k m room (reached_by (scope_of s) j x) (statement_depth s.callables x) (statements_in x) → Prefix s.rest (spell.statement n x) rest → Ends (kind_of rest) → statement_with room (block_at room) s ≡ ok x (left_at n s rest k m)
 
 pub put_given : (n : Names) (line : ℕ) (e : Expression) → IsGiven n (put line e)
 unfolding put_action
 put_given n line e room s rest j k m c f ends =
     let w : Keyword = keyword.Put in
     let ps : List Piece = phrase.expression n e in
-    let h = front_line s.rest s.end_line line (kind.Keyword w) ps rest f in
+    let h = prefix_line s.rest s.end_line line (kind.Keyword w) ps rest f in
     let r = unless_parts (head_fits (scope_of s) j (put line e)) j k c.reached in
     first_given line room (block_at room) (kind.Keyword w) s ps rest f
     ∙ simple_given n (put line e) s rest j k m room _ _ _ c r.1
@@ -58,8 +58,8 @@ unfolding assignment
 assignment_given n line x e room s rest j k m c f ends =
     let ps : List Piece = sign mark.Equals ∷ phrase.expression n e in
     let named : TokenKind = kind.Name (text_at n.variables x) in
-    let h = front_line s.rest s.end_line line named ps rest f in
-    let q = front_first (after_first s.rest) (sign mark.Equals) (phrase.expression n e) rest h.2 in
+    let h = prefix_line s.rest s.end_line line named ps rest f in
+    let q = prefix_first (after_first s.rest) (sign mark.Equals) (phrase.expression n e) rest h.2 in
     let r = unless_parts (head_fits (scope_of s) j (assign line x e)) j k c.reached in
     let ts : List Token = after_first (after_first s.rest) in
     first_given line room (block_at room) named s ps rest f
@@ -76,11 +76,11 @@ pub single_given : (n : Names) (line : ℕ) (size : WordSize) (g r : ℕ) (d : M
 unfolding single_action
 single_given n line size g r d room s rest j k m c f ends =
     let w : Keyword = spell.single_word size in
-    let h = front_line s.rest s.end_line line (kind.Keyword w) (numeral g ∷ name_at n.registers r ∷ phrase.move n d) rest f in
+    let h = prefix_line s.rest s.end_line line (kind.Keyword w) (numeral g ∷ name_at n.registers r ∷ phrase.move n d) rest f in
     let t1 : List Token = after_first s.rest in
-    let number = front_first t1 (numeral g) (name_at n.registers r ∷ phrase.move n d) rest h.2 in
+    let number = prefix_first t1 (numeral g) (name_at n.registers r ∷ phrase.move n d) rest h.2 in
     let t2 : List Token = after_first t1 in
-    let register = front_first t2 (name_at n.registers r) (phrase.move n d) rest number.1 in
+    let register = prefix_first t2 (name_at n.registers r) (phrase.move n d) rest number.1 in
     let t3 : List Token = after_first t2 in
     let rule = unless_parts (head_fits (scope_of s) j (single line size g r d)) j k c.reached in
     let few : g ≤ 31 = leb-true g 31 (first_of_both (is_function g) _ rule.0) in
@@ -103,14 +103,14 @@ setting_given n line r e1 e2 e3 room s rest j k m c f ends =
     let p1 : List Piece = phrase.expression n e1 in
     let p2 : List Piece = phrase.expression n e2 in
     let p3 : List Piece = phrase.expression n e3 in
-    let h = front_line s.rest s.end_line line (kind.Keyword w) (name_at n.registers r ∷ numeral 1 ∷ (p1 ++ (p2 ++ p3))) rest f in
+    let h = prefix_line s.rest s.end_line line (kind.Keyword w) (name_at n.registers r ∷ numeral 1 ∷ (p1 ++ (p2 ++ p3))) rest f in
     let t1 : List Token = after_first s.rest in
-    let name' = front_first t1 (name_at n.registers r) (numeral 1 ∷ (p1 ++ (p2 ++ p3))) rest h.2 in
+    let name' = prefix_first t1 (name_at n.registers r) (numeral 1 ∷ (p1 ++ (p2 ++ p3))) rest h.2 in
     let t2 : List Token = after_first t1 in
-    let one = front_first t2 (numeral 1) (p1 ++ (p2 ++ p3)) rest name'.1 in
+    let one = prefix_first t2 (numeral 1) (p1 ++ (p2 ++ p3)) rest name'.1 in
     let t3 : List Token = after_first t2 in
-    let s1 = front_split t3 p1 (p2 ++ p3) rest one.1 in
-    let s2 = front_split s1.0 p2 p3 rest s1.2 in
+    let s1 = prefix_split t3 p1 (p2 ++ p3) rest one.1 in
+    let s2 = prefix_split s1.0 p2 p3 rest s1.2 in
     let ends_1 : NoSign (kind_of s1.0) = value_no_sign (kind_of s1.0) (value_begins n e2 s1.0 s2.0 s2.1) in
     let ends_2 : NoSign (kind_of s2.0) = value_no_sign (kind_of s2.0) (value_begins n e3 s2.0 rest s2.2) in
     let rule = unless_parts (head_fits (scope_of s) j x) (max j (suc r)) k c.reached in
@@ -139,11 +139,11 @@ switch_given true s e = ap (λ (k : Option TokenKind). switch_by k s) e
 switch_given false s e = ap (λ (k : Option TokenKind). switch_by k s) e
 
 -- a call on a crate without a switch
-crate_plain : (n : Names) (call : CrateCall) (line : ℕ) (e : Expression) (room : ℕ) (s : State) (rest : List Token) (j k m : ℕ) → Runs n s j k m room (reached_by (scope_of s) j (crate_call line call e)) (expression_depth e) 1 → Front (after_first s.rest) (phrase.expression n e ++ []) rest → NoSign (kind_of rest) → crate_action call room line s ≡ ok (crate_call line call e) (left_at n s rest k m)
+crate_plain : (n : Names) (call : CrateCall) (line : ℕ) (e : Expression) (room : ℕ) (s : State) (rest : List Token) (j k m : ℕ) → Runs n s j k m room (reached_by (scope_of s) j (crate_call line call e)) (expression_depth e) 1 → Prefix (after_first s.rest) (phrase.expression n e ++ []) rest → NoSign (kind_of rest) → crate_action call room line s ≡ ok (crate_call line call e) (left_at n s rest k m)
 unfolding crate_action
 crate_plain n call line e room s rest j k m c f ends =
-    let parts = front_split (after_first s.rest) (phrase.expression n e) [] rest f in
-    let g : Front (after_first s.rest) (phrase.expression n e) rest = subst (λ (ts : List Token). Front (after_first s.rest) (phrase.expression n e) ts) parts.2 parts.1 in
+    let parts = prefix_split (after_first s.rest) (phrase.expression n e) [] rest f in
+    let g : Prefix (after_first s.rest) (phrase.expression n e) rest = subst (λ (ts : List Token). Prefix (after_first s.rest) (phrase.expression n e) ts) parts.2 parts.1 in
     let r = unless_parts (head_fits (scope_of s) j (crate_call line call e)) j k c.reached in
     simple_given n (crate_call line call e) s rest j k m room _ _ (expression_at room >>= λ crate_no. give (crate_call line call crate_no)) c r.1
     (after (expression_at room (begun s)) _ e (at (begun s) rest) (expression_given n e room (begun s) rest c.finds r.0 c.deep g ends) refl)
@@ -152,13 +152,13 @@ switch_no_sign : (b : Bool) → NoSign (Some (kind.Keyword (cond b keyword.On ke
 switch_no_sign true = record { product = refl; sum = refl }
 switch_no_sign false = record { product = refl; sum = refl }
 
-crate_switched : (n : Names) (on off : CrateCall) (b : Bool) (line : ℕ) (e : Expression) (room : ℕ) (s : State) (rest : List Token) (j k m : ℕ) → Runs n s j k m room (reached_by (scope_of s) j (crate_call line (cond b on off) e)) (expression_depth e) 1 → Front (after_first s.rest) (phrase.expression n e ++ word (cond b keyword.On keyword.Off) ∷ []) rest → crate_switch on off room line s ≡ ok (crate_call line (cond b on off) e) (left_at n s rest k m)
+crate_switched : (n : Names) (on off : CrateCall) (b : Bool) (line : ℕ) (e : Expression) (room : ℕ) (s : State) (rest : List Token) (j k m : ℕ) → Runs n s j k m room (reached_by (scope_of s) j (crate_call line (cond b on off) e)) (expression_depth e) 1 → Prefix (after_first s.rest) (phrase.expression n e ++ word (cond b keyword.On keyword.Off) ∷ []) rest → crate_switch on off room line s ≡ ok (crate_call line (cond b on off) e) (left_at n s rest k m)
 unfolding crate_switch
 crate_switched n on off b line e room s rest j k m c f =
     let w : Keyword = cond b keyword.On keyword.Off in
-    let parts = front_split (after_first s.rest) (phrase.expression n e) (word w ∷ []) rest f in
+    let parts = prefix_split (after_first s.rest) (phrase.expression n e) (word w ∷ []) rest f in
     let us : List Token = parts.0 in
-    let h = front_first us (word w) [] rest parts.2 in
+    let h = prefix_first us (word w) [] rest parts.2 in
     let r = unless_parts (head_fits (scope_of s) j (crate_call line (cond b on off) e)) j k c.reached in
     simple_given n (crate_call line (cond b on off) e) s rest j k m room _ _ (expression_at room >>= λ crate_no. switch >>= λ is_on. give (crate_call line (cond is_on on off) crate_no)) c r.1
     (after (expression_at room (begun s)) _ e (at (begun s) us) (expression_given n e room (begun s) us c.finds r.0 c.deep parts.1 (no_sign (kind_of us) _ h.0 (switch_no_sign b)))
@@ -167,48 +167,48 @@ crate_switched n on off b line e room s rest j k m c f =
 pub crate_given : (n : Names) (line : ℕ) (call : CrateCall) (e : Expression) → IsGiven n (crate_call line call e)
 crate_given n line crate_word.Initialise e room s rest j k m c f ends =
     let ps : List Piece = phrase.expression n e ++ [] in
-    first_given line room (block_at room) (kind.Keyword keyword.Cccz) s ps rest f ∙ crate_plain n crate_word.Initialise line e room s rest j k m c (front_line s.rest s.end_line line (kind.Keyword keyword.Cccz) ps rest f).2 ends.signs
+    first_given line room (block_at room) (kind.Keyword keyword.Cccz) s ps rest f ∙ crate_plain n crate_word.Initialise line e room s rest j k m c (prefix_line s.rest s.end_line line (kind.Keyword keyword.Cccz) ps rest f).2 ends.signs
 crate_given n line crate_word.Clear e room s rest j k m c f ends =
     let ps : List Piece = phrase.expression n e ++ [] in
-    first_given line room (block_at room) (kind.Keyword keyword.Cccc) s ps rest f ∙ crate_plain n crate_word.Clear line e room s rest j k m c (front_line s.rest s.end_line line (kind.Keyword keyword.Cccc) ps rest f).2 ends.signs
+    first_given line room (block_at room) (kind.Keyword keyword.Cccc) s ps rest f ∙ crate_plain n crate_word.Clear line e room s rest j k m c (prefix_line s.rest s.end_line line (kind.Keyword keyword.Cccc) ps rest f).2 ends.signs
 crate_given n line crate_word.TestInhibit e room s rest j k m c f ends =
     let ps : List Piece = phrase.expression n e ++ [] in
-    first_given line room (block_at room) (kind.Keyword keyword.Ctci) s ps rest f ∙ crate_plain n crate_word.TestInhibit line e room s rest j k m c (front_line s.rest s.end_line line (kind.Keyword keyword.Ctci) ps rest f).2 ends.signs
+    first_given line room (block_at room) (kind.Keyword keyword.Ctci) s ps rest f ∙ crate_plain n crate_word.TestInhibit line e room s rest j k m c (prefix_line s.rest s.end_line line (kind.Keyword keyword.Ctci) ps rest f).2 ends.signs
 crate_given n line crate_word.TestDemandOutput e room s rest j k m c f ends =
     let ps : List Piece = phrase.expression n e ++ [] in
-    first_given line room (block_at room) (kind.Keyword keyword.Ctcd) s ps rest f ∙ crate_plain n crate_word.TestDemandOutput line e room s rest j k m c (front_line s.rest s.end_line line (kind.Keyword keyword.Ctcd) ps rest f).2 ends.signs
+    first_given line room (block_at room) (kind.Keyword keyword.Ctcd) s ps rest f ∙ crate_plain n crate_word.TestDemandOutput line e room s rest j k m c (prefix_line s.rest s.end_line line (kind.Keyword keyword.Ctcd) ps rest f).2 ends.signs
 crate_given n line crate_word.TestDemand e room s rest j k m c f ends =
     let ps : List Piece = phrase.expression n e ++ [] in
-    first_given line room (block_at room) (kind.Keyword keyword.Ctgl) s ps rest f ∙ crate_plain n crate_word.TestDemand line e room s rest j k m c (front_line s.rest s.end_line line (kind.Keyword keyword.Ctgl) ps rest f).2 ends.signs
+    first_given line room (block_at room) (kind.Keyword keyword.Ctgl) s ps rest f ∙ crate_plain n crate_word.TestDemand line e room s rest j k m c (prefix_line s.rest s.end_line line (kind.Keyword keyword.Ctgl) ps rest f).2 ends.signs
 crate_given n line crate_word.InhibitOn e room s rest j k m c f ends =
     let ps : List Piece = phrase.expression n e ++ word keyword.On ∷ [] in
-    first_given line room (block_at room) (kind.Keyword keyword.Ccci) s ps rest f ∙ crate_switched n crate_word.InhibitOn crate_word.InhibitOff true line e room s rest j k m c (front_line s.rest s.end_line line (kind.Keyword keyword.Ccci) ps rest f).2
+    first_given line room (block_at room) (kind.Keyword keyword.Ccci) s ps rest f ∙ crate_switched n crate_word.InhibitOn crate_word.InhibitOff true line e room s rest j k m c (prefix_line s.rest s.end_line line (kind.Keyword keyword.Ccci) ps rest f).2
 crate_given n line crate_word.InhibitOff e room s rest j k m c f ends =
     let ps : List Piece = phrase.expression n e ++ word keyword.Off ∷ [] in
-    first_given line room (block_at room) (kind.Keyword keyword.Ccci) s ps rest f ∙ crate_switched n crate_word.InhibitOn crate_word.InhibitOff false line e room s rest j k m c (front_line s.rest s.end_line line (kind.Keyword keyword.Ccci) ps rest f).2
+    first_given line room (block_at room) (kind.Keyword keyword.Ccci) s ps rest f ∙ crate_switched n crate_word.InhibitOn crate_word.InhibitOff false line e room s rest j k m c (prefix_line s.rest s.end_line line (kind.Keyword keyword.Ccci) ps rest f).2
 crate_given n line crate_word.DemandOn e room s rest j k m c f ends =
     let ps : List Piece = phrase.expression n e ++ word keyword.On ∷ [] in
-    first_given line room (block_at room) (kind.Keyword keyword.Cccd) s ps rest f ∙ crate_switched n crate_word.DemandOn crate_word.DemandOff true line e room s rest j k m c (front_line s.rest s.end_line line (kind.Keyword keyword.Cccd) ps rest f).2
+    first_given line room (block_at room) (kind.Keyword keyword.Cccd) s ps rest f ∙ crate_switched n crate_word.DemandOn crate_word.DemandOff true line e room s rest j k m c (prefix_line s.rest s.end_line line (kind.Keyword keyword.Cccd) ps rest f).2
 crate_given n line crate_word.DemandOff e room s rest j k m c f ends =
     let ps : List Piece = phrase.expression n e ++ word keyword.Off ∷ [] in
-    first_given line room (block_at room) (kind.Keyword keyword.Cccd) s ps rest f ∙ crate_switched n crate_word.DemandOn crate_word.DemandOff false line e room s rest j k m c (front_line s.rest s.end_line line (kind.Keyword keyword.Cccd) ps rest f).2
+    first_given line room (block_at room) (kind.Keyword keyword.Cccd) s ps rest f ∙ crate_switched n crate_word.DemandOn crate_word.DemandOff false line e room s rest j k m c (prefix_line s.rest s.end_line line (kind.Keyword keyword.Cccd) ps rest f).2
 
-lam_plain : (n : Names) (call : LamCall) (line l room : ℕ) (s : State) (rest : List Token) (j k m : ℕ) → Runs n s j k m room (reached_by (scope_of s) j (lam_call line call l)) 0 1 → Front (after_first s.rest) (name_at n.lams l ∷ []) rest → lam_action call line s ≡ ok (lam_call line call l) (left_at n s rest k m)
+lam_plain : (n : Names) (call : LamCall) (line l room : ℕ) (s : State) (rest : List Token) (j k m : ℕ) → Runs n s j k m room (reached_by (scope_of s) j (lam_call line call l)) 0 1 → Prefix (after_first s.rest) (name_at n.lams l ∷ []) rest → lam_action call line s ≡ ok (lam_call line call l) (left_at n s rest k m)
 unfolding lam_action
 lam_plain n call line l room s rest j k m c f =
-    let h = front_first (after_first s.rest) (name_at n.lams l) [] rest f in
+    let h = prefix_first (after_first s.rest) (name_at n.lams l) [] rest f in
     let r = unless_parts (head_fits (scope_of s) j (lam_call line call l)) j k c.reached in
     simple_given n (lam_call line call l) s rest j k m room _ _ (used_lam >>= λ lam. give (lam_call line call lam)) c r.1
     (after (used_lam (begun s)) _ l (at (begun s) (after_first (after_first s.rest))) (lam_given n (begun s) l c.finds r.0 h.0) (left (lam_call line call l) (begun s) (after_first (after_first s.rest)) rest h.1))
 
-lam_switched : (n : Names) (b : Bool) (line l room : ℕ) (s : State) (rest : List Token) (j k m : ℕ) → Runs n s j k m room (reached_by (scope_of s) j (lam_call line (cond b lam_word.Enable lam_word.Disable) l)) 0 1 → Front (after_first s.rest) (name_at n.lams l ∷ word (cond b keyword.On keyword.Off) ∷ []) rest → lam_switch line s ≡ ok (lam_call line (cond b lam_word.Enable lam_word.Disable) l) (left_at n s rest k m)
+lam_switched : (n : Names) (b : Bool) (line l room : ℕ) (s : State) (rest : List Token) (j k m : ℕ) → Runs n s j k m room (reached_by (scope_of s) j (lam_call line (cond b lam_word.Enable lam_word.Disable) l)) 0 1 → Prefix (after_first s.rest) (name_at n.lams l ∷ word (cond b keyword.On keyword.Off) ∷ []) rest → lam_switch line s ≡ ok (lam_call line (cond b lam_word.Enable lam_word.Disable) l) (left_at n s rest k m)
 unfolding lam_switch
 lam_switched n b line l room s rest j k m c f =
     let call : LamCall = cond b lam_word.Enable lam_word.Disable in
     let w : Keyword = cond b keyword.On keyword.Off in
-    let h = front_first (after_first s.rest) (name_at n.lams l) (word w ∷ []) rest f in
+    let h = prefix_first (after_first s.rest) (name_at n.lams l) (word w ∷ []) rest f in
     let ts : List Token = after_first (after_first s.rest) in
-    let g = front_first ts (word w) [] rest h.1 in
+    let g = prefix_first ts (word w) [] rest h.1 in
     let r = unless_parts (head_fits (scope_of s) j (lam_call line call l)) j k c.reached in
     simple_given n (lam_call line call l) s rest j k m room _ _ (used_lam >>= λ lam. switch >>= λ is_on. give (lam_call line (cond is_on lam_word.Enable lam_word.Disable) lam)) c r.1
     (after (used_lam (begun s)) _ l (at (begun s) ts) (lam_given n (begun s) l c.finds r.0 h.0)
@@ -217,13 +217,13 @@ lam_switched n b line l room s rest j k m c f =
 pub lam_call_given : (n : Names) (line : ℕ) (call : LamCall) (l : ℕ) → IsGiven n (lam_call line call l)
 lam_call_given n line lam_word.Clear l room s rest j k m c f ends =
     let ps : List Piece = name_at n.lams l ∷ [] in
-    first_given line room (block_at room) (kind.Keyword keyword.Cclc) s ps rest f ∙ lam_plain n lam_word.Clear line l room s rest j k m c (front_line s.rest s.end_line line (kind.Keyword keyword.Cclc) ps rest f).2
+    first_given line room (block_at room) (kind.Keyword keyword.Cclc) s ps rest f ∙ lam_plain n lam_word.Clear line l room s rest j k m c (prefix_line s.rest s.end_line line (kind.Keyword keyword.Cclc) ps rest f).2
 lam_call_given n line lam_word.Test l room s rest j k m c f ends =
     let ps : List Piece = name_at n.lams l ∷ [] in
-    first_given line room (block_at room) (kind.Keyword keyword.Ctlm) s ps rest f ∙ lam_plain n lam_word.Test line l room s rest j k m c (front_line s.rest s.end_line line (kind.Keyword keyword.Ctlm) ps rest f).2
+    first_given line room (block_at room) (kind.Keyword keyword.Ctlm) s ps rest f ∙ lam_plain n lam_word.Test line l room s rest j k m c (prefix_line s.rest s.end_line line (kind.Keyword keyword.Ctlm) ps rest f).2
 lam_call_given n line lam_word.Enable l room s rest j k m c f ends =
     let ps : List Piece = name_at n.lams l ∷ word keyword.On ∷ [] in
-    first_given line room (block_at room) (kind.Keyword keyword.Cclm) s ps rest f ∙ lam_switched n true line l room s rest j k m c (front_line s.rest s.end_line line (kind.Keyword keyword.Cclm) ps rest f).2
+    first_given line room (block_at room) (kind.Keyword keyword.Cclm) s ps rest f ∙ lam_switched n true line l room s rest j k m c (prefix_line s.rest s.end_line line (kind.Keyword keyword.Cclm) ps rest f).2
 lam_call_given n line lam_word.Disable l room s rest j k m c f ends =
     let ps : List Piece = name_at n.lams l ∷ word keyword.Off ∷ [] in
-    first_given line room (block_at room) (kind.Keyword keyword.Cclm) s ps rest f ∙ lam_switched n false line l room s rest j k m c (front_line s.rest s.end_line line (kind.Keyword keyword.Cclm) ps rest f).2
+    first_given line room (block_at room) (kind.Keyword keyword.Cclm) s ps rest f ∙ lam_switched n false line l room s rest j k m c (prefix_line s.rest s.end_line line (kind.Keyword keyword.Cclm) ps rest f).2

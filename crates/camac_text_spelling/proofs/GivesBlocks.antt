@@ -12,16 +12,16 @@ use Rattle.camac_text_statements.specs.Statements.{statement_with, is_no_end, bl
 use Rattle.camac_text_cursor.proofs.Steps.{while_off}
 use Rattle.camac_text_cursor.proofs.Uses.{scope_of}
 use Rattle.camac_text_statements.proofs.Bodies.{statements_progress}
-use Rattle.camac_text_spelling.specs.Pieces.{Names, Front}
+use Rattle.camac_text_spelling.specs.Pieces.{Names, Prefix}
 use Rattle.camac_text_spelling.specs.Statements as spell
-use Rattle.camac_text_spelling.proofs.Fronts.{front_split}
+use Rattle.camac_text_spelling.proofs.Prefixes.{prefix_split}
 use Rattle.camac_text_spelling.proofs.Gives.{ok, after, while_turn, left}
 use Rattle.camac_text_spelling.proofs.Runs.{Runs, left_at, listed}
 use Rattle.camac_text_spelling.proofs.Opens.{statement_opens, block_ends}
 use Rattle.camac_text_spelling.proofs.GivesActions.{IsGiven, assignment_given, setting_given, single_given, put_given, crate_given, lam_call_given}
-use Rattle.camac_text_spelling.proofs.GivesTransfers.{scan_given, stop_given, repeat_transfer_given}
+use Rattle.camac_text_spelling.proofs.GivesTransfers.{scan_given, stop_given, q_repeat_given}
 use Rattle.camac_text_spelling.proofs.GivesStatements.{AreGiven, RunsBraced, braced_given, choose_given, choose_else_given, locked_given}
-use Rattle.camac_text_spelling.proofs.GivesLoops.{count_given, repeat_given}
+use Rattle.camac_text_spelling.proofs.GivesLoops.{count_given, while_given}
 use Rattle.camac_text_spelling.proofs.GivesCalls.{call_given}
 
 done_given : (n : Names) → AreGiven n done
@@ -40,7 +40,7 @@ done_given n room acc s rest j k m c f brace =
 
 next_given : (n : Names) (x : Statement) (b : Block) → IsGiven n x → AreGiven n b → AreGiven n (next x b)
 next_given n x b first others room acc s rest j k m c f brace =
-    let parts = front_split s.rest (spell.statement n x) (spell.block n b) rest f in
+    let parts = prefix_split s.rest (spell.statement n x) (spell.block n b) rest f in
     let us : List Token = parts.0 in
     let p = then_parts (λ i. after_block (scope_of s) i b) (reached_by (scope_of s) j x) k c.reached in
     let grows : p.0 ≤ k = block_grows (scope_of s) p.0 k b p.2 in
@@ -81,14 +81,14 @@ mutual
   statement_given n (single line size f r d) = single_given n line size f r d
   statement_given n (address_scan line f r1 r2 e x) = scan_given n line f r1 r2 e x
   statement_given n (q_stop line f r g e x) = stop_given n line f r g e x
-  statement_given n (q_repeat line f r g e l x) = repeat_transfer_given n line f r g e l x
+  statement_given n (q_repeat line f r g e l x) = q_repeat_given n line f r g e l x
   statement_given n (put line e) = put_given n line e
   statement_given n (crate_call line k e) = crate_given n line k e
   statement_given n (lam_call line k l) = lam_call_given n line k l
   statement_given n (choose line c a) = choose_given n line c a (block_given n a)
   statement_given n (choose_else line c a b) = choose_else_given n line c a b (block_given n a) (block_given n b)
   statement_given n (for_ line x e1 e2 ks b) = count_given n line x e1 e2 ks b (block_given n b)
-  statement_given n (while_ line c t x ks b) = repeat_given n line c t x ks b (block_given n b)
+  statement_given n (while_ line c t x ks b) = while_given n line c t x ks b (block_given n b)
   statement_given n (locked line e b) = locked_given n line e b (block_given n b)
   statement_given n (call line p es) = call_given n line p es
 
@@ -97,5 +97,5 @@ mutual
   block_given n (next x b) = next_given n x b (statement_given n x) (block_given n b)
 
 -- a body in its braces
-pub body_given : (n : Names) (b : Block) (room : ℕ) (s : State) (rest : List Token) (j k m : ℕ) → RunsBraced n s j k m room b → Front s.rest (spell.braced (spell.block n b)) rest → block_at room s ≡ ok (listed b) (left_at n s rest k m)
+pub body_given : (n : Names) (b : Block) (room : ℕ) (s : State) (rest : List Token) (j k m : ℕ) → RunsBraced n s j k m room b → Prefix s.rest (spell.braced (spell.block n b)) rest → block_at room s ≡ ok (listed b) (left_at n s rest k m)
 body_given n b room s rest j k m c f = braced_given n b (block_given n b) room s rest j k m c f

@@ -25,9 +25,9 @@ use Rattle.camac_text_statements.specs.Statements.{block_at}
 use Rattle.camac_text_cursor.proofs.Uses.{scope_of}
 use Rattle.camac_text_statements.proofs.Acts.{begun}
 use Rattle.camac_text_cursor.proofs.Registers.{first_of_both, second_of_both}
-use Rattle.camac_text_spelling.specs.Pieces.{Piece, sign, others, separated, text_at, name_at, Names, Front}
+use Rattle.camac_text_spelling.specs.Pieces.{Piece, sign, others, separated, text_at, name_at, Names, Prefix}
 use Rattle.camac_text_spelling.specs.Phrases as phrase
-use Rattle.camac_text_spelling.proofs.Fronts.{front_split, front_first, front_line}
+use Rattle.camac_text_spelling.proofs.Prefixes.{prefix_split, prefix_first, prefix_line}
 use Rattle.camac_text_spelling.proofs.Gives.{at, ok, after, checked, left, expected_sign, name_seen, known_given, FindsAll}
 use Rattle.camac_text_spelling.proofs.GivesExpressions.{NoSign, expression_given}
 use Rattle.camac_text_spelling.proofs.GivesPhrases.{no_sign}
@@ -50,19 +50,19 @@ called_given room s p q found deep =
 -- ---- arguments
 
 -- the sign after an argument
-argument_ends : (n : Names) (es : List Expression) (ts rest : List Token) → Front ts (others (sign mark.Comma) (phrase.expression n) es) rest → NoSign (kind_of rest) → NoSign (kind_of ts)
+argument_ends : (n : Names) (es : List Expression) (ts rest : List Token) → Prefix ts (others (sign mark.Comma) (phrase.expression n) es) rest → NoSign (kind_of rest) → NoSign (kind_of ts)
 argument_ends n [] ts rest f ends = subst (λ (w : List Token). NoSign (kind_of w)) (sym f) ends
-argument_ends n (e ∷ es) ts rest f ends = no_sign (kind_of ts) _ (front_first ts (sign mark.Comma) (phrase.expression n e ++ others (sign mark.Comma) (phrase.expression n) es) rest f).0 (record { product = refl; sum = refl })
+argument_ends n (e ∷ es) ts rest f ends = no_sign (kind_of ts) _ (prefix_first ts (sign mark.Comma) (phrase.expression n e ++ others (sign mark.Comma) (phrase.expression n) es) rest f).0 (record { product = refl; sum = refl })
 
 -- those after the first
-others_read : (n : Names) (first : Expression) (before es : List Expression) (room : ℕ) (s : State) (rest : List Token) → FindsAll n s → each (expression_fits (scope_of s)) es ≡ true → most expression_depth es ≤ room → Front s.rest (others (sign mark.Comma) (phrase.expression n) es) rest → NoSign (kind_of rest) → more_arguments room (length es) (first ∷ before) s ≡ ok (first ∷ (before ++ es)) (at s rest)
+others_read : (n : Names) (first : Expression) (before es : List Expression) (room : ℕ) (s : State) (rest : List Token) → FindsAll n s → each (expression_fits (scope_of s)) es ≡ true → most expression_depth es ≤ room → Prefix s.rest (others (sign mark.Comma) (phrase.expression n) es) rest → NoSign (kind_of rest) → more_arguments room (length es) (first ∷ before) s ≡ ok (first ∷ (before ++ es)) (at s rest)
 unfolding more_arguments
 others_read n first before [] room s rest finds fit deep f ends =
     ap (λ (xs : List Expression). ok (first ∷ xs) s) (sym (append-nil before)) ∙ left (first ∷ (before ++ [])) s s.rest rest f
 others_read n first before (e ∷ es) room s rest finds fit deep f ends =
-    let m = front_split s.rest (sign mark.Comma ∷ phrase.expression n e) (others (sign mark.Comma) (phrase.expression n) es) rest f in
+    let m = prefix_split s.rest (sign mark.Comma ∷ phrase.expression n e) (others (sign mark.Comma) (phrase.expression n) es) rest f in
     let us : List Token = m.0 in
-    let h = front_first s.rest (sign mark.Comma) (phrase.expression n e) us m.1 in
+    let h = prefix_first s.rest (sign mark.Comma) (phrase.expression n e) us m.1 in
     let t : State = at s (after_first s.rest) in
     let deep_e : expression_depth e ≤ room = omega arith in
     let deep_es : most expression_depth es ≤ room = omega arith in
@@ -72,11 +72,11 @@ others_read n first before (e ∷ es) room s rest finds fit deep f ends =
     (others_read n first (before ++ e ∷ []) es room (at s us) rest finds (second_of_both (expression_fits (scope_of s) e) _ fit) deep_es m.2 ends
     ∙ ap (λ (xs : List Expression). ok (first ∷ xs) (at s rest)) (append_assoc before (e ∷ []) es))
 
-arguments_read : (n : Names) (es : List Expression) (room : ℕ) (s : State) (rest : List Token) → FindsAll n s → each (expression_fits (scope_of s)) es ≡ true → most expression_depth es ≤ room → Front s.rest (separated (sign mark.Comma) (phrase.expression n) es) rest → NoSign (kind_of rest) → more_arguments room (length es) [] s ≡ ok es (at s rest)
+arguments_read : (n : Names) (es : List Expression) (room : ℕ) (s : State) (rest : List Token) → FindsAll n s → each (expression_fits (scope_of s)) es ≡ true → most expression_depth es ≤ room → Prefix s.rest (separated (sign mark.Comma) (phrase.expression n) es) rest → NoSign (kind_of rest) → more_arguments room (length es) [] s ≡ ok es (at s rest)
 unfolding more_arguments
 arguments_read n [] room s rest finds fit deep f ends = left [] s s.rest rest f
 arguments_read n (e ∷ es) room s rest finds fit deep f ends =
-    let m = front_split s.rest (phrase.expression n e) (others (sign mark.Comma) (phrase.expression n) es) rest f in
+    let m = prefix_split s.rest (phrase.expression n e) (others (sign mark.Comma) (phrase.expression n) es) rest f in
     let us : List Token = m.0 in
     let deep_e : expression_depth e ≤ room = omega arith in
     let deep_es : most expression_depth es ≤ room = omega arith in
@@ -86,16 +86,16 @@ arguments_read n (e ∷ es) room s rest finds fit deep f ends =
 abbrev bracketed : Names → List Expression → List Piece
 bracketed n es = sign mark.LeftBracket ∷ (separated (sign mark.Comma) (phrase.expression n) es ++ sign mark.RightBracket ∷ [])
 
-arguments_given : (n : Names) (es : List Expression) (room : ℕ) (s : State) (rest : List Token) → FindsAll n s → each (expression_fits (scope_of s)) es ≡ true → suc (most expression_depth es) ≤ room → Front s.rest (bracketed n es) rest → arguments_at room (length es) s ≡ ok es (at s rest)
+arguments_given : (n : Names) (es : List Expression) (room : ℕ) (s : State) (rest : List Token) → FindsAll n s → each (expression_fits (scope_of s)) es ≡ true → suc (most expression_depth es) ≤ room → Prefix s.rest (bracketed n es) rest → arguments_at room (length es) s ≡ ok es (at s rest)
 unfolding arguments_at
 arguments_given n es zero s rest finds fit deep f = absurd (omega arith)
 arguments_given n es (suc room) s rest finds fit deep f =
     let ps : List Piece = separated (sign mark.Comma) (phrase.expression n) es in
-    let h = front_first s.rest (sign mark.LeftBracket) (ps ++ sign mark.RightBracket ∷ []) rest f in
+    let h = prefix_first s.rest (sign mark.LeftBracket) (ps ++ sign mark.RightBracket ∷ []) rest f in
     let t : State = at s (after_first s.rest) in
-    let m = front_split (after_first s.rest) ps (sign mark.RightBracket ∷ []) rest h.1 in
+    let m = prefix_split (after_first s.rest) ps (sign mark.RightBracket ∷ []) rest h.1 in
     let us : List Token = m.0 in
-    let g = front_first us (sign mark.RightBracket) [] rest m.2 in
+    let g = prefix_first us (sign mark.RightBracket) [] rest m.2 in
     let within : most expression_depth es ≤ room = omega arith in
     after (expect_sign mark.LeftBracket s) _ tt t (expected_sign mark.LeftBracket s h.0)
     (after (more_arguments room (length es) [] t) _ es (at s us) (arguments_read n es room t us finds fit within m.1 (no_sign (kind_of us) _ g.0 (record { product = refl; sum = refl })))
@@ -113,9 +113,9 @@ unfolding call_statement
 call_given n line p es room s rest j k m c f ends =
     let x : Statement = call line p es in
     let ps : List Piece = name_at n.procedures p ∷ bracketed n es in
-    let h = front_line s.rest s.end_line line (kind.Keyword keyword.Call) ps rest f in
+    let h = prefix_line s.rest s.end_line line (kind.Keyword keyword.Call) ps rest f in
     let t1 : List Token = after_first s.rest in
-    let named = front_first t1 (name_at n.procedures p) (bracketed n es) rest h.2 in
+    let named = prefix_first t1 (name_at n.procedures p) (bracketed n es) rest h.2 in
     let t2 : List Token = after_first t1 in
     let r = unless_parts (head_fits (scope_of s) j x) j k c.reached in
     let called_one = has_there (slice_get s.callables p) (λ q. nat_eq q.parameters (length es)) (first_of_both (has (slice_get s.callables p) (λ q. nat_eq q.parameters (length es))) _ r.0) in

@@ -16,11 +16,11 @@ use Rattle.camac_text.specs.Declarations.{with_lam, lam_declaration, one_more_va
 use Rattle.camac_text_cursor.proofs.Steps.{while_off}
 use Rattle.camac_text_cursor.proofs.Registers.{first_of_both, second_of_both}
 use Rattle.camac_text.proofs.Variables.{variables_progress}
-use Rattle.camac_text.proofs.Listed.{new_same, front_or_behind}
-use Rattle.camac_text_spelling.specs.Pieces.{Piece, first_piece, word, numeral, name, name_at, Names, Front}
+use Rattle.camac_text.proofs.Listed.{new_same, prefix_or_after}
+use Rattle.camac_text_spelling.specs.Pieces.{Piece, first_piece, word, numeral, name, name_at, Names, Prefix}
 use Rattle.camac_text_spelling.specs.Declarations as spell
 use Rattle.camac_text_spelling.specs.Statements.{braced, block}
-use Rattle.camac_text_spelling.proofs.Fronts.{front_first, front_line}
+use Rattle.camac_text_spelling.proofs.Prefixes.{prefix_first, prefix_line}
 use Rattle.camac_text_spelling.proofs.Gives.{at, ok, after, checked, while_turn, expected, number_given, branch_given, sub_address_given, new_name_seen, lam_given}
 use Rattle.camac_text_spelling.proofs.Fresh.{take_all}
 use Rattle.camac_text_spelling.proofs.Runs.{left_at, listed, block_of_listed}
@@ -28,32 +28,32 @@ use Rattle.camac_text_spelling.proofs.GivesStatements.{RunsBraced}
 use Rattle.camac_text_spelling.proofs.GivesBlocks.{body_given}
 
 -- how a declaration begins
-pub first_given : (line : ℕ) (k : TokenKind) (s : State) (ps : List Piece) (rest : List Token) → Front s.rest (first_piece line k ∷ ps) rest → declaration_at s ≡ declaration_by line (Some k) s
+pub first_given : (line : ℕ) (k : TokenKind) (s : State) (ps : List Piece) (rest : List Token) → Prefix s.rest (first_piece line k ∷ ps) rest → declaration_at s ≡ declaration_by line (Some k) s
 unfolding declaration_at
 first_given line k s ps rest f =
-    let h = front_line s.rest s.end_line line k ps rest f in
+    let h = prefix_line s.rest s.end_line line k ps rest f in
     ap (λ (l : ℕ). declaration_by l (kind_of s.rest) s) h.1 ∙ ap (λ (o : Option TokenKind). declaration_by line o s) h.0
 
 -- ---- a LAM
 
-pub lam_declared : (l : Lam) (s : State) (rest : List Token) → length s.lams < 64 → is_new l.name s.declared ≡ true → nat_lt l.sub_address 16 ≡ true → Front s.rest (spell.lam_declaration l) rest → declaration_at s ≡ ok tt (with_lam l (at s rest))
+pub lam_declared : (l : Lam) (s : State) (rest : List Token) → length s.lams < 64 → is_new l.name s.declared ≡ true → nat_lt l.sub_address 16 ≡ true → Prefix s.rest (spell.lam_declaration l) rest → declaration_at s ≡ ok tt (with_lam l (at s rest))
 unfolding lam_declaration
 lam_declared l s rest room new below f =
     let q4 : List Piece = numeral l.sub_address ∷ [] in
     let q3 : List Piece = numeral l.station ∷ q4 in
     let q2 : List Piece = numeral l.crate_no ∷ q3 in
     let q1 : List Piece = numeral 1 ∷ q2 in
-    let h = front_line s.rest s.end_line l.line (kind.Keyword keyword.Cdlam) (name l.name ∷ q1) rest f in
+    let h = prefix_line s.rest s.end_line l.line (kind.Keyword keyword.Cdlam) (name l.name ∷ q1) rest f in
     let t1 : List Token = after_first s.rest in
-    let f1 = front_first t1 (name l.name) q1 rest h.2 in
+    let f1 = prefix_first t1 (name l.name) q1 rest h.2 in
     let t2 : List Token = after_first t1 in
-    let f2 = front_first t2 (numeral 1) q2 rest f1.1 in
+    let f2 = prefix_first t2 (numeral 1) q2 rest f1.1 in
     let t3 : List Token = after_first t2 in
-    let f3 = front_first t3 (numeral l.crate_no) q3 rest f2.1 in
+    let f3 = prefix_first t3 (numeral l.crate_no) q3 rest f2.1 in
     let t4 : List Token = after_first t3 in
-    let f4 = front_first t4 (numeral l.station) q4 rest f3.1 in
+    let f4 = prefix_first t4 (numeral l.station) q4 rest f3.1 in
     let t5 : List Token = after_first t4 in
-    let f5 = front_first t5 (numeral l.sub_address) [] rest f4.1 in
+    let f5 = prefix_first t5 (numeral l.sub_address) [] rest f4.1 in
     first_given l.line (kind.Keyword keyword.Cdlam) s (name l.name ∷ q1) rest f
     ∙ checked (nat_lt (length s.lams) 64) LimitPassed _ s (lt-ltb (length s.lams) 64 room)
     (after (new_name (at s t1)) _ l.name (at s t1) (new_name_seen (at s t1) l.name f1.0 new)
@@ -90,9 +90,9 @@ no_names s rest same =
     ∙ ap (λ (i : ℕ). record s { rest = rest; variables = s.variables ++ []; variable_count = i }) no_more
     ∙ ap (λ (xs : List Text). record s { rest = rest; variables = s.variables ++ []; variable_count = s.variable_count + 0; declared = xs }) (sym (append-nil s.declared))
 
--- new after one more name as in front of it
+-- new after one more name as before it
 pub new_after : (x : Text) (xs ds : List Text) → are_new xs (x ∷ ds) ≡ true → are_new xs (ds ++ x ∷ []) ≡ true
-new_after x xs ds e = new_same xs (ds ++ x ∷ []) (x ∷ ds) (λ z. sym (front_or_behind (x ∷ []) ds ds (λ y. refl) z)) ∙ e
+new_after x xs ds e = new_same xs (ds ++ x ∷ []) (x ∷ ds) (λ z. sym (prefix_or_after (x ∷ []) ds ds (λ y. refl) z)) ∙ e
 
 -- one name and then others
 pub names_joined : (s : State) (between rest : List Token) (x : Text) (xs : List Text) → with_names (with_names s between (x ∷ [])) rest xs ≡ with_names s rest (x ∷ xs)
@@ -102,13 +102,13 @@ names_joined s between rest x xs =
     ∙ ap (λ (i : ℕ). record s { rest = rest; variables = s.variables ++ x ∷ xs; variable_count = i; declared = (s.declared ++ x ∷ []) ++ xs }) many
     ∙ ap (λ (ys : List Text). record s { rest = rest; variables = s.variables ++ x ∷ xs; variable_count = s.variable_count + suc (length xs); declared = ys }) (append_assoc s.declared (x ∷ []) xs)
 
-names_declared : (xs : List Text) (counted : ℕ) (s : State) (rest : List Token) → are_new xs s.declared ≡ true → s.variable_count + length xs ≤ 64 → Front s.rest (map name xs) rest → is_name (kind_of rest) ≡ false → while_next is_name one_more_variable counted s ≡ ok (counted + length xs) (with_names s rest xs)
+names_declared : (xs : List Text) (counted : ℕ) (s : State) (rest : List Token) → are_new xs s.declared ≡ true → s.variable_count + length xs ≤ 64 → Prefix s.rest (map name xs) rest → is_name (kind_of rest) ≡ false → while_next is_name one_more_variable counted s ≡ ok (counted + length xs) (with_names s rest xs)
 names_declared [] counted s rest new room f off =
     while_off is_name one_more_variable counted s (ap (λ (ts : List Token). is_name (kind_of ts)) f ∙ off)
     ∙ ap (λ (i : ℕ). ok i s) (let zero_more : counted ≡ counted + 0 = omega arith in zero_more)
     ∙ ap (λ (w : State). ok (counted + 0) w) (no_names s rest f)
 names_declared (x ∷ xs) counted s rest new room f off =
-    let h = front_first s.rest (name x) (map name xs) rest f in
+    let h = prefix_first s.rest (name x) (map name xs) rest f in
     let u : State = with_names s (after_first s.rest) (x ∷ []) in
     let total : (counted + 1) + length xs ≡ counted + suc (length xs) = omega arith in
     while_turn is_name one_more_variable variables_progress counted s (counted + 1) u (ap is_name h.0)
@@ -117,13 +117,13 @@ names_declared (x ∷ xs) counted s rest new room f off =
     ∙ ap (λ (i : ℕ). ok i (with_names u rest xs)) total
     ∙ ap (λ (w : State). ok (counted + suc (length xs)) w) (names_joined s (after_first s.rest) rest x xs))
 
-pub variables_declared : (line n : ℕ) (xs : List Text) (s : State) (rest : List Token) → 1 ≤ n → length xs ≡ n → are_new xs s.declared ≡ true → s.variable_count + length xs ≤ 64 → Front s.rest (spell.variable_declaration line xs) rest → is_name (kind_of rest) ≡ false → declaration_at s ≡ ok tt (with_variables_of line n (with_names s rest xs))
+pub variables_declared : (line n : ℕ) (xs : List Text) (s : State) (rest : List Token) → 1 ≤ n → length xs ≡ n → are_new xs s.declared ≡ true → s.variable_count + length xs ≤ 64 → Prefix s.rest (spell.variable_declaration line xs) rest → is_name (kind_of rest) ≡ false → declaration_at s ≡ ok tt (with_variables_of line n (with_names s rest xs))
 unfolding variable_declaration
 variables_declared line n [] s rest some many new room f off = absurd (omega arith)
 variables_declared line n (x ∷ xs) s rest some many new room f off =
-    let h = front_line s.rest s.end_line line (kind.Keyword keyword.Var) (map name (x ∷ xs)) rest f in
+    let h = prefix_line s.rest s.end_line line (kind.Keyword keyword.Var) (map name (x ∷ xs)) rest f in
     let t1 : List Token = after_first s.rest in
-    let f1 = front_first t1 (name x) (map name xs) rest h.2 in
+    let f1 = prefix_first t1 (name x) (map name xs) rest h.2 in
     let u : State = with_names s (after_first t1) (x ∷ []) in
     let is_n : 1 + length xs ≡ n = omega arith in
     first_given line (kind.Keyword keyword.Var) s (map name (x ∷ xs)) rest f
@@ -138,7 +138,7 @@ variables_declared line n (x ∷ xs) s rest some many new room f off =
 abbrev pub with_body : State → List Token → Service → ℕ → State
 with_body s rest v m = record s { rest = rest; services = s.services ++ v ∷ []; registers = []; statements = m; order = s.order ++ next_service ∷ [] }
 
-pub service_declared : (t : Script) (v : Service) (s : State) (rest : List Token) (m : ℕ) → length s.services < 24 → nat_lt v.lam (length s.lams) ≡ true → RunsBraced (spell.service_names t v) s 0 (length v.registers) m 16 v.body → Front s.rest (spell.service_declaration t v) rest → declaration_at s ≡ ok tt (with_body s rest v m)
+pub service_declared : (t : Script) (v : Service) (s : State) (rest : List Token) (m : ℕ) → length s.services < 24 → nat_lt v.lam (length s.lams) ≡ true → RunsBraced (spell.service_names t v) s 0 (length v.registers) m 16 v.body → Prefix s.rest (spell.service_declaration t v) rest → declaration_at s ≡ ok tt (with_body s rest v m)
 unfolding service_declaration
 service_declared t v s rest m room lam_fits c f =
     let n : Names = spell.service_names t v in
@@ -150,21 +150,21 @@ service_declared t v s rest m room lam_fits c f =
     let q3 : List Piece = numeral v.cycles ∷ q4 in
     let q2 : List Piece = word keyword.Within ∷ q3 in
     let q1 : List Piece = name_at n.lams v.lam ∷ q2 in
-    let h = front_line s.rest s.end_line v.line (kind.Keyword keyword.Service) q1 rest f in
+    let h = prefix_line s.rest s.end_line v.line (kind.Keyword keyword.Service) q1 rest f in
     let t1 : List Token = after_first s.rest in
-    let f1 = front_first t1 (name_at n.lams v.lam) q2 rest h.2 in
+    let f1 = prefix_first t1 (name_at n.lams v.lam) q2 rest h.2 in
     let t2 : List Token = after_first t1 in
-    let f2 = front_first t2 (word keyword.Within) q3 rest f1.1 in
+    let f2 = prefix_first t2 (word keyword.Within) q3 rest f1.1 in
     let t3 : List Token = after_first t2 in
-    let f3 = front_first t3 (numeral v.cycles) q4 rest f2.1 in
+    let f3 = prefix_first t3 (numeral v.cycles) q4 rest f2.1 in
     let t4 : List Token = after_first t3 in
-    let f4 = front_first t4 (word keyword.Cycles) q5 rest f3.1 in
+    let f4 = prefix_first t4 (word keyword.Cycles) q5 rest f3.1 in
     let t5 : List Token = after_first t4 in
-    let f5 = front_first t5 (word keyword.Event) q6 rest f4.1 in
+    let f5 = prefix_first t5 (word keyword.Event) q6 rest f4.1 in
     let t6 : List Token = after_first t5 in
-    let f6 = front_first t6 (numeral v.words) q7 rest f5.1 in
+    let f6 = prefix_first t6 (numeral v.words) q7 rest f5.1 in
     let t7 : List Token = after_first t6 in
-    let f7 = front_first t7 (word keyword.Words) q8 rest f6.1 in
+    let f7 = prefix_first t7 (word keyword.Words) q8 rest f6.1 in
     let t8 : List Token = after_first t7 in
     let inside : RunsBraced n (at s t8) 0 (length v.registers) m 16 v.body = record {
       finds = c.finds;

@@ -19,9 +19,9 @@ use Rattle.camac_text_cursor.proofs.Steps.{while_off}
 use Rattle.camac_text_cursor.proofs.Uses.{scope_of}
 use Rattle.camac_text_cursor.proofs.Registers.{first_of_both, second_of_both}
 use Rattle.camac_text_phrases.proofs.BracketsRead.{product_progress, sum_progress, bracketed_ok}
-use Rattle.camac_text_spelling.specs.Pieces.{sign, numeral, Names, name_at, Front}
+use Rattle.camac_text_spelling.specs.Pieces.{sign, numeral, Names, name_at, Prefix}
 use Rattle.camac_text_spelling.specs.Phrases.{expression}
-use Rattle.camac_text_spelling.proofs.Fronts.{front_split, front_first}
+use Rattle.camac_text_spelling.proofs.Prefixes.{prefix_split, prefix_first}
 use Rattle.camac_text_spelling.proofs.Gives.{at, ok, after, checked, while_turn, left, expected_sign, number_seen, number_given, FindsAll, variable_given}
 
 -- The expression may stand here, after so many operators.
@@ -41,12 +41,12 @@ product_loop room x = while_next is_product_sign (product_turn (bracketed room))
 abbrev sum_loop : ℕ → Counted → Reader Counted
 sum_loop room x = while_next is_sum_sign (sum_turn (bracketed room)) x
 
--- ---- what each reader answers in front of an expression
+-- ---- what each reader answers before an expression
 
 record AtLevels (n : Names) (e : Expression) : Type 0 where
-  factor : (room so_far m : ℕ) (s : State) (rest : List Token) → Can n s room so_far e → is_factor e ≡ true → m ≡ so_far + operators e → Front s.rest (expression n e) rest → factor_with (bracketed room) so_far s ≡ read e m s rest
-  product : (room so_far m : ℕ) (s : State) (rest : List Token) → Can n s room so_far e → is_term e ≡ true → m ≡ so_far + operators e → Front s.rest (expression n e) rest → product_with (bracketed room) so_far s ≡ product_loop room (counted e m) (at s rest)
-  sum : (room so_far m : ℕ) (s : State) (rest : List Token) → Can n s room so_far e → m ≡ so_far + operators e → Front s.rest (expression n e) rest → is_product_sign (kind_of rest) ≡ false → sum_with (bracketed room) so_far s ≡ sum_loop room (counted e m) (at s rest)
+  factor : (room so_far m : ℕ) (s : State) (rest : List Token) → Can n s room so_far e → is_factor e ≡ true → m ≡ so_far + operators e → Prefix s.rest (expression n e) rest → factor_with (bracketed room) so_far s ≡ read e m s rest
+  product : (room so_far m : ℕ) (s : State) (rest : List Token) → Can n s room so_far e → is_term e ≡ true → m ≡ so_far + operators e → Prefix s.rest (expression n e) rest → product_with (bracketed room) so_far s ≡ product_loop room (counted e m) (at s rest)
+  sum : (room so_far m : ℕ) (s : State) (rest : List Token) → Can n s room so_far e → m ≡ so_far + operators e → Prefix s.rest (expression n e) rest → is_product_sign (kind_of rest) ≡ false → sum_with (bracketed room) so_far s ≡ sum_loop room (counted e m) (at s rest)
 
 product_from_factor : (e : Expression) (room so_far m : ℕ) (s : State) (rest : List Token) → factor_with (bracketed room) so_far s ≡ read e m s rest → product_with (bracketed room) so_far s ≡ product_loop room (counted e m) (at s rest)
 unfolding product_with
@@ -71,33 +71,33 @@ divisor_given s d e from_1 =
 
 -- ---- factors
 
-number_factor : (n : Names) (k room so_far m : ℕ) (s : State) (rest : List Token) → m ≡ so_far → Front s.rest (expression n (number k)) rest → factor_with (bracketed room) so_far s ≡ read (number k) m s rest
+number_factor : (n : Names) (k room so_far m : ℕ) (s : State) (rest : List Token) → m ≡ so_far → Prefix s.rest (expression n (number k)) rest → factor_with (bracketed room) so_far s ≡ read (number k) m s rest
 unfolding factor_with
 number_factor n k room so_far m s rest same f =
-    let h = front_first s.rest (numeral k) [] rest f in
+    let h = prefix_first s.rest (numeral k) [] rest f in
     ap (λ (o : Option TokenKind). factor_by (bracketed room) so_far o s) h.0
     ∙ after (any_number s) _ k (at s (after_first s.rest)) (number_given s k h.0) refl
     ∙ left (counted (number k) so_far) s (after_first s.rest) rest h.1
     ∙ ap (λ (j : ℕ). read (number k) j s rest) (rw same refl)
 
-variable_factor : (n : Names) (x room so_far m : ℕ) (s : State) (rest : List Token) → FindsAll n s → nat_lt x (length s.variables) ≡ true → m ≡ so_far → Front s.rest (expression n (variable x)) rest → factor_with (bracketed room) so_far s ≡ read (variable x) m s rest
+variable_factor : (n : Names) (x room so_far m : ℕ) (s : State) (rest : List Token) → FindsAll n s → nat_lt x (length s.variables) ≡ true → m ≡ so_far → Prefix s.rest (expression n (variable x)) rest → factor_with (bracketed room) so_far s ≡ read (variable x) m s rest
 unfolding factor_with
 variable_factor n x room so_far m s rest finds fits same f =
-    let h = front_first s.rest (name_at n.variables x) [] rest f in
+    let h = prefix_first s.rest (name_at n.variables x) [] rest f in
     ap (λ (o : Option TokenKind). factor_by (bracketed room) so_far o s) h.0
     ∙ after (used_variable s) _ x (at s (after_first s.rest)) (variable_given n s x finds fits h.0) refl
     ∙ left (counted (variable x) so_far) s (after_first s.rest) rest h.1
     ∙ ap (λ (j : ℕ). read (variable x) j s rest) (rw same refl)
 
-group_factor : (n : Names) (a : Expression) → AtLevels n a → (room so_far m : ℕ) (s : State) (rest : List Token) → Can n s room so_far (group a) → m ≡ so_far + operators a → Front s.rest (expression n (group a)) rest → factor_with (bracketed room) so_far s ≡ read (group a) m s rest
+group_factor : (n : Names) (a : Expression) → AtLevels n a → (room so_far m : ℕ) (s : State) (rest : List Token) → Can n s room so_far (group a) → m ≡ so_far + operators a → Prefix s.rest (expression n (group a)) rest → factor_with (bracketed room) so_far s ≡ read (group a) m s rest
 unfolding factor_with bracketed
 group_factor n a levels zero so_far m s rest can same f = let deep : expression_depth (group a) ≤ 0 = can.deep in absurd (omega arith)
 group_factor n a levels (suc room) so_far m s rest can same f =
-    let h = front_first s.rest (sign mark.LeftBracket) (expression n a ++ sign mark.RightBracket ∷ []) rest f in
+    let h = prefix_first s.rest (sign mark.LeftBracket) (expression n a ++ sign mark.RightBracket ∷ []) rest f in
     let u : State = at s (after_first s.rest) in
-    let parts = front_split (after_first s.rest) (expression n a) (sign mark.RightBracket ∷ []) rest h.1 in
+    let parts = prefix_split (after_first s.rest) (expression n a) (sign mark.RightBracket ∷ []) rest h.1 in
     let us : List Token = parts.0 in
-    let closing = front_first us (sign mark.RightBracket) [] rest parts.2 in
+    let closing = prefix_first us (sign mark.RightBracket) [] rest parts.2 in
     let deep : suc (expression_depth a) ≤ suc room = can.deep in
     let can_inside : Can n u room so_far a = record { finds = can.finds; refers = can.refers; grouped = can.grouped; deep = omega arith; few = can.few } in
     let inside : sum_with (bracketed room) so_far u ≡ read a m u us =
@@ -108,12 +108,12 @@ group_factor n a levels (suc room) so_far m s rest can same f =
 
 -- ---- products
 
-times_product : (n : Names) (a b : Expression) → AtLevels n a → AtLevels n b → (room so_far m : ℕ) (s : State) (rest : List Token) → Can n s room so_far (multiply a b) → m ≡ so_far + suc (operators a + operators b) → Front s.rest (expression n (multiply a b)) rest → product_with (bracketed room) so_far s ≡ product_loop room (counted (multiply a b) m) (at s rest)
+times_product : (n : Names) (a b : Expression) → AtLevels n a → AtLevels n b → (room so_far m : ℕ) (s : State) (rest : List Token) → Can n s room so_far (multiply a b) → m ≡ so_far + suc (operators a + operators b) → Prefix s.rest (expression n (multiply a b)) rest → product_with (bracketed room) so_far s ≡ product_loop room (counted (multiply a b) m) (at s rest)
 unfolding product_turn
 times_product n a b at_a at_b room so_far m s rest can same f =
-    let parts = front_split s.rest (expression n a) (sign mark.Times ∷ expression n b) rest f in
+    let parts = prefix_split s.rest (expression n a) (sign mark.Times ∷ expression n b) rest f in
     let us : List Token = parts.0 in
-    let h = front_first us (sign mark.Times) (expression n b) rest parts.2 in
+    let h = prefix_first us (sign mark.Times) (expression n b) rest parts.2 in
     let k : ℕ = so_far + operators a in
     let few : so_far + suc (operators a + operators b) ≤ 32 = can.few in
     let deep : max (expression_depth a) (expression_depth b) ≤ room = can.deep in
@@ -128,13 +128,13 @@ times_product n a b at_a at_b room so_far m s rest can same f =
     at_a.product room so_far k s us can_a (first_of_both (is_term a) _ right_forms) refl parts.1
     ∙ while_turn is_product_sign (product_turn (bracketed room)) (product_progress room (bracketed room) (bracketed_ok room)) (counted a k) (at s us) (counted (multiply a b) m) (at s rest) (ap is_product_sign h.0) turn refl
 
-over_product : (n : Names) (a : Expression) (d : ℕ) → AtLevels n a → (room so_far m : ℕ) (s : State) (rest : List Token) → Can n s room so_far (divide a d) → m ≡ so_far + suc (operators a) → Front s.rest (expression n (divide a d)) rest → product_with (bracketed room) so_far s ≡ product_loop room (counted (divide a d) m) (at s rest)
+over_product : (n : Names) (a : Expression) (d : ℕ) → AtLevels n a → (room so_far m : ℕ) (s : State) (rest : List Token) → Can n s room so_far (divide a d) → m ≡ so_far + suc (operators a) → Prefix s.rest (expression n (divide a d)) rest → product_with (bracketed room) so_far s ≡ product_loop room (counted (divide a d) m) (at s rest)
 unfolding product_turn
 over_product n a d at_a room so_far m s rest can same f =
-    let parts = front_split s.rest (expression n a) (sign mark.Over ∷ numeral d ∷ []) rest f in
+    let parts = prefix_split s.rest (expression n a) (sign mark.Over ∷ numeral d ∷ []) rest f in
     let us : List Token = parts.0 in
-    let h = front_first us (sign mark.Over) (numeral d ∷ []) rest parts.2 in
-    let by = front_first (after_first us) (numeral d) [] rest h.1 in
+    let h = prefix_first us (sign mark.Over) (numeral d ∷ []) rest parts.2 in
+    let by = prefix_first (after_first us) (numeral d) [] rest h.1 in
     let k : ℕ = so_far + operators a in
     let few : so_far + suc (operators a) ≤ 32 = can.few in
     let m_is : suc k ≡ m = omega arith in
@@ -148,13 +148,13 @@ over_product n a d at_a room so_far m s rest can same f =
     at_a.product room so_far k s us can_a (second_of_both (is_grouped a) _ can.grouped) refl parts.1
     ∙ while_turn is_product_sign (product_turn (bracketed room)) (product_progress room (bracketed room) (bracketed_ok room)) (counted a k) (at s us) (counted (divide a d) m) (at s rest) (ap is_product_sign h.0) turn refl
 
-modulo_product : (n : Names) (a : Expression) (d : ℕ) → AtLevels n a → (room so_far m : ℕ) (s : State) (rest : List Token) → Can n s room so_far (remainder a d) → m ≡ so_far + suc (operators a) → Front s.rest (expression n (remainder a d)) rest → product_with (bracketed room) so_far s ≡ product_loop room (counted (remainder a d) m) (at s rest)
+modulo_product : (n : Names) (a : Expression) (d : ℕ) → AtLevels n a → (room so_far m : ℕ) (s : State) (rest : List Token) → Can n s room so_far (remainder a d) → m ≡ so_far + suc (operators a) → Prefix s.rest (expression n (remainder a d)) rest → product_with (bracketed room) so_far s ≡ product_loop room (counted (remainder a d) m) (at s rest)
 unfolding product_turn
 modulo_product n a d at_a room so_far m s rest can same f =
-    let parts = front_split s.rest (expression n a) (sign mark.Modulo ∷ numeral d ∷ []) rest f in
+    let parts = prefix_split s.rest (expression n a) (sign mark.Modulo ∷ numeral d ∷ []) rest f in
     let us : List Token = parts.0 in
-    let h = front_first us (sign mark.Modulo) (numeral d ∷ []) rest parts.2 in
-    let by = front_first (after_first us) (numeral d) [] rest h.1 in
+    let h = prefix_first us (sign mark.Modulo) (numeral d ∷ []) rest parts.2 in
+    let by = prefix_first (after_first us) (numeral d) [] rest h.1 in
     let k : ℕ = so_far + operators a in
     let few : so_far + suc (operators a) ≤ 32 = can.few in
     let m_is : suc k ≡ m = omega arith in
@@ -171,12 +171,12 @@ modulo_product n a d at_a room so_far m s rest can same f =
 -- ---- sums
 
 -- after a sum, its sign and a product
-sum_of : (n : Names) (made : Expression → Expression → Expression) (w : Sign) (a b : Expression) → AtLevels n a → AtLevels n b → (joined (Some (kind.Sign w)) a b ≡ made a b) → is_product_sign (Some (kind.Sign w)) ≡ false → is_sum_sign (Some (kind.Sign w)) ≡ true → (room so_far m : ℕ) (s : State) (rest : List Token) → FindsAll n s → (refers (length s.variables) a && refers (length s.variables) b) ≡ true → (is_grouped a && (is_grouped b && is_term b)) ≡ true → max (expression_depth a) (expression_depth b) ≤ room → so_far + suc (operators a + operators b) ≤ 32 → m ≡ so_far + suc (operators a + operators b) → Front s.rest (expression n a ++ sign w ∷ expression n b) rest → is_product_sign (kind_of rest) ≡ false → sum_with (bracketed room) so_far s ≡ sum_loop room (counted (made a b) m) (at s rest)
+sum_of : (n : Names) (made : Expression → Expression → Expression) (w : Sign) (a b : Expression) → AtLevels n a → AtLevels n b → (joined (Some (kind.Sign w)) a b ≡ made a b) → is_product_sign (Some (kind.Sign w)) ≡ false → is_sum_sign (Some (kind.Sign w)) ≡ true → (room so_far m : ℕ) (s : State) (rest : List Token) → FindsAll n s → (refers (length s.variables) a && refers (length s.variables) b) ≡ true → (is_grouped a && (is_grouped b && is_term b)) ≡ true → max (expression_depth a) (expression_depth b) ≤ room → so_far + suc (operators a + operators b) ≤ 32 → m ≡ so_far + suc (operators a + operators b) → Prefix s.rest (expression n a ++ sign w ∷ expression n b) rest → is_product_sign (kind_of rest) ≡ false → sum_with (bracketed room) so_far s ≡ sum_loop room (counted (made a b) m) (at s rest)
 unfolding sum_turn
 sum_of n made w a b at_a at_b makes no_product is_sum room so_far m s rest finds refer group' deep few same f off =
-    let parts = front_split s.rest (expression n a) (sign w ∷ expression n b) rest f in
+    let parts = prefix_split s.rest (expression n a) (sign w ∷ expression n b) rest f in
     let us : List Token = parts.0 in
-    let h = front_first us (sign w) (expression n b) rest parts.2 in
+    let h = prefix_first us (sign w) (expression n b) rest parts.2 in
     let k : ℕ = so_far + operators a in
     let right_forms = second_of_both (is_grouped a) _ group' in
     let can_a : Can n s room so_far a = record { finds = finds; refers = first_of_both _ _ refer; grouped = first_of_both (is_grouped a) _ group'; deep = omega arith; few = omega arith } in
@@ -192,7 +192,7 @@ sum_of n made w a b at_a at_b makes no_product is_sum room so_far m s rest finds
 
 -- ---- every expression
 
-from_factor : (n : Names) (e : Expression) → ((room so_far m : ℕ) (s : State) (rest : List Token) → Can n s room so_far e → m ≡ so_far + operators e → Front s.rest (expression n e) rest → factor_with (bracketed room) so_far s ≡ read e m s rest) → AtLevels n e
+from_factor : (n : Names) (e : Expression) → ((room so_far m : ℕ) (s : State) (rest : List Token) → Can n s room so_far e → m ≡ so_far + operators e → Prefix s.rest (expression n e) rest → factor_with (bracketed room) so_far s ≡ read e m s rest) → AtLevels n e
 from_factor n e given = record {
   factor = λ room so_far m s rest can form same f. given room so_far m s rest can same f;
   product = λ room so_far m s rest can form same f. product_from_factor e room so_far m s rest (given room so_far m s rest can same f);
@@ -234,7 +234,7 @@ pub record NoSign (k : Option TokenKind) : Type 0 where
   pub product : is_product_sign k ≡ false
   pub sum : is_sum_sign k ≡ false
 
-pub expression_given : (n : Names) (e : Expression) (room : ℕ) (s : State) (rest : List Token) → FindsAll n s → expression_fits (scope_of s) e ≡ true → expression_depth e ≤ room → Front s.rest (expression n e) rest → NoSign (kind_of rest) → expression_at room s ≡ ok e (at s rest)
+pub expression_given : (n : Names) (e : Expression) (room : ℕ) (s : State) (rest : List Token) → FindsAll n s → expression_fits (scope_of s) e ≡ true → expression_depth e ≤ room → Prefix s.rest (expression n e) rest → NoSign (kind_of rest) → expression_at room s ≡ ok e (at s rest)
 unfolding expression_at
 expression_given n e room s rest finds fits deep f ends =
     let forms = second_of_both (refers (length s.variables) e) _ fits in

@@ -19,9 +19,9 @@ use Rattle.camac_text_statements.specs.Statements.{move_by, move_at}
 use Rattle.camac_text_cursor.proofs.Uses.{scope_of}
 use Rattle.camac_text_cursor.proofs.Registers.{both, first_of_both, second_of_both}
 use Rattle.camac_text_phrases.proofs.KeepsRead.{keeps_progress}
-use Rattle.camac_text_spelling.specs.Pieces.{word, sign, numeral, others, separated, Names, name_at, Front}
+use Rattle.camac_text_spelling.specs.Pieces.{word, sign, numeral, others, separated, Names, name_at, Prefix}
 use Rattle.camac_text_spelling.specs.Phrases as phrase
-use Rattle.camac_text_spelling.proofs.Fronts.{front_split, front_first}
+use Rattle.camac_text_spelling.proofs.Prefixes.{prefix_split, prefix_first}
 use Rattle.camac_text_spelling.proofs.Gives.{at, ok, after, checked, left, expected, expected_sign, keyword_same, sign_same, number_given, FindsAll, variable_given, variable_seen}
 use Rattle.camac_text_spelling.proofs.GivesExpressions.{NoSign, expression_given}
 use Rattle.camac_text_spelling.proofs.GivesPhrases.{others_given}
@@ -38,17 +38,17 @@ no_move room (Some (kind.Sign mark.Into)) s e = absurd cc
 no_move room (Some (kind.Sign mark.From)) s e = absurd cc
 no_move room _ s e = refl
 
-pub move_given : (n : Names) (m : Move) (room : ℕ) (s : State) (rest : List Token) → FindsAll n s → move_fits (scope_of s) m ≡ true → move_depth m ≤ room → Front s.rest (phrase.move n m) rest → NoSign (kind_of rest) → is_move_sign (kind_of rest) ≡ false → move_at room s ≡ ok m (at s rest)
+pub move_given : (n : Names) (m : Move) (room : ℕ) (s : State) (rest : List Token) → FindsAll n s → move_fits (scope_of s) m ≡ true → move_depth m ≤ room → Prefix s.rest (phrase.move n m) rest → NoSign (kind_of rest) → is_move_sign (kind_of rest) ≡ false → move_at room s ≡ ok m (at s rest)
 unfolding move_at
 move_given n no_data room s rest finds fits deep f ends off = no_move room (kind_of s.rest) s (ap (λ (w : List Token). is_move_sign (kind_of w)) f ∙ off) ∙ left no_data s s.rest rest f
 move_given n (into x) room s rest finds fits deep f ends off =
-    let h = front_first s.rest (sign mark.Into) (name_at n.variables x ∷ []) rest f in
+    let h = prefix_first s.rest (sign mark.Into) (name_at n.variables x ∷ []) rest f in
     let u : State = at s (after_first s.rest) in
-    let g = front_first (after_first s.rest) (name_at n.variables x) [] rest h.1 in
+    let g = prefix_first (after_first s.rest) (name_at n.variables x) [] rest h.1 in
     ap (λ (k : Option TokenKind). move_by room k s) h.0
     ∙ after (used_variable u) _ x (at s (after_first (after_first s.rest))) (variable_given n u x finds fits g.0) (left (into x) s (after_first (after_first s.rest)) rest g.1)
 move_given n (from e) room s rest finds fits deep f ends off =
-    let h = front_first s.rest (sign mark.From) (phrase.expression n e) rest f in
+    let h = prefix_first s.rest (sign mark.From) (phrase.expression n e) rest f in
     let u : State = at s (after_first s.rest) in
     ap (λ (k : Option TokenKind). move_by room k s) h.0
     ∙ after (expression_at room u) _ e (at s rest) (expression_given n e room u rest finds fits deep h.1 ends) refl
@@ -73,19 +73,19 @@ record GoodKeeps (own : ℕ) (s : State) (acc ks : List Keep) : Type 0 where
   distinct : are_distinct (own ∷ map kept_variable (acc ++ ks)) ≡ true
   fit : each (λ (k : Keep). nat_lt k.variable (length s.variables) && (is_number k.low && is_number k.high)) ks ≡ true
 
-keep_given : (n : Names) (own : ℕ) (s : State) → FindsAll n s → (acc : List Keep) (k : Keep) (ks : List Keep) (ts us : List Token) → GoodKeeps own s acc (k ∷ ks) → Front ts (phrase.keep n k) us → (keep_at own acc (at s ts) ≡ ok k (at s us)) × GoodKeeps own s (acc ++ k ∷ []) ks
+keep_given : (n : Names) (own : ℕ) (s : State) → FindsAll n s → (acc : List Keep) (k : Keep) (ks : List Keep) (ts us : List Token) → GoodKeeps own s acc (k ∷ ks) → Prefix ts (phrase.keep n k) us → (keep_at own acc (at s ts) ≡ ok k (at s us)) × GoodKeeps own s (acc ++ k ∷ []) ks
 unfolding keep_at
 keep_given n own s finds acc k ks ts us good f =
     let u : State = at s ts in
-    let h = front_first ts (name_at n.variables k.variable) (word keyword.In ∷ numeral k.low ∷ sign mark.UpTo ∷ numeral k.high ∷ []) us f in
+    let h = prefix_first ts (name_at n.variables k.variable) (word keyword.In ∷ numeral k.low ∷ sign mark.UpTo ∷ numeral k.high ∷ []) us f in
     let t1 = after_first ts in
-    let h1 = front_first t1 (word keyword.In) (numeral k.low ∷ sign mark.UpTo ∷ numeral k.high ∷ []) us h.1 in
+    let h1 = prefix_first t1 (word keyword.In) (numeral k.low ∷ sign mark.UpTo ∷ numeral k.high ∷ []) us h.1 in
     let t2 = after_first t1 in
-    let h2 = front_first t2 (numeral k.low) (sign mark.UpTo ∷ numeral k.high ∷ []) us h1.1 in
+    let h2 = prefix_first t2 (numeral k.low) (sign mark.UpTo ∷ numeral k.high ∷ []) us h1.1 in
     let t3 = after_first t2 in
-    let h3 = front_first t3 (sign mark.UpTo) (numeral k.high ∷ []) us h2.1 in
+    let h3 = prefix_first t3 (sign mark.UpTo) (numeral k.high ∷ []) us h2.1 in
     let t4 = after_first t3 in
-    let h4 = front_first t4 (numeral k.high) [] us h3.1 in
+    let h4 = prefix_first t4 (numeral k.high) [] us h3.1 in
     let fits = first_of_both (nat_lt k.variable (length s.variables) && (is_number k.low && is_number k.high)) _ good.fit in
     let parted : are_distinct ((own ∷ map kept_variable acc) ++ k.variable ∷ map kept_variable ks) ≡ true = subst (λ (xs : List ℕ). are_distinct (own ∷ xs) ≡ true) (map-append kept_variable acc (k ∷ ks)) good.distinct in
     let free : is_free k.variable own acc ≡ true = distinct_free (own ∷ map kept_variable acc) k.variable (map kept_variable ks) parted in (
@@ -101,21 +101,21 @@ keep_given n own s finds acc k ks ts us good f =
       },
     )
 
-next_keep_given : (n : Names) (own : ℕ) (s : State) → FindsAll n s → (acc : List Keep) (k : Keep) (ks : List Keep) (ts us : List Token) → GoodKeeps own s acc (k ∷ ks) → Front ts (sign mark.Comma ∷ phrase.keep n k) us → Unit {0} → (next_keep own acc (at s ts) ≡ ok k (at s us)) × GoodKeeps own s (acc ++ k ∷ []) ks
+next_keep_given : (n : Names) (own : ℕ) (s : State) → FindsAll n s → (acc : List Keep) (k : Keep) (ks : List Keep) (ts us : List Token) → GoodKeeps own s acc (k ∷ ks) → Prefix ts (sign mark.Comma ∷ phrase.keep n k) us → Unit {0} → (next_keep own acc (at s ts) ≡ ok k (at s us)) × GoodKeeps own s (acc ++ k ∷ []) ks
 unfolding next_keep
 next_keep_given n own s finds acc k ks ts us good f _ =
-    let h = front_first ts (sign mark.Comma) (phrase.keep n k) us f in
+    let h = prefix_first ts (sign mark.Comma) (phrase.keep n k) us f in
     keep_given n own s finds acc k ks (after_first ts) us good h.1
 
 -- the kept ranges of a loop, and the brace after them
-pub keeps_given : (n : Names) (own : ℕ) (ks : List Keep) (s : State) (rest : List Token) → FindsAll n s → keeps_fit (scope_of s) own ks ≡ true → Front s.rest (phrase.keeps n ks) rest → kind_of rest ≡ Some (kind.Sign mark.LeftBrace) → keeps_at own s ≡ ok ks (at s rest)
+pub keeps_given : (n : Names) (own : ℕ) (ks : List Keep) (s : State) (rest : List Token) → FindsAll n s → keeps_fit (scope_of s) own ks ≡ true → Prefix s.rest (phrase.keeps n ks) rest → kind_of rest ≡ Some (kind.Sign mark.LeftBrace) → keeps_at own s ≡ ok ks (at s rest)
 unfolding keeps_at keep_list
 keeps_given n own [] s rest finds fits f brace =
     ap (λ (k : Option TokenKind). cond (is_keyword keyword.Keep k) (keep_list own) (give []) s) (ap kind_of f ∙ brace) ∙ left [] s s.rest rest f
 keeps_given n own (k ∷ ks) s rest finds fits f brace =
-    let h = front_first s.rest (word keyword.Keep) (separated (sign mark.Comma) (phrase.keep n) (k ∷ ks)) rest f in
+    let h = prefix_first s.rest (word keyword.Keep) (separated (sign mark.Comma) (phrase.keep n) (k ∷ ks)) rest f in
     let u : State = at s (after_first s.rest) in
-    let m = front_split (after_first s.rest) (phrase.keep n k) (others (sign mark.Comma) (phrase.keep n) ks) rest h.1 in
+    let m = prefix_split (after_first s.rest) (phrase.keep n k) (others (sign mark.Comma) (phrase.keep n) ks) rest h.1 in
     let us : List Token = m.0 in
     let good : GoodKeeps own s [] (k ∷ ks) = record { distinct = first_of_both (are_distinct (own ∷ map kept_variable (k ∷ ks))) _ fits; fit = second_of_both (are_distinct (own ∷ map kept_variable (k ∷ ks))) _ fits } in
     let first = keep_given n own s finds [] k ks (after_first s.rest) us good m.1 in

@@ -20,10 +20,10 @@ use Rattle.camac_text_statements.specs.Statements.{for_statement, while_statemen
 use Rattle.camac_text_cursor.proofs.Uses.{scope_of}
 use Rattle.camac_text_statements.proofs.Acts.{begun}
 use Rattle.camac_text_cursor.proofs.Registers.{first_of_both, second_of_both}
-use Rattle.camac_text_spelling.specs.Pieces.{Piece, word, sign, numeral, separated, name_at, Names, Front}
+use Rattle.camac_text_spelling.specs.Pieces.{Piece, word, sign, numeral, separated, name_at, Names, Prefix}
 use Rattle.camac_text_spelling.specs.Phrases as phrase
 use Rattle.camac_text_spelling.specs.Statements as spell
-use Rattle.camac_text_spelling.proofs.Fronts.{front_split, front_first, front_line}
+use Rattle.camac_text_spelling.proofs.Prefixes.{prefix_split, prefix_first, prefix_line}
 use Rattle.camac_text_spelling.proofs.Gives.{at, ok, after, expected, expected_sign, number_given, variable_given}
 use Rattle.camac_text_spelling.proofs.GivesExpressions.{NoSign, expression_given}
 use Rattle.camac_text_spelling.proofs.GivesPhrases.{no_sign, condition_given}
@@ -33,9 +33,9 @@ use Rattle.camac_text_spelling.proofs.GivesActions.{IsGiven}
 use Rattle.camac_text_spelling.proofs.GivesStatements.{AreGiven, RunsBraced, braced_given, brace_no_sign, brace_first}
 
 -- kept ranges, or the brace
-keeps_first : (n : Names) (ks : List Keep) (ts us : List Token) → Front ts (phrase.keeps n ks) us → kind_of us ≡ Some (kind.Sign mark.LeftBrace) → NoSign (kind_of ts)
+keeps_first : (n : Names) (ks : List Keep) (ts us : List Token) → Prefix ts (phrase.keeps n ks) us → kind_of us ≡ Some (kind.Sign mark.LeftBrace) → NoSign (kind_of ts)
 keeps_first n [] ts us f brace = no_sign (kind_of ts) _ (ap kind_of f ∙ brace) brace_no_sign
-keeps_first n (k ∷ ks) ts us f brace = no_sign (kind_of ts) _ (front_first ts (word keyword.Keep) (separated (sign mark.Comma) (phrase.keep n) (k ∷ ks)) us f).0 (record { product = refl; sum = refl })
+keeps_first n (k ∷ ks) ts us f brace = no_sign (kind_of ts) _ (prefix_first ts (word keyword.Keep) (separated (sign mark.Comma) (phrase.keep n) (k ∷ ks)) us f).0 (record { product = refl; sum = refl })
 
 -- ---- loops
 
@@ -48,17 +48,17 @@ count_given n line v e1 e2 ks b given room s rest j k m c f ends =
     let p3 : List Piece = phrase.keeps n ks in
     let body : List Piece = spell.braced (spell.block n b) in
     let all : List Piece = name_at n.variables v ∷ sign mark.Equals ∷ (p1 ++ word keyword.To ∷ (p2 ++ (p3 ++ body))) in
-    let h = front_line s.rest s.end_line line (kind.Keyword keyword.For) all rest f in
+    let h = prefix_line s.rest s.end_line line (kind.Keyword keyword.For) all rest f in
     let t1 : List Token = after_first s.rest in
-    let own = front_first t1 (name_at n.variables v) (sign mark.Equals ∷ (p1 ++ word keyword.To ∷ (p2 ++ (p3 ++ body)))) rest h.2 in
+    let own = prefix_first t1 (name_at n.variables v) (sign mark.Equals ∷ (p1 ++ word keyword.To ∷ (p2 ++ (p3 ++ body)))) rest h.2 in
     let t2 : List Token = after_first t1 in
-    let equals = front_first t2 (sign mark.Equals) (p1 ++ word keyword.To ∷ (p2 ++ (p3 ++ body))) rest own.1 in
+    let equals = prefix_first t2 (sign mark.Equals) (p1 ++ word keyword.To ∷ (p2 ++ (p3 ++ body))) rest own.1 in
     let t3 : List Token = after_first t2 in
-    let s1 = front_split t3 p1 (word keyword.To ∷ (p2 ++ (p3 ++ body))) rest equals.1 in
-    let to = front_first s1.0 (word keyword.To) (p2 ++ (p3 ++ body)) rest s1.2 in
+    let s1 = prefix_split t3 p1 (word keyword.To ∷ (p2 ++ (p3 ++ body))) rest equals.1 in
+    let to = prefix_first s1.0 (word keyword.To) (p2 ++ (p3 ++ body)) rest s1.2 in
     let t4 : List Token = after_first s1.0 in
-    let s2 = front_split t4 p2 (p3 ++ body) rest to.1 in
-    let s3 = front_split s2.0 p3 body rest s2.2 in
+    let s2 = prefix_split t4 p2 (p3 ++ body) rest to.1 in
+    let s3 = prefix_split s2.0 p3 body rest s2.2 in
     let us : List Token = s3.0 in
     let brace = brace_first n b us rest s3.2 in
     let p = then_parts (λ i. after_block (scope_of s) i b) (begun_by (scope_of s) j x) k c.reached in
@@ -91,9 +91,9 @@ count_given n line v e1 e2 ks b given room s rest j k m c f ends =
     (after (block_at room (at g us)) _ (listed b) (left_at n s rest k m) (braced_given n b given room (at g us) rest p.0 k m inside s3.2)
     (ap (λ (w : Block). ok (for_ line v e1 e2 ks w) (left_at n s rest k m)) (block_of_listed b)))))))))
 
-pub repeat_given : (n : Names) (line : ℕ) (t : Condition) (turns v : ℕ) (ks : List Keep) (b : Block) → AreGiven n b → IsGiven n (while_ line t turns v ks b)
+pub while_given : (n : Names) (line : ℕ) (t : Condition) (turns v : ℕ) (ks : List Keep) (b : Block) → AreGiven n b → IsGiven n (while_ line t turns v ks b)
 unfolding while_statement
-repeat_given n line t turns v ks b given room s rest j k m c f ends =
+while_given n line t turns v ks b given room s rest j k m c f ends =
     let x : Statement = while_ line t turns v ks b in
     let p1 : List Piece = phrase.condition n t in
     let p3 : List Piece = phrase.keeps n ks in
@@ -102,17 +102,17 @@ repeat_given n line t turns v ks b given room s rest j k m c f ends =
     let q3 : List Piece = word keyword.By ∷ q4 in
     let q2 : List Piece = numeral turns ∷ q3 in
     let q1 : List Piece = word keyword.Turns ∷ q2 in
-    let h = front_line s.rest s.end_line line (kind.Keyword keyword.While) (p1 ++ q1) rest f in
-    let s1 = front_split (after_first s.rest) p1 q1 rest h.2 in
-    let f1 = front_first s1.0 (word keyword.Turns) q2 rest s1.2 in
+    let h = prefix_line s.rest s.end_line line (kind.Keyword keyword.While) (p1 ++ q1) rest f in
+    let s1 = prefix_split (after_first s.rest) p1 q1 rest h.2 in
+    let f1 = prefix_first s1.0 (word keyword.Turns) q2 rest s1.2 in
     let t2 : List Token = after_first s1.0 in
-    let f2 = front_first t2 (numeral turns) q3 rest f1.1 in
+    let f2 = prefix_first t2 (numeral turns) q3 rest f1.1 in
     let t3 : List Token = after_first t2 in
-    let f3 = front_first t3 (word keyword.By) q4 rest f2.1 in
+    let f3 = prefix_first t3 (word keyword.By) q4 rest f2.1 in
     let t4 : List Token = after_first t3 in
-    let f4 = front_first t4 (name_at n.variables v) (p3 ++ body) rest f3.1 in
+    let f4 = prefix_first t4 (name_at n.variables v) (p3 ++ body) rest f3.1 in
     let t5 : List Token = after_first t4 in
-    let s3 = front_split t5 p3 body rest f4.1 in
+    let s3 = prefix_split t5 p3 body rest f4.1 in
     let us : List Token = s3.0 in
     let brace = brace_first n b us rest s3.2 in
     let p = then_parts (λ i. after_block (scope_of s) i b) (begun_by (scope_of s) j x) k c.reached in

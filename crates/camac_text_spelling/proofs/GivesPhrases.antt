@@ -21,9 +21,9 @@ use Rattle.camac_text_cursor.proofs.Steps.{Progresses, while_off}
 use Rattle.camac_text_cursor.proofs.Uses.{scope_of}
 use Rattle.camac_text_cursor.proofs.Registers.{first_of_both, second_of_both}
 use Rattle.camac_text_phrases.proofs.ConditionsRead.{parts_progress}
-use Rattle.camac_text_spelling.specs.Pieces.{Piece, word, sign, numeral, others, Names, name_at, Front}
+use Rattle.camac_text_spelling.specs.Pieces.{Piece, word, sign, numeral, others, Names, name_at, Prefix}
 use Rattle.camac_text_spelling.specs.Phrases as phrase
-use Rattle.camac_text_spelling.proofs.Fronts.{front_split, front_first}
+use Rattle.camac_text_spelling.proofs.Prefixes.{prefix_split, prefix_first}
 use Rattle.camac_text_spelling.proofs.Gives.{at, ok, after, while_turn, left, keyword_same, FindsAll}
 use Rattle.camac_text_spelling.proofs.GivesExpressions.{NoSign, expression_given}
 
@@ -35,15 +35,15 @@ begins_value (Some (kind.Name x)) = true
 begins_value (Some (kind.Sign mark.LeftBracket)) = true
 begins_value _ = false
 
-pub value_begins : (n : Names) (e : Expression) (ts rest : List Token) → Front ts (phrase.expression n e) rest → begins_value (kind_of ts) ≡ true
-value_begins n (number k) ts rest f = ap begins_value (front_first ts (numeral k) [] rest f).0
-value_begins n (variable x) ts rest f = ap begins_value (front_first ts (name_at n.variables x) [] rest f).0
-value_begins n (group e) ts rest f = ap begins_value (front_first ts (sign mark.LeftBracket) (phrase.expression n e ++ sign mark.RightBracket ∷ []) rest f).0
-value_begins n (add a b) ts rest f = let m = front_split ts (phrase.expression n a) (sign mark.Plus ∷ phrase.expression n b) rest f in value_begins n a ts m.0 m.1
-value_begins n (subtract a b) ts rest f = let m = front_split ts (phrase.expression n a) (sign mark.Minus ∷ phrase.expression n b) rest f in value_begins n a ts m.0 m.1
-value_begins n (multiply a b) ts rest f = let m = front_split ts (phrase.expression n a) (sign mark.Times ∷ phrase.expression n b) rest f in value_begins n a ts m.0 m.1
-value_begins n (divide a d) ts rest f = let m = front_split ts (phrase.expression n a) (sign mark.Over ∷ numeral d ∷ []) rest f in value_begins n a ts m.0 m.1
-value_begins n (remainder a d) ts rest f = let m = front_split ts (phrase.expression n a) (sign mark.Modulo ∷ numeral d ∷ []) rest f in value_begins n a ts m.0 m.1
+pub value_begins : (n : Names) (e : Expression) (ts rest : List Token) → Prefix ts (phrase.expression n e) rest → begins_value (kind_of ts) ≡ true
+value_begins n (number k) ts rest f = ap begins_value (prefix_first ts (numeral k) [] rest f).0
+value_begins n (variable x) ts rest f = ap begins_value (prefix_first ts (name_at n.variables x) [] rest f).0
+value_begins n (group e) ts rest f = ap begins_value (prefix_first ts (sign mark.LeftBracket) (phrase.expression n e ++ sign mark.RightBracket ∷ []) rest f).0
+value_begins n (add a b) ts rest f = let m = prefix_split ts (phrase.expression n a) (sign mark.Plus ∷ phrase.expression n b) rest f in value_begins n a ts m.0 m.1
+value_begins n (subtract a b) ts rest f = let m = prefix_split ts (phrase.expression n a) (sign mark.Minus ∷ phrase.expression n b) rest f in value_begins n a ts m.0 m.1
+value_begins n (multiply a b) ts rest f = let m = prefix_split ts (phrase.expression n a) (sign mark.Times ∷ phrase.expression n b) rest f in value_begins n a ts m.0 m.1
+value_begins n (divide a d) ts rest f = let m = prefix_split ts (phrase.expression n a) (sign mark.Over ∷ numeral d ∷ []) rest f in value_begins n a ts m.0 m.1
+value_begins n (remainder a d) ts rest f = let m = prefix_split ts (phrase.expression n a) (sign mark.Modulo ∷ numeral d ∷ []) rest f in value_begins n a ts m.0 m.1
 
 pub value_no_sign : (k : Option TokenKind) → begins_value k ≡ true → NoSign k
 value_no_sign (Some (kind.Number j)) e = record { product = refl; sum = refl }
@@ -75,12 +75,12 @@ comparison_no_sign cmp.AtLeast = record { product = refl; sum = refl }
 comparison_no_sign cmp.Same = record { product = refl; sum = refl }
 comparison_no_sign cmp.Differs = record { product = refl; sum = refl }
 
-compared_given : (n : Names) (a b : Expression) (how : Cmp) (room : ℕ) (s : State) (rest : List Token) → FindsAll n s → test_fits (scope_of s) (compare a how b) ≡ true → test_depth (compare a how b) ≤ room → Front s.rest (phrase.test n (compare a how b)) rest → NoSign (kind_of rest) → compared room s ≡ ok (compare a how b) (at s rest)
+compared_given : (n : Names) (a b : Expression) (how : Cmp) (room : ℕ) (s : State) (rest : List Token) → FindsAll n s → test_fits (scope_of s) (compare a how b) ≡ true → test_depth (compare a how b) ≤ room → Prefix s.rest (phrase.test n (compare a how b)) rest → NoSign (kind_of rest) → compared room s ≡ ok (compare a how b) (at s rest)
 unfolding compared
 compared_given n a b how room s rest finds fits deep f ends =
-    let m = front_split s.rest (phrase.expression n a) (sign (phrase.comparison how) ∷ phrase.expression n b) rest f in
+    let m = prefix_split s.rest (phrase.expression n a) (sign (phrase.comparison how) ∷ phrase.expression n b) rest f in
     let us : List Token = m.0 in
-    let h = front_first us (sign (phrase.comparison how)) (phrase.expression n b) rest m.2 in
+    let h = prefix_first us (sign (phrase.comparison how)) (phrase.expression n b) rest m.2 in
     let deep_a : expression_depth a ≤ room = omega arith in
     let deep_b : expression_depth b ≤ room = omega arith in
     after (expression_at room s) _ a (at s us) (expression_given n a room s us finds (first_of_both (expression_fits (scope_of s) a) _ fits) deep_a m.1 (no_sign (kind_of us) _ h.0 (comparison_no_sign how)))
@@ -93,12 +93,12 @@ value_compared room (Some (kind.Name x)) s e = refl
 value_compared room (Some (kind.Sign mark.LeftBracket)) s e = refl
 value_compared room _ s e = absurd cc
 
-test_given : (n : Names) (t : Test) (room : ℕ) (s : State) (rest : List Token) → FindsAll n s → test_fits (scope_of s) t ≡ true → test_depth t ≤ room → Front s.rest (phrase.test n t) rest → NoSign (kind_of rest) → test_at room s ≡ ok t (at s rest)
+test_given : (n : Names) (t : Test) (room : ℕ) (s : State) (rest : List Token) → FindsAll n s → test_fits (scope_of s) t ≡ true → test_depth t ≤ room → Prefix s.rest (phrase.test n t) rest → NoSign (kind_of rest) → test_at room s ≡ ok t (at s rest)
 unfolding test_at
-test_given n flag_q room s rest finds fits deep f ends = let h = front_first s.rest (word keyword.Q) [] rest f in ap (λ (k : Option TokenKind). test_by room k s) h.0 ∙ left flag_q s (after_first s.rest) rest h.1
-test_given n flag_x room s rest finds fits deep f ends = let h = front_first s.rest (word keyword.X) [] rest f in ap (λ (k : Option TokenKind). test_by room k s) h.0 ∙ left flag_x s (after_first s.rest) rest h.1
+test_given n flag_q room s rest finds fits deep f ends = let h = prefix_first s.rest (word keyword.Q) [] rest f in ap (λ (k : Option TokenKind). test_by room k s) h.0 ∙ left flag_q s (after_first s.rest) rest h.1
+test_given n flag_x room s rest finds fits deep f ends = let h = prefix_first s.rest (word keyword.X) [] rest f in ap (λ (k : Option TokenKind). test_by room k s) h.0 ∙ left flag_x s (after_first s.rest) rest h.1
 test_given n (compare a how b) room s rest finds fits deep f ends =
-    let m = front_split s.rest (phrase.expression n a) (sign (phrase.comparison how) ∷ phrase.expression n b) rest f in
+    let m = prefix_split s.rest (phrase.expression n a) (sign (phrase.comparison how) ∷ phrase.expression n b) rest f in
     value_compared room (kind_of s.rest) s (value_begins n a s.rest m.0 m.1) ∙ compared_given n a b how room s rest finds fits deep f ends
 
 abbrev begins_test : Option TokenKind → Bool
@@ -112,11 +112,11 @@ value_test (Some (kind.Name x)) e = refl
 value_test (Some (kind.Sign mark.LeftBracket)) e = refl
 value_test _ e = absurd cc
 
-test_begins : (n : Names) (t : Test) (ts rest : List Token) → Front ts (phrase.test n t) rest → begins_test (kind_of ts) ≡ true
-test_begins n flag_q ts rest f = ap begins_test (front_first ts (word keyword.Q) [] rest f).0
-test_begins n flag_x ts rest f = ap begins_test (front_first ts (word keyword.X) [] rest f).0
+test_begins : (n : Names) (t : Test) (ts rest : List Token) → Prefix ts (phrase.test n t) rest → begins_test (kind_of ts) ≡ true
+test_begins n flag_q ts rest f = ap begins_test (prefix_first ts (word keyword.Q) [] rest f).0
+test_begins n flag_x ts rest f = ap begins_test (prefix_first ts (word keyword.X) [] rest f).0
 test_begins n (compare a how b) ts rest f =
-    let m = front_split ts (phrase.expression n a) (sign (phrase.comparison how) ∷ phrase.expression n b) rest f in
+    let m = prefix_split ts (phrase.expression n a) (sign (phrase.comparison how) ∷ phrase.expression n b) rest f in
     value_test (kind_of ts) (value_begins n a ts m.0 m.1)
 
 plain_by : (room : ℕ) (k : Option TokenKind) (s : State) → begins_test k ≡ true → part_by room k s ≡ (test_at room >>= λ t. give (plain t)) s
@@ -127,13 +127,13 @@ plain_by room (Some (kind.Name x)) s e = refl
 plain_by room (Some (kind.Sign mark.LeftBracket)) s e = refl
 plain_by room _ s e = absurd cc
 
-part_given : (n : Names) (p : Part) (room : ℕ) (s : State) (rest : List Token) → FindsAll n s → part_fits (scope_of s) p ≡ true → part_depth p ≤ room → Front s.rest (phrase.part n p) rest → NoSign (kind_of rest) → part_at room s ≡ ok p (at s rest)
+part_given : (n : Names) (p : Part) (room : ℕ) (s : State) (rest : List Token) → FindsAll n s → part_fits (scope_of s) p ≡ true → part_depth p ≤ room → Prefix s.rest (phrase.part n p) rest → NoSign (kind_of rest) → part_at room s ≡ ok p (at s rest)
 unfolding part_at
 part_given n (plain t) room s rest finds fits deep f ends =
     plain_by room (kind_of s.rest) s (test_begins n t s.rest rest f)
     ∙ after (test_at room s) _ t (at s rest) (test_given n t room s rest finds fits deep f ends) refl
 part_given n (negated t) room s rest finds fits deep f ends =
-    let h = front_first s.rest (word keyword.Not) (phrase.test n t) rest f in
+    let h = prefix_first s.rest (word keyword.Not) (phrase.test n t) rest f in
     let u : State = at s (after_first s.rest) in
     ap (λ (k : Option TokenKind). part_by room k s) h.0
     ∙ after (test_at room u) _ t (at s rest) (test_given n t room u rest finds fits deep h.1 ends) refl
@@ -141,22 +141,22 @@ part_given n (negated t) room s rest finds fits deep f ends =
 -- ---- lists with separators
 
 -- the others of a list are read, each in its turn
-pub others_given : {A : Type 0} (sep : Piece) (f : A → List Piece) (goes_on : Option TokenKind → Bool) (read : List A → Reader A) → Progresses goes_on (λ xs. read xs >>= λ x. give (xs ++ x ∷ [])) → (Good : List A → List A → Type 0) (Follows : Option TokenKind → Type 0) (s : State) → ((acc : List A) (x : A) (xs : List A) (ts us : List Token) → Good acc (x ∷ xs) → Front ts (sep ∷ f x) us → Follows (kind_of us) → (read acc (at s ts) ≡ ok x (at s us)) × Good (acc ++ x ∷ []) xs) → goes_on (Some sep.kind) ≡ true → Follows (Some sep.kind) → (xs acc : List A) (ts rest : List Token) → Good acc xs → Front ts (others sep f xs) rest → Follows (kind_of rest) → goes_on (kind_of rest) ≡ false → while_next goes_on (λ xs. read xs >>= λ x. give (xs ++ x ∷ [])) acc (at s ts) ≡ ok (acc ++ xs) (at s rest)
-others_given {A} sep f goes_on read progress Good Follows s each_one on follows [] acc ts rest good front ends off =
-    while_off goes_on (λ xs. read xs >>= λ x. give (xs ++ x ∷ [])) acc (at s ts) (ap (λ (w : List Token). goes_on (kind_of w)) front ∙ off)
-    ∙ ap (λ (xs : List A). ok xs (at s ts)) (sym (append-nil acc)) ∙ left (acc ++ []) s ts rest front
-others_given {A} sep f goes_on read progress Good Follows s each_one on follows (x ∷ xs) acc ts rest good front ends off =
-    let m = front_split ts (sep ∷ f x) (others sep f xs) rest front in
+pub others_given : {A : Type 0} (sep : Piece) (f : A → List Piece) (goes_on : Option TokenKind → Bool) (read : List A → Reader A) → Progresses goes_on (λ xs. read xs >>= λ x. give (xs ++ x ∷ [])) → (Good : List A → List A → Type 0) (Follows : Option TokenKind → Type 0) (s : State) → ((acc : List A) (x : A) (xs : List A) (ts us : List Token) → Good acc (x ∷ xs) → Prefix ts (sep ∷ f x) us → Follows (kind_of us) → (read acc (at s ts) ≡ ok x (at s us)) × Good (acc ++ x ∷ []) xs) → goes_on (Some sep.kind) ≡ true → Follows (Some sep.kind) → (xs acc : List A) (ts rest : List Token) → Good acc xs → Prefix ts (others sep f xs) rest → Follows (kind_of rest) → goes_on (kind_of rest) ≡ false → while_next goes_on (λ xs. read xs >>= λ x. give (xs ++ x ∷ [])) acc (at s ts) ≡ ok (acc ++ xs) (at s rest)
+others_given {A} sep f goes_on read progress Good Follows s each_one on follows [] acc ts rest good prefix ends off =
+    while_off goes_on (λ xs. read xs >>= λ x. give (xs ++ x ∷ [])) acc (at s ts) (ap (λ (w : List Token). goes_on (kind_of w)) prefix ∙ off)
+    ∙ ap (λ (xs : List A). ok xs (at s ts)) (sym (append-nil acc)) ∙ left (acc ++ []) s ts rest prefix
+others_given {A} sep f goes_on read progress Good Follows s each_one on follows (x ∷ xs) acc ts rest good prefix ends off =
+    let m = prefix_split ts (sep ∷ f x) (others sep f xs) rest prefix in
     let us : List Token = m.0 in
     let one = each_one acc x xs ts us good m.1 (follow_on xs us m.2) in
-    let h = front_first ts sep (f x) us m.1 in
+    let h = prefix_first ts sep (f x) us m.1 in
     while_turn goes_on (λ xs. read xs >>= λ x. give (xs ++ x ∷ [])) progress acc (at s ts) (acc ++ x ∷ []) (at s us) (ap goes_on h.0 ∙ on)
     (after (read acc (at s ts)) (λ x. give (acc ++ x ∷ [])) x (at s us) one.0 refl)
     (others_given sep f goes_on read progress Good Follows s each_one on follows xs (acc ++ x ∷ []) us rest one.1 m.2 ends off ∙ ap (λ (w : List A). ok w (at s rest)) (append_assoc acc (x ∷ []) xs))
   where
-    follow_on : (ys : List A) (vs : List Token) → Front vs (others sep f ys) rest → Follows (kind_of vs)
+    follow_on : (ys : List A) (vs : List Token) → Prefix vs (others sep f ys) rest → Follows (kind_of vs)
     follow_on [] vs g = subst (λ (w : List Token). Follows (kind_of w)) (sym g) ends
-    follow_on (y ∷ ys) vs g = subst Follows (sym (front_first vs sep (f y ++ others sep f ys) rest g).0) follows
+    follow_on (y ∷ ys) vs g = subst Follows (sym (prefix_first vs sep (f y ++ others sep f ys) rest g).0) follows
 
 -- ---- whole conditions
 
@@ -169,10 +169,10 @@ limit_given : (count : ℕ) (s : State) → count < 16 → part_limit count s �
 unfolding part_limit
 limit_given count s below = ap (λ (b : Bool). cond b (give tt) (peek >>= no_part_by) s) (lt-ltb count 16 below)
 
-and_part_given : (n : Names) (room : ℕ) (s : State) → FindsAll n s → (acc : Condition) (x : Part) (xs : Condition) (ts us : List Token) → GoodParts s room acc (x ∷ xs) → Front ts (word keyword.And ∷ phrase.part n x) us → NoSign (kind_of us) → (and_part room (length acc) (at s ts) ≡ ok x (at s us)) × GoodParts s room (acc ++ x ∷ []) xs
+and_part_given : (n : Names) (room : ℕ) (s : State) → FindsAll n s → (acc : Condition) (x : Part) (xs : Condition) (ts us : List Token) → GoodParts s room acc (x ∷ xs) → Prefix ts (word keyword.And ∷ phrase.part n x) us → NoSign (kind_of us) → (and_part room (length acc) (at s ts) ≡ ok x (at s us)) × GoodParts s room (acc ++ x ∷ []) xs
 unfolding and_part
 and_part_given n room s finds acc x xs ts us good f ends =
-    let h = front_first ts (word keyword.And) (phrase.part n x) us f in
+    let h = prefix_first ts (word keyword.And) (phrase.part n x) us f in
     let u : State = at s (after_first ts) in
     let few : length acc + suc (length xs) ≤ 16 = good.few in
     let deep : max (part_depth x) (most part_depth xs) ≤ room = good.deep in
@@ -184,11 +184,11 @@ and_part_given n room s finds acc x xs ts us good f ends =
 and_no_sign : NoSign (Some (kind.Keyword keyword.And))
 and_no_sign = record { product = refl; sum = refl }
 
-pub condition_given : (n : Names) (c : Condition) (room : ℕ) (s : State) (rest : List Token) → FindsAll n s → condition_fits (scope_of s) c ≡ true → most part_depth c ≤ room → Front s.rest (phrase.condition n c) rest → NoSign (kind_of rest) → is_keyword keyword.And (kind_of rest) ≡ false → condition_at room s ≡ ok c (at s rest)
+pub condition_given : (n : Names) (c : Condition) (room : ℕ) (s : State) (rest : List Token) → FindsAll n s → condition_fits (scope_of s) c ≡ true → most part_depth c ≤ room → Prefix s.rest (phrase.condition n c) rest → NoSign (kind_of rest) → is_keyword keyword.And (kind_of rest) ≡ false → condition_at room s ≡ ok c (at s rest)
 unfolding condition_at
 condition_given n [] room s rest finds fits deep f ends off = absurd cc
 condition_given n (p ∷ ps) room s rest finds fits deep f ends off =
-    let m = front_split s.rest (phrase.part n p) (others (word keyword.And) (phrase.part n) ps) rest f in
+    let m = prefix_split s.rest (phrase.part n p) (others (word keyword.And) (phrase.part n) ps) rest f in
     let us : List Token = m.0 in
     let some = second_of_both (nat_le 1 (suc (length ps))) _ fits in
     let few : suc (length ps) ≤ 16 = leb-true (suc (length ps)) 16 (first_of_both (nat_le (suc (length ps)) 16) _ some) in
@@ -197,6 +197,6 @@ condition_given n (p ∷ ps) room s rest finds fits deep f ends off =
     after (part_at room s) _ p (at s us) (part_given n p room s us finds (first_of_both (part_fits (scope_of s) p) _ all_fit) (omega arith) m.1 (follow_on ps us m.2))
     (others_given (word keyword.And) (phrase.part n) (is_keyword keyword.And) (λ parts. and_part room (length parts)) (parts_progress room) (GoodParts s room) NoSign s (and_part_given n room s finds) (keyword_same keyword.And) and_no_sign ps (p ∷ []) us rest good m.2 ends off)
   where
-    follow_on : (qs : Condition) (vs : List Token) → Front vs (others (word keyword.And) (phrase.part n) qs) rest → NoSign (kind_of vs)
+    follow_on : (qs : Condition) (vs : List Token) → Prefix vs (others (word keyword.And) (phrase.part n) qs) rest → NoSign (kind_of vs)
     follow_on [] vs g = subst (λ (w : List Token). NoSign (kind_of w)) (sym g) ends
-    follow_on (q ∷ qs) vs g = subst NoSign (sym (front_first vs (word keyword.And) (phrase.part n q ++ others (word keyword.And) (phrase.part n) qs) rest g).0) and_no_sign
+    follow_on (q ∷ qs) vs g = subst NoSign (sym (prefix_first vs (word keyword.And) (phrase.part n q ++ others (word keyword.And) (phrase.part n) qs) rest g).0) and_no_sign

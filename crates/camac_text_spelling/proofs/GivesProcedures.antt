@@ -20,10 +20,10 @@ use Rattle.camac_text_statements.specs.Statements.{block_at}
 use Rattle.camac_text.specs.Declarations.{declaration_at}
 use Rattle.camac_text.specs.Procedures.{parameter_at, next_parameter, parameter_list, parameters_at, Heading, heading_at, in_heading, procedure_made, with_procedure, procedure_declaration}
 use Rattle.camac_text.proofs.ParametersRead.{names_of, parameters_progress}
-use Rattle.camac_text_spelling.specs.Pieces.{Piece, word, sign, numeral, name, others, separated, Names, Front}
+use Rattle.camac_text_spelling.specs.Pieces.{Piece, word, sign, numeral, name, others, separated, Names, Prefix}
 use Rattle.camac_text_spelling.specs.Declarations as spell
 use Rattle.camac_text_spelling.specs.Statements.{braced, block}
-use Rattle.camac_text_spelling.proofs.Fronts.{front_split, front_first, front_line}
+use Rattle.camac_text_spelling.proofs.Prefixes.{prefix_split, prefix_first, prefix_line}
 use Rattle.camac_text_spelling.proofs.Gives.{at, ok, after, checked, while_turn, left, expected, expected_sign, sign_same, number_given, new_name_seen}
 use Rattle.camac_text_spelling.proofs.Fresh.{take_all}
 use Rattle.camac_text_spelling.proofs.Runs.{left_at, listed, block_of_listed}
@@ -40,22 +40,22 @@ name_of_parameter s x e new few room =
     (checked (nat_lt (length s.variables) 8) LimitPassed (added x >> give x) s (lt-ltb (length s.variables) 8 few)
     (after (added x s) (λ _. give x) tt (with_names s (after_first s.rest) (x ∷ [])) (name_added s x room) refl))
 
-parameter_given : (s : State) (p : Parameter) (rest : List Token) → is_new p.name s.declared ≡ true → length s.variables < 8 → s.variable_count < 64 → Front s.rest (spell.parameter p) rest → parameter_at s ≡ ok p (with_names s rest (p.name ∷ []))
+parameter_given : (s : State) (p : Parameter) (rest : List Token) → is_new p.name s.declared ≡ true → length s.variables < 8 → s.variable_count < 64 → Prefix s.rest (spell.parameter p) rest → parameter_at s ≡ ok p (with_names s rest (p.name ∷ []))
 unfolding parameter_at
 parameter_given s p rest new few room f =
     let q3 : List Piece = numeral p.high ∷ [] in
     let q2 : List Piece = sign mark.UpTo ∷ q3 in
     let q1 : List Piece = numeral p.low ∷ q2 in
-    let h = front_first s.rest (name p.name) (word keyword.In ∷ q1) rest f in
+    let h = prefix_first s.rest (name p.name) (word keyword.In ∷ q1) rest f in
     let u : State = with_names s s.rest (p.name ∷ []) in
     let t1 : List Token = after_first s.rest in
-    let f1 = front_first t1 (word keyword.In) q1 rest h.1 in
+    let f1 = prefix_first t1 (word keyword.In) q1 rest h.1 in
     let t2 : List Token = after_first t1 in
-    let f2 = front_first t2 (numeral p.low) q2 rest f1.1 in
+    let f2 = prefix_first t2 (numeral p.low) q2 rest f1.1 in
     let t3 : List Token = after_first t2 in
-    let f3 = front_first t3 (sign mark.UpTo) q3 rest f2.1 in
+    let f3 = prefix_first t3 (sign mark.UpTo) q3 rest f2.1 in
     let t4 : List Token = after_first t3 in
-    let f4 = front_first t4 (numeral p.high) [] rest f3.1 in
+    let f4 = prefix_first t4 (numeral p.high) [] rest f3.1 in
     after (new_parameter s) _ p.name (at u t1) (name_of_parameter s p.name h.0 new few room)
     (after (expect keyword.In (at u t1)) _ tt (at u t2) (expected keyword.In (at u t1) f1.0)
     (after (any_number (at u t2)) _ p.low (at u t3) (number_given (at u t2) p.low f2.0)
@@ -67,16 +67,16 @@ parameter_given s p rest new few room f =
 abbrev comma_first : List Parameter → List Piece
 comma_first ps = others (sign mark.Comma) spell.parameter ps
 
-parameters_more : (ps acc : List Parameter) (s : State) (rest : List Token) → are_new (names_of ps) s.declared ≡ true → length s.variables + length ps ≤ 8 → s.variable_count + length ps ≤ 64 → Front s.rest (comma_first ps) rest → is_sign mark.Comma (kind_of rest) ≡ false → while_next (is_sign mark.Comma) (one_more next_parameter) acc s ≡ ok (acc ++ ps) (with_names s rest (names_of ps))
+parameters_more : (ps acc : List Parameter) (s : State) (rest : List Token) → are_new (names_of ps) s.declared ≡ true → length s.variables + length ps ≤ 8 → s.variable_count + length ps ≤ 64 → Prefix s.rest (comma_first ps) rest → is_sign mark.Comma (kind_of rest) ≡ false → while_next (is_sign mark.Comma) (one_more next_parameter) acc s ≡ ok (acc ++ ps) (with_names s rest (names_of ps))
 unfolding next_parameter
 parameters_more [] acc s rest new few room f off =
     while_off (is_sign mark.Comma) (one_more next_parameter) acc s (ap (λ (ts : List Token). is_sign mark.Comma (kind_of ts)) f ∙ off)
     ∙ ap (λ (xs : List Parameter). ok xs s) (sym (append-nil acc))
     ∙ ap (λ (w : State). ok (acc ++ []) w) (no_names s rest f)
 parameters_more (p ∷ ps) acc s rest new few room f off =
-    let m = front_split s.rest (sign mark.Comma ∷ spell.parameter p) (comma_first ps) rest f in
+    let m = prefix_split s.rest (sign mark.Comma ∷ spell.parameter p) (comma_first ps) rest f in
     let us : List Token = m.0 in
-    let h = front_first s.rest (sign mark.Comma) (spell.parameter p) us m.1 in
+    let h = prefix_first s.rest (sign mark.Comma) (spell.parameter p) us m.1 in
     let t : State = at s (after_first s.rest) in
     let u : State = with_names s us (p.name ∷ []) in
     let longer : length (s.variables ++ p.name ∷ []) ≡ length s.variables + 1 = length-append s.variables (p.name ∷ []) in
@@ -86,10 +86,10 @@ parameters_more (p ∷ ps) acc s rest new few room f off =
     ∙ ap (λ (xs : List Parameter). ok xs (with_names u rest (names_of ps))) (append_assoc acc (p ∷ []) ps)
     ∙ ap (λ (w : State). ok (acc ++ p ∷ ps) w) (names_joined s us rest p.name (names_of ps)))
 
-parameters_listed : (p : Parameter) (ps : List Parameter) (s : State) (rest : List Token) → are_new (names_of (p ∷ ps)) s.declared ≡ true → length s.variables + suc (length ps) ≤ 8 → s.variable_count + suc (length ps) ≤ 64 → Front s.rest (separated (sign mark.Comma) spell.parameter (p ∷ ps)) rest → is_sign mark.Comma (kind_of rest) ≡ false → parameter_list s ≡ ok (p ∷ ps) (with_names s rest (names_of (p ∷ ps)))
+parameters_listed : (p : Parameter) (ps : List Parameter) (s : State) (rest : List Token) → are_new (names_of (p ∷ ps)) s.declared ≡ true → length s.variables + suc (length ps) ≤ 8 → s.variable_count + suc (length ps) ≤ 64 → Prefix s.rest (separated (sign mark.Comma) spell.parameter (p ∷ ps)) rest → is_sign mark.Comma (kind_of rest) ≡ false → parameter_list s ≡ ok (p ∷ ps) (with_names s rest (names_of (p ∷ ps)))
 unfolding parameter_list
 parameters_listed p ps s rest new few room f off =
-    let m = front_split s.rest (spell.parameter p) (comma_first ps) rest f in
+    let m = prefix_split s.rest (spell.parameter p) (comma_first ps) rest f in
     let us : List Token = m.0 in
     let u : State = with_names s us (p.name ∷ []) in
     let longer : length (s.variables ++ p.name ∷ []) ≡ length s.variables + 1 = length-append s.variables (p.name ∷ []) in
@@ -98,14 +98,14 @@ parameters_listed p ps s rest new few room f off =
     ∙ ap (λ (w : State). ok (p ∷ ps) w) (names_joined s us rest p.name (names_of ps)))
 
 -- the bracket after them
-parameters_given : (ps : List Parameter) (s : State) (rest : List Token) → are_new (names_of ps) s.declared ≡ true → length s.variables + length ps ≤ 8 → s.variable_count + length ps ≤ 64 → Front s.rest (separated (sign mark.Comma) spell.parameter ps) rest → kind_of rest ≡ Some (kind.Sign mark.RightBracket) → parameters_at s ≡ ok ps (with_names s rest (names_of ps))
+parameters_given : (ps : List Parameter) (s : State) (rest : List Token) → are_new (names_of ps) s.declared ≡ true → length s.variables + length ps ≤ 8 → s.variable_count + length ps ≤ 64 → Prefix s.rest (separated (sign mark.Comma) spell.parameter ps) rest → kind_of rest ≡ Some (kind.Sign mark.RightBracket) → parameters_at s ≡ ok ps (with_names s rest (names_of ps))
 unfolding parameters_at
 parameters_given [] s rest new few room f bracket =
     ap (λ (k : Option TokenKind). cond (is_sign mark.RightBracket k) (give []) parameter_list s) (ap kind_of f ∙ bracket)
     ∙ ap (λ (w : State). ok [] w) (no_names s rest f)
 parameters_given (p ∷ ps) s rest new few room f bracket =
-    let m = front_split s.rest (spell.parameter p) (comma_first ps) rest f in
-    let h = front_first s.rest (name p.name) (word keyword.In ∷ numeral p.low ∷ sign mark.UpTo ∷ numeral p.high ∷ []) m.0 m.1 in
+    let m = prefix_split s.rest (spell.parameter p) (comma_first ps) rest f in
+    let h = prefix_first s.rest (name p.name) (word keyword.In ∷ numeral p.low ∷ sign mark.UpTo ∷ numeral p.high ∷ []) m.0 m.1 in
     ap (λ (k : Option TokenKind). cond (is_sign mark.RightBracket k) (give []) parameter_list s) h.0
     ∙ parameters_listed p ps s rest new few room f (ap (is_sign mark.Comma) bracket)
 
@@ -114,17 +114,17 @@ parameters_given (p ∷ ps) s rest new few room f bracket =
 abbrev heading_of : Procedure → Heading
 heading_of p = record { parameters = p.parameters; cycles = p.cycles; words = p.words; steps = p.steps }
 
-abbrev behind_bracket : Procedure → List Piece → List Piece
-behind_bracket p ps =
+abbrev after_bracket : Procedure → List Piece → List Piece
+after_bracket p ps =
     word keyword.Within ∷ numeral p.cycles ∷ word keyword.Cycles ∷ word keyword.Event ∷ numeral p.words ∷ word keyword.Words
     ∷ word keyword.Steps ∷ numeral p.steps ∷ ps
 
 abbrev heading : Procedure → List Piece → List Piece
 heading p ps =
-    sign mark.LeftBracket ∷ (separated (sign mark.Comma) spell.parameter p.parameters ++ sign mark.RightBracket ∷ behind_bracket p ps)
+    sign mark.LeftBracket ∷ (separated (sign mark.Comma) spell.parameter p.parameters ++ sign mark.RightBracket ∷ after_bracket p ps)
 
 -- the heading is read, and what is left of the tokens
-heading_given : (p : Procedure) (s : State) (ps : List Piece) (rest : List Token) → are_new (names_of p.parameters) s.declared ≡ true → length s.variables + length p.parameters ≤ 8 → s.variable_count + length p.parameters ≤ 64 → Front s.rest (heading p ps) rest → (us : List Token) × (heading_at s ≡ ok (heading_of p) (with_names s us (names_of p.parameters))) × Front us ps rest
+heading_given : (p : Procedure) (s : State) (ps : List Piece) (rest : List Token) → are_new (names_of p.parameters) s.declared ≡ true → length s.variables + length p.parameters ≤ 8 → s.variable_count + length p.parameters ≤ 64 → Prefix s.rest (heading p ps) rest → (us : List Token) × (heading_at s ≡ ok (heading_of p) (with_names s us (names_of p.parameters))) × Prefix us ps rest
 unfolding heading_at
 heading_given p s ps rest new few room f =
     let q0 : List Piece = separated (sign mark.Comma) spell.parameter p.parameters in
@@ -136,27 +136,27 @@ heading_given p s ps rest new few room f =
     let q3 : List Piece = word keyword.Cycles ∷ q4 in
     let q2 : List Piece = numeral p.cycles ∷ q3 in
     let q1 : List Piece = word keyword.Within ∷ q2 in
-    let h = front_first s.rest (sign mark.LeftBracket) (q0 ++ sign mark.RightBracket ∷ q1) rest f in
+    let h = prefix_first s.rest (sign mark.LeftBracket) (q0 ++ sign mark.RightBracket ∷ q1) rest f in
     let t0 : List Token = after_first s.rest in
-    let m = front_split t0 q0 (sign mark.RightBracket ∷ q1) rest h.1 in
+    let m = prefix_split t0 q0 (sign mark.RightBracket ∷ q1) rest h.1 in
     let t1 : List Token = m.0 in
-    let f1 = front_first t1 (sign mark.RightBracket) q1 rest m.2 in
+    let f1 = prefix_first t1 (sign mark.RightBracket) q1 rest m.2 in
     let t2 : List Token = after_first t1 in
-    let f2 = front_first t2 (word keyword.Within) q2 rest f1.1 in
+    let f2 = prefix_first t2 (word keyword.Within) q2 rest f1.1 in
     let t3 : List Token = after_first t2 in
-    let f3 = front_first t3 (numeral p.cycles) q3 rest f2.1 in
+    let f3 = prefix_first t3 (numeral p.cycles) q3 rest f2.1 in
     let t4 : List Token = after_first t3 in
-    let f4 = front_first t4 (word keyword.Cycles) q4 rest f3.1 in
+    let f4 = prefix_first t4 (word keyword.Cycles) q4 rest f3.1 in
     let t5 : List Token = after_first t4 in
-    let f5 = front_first t5 (word keyword.Event) q5 rest f4.1 in
+    let f5 = prefix_first t5 (word keyword.Event) q5 rest f4.1 in
     let t6 : List Token = after_first t5 in
-    let f6 = front_first t6 (numeral p.words) q6 rest f5.1 in
+    let f6 = prefix_first t6 (numeral p.words) q6 rest f5.1 in
     let t7 : List Token = after_first t6 in
-    let f7 = front_first t7 (word keyword.Words) q7 rest f6.1 in
+    let f7 = prefix_first t7 (word keyword.Words) q7 rest f6.1 in
     let t8 : List Token = after_first t7 in
-    let f8 = front_first t8 (word keyword.Steps) q8 rest f7.1 in
+    let f8 = prefix_first t8 (word keyword.Steps) q8 rest f7.1 in
     let t9 : List Token = after_first t8 in
-    let f9 = front_first t9 (numeral p.steps) ps rest f8.1 in
+    let f9 = prefix_first t9 (numeral p.steps) ps rest f8.1 in
     let u : State = with_names s t1 (names_of p.parameters) in
     let read =
     after (expect_sign mark.LeftBracket s) _ tt (at s t0) (expected_sign mark.LeftBracket s h.0)
@@ -192,15 +192,15 @@ with_procedure_body s rest p m = record s {
   order = s.order ++ next_procedure ∷ [];
 }
 
-pub procedure_declared : (t : Script) (p : Procedure) (s : State) (rest : List Token) (m : ℕ) → length s.procedures < 16 → is_new p.name s.declared ≡ true → are_new (names_of p.parameters) (s.declared ++ p.name ∷ []) ≡ true → length p.parameters ≤ 8 → s.variable_count + length p.parameters ≤ 64 → RunsBraced (spell.procedure_names t p) (inside s s.rest p) 0 (length p.registers) m 16 p.body → Front s.rest (spell.procedure_declaration t p) rest → declaration_at s ≡ ok tt (with_procedure_body s rest p m)
+pub procedure_declared : (t : Script) (p : Procedure) (s : State) (rest : List Token) (m : ℕ) → length s.procedures < 16 → is_new p.name s.declared ≡ true → are_new (names_of p.parameters) (s.declared ++ p.name ∷ []) ≡ true → length p.parameters ≤ 8 → s.variable_count + length p.parameters ≤ 64 → RunsBraced (spell.procedure_names t p) (inside s s.rest p) 0 (length p.registers) m 16 p.body → Prefix s.rest (spell.procedure_declaration t p) rest → declaration_at s ≡ ok tt (with_procedure_body s rest p m)
 unfolding procedure_declaration
 procedure_declared t p s rest m room new new_parameters few count c f =
     let n : Names = spell.procedure_names t p in
     let body : List Piece = braced (block n p.body) in
     let q1 : List Piece = heading p body in
-    let h = front_line s.rest s.end_line p.line (kind.Keyword keyword.Proc) (name p.name ∷ q1) rest f in
+    let h = prefix_line s.rest s.end_line p.line (kind.Keyword keyword.Proc) (name p.name ∷ q1) rest f in
     let t1 : List Token = after_first s.rest in
-    let f1 = front_first t1 (name p.name) q1 rest h.2 in
+    let f1 = prefix_first t1 (name p.name) q1 rest h.2 in
     let t2 : List Token = after_first t1 in
     let u : State = in_heading p.name (at s t2) in
     let g = heading_given p u body rest new_parameters (omega arith) count f1.1 in

@@ -22,10 +22,10 @@ use Rattle.camac_text_statements.specs.Statements.{else_by, if_statement, lock_s
 use Rattle.camac_text_cursor.proofs.Uses.{scope_of}
 use Rattle.camac_text_statements.proofs.Acts.{begun}
 use Rattle.camac_text_cursor.proofs.Registers.{first_of_both, second_of_both}
-use Rattle.camac_text_spelling.specs.Pieces.{Piece, word, sign, Names, Front}
+use Rattle.camac_text_spelling.specs.Pieces.{Piece, word, sign, Names, Prefix}
 use Rattle.camac_text_spelling.specs.Phrases as phrase
 use Rattle.camac_text_spelling.specs.Statements as spell
-use Rattle.camac_text_spelling.proofs.Fronts.{front_split, front_first, front_line}
+use Rattle.camac_text_spelling.proofs.Prefixes.{prefix_split, prefix_first, prefix_line}
 use Rattle.camac_text_spelling.proofs.Gives.{at, ok, after, checked, left, expected_sign}
 use Rattle.camac_text_spelling.proofs.GivesExpressions.{NoSign, expression_given}
 use Rattle.camac_text_spelling.proofs.GivesPhrases.{no_sign, condition_given}
@@ -34,22 +34,22 @@ use Rattle.camac_text_spelling.proofs.GivesActions.{IsGiven}
 
 -- The statements of a block that is spelled are read, up to its brace.
 abbrev pub AreGiven : Names → Block → Type 0
-AreGiven n b = (room : ℕ) (acc : List Statement) (s : State) (rest : List Token) (j k m : ℕ) → Runs n s j k m room (after_block (scope_of s) j b) (inner_depth s.callables b) (statements b) → Front s.rest (spell.block n b) rest → kind_of rest ≡ Some (kind.Sign mark.RightBrace) → while_next is_no_end (one_more (statement_with room (block_at room))) acc s ≡ ok (acc ++ listed b) (left_at n s rest k m)
+AreGiven n b = (room : ℕ) (acc : List Statement) (s : State) (rest : List Token) (j k m : ℕ) → Runs n s j k m room (after_block (scope_of s) j b) (inner_depth s.callables b) (statements b) → Prefix s.rest (spell.block n b) rest → kind_of rest ≡ Some (kind.Sign mark.RightBrace) → while_next is_no_end (one_more (statement_with room (block_at room))) acc s ≡ ok (acc ++ listed b) (left_at n s rest k m)
 
 -- a block in its braces
 abbrev pub RunsBraced : Names → State → ℕ → ℕ → ℕ → ℕ → Block → Type 0
 RunsBraced n s j k m room b = Runs n s j k m room (after_block (scope_of s) j b) (suc (inner_depth s.callables b)) (statements b)
 
-pub braced_given : (n : Names) (b : Block) → AreGiven n b → (room : ℕ) (s : State) (rest : List Token) (j k m : ℕ) → RunsBraced n s j k m room b → Front s.rest (spell.braced (spell.block n b)) rest → block_at room s ≡ ok (listed b) (left_at n s rest k m)
+pub braced_given : (n : Names) (b : Block) → AreGiven n b → (room : ℕ) (s : State) (rest : List Token) (j k m : ℕ) → RunsBraced n s j k m room b → Prefix s.rest (spell.braced (spell.block n b)) rest → block_at room s ≡ ok (listed b) (left_at n s rest k m)
 unfolding block_at many
 braced_given n b given zero s rest j k m c f = let deep : suc (inner_depth s.callables b) ≤ 0 = c.deep in absurd (omega arith)
 braced_given n b given (suc room) s rest j k m c f =
     let ps : List Piece = spell.block n b in
-    let h = front_first s.rest (sign mark.LeftBrace) (ps ++ sign mark.RightBrace ∷ []) rest f in
+    let h = prefix_first s.rest (sign mark.LeftBrace) (ps ++ sign mark.RightBrace ∷ []) rest f in
     let u : State = at s (after_first s.rest) in
-    let parts = front_split (after_first s.rest) ps (sign mark.RightBrace ∷ []) rest h.1 in
+    let parts = prefix_split (after_first s.rest) ps (sign mark.RightBrace ∷ []) rest h.1 in
     let us : List Token = parts.0 in
-    let closing = front_first us (sign mark.RightBrace) [] rest parts.2 in
+    let closing = prefix_first us (sign mark.RightBrace) [] rest parts.2 in
     let deep : suc (inner_depth s.callables b) ≤ suc room = c.deep in
     let inside : Runs n u j k m room (after_block (scope_of s) j b) (inner_depth s.callables b) (statements b) = record {
       finds = c.finds;
@@ -70,8 +70,8 @@ pub brace_no_sign : NoSign (Some (kind.Sign mark.LeftBrace))
 brace_no_sign = record { product = refl; sum = refl }
 
 -- the brace of a block
-pub brace_first : (n : Names) (b : Block) (ts rest : List Token) → Front ts (spell.braced (spell.block n b)) rest → kind_of ts ≡ Some (kind.Sign mark.LeftBrace)
-brace_first n b ts rest f = (front_first ts (sign mark.LeftBrace) (spell.block n b ++ sign mark.RightBrace ∷ []) rest f).0
+pub brace_first : (n : Names) (b : Block) (ts rest : List Token) → Prefix ts (spell.braced (spell.block n b)) rest → kind_of ts ≡ Some (kind.Sign mark.LeftBrace)
+brace_first n b ts rest f = (prefix_first ts (sign mark.LeftBrace) (spell.block n b ++ sign mark.RightBrace ∷ []) rest f).0
 
 -- ---- `lock`
 
@@ -81,8 +81,8 @@ locked_given n line e b given room s rest j k m c f ends =
     let x : Statement = locked line e b in
     let p1 : List Piece = phrase.expression n e in
     let body : List Piece = spell.braced (spell.block n b) in
-    let h = front_line s.rest s.end_line line (kind.Keyword keyword.Lock) (p1 ++ body) rest f in
-    let parts = front_split (after_first s.rest) p1 body rest h.2 in
+    let h = prefix_line s.rest s.end_line line (kind.Keyword keyword.Lock) (p1 ++ body) rest f in
+    let parts = prefix_split (after_first s.rest) p1 body rest h.2 in
     let us : List Token = parts.0 in
     let p = then_parts (λ i. after_block (scope_of s) i b) (begun_by (scope_of s) j x) k c.reached in
     let r = unless_parts (head_fits (scope_of s) j x) j p.0 p.1 in
@@ -118,8 +118,8 @@ choose_given n line t b given room s rest j k m c f ends =
     let x : Statement = choose line t b in
     let p1 : List Piece = phrase.condition n t in
     let body : List Piece = spell.braced (spell.block n b) in
-    let h = front_line s.rest s.end_line line (kind.Keyword keyword.If) (p1 ++ body) rest f in
-    let parts = front_split (after_first s.rest) p1 body rest h.2 in
+    let h = prefix_line s.rest s.end_line line (kind.Keyword keyword.If) (p1 ++ body) rest f in
+    let parts = prefix_split (after_first s.rest) p1 body rest h.2 in
     let us : List Token = parts.0 in
     let brace = brace_first n b us rest parts.2 in
     let p = then_parts (λ i. after_block (scope_of s) i b) (begun_by (scope_of s) j x) k c.reached in
@@ -151,12 +151,12 @@ choose_else_given n line t a b given_a given_b room s rest j k m c f ends =
     let p1 : List Piece = phrase.condition n t in
     let body : List Piece = spell.braced (spell.block n a) in
     let other : List Piece = spell.braced (spell.block n b) in
-    let h = front_line s.rest s.end_line line (kind.Keyword keyword.If) (p1 ++ (body ++ word keyword.Else ∷ other)) rest f in
-    let parts = front_split (after_first s.rest) p1 (body ++ word keyword.Else ∷ other) rest h.2 in
+    let h = prefix_line s.rest s.end_line line (kind.Keyword keyword.If) (p1 ++ (body ++ word keyword.Else ∷ other)) rest f in
+    let parts = prefix_split (after_first s.rest) p1 (body ++ word keyword.Else ∷ other) rest h.2 in
     let us : List Token = parts.0 in
-    let more = front_split us body (word keyword.Else ∷ other) rest parts.2 in
+    let more = prefix_split us body (word keyword.Else ∷ other) rest parts.2 in
     let vs : List Token = more.0 in
-    let els = front_first vs (word keyword.Else) other rest more.2 in
+    let els = prefix_first vs (word keyword.Else) other rest more.2 in
     let brace = brace_first n a us vs more.1 in
     let p = then_parts (λ i. after_block (scope_of s) i b) _ k c.reached in
     let q = then_parts (λ i. after_block (scope_of s) i a) (begun_by (scope_of s) j x) p.0 p.1 in

@@ -11,20 +11,20 @@ use Rattle.camac_text_tokens.specs.declared.token.Token.{Token}
 use Rattle.camac_text_tokens.specs.declared.token.TokenKind.TheVariants as kind
 use Rattle.camac_text_cursor.specs.Reading.{State, ◌>>◌, give, check, advance, kind_of, after_first, while_next}
 use Rattle.camac_text_cursor.specs.Readers.{expect_sign, number_here, new_name}
-use Rattle.camac_text.specs.Tables.{word_behind, one_more_word, is_number, table_words, with_table, table_declaration}
+use Rattle.camac_text.specs.Tables.{word_after, one_more_word, is_number, table_words, with_table, table_declaration}
 use Rattle.camac_text.specs.Declarations.{declaration_at}
 use Rattle.camac_text_cursor.proofs.Steps.{while_off}
 use Rattle.camac_text_cursor.proofs.Registers.{first_of_both, second_of_both}
 use Rattle.camac_text.proofs.TablesRead.{words_progress}
-use Rattle.camac_text_spelling.specs.Pieces.{Piece, sign, numeral, name, Front}
+use Rattle.camac_text_spelling.specs.Pieces.{Piece, sign, numeral, name, Prefix}
 use Rattle.camac_text_spelling.specs.Declarations as spell
-use Rattle.camac_text_spelling.proofs.Fronts.{front_first, front_line}
+use Rattle.camac_text_spelling.proofs.Prefixes.{prefix_first, prefix_line}
 use Rattle.camac_text_spelling.proofs.Gives.{at, ok, after, checked, while_turn, left, expected_sign, number_seen, new_name_seen}
 use Rattle.camac_text_spelling.proofs.GivesDeclarations.{first_given}
 
 -- one word after so many
-word_given : (count : ℕ) (s : State) (w : ℕ) → kind_of s.rest ≡ Some (kind.Number w) → is_word w ≡ true → count < 1024 → word_behind count s ≡ ok w (at s (after_first s.rest))
-unfolding word_behind
+word_given : (count : ℕ) (s : State) (w : ℕ) → kind_of s.rest ≡ Some (kind.Number w) → is_word w ≡ true → count < 1024 → word_after count s ≡ ok w (at s (after_first s.rest))
+unfolding word_after
 word_given count s w next fits room =
     let most : w ≤ 16777215 = leb-true w 16777215 fits in
     let below : w < 16777216 = omega arith in
@@ -33,39 +33,39 @@ word_given count s w next fits room =
     (checked (nat_lt count 1024) LimitPassed (advance >> give w) s (lt-ltb count 1024 room) refl))
 
 -- the words after these
-words_given : (ws acc : List ℕ) (s : State) (rest : List Token) → each is_word ws ≡ true → length acc + length ws ≤ 1024 → Front s.rest (map numeral ws) rest → is_number (kind_of rest) ≡ false → while_next is_number one_more_word acc s ≡ ok (acc ++ ws) (at s rest)
+words_given : (ws acc : List ℕ) (s : State) (rest : List Token) → each is_word ws ≡ true → length acc + length ws ≤ 1024 → Prefix s.rest (map numeral ws) rest → is_number (kind_of rest) ≡ false → while_next is_number one_more_word acc s ≡ ok (acc ++ ws) (at s rest)
 words_given [] acc s rest fit room f off =
     while_off is_number one_more_word acc s (ap (λ (ts : List Token). is_number (kind_of ts)) f ∙ off)
     ∙ ap (λ (xs : List ℕ). ok xs s) (sym (append-nil acc))
     ∙ left (acc ++ []) s s.rest rest f
 words_given (w ∷ ws) acc s rest fit room f off =
-    let h = front_first s.rest (numeral w) (map numeral ws) rest f in
+    let h = prefix_first s.rest (numeral w) (map numeral ws) rest f in
     let u : State = at s (after_first s.rest) in
     let longer : length (acc ++ w ∷ []) ≡ length acc + 1 = length-append acc (w ∷ []) in
     while_turn is_number one_more_word words_progress acc s (acc ++ w ∷ []) u (ap is_number h.0)
-    (after (word_behind (length acc) s) (λ x. give (acc ++ x ∷ [])) w u (word_given (length acc) s w h.0 (first_of_both (is_word w) _ fit) (omega arith)) refl)
+    (after (word_after (length acc) s) (λ x. give (acc ++ x ∷ [])) w u (word_given (length acc) s w h.0 (first_of_both (is_word w) _ fit) (omega arith)) refl)
     (words_given ws (acc ++ w ∷ []) u rest (second_of_both (is_word w) _ fit) (omega arith) h.1 off
     ∙ ap (λ (xs : List ℕ). ok xs (at s rest)) (append_assoc acc (w ∷ []) ws))
 
-all_words_given : (ws : List ℕ) (s : State) (rest : List Token) → 1 ≤ length ws → length ws ≤ 1024 → each is_word ws ≡ true → Front s.rest (map numeral ws) rest → is_number (kind_of rest) ≡ false → table_words s ≡ ok ws (at s rest)
+all_words_given : (ws : List ℕ) (s : State) (rest : List Token) → 1 ≤ length ws → length ws ≤ 1024 → each is_word ws ≡ true → Prefix s.rest (map numeral ws) rest → is_number (kind_of rest) ≡ false → table_words s ≡ ok ws (at s rest)
 unfolding table_words
 all_words_given [] s rest some few fit f off = absurd (omega arith)
 all_words_given (w ∷ ws) s rest some few fit f off =
-    let h = front_first s.rest (numeral w) (map numeral ws) rest f in
+    let h = prefix_first s.rest (numeral w) (map numeral ws) rest f in
     let u : State = at s (after_first s.rest) in
-    after (word_behind 0 s) (λ first. while_next is_number one_more_word (first ∷ [])) w u (word_given 0 s w h.0 (first_of_both (is_word w) _ fit) (omega arith))
+    after (word_after 0 s) (λ first. while_next is_number one_more_word (first ∷ [])) w u (word_given 0 s w h.0 (first_of_both (is_word w) _ fit) (omega arith))
     (words_given ws (w ∷ []) u rest (second_of_both (is_word w) _ fit) (omega arith) h.1 off)
 
-pub table_declared : (g : Table) (s : State) (rest : List Token) → length s.tables < 16 → is_new g.name s.declared ≡ true → 1 ≤ length g.words → length g.words ≤ 1024 → each is_word g.words ≡ true → Front s.rest (spell.table_declaration g) rest → is_number (kind_of rest) ≡ false → declaration_at s ≡ ok tt (with_table g (at s rest))
+pub table_declared : (g : Table) (s : State) (rest : List Token) → length s.tables < 16 → is_new g.name s.declared ≡ true → 1 ≤ length g.words → length g.words ≤ 1024 → each is_word g.words ≡ true → Prefix s.rest (spell.table_declaration g) rest → is_number (kind_of rest) ≡ false → declaration_at s ≡ ok tt (with_table g (at s rest))
 unfolding table_declaration
 table_declared g s rest room new some few fit f off =
     let q2 : List Piece = map numeral g.words in
     let q1 : List Piece = sign mark.Equals ∷ q2 in
-    let h = front_line s.rest s.end_line g.line (kind.Keyword keyword.Table) (name g.name ∷ q1) rest f in
+    let h = prefix_line s.rest s.end_line g.line (kind.Keyword keyword.Table) (name g.name ∷ q1) rest f in
     let t1 : List Token = after_first s.rest in
-    let f1 = front_first t1 (name g.name) q1 rest h.2 in
+    let f1 = prefix_first t1 (name g.name) q1 rest h.2 in
     let t2 : List Token = after_first t1 in
-    let f2 = front_first t2 (sign mark.Equals) q2 rest f1.1 in
+    let f2 = prefix_first t2 (sign mark.Equals) q2 rest f1.1 in
     let t3 : List Token = after_first t2 in
     first_given g.line (kind.Keyword keyword.Table) s (name g.name ∷ q1) rest f
     ∙ checked (nat_lt (length s.tables) 16) LimitPassed _ s (lt-ltb (length s.tables) 16 room)

@@ -21,9 +21,9 @@ use Rattle.camac_text_statements.specs.Transfers.{last_bound, table_by, table_at
 use Rattle.camac_text_statements.proofs.Acts.{begun}
 use Rattle.camac_text_cursor.proofs.Uses.{scope_of}
 use Rattle.camac_text_cursor.proofs.Registers.{first_of_both, second_of_both}
-use Rattle.camac_text_spelling.specs.Pieces.{Piece, word, numeral, name_at, text_at, Names, Front}
+use Rattle.camac_text_spelling.specs.Pieces.{Piece, word, numeral, name_at, text_at, Names, Prefix}
 use Rattle.camac_text_spelling.specs.Phrases as phrase
-use Rattle.camac_text_spelling.proofs.Fronts.{front_split, front_first, front_line}
+use Rattle.camac_text_spelling.proofs.Prefixes.{prefix_split, prefix_first, prefix_line}
 use Rattle.camac_text_spelling.proofs.Gives.{at, ok, after, left, expected, function_given, FindsAll, variable_given, register_given, table_given}
 use Rattle.camac_text_spelling.proofs.GivesExpressions.{NoSign, expression_given}
 use Rattle.camac_text_spelling.proofs.GivesPhrases.{no_sign}
@@ -51,30 +51,30 @@ limit_no_sign : NoSign (Some (kind.Keyword keyword.Limit))
 limit_no_sign = record { product = refl; sum = refl }
 
 -- the last bound after its word, and the tally
-bound_given : (n : Names) (w : Keyword) (e : Expression) (x room : ℕ) (s : State) (rest : List Token) → FindsAll n s → expression_fits (scope_of s) e ≡ true → expression_depth e ≤ room → nat_lt x (length s.variables) ≡ true → Front s.rest (word w ∷ (phrase.expression n e ++ phrase.tally n x)) rest → last_bound w room s ≡ ok (e, x) (at s rest)
+bound_given : (n : Names) (w : Keyword) (e : Expression) (x room : ℕ) (s : State) (rest : List Token) → FindsAll n s → expression_fits (scope_of s) e ≡ true → expression_depth e ≤ room → nat_lt x (length s.variables) ≡ true → Prefix s.rest (word w ∷ (phrase.expression n e ++ phrase.tally n x)) rest → last_bound w room s ≡ ok (e, x) (at s rest)
 unfolding last_bound
 bound_given n w e x room s rest finds fits deep known f =
-    let h = front_first s.rest (word w) (phrase.expression n e ++ phrase.tally n x) rest f in
+    let h = prefix_first s.rest (word w) (phrase.expression n e ++ phrase.tally n x) rest f in
     let u : State = at s (after_first s.rest) in
-    let parts = front_split (after_first s.rest) (phrase.expression n e) (phrase.tally n x) rest h.1 in
+    let parts = prefix_split (after_first s.rest) (phrase.expression n e) (phrase.tally n x) rest h.1 in
     let us : List Token = parts.0 in
-    let tally = front_first us (word keyword.Tally) (name_at n.variables x ∷ []) rest parts.2 in
+    let tally = prefix_first us (word keyword.Tally) (name_at n.variables x ∷ []) rest parts.2 in
     let ts : List Token = after_first us in
-    let named = front_first ts (name_at n.variables x) [] rest tally.1 in
+    let named = prefix_first ts (name_at n.variables x) [] rest tally.1 in
     after (expect w s) _ tt u (expected w s h.0)
     (after (expression_at room u) _ e (at s us) (expression_given n e room u us finds fits deep parts.1 (no_sign (kind_of us) _ tally.0 tally_no_sign))
     (after (expect keyword.Tally (at s us)) _ tt (at s ts) (expected keyword.Tally (at s us) tally.0)
     (after (used_variable (at s ts)) _ x (at s (after_first ts)) (variable_given n (at s ts) x finds known named.0) (left (e, x) s (after_first ts) rest named.1))))
 
--- the table of a write, in front of `max`
-write_given : (n : Names) (g : Option ℕ) (s : State) (rest : List Token) → FindsAll n s → table_fits (scope_of s) g ≡ true → Front s.rest (phrase.table n g) rest → kind_of rest ≡ Some (kind.Keyword keyword.Max) → table_at s ≡ ok g (at s rest)
+-- the table of a write, before `max`
+write_given : (n : Names) (g : Option ℕ) (s : State) (rest : List Token) → FindsAll n s → table_fits (scope_of s) g ≡ true → Prefix s.rest (phrase.table n g) rest → kind_of rest ≡ Some (kind.Keyword keyword.Max) → table_at s ≡ ok g (at s rest)
 unfolding table_at
 write_given n None s rest finds fits f next =
     ap (λ (k : Option TokenKind). table_by k s) (ap kind_of f ∙ next) ∙ left (let none : Option ℕ = None in none) s s.rest rest f
 write_given n (Some g) s rest finds fits f next =
-    let h = front_first s.rest (word keyword.Table) (name_at n.tables g ∷ []) rest f in
+    let h = prefix_first s.rest (word keyword.Table) (name_at n.tables g ∷ []) rest f in
     let ts : List Token = after_first s.rest in
-    let named = front_first ts (name_at n.tables g) [] rest h.1 in
+    let named = prefix_first ts (name_at n.tables g) [] rest h.1 in
     ap (λ (k : Option TokenKind). table_by k s) h.0
     ∙ after (used_table (at s ts)) _ g (at s (after_first ts)) (table_given n (at s ts) g finds fits named.0) (left (Some g) s (after_first ts) rest named.1)
 
@@ -87,13 +87,13 @@ scan_given n line g r1 r2 e x room s rest j k m c f ends =
     let p4 : List Piece = phrase.most n e ++ phrase.tally n x in
     let p3 : List Piece = name_at n.registers r2 ∷ p4 in
     let p2 : List Piece = name_at n.registers r1 ∷ p3 in
-    let h = front_line s.rest s.end_line line (kind.Keyword keyword.Cfmad) (numeral g ∷ p2) rest f in
+    let h = prefix_line s.rest s.end_line line (kind.Keyword keyword.Cfmad) (numeral g ∷ p2) rest f in
     let t1 : List Token = after_first s.rest in
-    let number = front_first t1 (numeral g) p2 rest h.2 in
+    let number = prefix_first t1 (numeral g) p2 rest h.2 in
     let t2 : List Token = after_first t1 in
-    let first = front_first t2 (name_at n.registers r1) p3 rest number.1 in
+    let first = prefix_first t2 (name_at n.registers r1) p3 rest number.1 in
     let t3 : List Token = after_first t2 in
-    let last = front_first t3 (name_at n.registers r2) p4 rest first.1 in
+    let last = prefix_first t3 (name_at n.registers r2) p4 rest first.1 in
     let t4 : List Token = after_first t3 in
     let rule = unless_parts (head_fits (scope_of s) j y) j k c.reached in
     let q1 = second_of_both (is_function g) _ rule.0 in
@@ -116,15 +116,15 @@ stop_given n line g r t e x room s rest j k m c f ends =
     let p4 : List Piece = phrase.expression n e ++ phrase.tally n x in
     let p3 : List Piece = phrase.table n t ++ word keyword.Max ∷ p4 in
     let p2 : List Piece = name_at n.registers r ∷ p3 in
-    let h = front_line s.rest s.end_line line (kind.Keyword keyword.Cfubc) (numeral g ∷ p2) rest f in
+    let h = prefix_line s.rest s.end_line line (kind.Keyword keyword.Cfubc) (numeral g ∷ p2) rest f in
     let t1 : List Token = after_first s.rest in
-    let number = front_first t1 (numeral g) p2 rest h.2 in
+    let number = prefix_first t1 (numeral g) p2 rest h.2 in
     let t2 : List Token = after_first t1 in
-    let register = front_first t2 (name_at n.registers r) p3 rest number.1 in
+    let register = prefix_first t2 (name_at n.registers r) p3 rest number.1 in
     let t3 : List Token = after_first t2 in
-    let parts = front_split t3 (phrase.table n t) (word keyword.Max ∷ p4) rest register.1 in
+    let parts = prefix_split t3 (phrase.table n t) (word keyword.Max ∷ p4) rest register.1 in
     let us : List Token = parts.0 in
-    let most = front_first us (word keyword.Max) p4 rest parts.2 in
+    let most = prefix_first us (word keyword.Max) p4 rest parts.2 in
     let rule = unless_parts (head_fits (scope_of s) j y) j k c.reached in
     let q1 = second_of_both (is_function g) _ rule.0 in
     let q2 = second_of_both (nat_lt r j) _ q1 in
@@ -139,26 +139,26 @@ stop_given n line g r t e x room s rest j k m c f ends =
 
 -- ---- `cfubr`
 
-pub repeat_transfer_given : (n : Names) (line g r : ℕ) (t : Option ℕ) (e l : Expression) (x : ℕ) → IsGiven n (q_repeat line g r t e l x)
+pub q_repeat_given : (n : Names) (line g r : ℕ) (t : Option ℕ) (e l : Expression) (x : ℕ) → IsGiven n (q_repeat line g r t e l x)
 unfolding q_repeat_statement
-repeat_transfer_given n line g r t e l x room s rest j k m c f ends =
+q_repeat_given n line g r t e l x room s rest j k m c f ends =
     let y : Statement = q_repeat line g r t e l x in
     let p5 : List Piece = word keyword.Limit ∷ (phrase.expression n l ++ phrase.tally n x) in
     let p4 : List Piece = phrase.expression n e ++ p5 in
     let p3 : List Piece = phrase.table n t ++ word keyword.Max ∷ p4 in
     let p2 : List Piece = name_at n.registers r ∷ p3 in
-    let h = front_line s.rest s.end_line line (kind.Keyword keyword.Cfubr) (numeral g ∷ p2) rest f in
+    let h = prefix_line s.rest s.end_line line (kind.Keyword keyword.Cfubr) (numeral g ∷ p2) rest f in
     let t1 : List Token = after_first s.rest in
-    let number = front_first t1 (numeral g) p2 rest h.2 in
+    let number = prefix_first t1 (numeral g) p2 rest h.2 in
     let t2 : List Token = after_first t1 in
-    let register = front_first t2 (name_at n.registers r) p3 rest number.1 in
+    let register = prefix_first t2 (name_at n.registers r) p3 rest number.1 in
     let t3 : List Token = after_first t2 in
-    let parts = front_split t3 (phrase.table n t) (word keyword.Max ∷ p4) rest register.1 in
+    let parts = prefix_split t3 (phrase.table n t) (word keyword.Max ∷ p4) rest register.1 in
     let us : List Token = parts.0 in
-    let most = front_first us (word keyword.Max) p4 rest parts.2 in
-    let more = front_split (after_first us) (phrase.expression n e) p5 rest most.1 in
+    let most = prefix_first us (word keyword.Max) p4 rest parts.2 in
+    let more = prefix_split (after_first us) (phrase.expression n e) p5 rest most.1 in
     let vs : List Token = more.0 in
-    let limit = front_first vs (word keyword.Limit) (phrase.expression n l ++ phrase.tally n x) rest more.2 in
+    let limit = prefix_first vs (word keyword.Limit) (phrase.expression n l ++ phrase.tally n x) rest more.2 in
     let rule = unless_parts (head_fits (scope_of s) j y) j k c.reached in
     let q1 = second_of_both (is_function g) _ rule.0 in
     let q2 = second_of_both (nat_lt r j) _ q1 in

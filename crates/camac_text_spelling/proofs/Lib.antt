@@ -1,5 +1,5 @@
 pub mod Rows
-pub mod Fronts
+pub mod Prefixes
 pub mod Found
 pub mod Takes
 pub mod Lists

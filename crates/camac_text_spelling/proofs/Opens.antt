@@ -14,9 +14,9 @@ use Rattle.camac_text_tokens.specs.declared.token.TokenKind.{TokenKind}
 use Rattle.camac_text_tokens.specs.declared.token.TokenKind.TheVariants as kind
 use Rattle.camac_text_cursor.specs.Reading.{kind_of}
 use Rattle.camac_text_statements.specs.Statements.{is_no_end}
-use Rattle.camac_text_spelling.specs.Pieces.{Piece, first_piece, Names, Front}
+use Rattle.camac_text_spelling.specs.Pieces.{Piece, first_piece, Names, Prefix}
 use Rattle.camac_text_spelling.specs.Statements as spell
-use Rattle.camac_text_spelling.proofs.Fronts.{front_split, front_first}
+use Rattle.camac_text_spelling.proofs.Prefixes.{prefix_split, prefix_first}
 use Rattle.camac_text_spelling.proofs.Runs.{stops, Ends, ends_by}
 
 -- the first token of a statement, which ends the one before and goes on with the block
@@ -66,17 +66,17 @@ opens n (while_ line c t x ks b) = record { line = line; first = kind.Keyword ke
 opens n (locked line e b) = record { line = line; first = kind.Keyword keyword.Lock; others = _; same = refl; ends = refl; goes_on = refl }
 opens n (call line p es) = record { line = line; first = kind.Keyword keyword.Call; others = _; same = refl; ends = refl; goes_on = refl }
 
-first_kind : (n : Names) (x : Statement) (ts rest : List Token) → Front ts (spell.statement n x) rest → kind_of ts ≡ Some (opens n x).first
+first_kind : (n : Names) (x : Statement) (ts rest : List Token) → Prefix ts (spell.statement n x) rest → kind_of ts ≡ Some (opens n x).first
 first_kind n x ts rest f =
     let o = opens n x in
-    (front_first ts (first_piece o.line o.first) o.others rest (subst (λ (ps : List Piece). Front ts ps rest) o.same f)).0
+    (prefix_first ts (first_piece o.line o.first) o.others rest (subst (λ (ps : List Piece). Prefix ts ps rest) o.same f)).0
 
-pub statement_opens : (n : Names) (x : Statement) (ts rest : List Token) → Front ts (spell.statement n x) rest → is_no_end (kind_of ts) ≡ true
+pub statement_opens : (n : Names) (x : Statement) (ts rest : List Token) → Prefix ts (spell.statement n x) rest → is_no_end (kind_of ts) ≡ true
 statement_opens n x ts rest f = ap is_no_end (first_kind n x ts rest f) ∙ (opens n x).goes_on
 
 -- what stands next in a block ends the statement before
-pub block_ends : (n : Names) (b : Block) (ts rest : List Token) → Front ts (spell.block n b) rest → kind_of rest ≡ Some (kind.Sign mark.RightBrace) → Ends (kind_of ts)
+pub block_ends : (n : Names) (b : Block) (ts rest : List Token) → Prefix ts (spell.block n b) rest → kind_of rest ≡ Some (kind.Sign mark.RightBrace) → Ends (kind_of ts)
 block_ends n done ts rest f brace = ends_by (kind_of ts) (ap stops (ap kind_of f ∙ brace))
 block_ends n (next x b) ts rest f brace =
-    let m = front_split ts (spell.statement n x) (spell.block n b) rest f in
+    let m = prefix_split ts (spell.statement n x) (spell.block n b) rest f in
     ends_by (kind_of ts) (ap stops (first_kind n x ts m.0 m.1) ∙ (opens n x).ends)

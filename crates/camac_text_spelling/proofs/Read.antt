@@ -19,11 +19,11 @@ use Rattle.camac_text.specs.Parser.{start, tree_so_far, tree_in, tree_of_tokens,
 use Rattle.camac_text_cursor.proofs.Registers.{first_of_both, second_of_both}
 use Rattle.camac_text.proofs.Declares.{declarations_progress}
 use Rattle.camac_text_cursor.proofs.Steps.{while_off}
-use Rattle.camac_text_spelling.specs.Pieces.{Front}
+use Rattle.camac_text_spelling.specs.Pieces.{Prefix}
 use Rattle.camac_text_spelling.specs.Declarations as spell
 use Rattle.camac_text_spelling.specs.Declarations.{Passed, none_passed, pass}
 use Rattle.camac_text_spelling.specs.Laws.{SpelledTokensAreRead, SpelledIsRead, SpelledOnce, FaultSpellsNothing, RefusedIsNotSpelled}
-use Rattle.camac_text_spelling.proofs.Fronts.{front_split}
+use Rattle.camac_text_spelling.proofs.Prefixes.{prefix_split}
 use Rattle.camac_text_spelling.proofs.Gives.{ok, while_turn}
 use Rattle.camac_text_spelling.proofs.Fresh.{take_all}
 use Rattle.camac_text_spelling.proofs.Walk.{passed_of, Limited, Stands, Closes, declaration_opens}
@@ -51,11 +51,11 @@ passes t b b' next_service e =
     ap passed_of (sym (unless_parts (service_stands b p.0) (with_service b) b' p.2).1)
 
 -- a declaration or the end goes on with no declaration
-next_closes : (t : Script) (is : List Item) (b last : Before) (ts : List Token) → all_declared t b is ≡ Some last → Front ts (spell.declarations t (passed_of b) is) [] → Closes (kind_of ts)
+next_closes : (t : Script) (is : List Item) (b last : Before) (ts : List Token) → all_declared t b is ≡ Some last → Prefix ts (spell.declarations t (passed_of b) is) [] → Closes (kind_of ts)
 next_closes t [] b last ts e f = record { no_name = ap (λ (us : List Token). next_is_name (kind_of us)) f; no_number = ap (λ (us : List Token). next_is_number (kind_of us)) f }
 next_closes t (i ∷ is) b last ts e f =
     let p = then_parts (λ k. all_declared t k is) (declared t b i) last e in
-    let m = front_split ts (spell.declaration t (passed_of b) i) (spell.declarations t (pass i (passed_of b)) is) [] f in
+    let m = prefix_split ts (spell.declaration t (passed_of b) i) (spell.declarations t (pass i (passed_of b)) is) [] f in
     (declaration_opens t b p.0 i ts m.0 p.1 m.1).closes
 
 record Walked (t : Script) (is : List Item) (last : Before) (s : State) : Type 0 where
@@ -67,7 +67,7 @@ record Walked (t : Script) (is : List Item) (last : Before) (s : State) : Type 0
 before_is : (a b : Before) → Some a ≡ Some b → a ≡ b
 before_is a b e = cc
 
-walked : (t : Script) (is : List Item) (b last : Before) (s : State) → Limited t → Stands t b s → all_declared t b is ≡ Some last → Front s.rest (spell.declarations t (passed_of b) is) [] → Walked t is last s
+walked : (t : Script) (is : List Item) (b last : Before) (s : State) → Limited t → Stands t b s → all_declared t b is ≡ Some last → Prefix s.rest (spell.declarations t (passed_of b) is) [] → Walked t is last s
 walked t [] b last s limits st e f = record {
   end = s;
   read = while_off is_token (λ _. declaration_at) tt s (ap (λ (us : List Token). is_token (kind_of us)) f);
@@ -76,10 +76,10 @@ walked t [] b last s limits st e f = record {
 }
 walked t (i ∷ is) b last s limits st e f =
     let p = then_parts (λ k. all_declared t k is) (declared t b i) last e in
-    let m = front_split s.rest (spell.declaration t (passed_of b) i) (spell.declarations t (pass i (passed_of b)) is) [] f in
-    let others : Front m.0 (spell.declarations t (passed_of p.0) is) [] = subst (λ (k : Passed). Front m.0 (spell.declarations t k is) []) (sym (passes t b p.0 i p.1)) m.2 in
+    let m = prefix_split s.rest (spell.declaration t (passed_of b) i) (spell.declarations t (pass i (passed_of b)) is) [] f in
+    let others : Prefix m.0 (spell.declarations t (passed_of p.0) is) [] = subst (λ (k : Passed). Prefix m.0 (spell.declarations t k is) []) (sym (passes t b p.0 i p.1)) m.2 in
     let one = declaration_goes t i b p.0 s m.0 limits st p.1 m.1 (next_closes t is p.0 last m.0 p.2 others) in
-    let more = walked t is p.0 last one.next limits one.stands p.2 (subst (λ (us : List Token). Front us (spell.declarations t (passed_of p.0) is) []) (sym one.left) others) in
+    let more = walked t is p.0 last one.next limits one.stands p.2 (subst (λ (us : List Token). Prefix us (spell.declarations t (passed_of p.0) is) []) (sym one.left) others) in
     record {
       end = more.end;
       read = while_turn is_token (λ _. declaration_at) declarations_progress tt s tt one.next (declaration_opens t b p.0 i s.rest m.0 p.1 m.1).token one.read more.read;

@@ -18,8 +18,8 @@ use Rattle.camac_text_cursor.specs.Readers.{begin}
 use Rattle.camac_text_statements.specs.Statements.{statement_by, statement_with}
 use Rattle.camac_text_statements.proofs.Acts.{begun}
 use Rattle.camac_text_cursor.proofs.Registers.{first_of_both, second_of_both}
-use Rattle.camac_text_spelling.specs.Pieces.{Piece, first_piece, text_at, Names, Front}
-use Rattle.camac_text_spelling.proofs.Fronts.{front_line}
+use Rattle.camac_text_spelling.specs.Pieces.{Piece, first_piece, text_at, Names, Prefix}
+use Rattle.camac_text_spelling.proofs.Prefixes.{prefix_line}
 use Rattle.camac_text_spelling.proofs.Gives.{at, ok, after, checked, new_name_seen, FindsAll}
 use Rattle.camac_text_spelling.proofs.GivesExpressions.{NoSign}
 use Rattle.camac_text_spelling.proofs.GivesKeeps.{is_move_sign}
@@ -54,10 +54,10 @@ pub begin_given : (s : State) → s.statements < 4096 → begin s ≡ ok tt (beg
 unfolding begin
 begin_given s below = checked (nat_lt s.statements 4096) LimitPassed (change (λ u. record u { statements = suc u.statements }) >> advance) s (lt-ltb s.statements 4096 below) refl
 
-pub first_given : (line room : ℕ) (block : Reader (List Statement)) (k : TokenKind) (s : State) (ps : List Piece) (rest : List Token) → Front s.rest (first_piece line k ∷ ps) rest → statement_with room block s ≡ statement_by room block line (Some k) s
+pub first_given : (line room : ℕ) (block : Reader (List Statement)) (k : TokenKind) (s : State) (ps : List Piece) (rest : List Token) → Prefix s.rest (first_piece line k ∷ ps) rest → statement_with room block s ≡ statement_by room block line (Some k) s
 unfolding statement_with
 first_given line room block k s ps rest f =
-    let h = front_line s.rest s.end_line line k ps rest f in
+    let h = prefix_line s.rest s.end_line line k ps rest f in
     ap (λ (l : ℕ). statement_by room block l (kind_of s.rest) s) h.1 ∙ ap (λ (o : Option TokenKind). statement_by room block line o s) h.0
 
 -- one that sets no register and holds no block

@@ -22,9 +22,9 @@ use Rattle.camac_text_statements.specs.Statements.{assignment, register_setting,
 use Rattle.camac_text_cursor.proofs.Steps.{then_ok, err_no_ok}
 use Rattle.camac_text_cursor.proofs.Moves.{check_ok, function_ok, new_name_ok}
 use Rattle.camac_text_statements.proofs.Acts.{begin_ok}
-use Rattle.camac_text_spelling.specs.Pieces.{Piece, piece, first_piece, first_word, word, Names, Front, text_at, name_at}
+use Rattle.camac_text_spelling.specs.Pieces.{Piece, piece, first_piece, first_word, word, Names, Prefix, text_at, name_at}
 use Rattle.camac_text_spelling.specs.Statements as spell
-use Rattle.camac_text_spelling.proofs.Fronts.{front_begin}
+use Rattle.camac_text_spelling.proofs.Prefixes.{prefix_begin}
 use Rattle.camac_text_spelling.proofs.Found.{found_later, found_last}
 use Rattle.camac_text_spelling.proofs.Takes.{Knows, Tells, Took, join, returns, nothing, took_one, took_token, took_sign, took_branch, named, took_register, took_lam, sees_variable}
 use Rattle.camac_text_spelling.proofs.SpelledExpressions.{took_expression}
@@ -34,7 +34,7 @@ use Rattle.camac_text_spelling.proofs.SpelledPhrases.{took_move}
 pub took_begin : {n : Names} (s : State) (k : TokenKind) (y : Unit {0} × State) → kind_of s.rest ≡ Some k → begin s ≡ Ok y → Took n s (first_piece (line_of s.rest s.end_line) k ∷ []) y.1
 took_begin {n} s k y next e =
     subst (λ (u : State). Took n s (first_piece (line_of s.rest s.end_line) k ∷ []) u) (sym (begin_ok s y e).1)
-    (record { front = λ t. front_begin s.rest s.end_line k next; tells = λ t. t; same = refl })
+    (record { prefix = λ t. prefix_begin s.rest s.end_line k next; tells = λ t. t; same = refl })
 
 pub took_assignment : {n : Names} (room : ℕ) (s : State) (y : Statement × State) → assignment room (line_of s.rest s.end_line) s ≡ Ok y → Took n s (spell.statement n y.0) y.1
 unfolding assignment
@@ -49,7 +49,7 @@ took_assignment {n} room s y e =
     let c = then_ok (expression_at room b.0.1) (λ value. give (assign line v.0.0 value)) y b.2 in
     let begins : Took n s (first_piece line (kind.Name here.name) ∷ []) a.0.1 = took_begin s (kind.Name here.name) a.0 here.next a.1 in
     let named_so : Took n s (first_piece line (kind.Name (text_at n.variables v.0.0)) ∷ []) a.0.1 = record {
-      front = λ t. subst (λ (x : Text). Front s.rest (first_piece line (kind.Name x) ∷ []) a.0.1.rest) (here.same (begins.tells t)) (begins.front t);
+      prefix = λ t. subst (λ (x : Text). Prefix s.rest (first_piece line (kind.Name x) ∷ []) a.0.1.rest) (here.same (begins.tells t)) (begins.prefix t);
       tells = begins.tells;
       same = begins.same;
     } in
@@ -76,7 +76,7 @@ took_register_at {n} s x None y next found e =
     let v : State = record u { registers = s.registers ++ x ∷ [] } in
     let one : Took n s (piece (kind.Name x) ∷ []) u = took_one {s' = u} next refl in
     let grown : Took n s (piece (kind.Name x) ∷ []) v = record {
-      front = λ t. one.front (known_before n s x t);
+      prefix = λ t. one.prefix (known_before n s x t);
       tells = λ t. known_before n s x t;
       same = refl;
     } in

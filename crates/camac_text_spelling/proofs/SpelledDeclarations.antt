@@ -13,15 +13,15 @@ use Rattle.camac_text_cursor.specs.Reading.{State, give, change, kind_of, line_o
 use Rattle.camac_text_cursor.specs.Readers.{new_name, new_variable, is_name, expect, any_number, branch_number, sub_address_number, used_lam, expect_sign, number_here}
 use Rattle.camac_text_statements.specs.Statements.{block_at}
 use Rattle.camac_text.specs.Declarations.{with_lam as lam_added, lam_declaration, one_more_variable, with_variables_of, variable_declaration, with_service as service_added, service_declaration, declaration_by, declaration_at, is_token, declarations_at}
-use Rattle.camac_text.specs.Tables.{word_behind, one_more_word, is_number, table_words, with_table as table_added, table_declaration}
+use Rattle.camac_text.specs.Tables.{word_after, one_more_word, is_number, table_words, with_table as table_added, table_declaration}
 use Rattle.camac_text.specs.Parser.{start, tree_so_far}
 use Rattle.camac_text_cursor.proofs.Steps.{then_ok, ok_is, err_no_ok, while_keeps}
 use Rattle.camac_text_cursor.proofs.Moves.{check_ok, any_number_ok, sub_address_ok, new_name_ok, number_ok}
 use Rattle.camac_text.proofs.Variables.{DeclaresOne, new_variable_ok}
-use Rattle.camac_text_spelling.specs.Pieces.{Piece, first_word, numeral, name, text_at, Front, Names}
+use Rattle.camac_text_spelling.specs.Pieces.{Piece, first_word, numeral, name, text_at, Prefix, Names}
 use Rattle.camac_text_spelling.specs.Declarations as spell
 use Rattle.camac_text_spelling.specs.Declarations.{service_names}
-use Rattle.camac_text_spelling.proofs.Fronts.{front_join, front_token, front_begin}
+use Rattle.camac_text_spelling.proofs.Prefixes.{prefix_join, prefix_token, prefix_begin}
 use Rattle.camac_text_spelling.proofs.Found.{found_named, found_lam, found_table, found_procedure}
 use Rattle.camac_text_spelling.proofs.Takes.{Tells, Took, join, returns, took_one, took_first, took_token, took_word, took_sign, took_branch, took_lam}
 use Rattle.camac_text_spelling.proofs.SpelledProcedures.{procedure_spelled}
@@ -50,8 +50,8 @@ abbrev own : State → Service
 own s = record { line = 0; lam = 0; cycles = 0; words = 0; registers = s.registers; body = block_of [] }
 
 -- the tokens of what uses no names
-plainly : (s : State) (ps : List Piece) (u : State) → Took (service_names (tree_so_far u) (own u)) s ps u → Front s.rest ps u.rest
-plainly s ps u took = took.front (tells_names u (tree_so_far u) (own u) (itself (tree_so_far u)) refl)
+plainly : (s : State) (ps : List Piece) (u : State) → Took (service_names (tree_so_far u) (own u)) s ps u → Prefix s.rest ps u.rest
+plainly s ps u took = took.prefix (tells_names u (tree_so_far u) (own u) (itself (tree_so_far u)) refl)
 
 -- ---- a LAM
 
@@ -81,8 +81,8 @@ lam_spelled s y next e =
 words_push : (ws : List ℕ) (w : ℕ) → map numeral (ws ++ w ∷ []) ≡ map numeral ws ++ numeral w ∷ []
 words_push ws w = map_push numeral ws w
 
-took_word_of : {n : Names} (count : ℕ) (s : State) (y : ℕ × State) → word_behind count s ≡ Ok y → Took n s (numeral y.0 ∷ []) y.1
-unfolding word_behind
+took_word_of : {n : Names} (count : ℕ) (s : State) (y : ℕ × State) → word_after count s ≡ Ok y → Took n s (numeral y.0 ∷ []) y.1
+unfolding word_after
 took_word_of {n} count s y e =
     let m = then_ok (number_here s) _ y e in
     let h = number_ok s m.0 m.1 in
@@ -95,9 +95,9 @@ took_word_of {n} count s y e =
 took_words : {n : Names} (s : State) (y : List ℕ × State) → table_words s ≡ Ok y → Took n s (map numeral y.0) y.1
 unfolding table_words
 took_words {n} s y e =
-    let m = then_ok (word_behind 0 s) (λ first. while_next is_number one_more_word (first ∷ [])) y e in
+    let m = then_ok (word_after 0 s) (λ first. while_next is_number one_more_word (first ∷ [])) y e in
     while_keeps (λ (ws : List ℕ) (u : State). Took n s (map numeral ws) u) is_number one_more_word (λ ws u vs v so on took.
-    let a = then_ok (word_behind (length ws) u) (λ w. give (ws ++ w ∷ [])) (vs, v) took in
+    let a = then_ok (word_after (length ws) u) (λ w. give (ws ++ w ∷ [])) (vs, v) took in
     returns {x = ws ++ a.0.0 ∷ []} (map numeral) a.2 (subst (λ (ps : List Piece). Took n s ps a.0.1) (sym (words_push ws a.0.0)) (join so (took_word_of (length ws) u a.0 a.1)))) (m.0.0 ∷ []) m.0.1 y (took_word_of 0 s m.0 m.1) m.2
 
 table_spelled : (s : State) (y : Unit {0} × State) → kind_of s.rest ≡ Some (kind.Keyword keyword.Table) → table_declaration (line_of s.rest s.end_line) s ≡ Ok y → Declares (tree_so_far s) s.rest (tree_so_far y.1) y.1.rest
@@ -123,20 +123,20 @@ table_spelled s y next e =
 record Names' (s : State) (count : ℕ) (u : State) : Type 0 where
   names : List Text
   counted : length names ≡ count
-  front : Front s.rest (map name names) u.rest
+  prefix : Prefix s.rest (map name names) u.rest
   tree : tree_so_far u ≡ record (tree_so_far s) { variables = s.variables ++ names }
 
 no_names : (s : State) → Names' s 0 s
-no_names s = record { names = []; counted = refl; front = refl; tree = ap (λ (xs : List Text). record (tree_so_far s) { variables = xs }) (sym (append-nil s.variables)) }
+no_names s = record { names = []; counted = refl; prefix = refl; tree = ap (λ (xs : List Text). record (tree_so_far s) { variables = xs }) (sym (append-nil s.variables)) }
 
 name_more : (s : State) (n : ℕ) (u : State) (x : Text) (v : State) → Names' s n u → DeclaresOne u x v → Names' s (n + 1) v
 name_more s n u x v d one =
     let rest : v.rest ≡ after_first u.rest = ap (λ (w : State). w.rest) one.left in
-    let here : Front u.rest (name x ∷ []) v.rest = subst (λ (ts : List Token). Front u.rest (name x ∷ []) ts) (sym rest) (front_token u.rest (kind.Name x) one.next) in
+    let here : Prefix u.rest (name x ∷ []) v.rest = subst (λ (ts : List Token). Prefix u.rest (name x ∷ []) ts) (sym rest) (prefix_token u.rest (kind.Name x) one.next) in
     record {
       names = d.names ++ x ∷ [];
       counted = length-append d.names (x ∷ []) ∙ ap (λ (k : ℕ). k + 1) d.counted;
-      front = subst (λ (ps : List Piece). Front s.rest ps v.rest) (sym (map_push name d.names x)) (front_join s.rest (map name d.names) u.rest (name x ∷ []) v.rest d.front here);
+      prefix = subst (λ (ps : List Piece). Prefix s.rest ps v.rest) (sym (map_push name d.names x)) (prefix_join s.rest (map name d.names) u.rest (name x ∷ []) v.rest d.prefix here);
       tree = ap tree_so_far one.left
           ∙ ap (λ (w : Script). record w { variables = w.variables ++ x ∷ [] }) d.tree
           ∙ ap (λ (xs : List Text). record (tree_so_far s) { variables = xs }) (append_assoc s.variables d.names (x ∷ []));
@@ -159,10 +159,10 @@ variables_spelled s y next e =
     let b = then_ok (while_next is_name one_more_variable 1 a.0.1) (λ count. change (with_variables_of line count)) y a.2 in
     let d = while_keeps (λ (n : ℕ) (u : State). Names' t n u) is_name one_more_variable (λ n u m v d on took. name_turn t n u m v d took) 1 a.0.1 b.0 one b.1 in
     let v : State = b.0.1 in
-    let front : Front s.rest (spell.variable_declaration line d.names) v.rest = front_join s.rest (first_word line keyword.Var ∷ []) t.rest (map name d.names) v.rest (front_begin s.rest s.end_line (kind.Keyword keyword.Var) next) d.front in
+    let prefix : Prefix s.rest (spell.variable_declaration line d.names) v.rest = prefix_join s.rest (first_word line keyword.Var ∷ []) t.rest (map name d.names) v.rest (prefix_begin s.rest s.end_line (kind.Keyword keyword.Var) next) d.prefix in
     subst (λ (p : Unit {0} × State). Declares (tree_so_far s) s.rest (tree_so_far p.1) p.1.rest) (ok_is (tt, with_variables_of line b.0.0 v) y b.2)
     (subst (λ (w : Script). Declares (tree_so_far s) s.rest (record w { order = w.order ++ next_variables line b.0.0 ∷ [] }) v.rest) (sym d.tree)
-    (declares_variables (tree_so_far s) line b.0.0 d.names s.rest v.rest d.counted front))
+    (declares_variables (tree_so_far s) line b.0.0 d.names s.rest v.rest d.counted prefix))
 
 -- ---- a service
 
@@ -188,7 +188,7 @@ service_spelled s y next e =
     (took_block (service_names w v) 16 g.0.1 h.0 h.1)))))))) in
     subst (λ (p : Unit {0} × State). Declares (tree_so_far s) s.rest (tree_so_far p.1) p.1.rest) (ok_is (tt, service_added line l.0.0 b.0.0 f.0.0 h.0.0 u) y h.2)
     (subst (λ (w : Script). Declares w s.rest (with_service (tree_so_far u) v) u.rest) (took (tree_so_far u)).same
-    (declares_service (tree_so_far u) v s.rest u.rest (λ w x. (took w).front (tells_names u w v x refl))))
+    (declares_service (tree_so_far u) v s.rest u.rest (λ w x. (took w).prefix (tells_names u w v x refl))))
 
 -- ---- the whole script
 
@@ -204,8 +204,8 @@ declaration_spelled : (s : State) (y : Unit {0} × State) → declaration_at s �
 unfolding declaration_at
 declaration_spelled s y e = declaration_spelled_by s (kind_of s.rest) y refl e
 
-pub declarations_spelled : (ts : List Token) (end_line : ℕ) (y : Unit {0} × State) → declarations_at (start ts end_line) ≡ Ok y → Front ts (spell.script (tree_so_far y.1)) y.1.rest
+pub declarations_spelled : (ts : List Token) (end_line : ℕ) (y : Unit {0} × State) → declarations_at (start ts end_line) ≡ Ok y → Prefix ts (spell.script (tree_so_far y.1)) y.1.rest
 unfolding declarations_at
 declarations_spelled ts end_line y e =
-    let so = while_keeps (λ (_ : Unit {0}) (u : State). Sofar ts (tree_so_far u) u.rest) is_token (λ _. declaration_at) (λ _ u x v so on took. one_more ts (tree_so_far u) u.rest (tree_so_far v) v.rest so (declaration_spelled u (x, v) took)) tt (start ts end_line) y (record { counted = refl; front = λ t x. refl }) e in
-    so.front (tree_so_far y.1) (itself (tree_so_far y.1))
+    let so = while_keeps (λ (_ : Unit {0}) (u : State). Sofar ts (tree_so_far u) u.rest) is_token (λ _. declaration_at) (λ _ u x v so on took. one_more ts (tree_so_far u) u.rest (tree_so_far v) v.rest so (declaration_spelled u (x, v) took)) tt (start ts end_line) y (record { counted = refl; prefix = λ t x. refl }) e in
+    so.prefix (tree_so_far y.1) (itself (tree_so_far y.1))

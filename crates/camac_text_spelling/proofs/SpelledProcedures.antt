@@ -17,11 +17,11 @@ use Rattle.camac_text_statements.specs.Statements.{block_at}
 use Rattle.camac_text.specs.Parser.{tree_so_far}
 use Rattle.camac_text.specs.Procedures.{parameter_at, next_parameter, parameter_list, parameters_at, Heading, heading_at, in_heading, procedure_made, with_procedure as procedure_added, procedure_declaration}
 use Rattle.camac_text.proofs.Variables.{added_ok}
-use Rattle.camac_text_spelling.specs.Pieces.{Piece, piece, first_word, word, sign, numeral, name, separated, text_at, Front}
+use Rattle.camac_text_spelling.specs.Pieces.{Piece, piece, first_word, word, sign, numeral, name, separated, text_at, Prefix}
 use Rattle.camac_text_spelling.specs.Declarations as spell
 use Rattle.camac_text_spelling.specs.Statements.{braced, block}
 use Rattle.camac_text_spelling.specs.Declarations.{procedure_names}
-use Rattle.camac_text_spelling.proofs.Fronts.{front_join, front_token, front_begin}
+use Rattle.camac_text_spelling.proofs.Prefixes.{prefix_join, prefix_token, prefix_begin}
 use Rattle.camac_text_spelling.proofs.Found.{found_named, found_lam, found_table, found_procedure}
 use Rattle.camac_text_spelling.proofs.Lists.{separated_push}
 use Rattle.camac_text_spelling.proofs.Takes.{Tells, Took, keyword_is, sign_is, expected}
@@ -30,19 +30,19 @@ use Rattle.camac_text_spelling.proofs.Declared.{Extends, Declares, with_procedur
 
 -- The tokens between two states are these pieces, and these variables are declared between them.
 record Heads (s : State) (ps : List Piece) (xs : List Text) (s' : State) : Type 0 where
-  front : Front s.rest ps s'.rest
+  prefix : Prefix s.rest ps s'.rest
   tree : tree_so_far s' ≡ record (tree_so_far s) { variables = s.variables ++ xs }
 
 heads : {s : State} {ps : List Piece} {xs : List Text} {u : State} {qs : List Piece} {ys : List Text} {v : State} → Heads s ps xs u → Heads u qs ys v → Heads s (ps ++ qs) (xs ++ ys) v
 heads {s} {ps} {xs} {u} {qs} {ys} {v} a b = record {
-  front = front_join s.rest ps u.rest qs v.rest a.front b.front;
+  prefix = prefix_join s.rest ps u.rest qs v.rest a.prefix b.prefix;
   tree = b.tree
       ∙ ap (λ (w : Script). record w { variables = w.variables ++ ys }) a.tree
       ∙ ap (λ (zs : List Text). record (tree_so_far s) { variables = zs }) (append_assoc s.variables xs ys);
 }
 
 heads_one : {s : State} {k : TokenKind} {s' : State} → kind_of s.rest ≡ Some k → s' ≡ record s { rest = after_first s.rest } → Heads s (piece k ∷ []) [] s'
-heads_one {s} {k} {s'} ahead left = subst (λ (u : State). Heads s (piece k ∷ []) [] u) (sym left) (record { front = front_token s.rest k ahead; tree = ap (λ (zs : List Text). record (tree_so_far s) { variables = zs }) (sym (append-nil s.variables)) })
+heads_one {s} {k} {s'} ahead left = subst (λ (u : State). Heads s (piece k ∷ []) [] u) (sym left) (record { prefix = prefix_token s.rest k ahead; tree = ap (λ (zs : List Text). record (tree_so_far s) { variables = zs }) (sym (append-nil s.variables)) })
 
 heads_token : {s : State} {k : TokenKind} {s' : State} → TakesOne s k s' → Heads s (piece k ∷ []) [] s'
 heads_token t = heads_one t.next t.left
@@ -67,7 +67,7 @@ parameter_name s y e =
     let a = then_ok (added m.0.0 s) (λ _. give m.0.0) y at in
     let d = added_ok s m.0.0 a.0 h.next h.free a.1 in
     let grown : Heads s (name m.0.0 ∷ []) (m.0.0 ∷ []) a.0.1 = record {
-      front = subst (λ (w : State). Front s.rest (name m.0.0 ∷ []) w.rest) (sym d.left) (front_token s.rest (kind.Name m.0.0) h.next);
+      prefix = subst (λ (w : State). Prefix s.rest (name m.0.0 ∷ []) w.rest) (sym d.left) (prefix_token s.rest (kind.Name m.0.0) h.next);
       tree = ap tree_so_far d.left;
     } in
     subst (λ (p : Text × State). Heads s (name p.0 ∷ []) (p.0 ∷ []) p.1) (ok_is (m.0.0, a.0.1) y a.2) grown
@@ -120,7 +120,7 @@ parameters_list s y e =
     subst (λ (ps : List Parameter). Heads s (listed ps) (map parameter_of ps) y.1) (sym all.same) all.read
 
 parameters_by : (b : Bool) (s : State) (y : List Parameter × State) → cond b (give []) parameter_list s ≡ Ok y → Heads s (listed y.0) (map parameter_of y.0) y.1
-parameters_by true s y e = subst (λ (z : List Parameter × State). Heads s (listed z.0) (map parameter_of z.0) z.1) (ok_is ([], s) y e) (record { front = refl; tree = ap (λ (zs : List Text). record (tree_so_far s) { variables = zs }) (sym (append-nil s.variables)) })
+parameters_by true s y e = subst (λ (z : List Parameter × State). Heads s (listed z.0) (map parameter_of z.0) z.1) (ok_is ([], s) y e) (record { prefix = refl; tree = ap (λ (zs : List Text). record (tree_so_far s) { variables = zs }) (sym (append-nil s.variables)) })
 parameters_by false s y e = parameters_list s y e
 
 all_parameters : (s : State) (y : List Parameter × State) → parameters_at s ≡ Ok y → Heads s (listed y.0) (map parameter_of y.0) y.1
@@ -234,7 +234,7 @@ record Encloses (s : State) (p : Procedure) (v : State) : Type 0 where
 body_pieces : Script → Procedure → List Piece
 body_pieces t p = braced (block (procedure_names t p) p.body)
 
-encloses : (s : State) (p : Procedure) (u : State) (h : Heading) (w v : State) → Front s.rest (first_word p.line keyword.Proc ∷ name p.name ∷ []) u.rest → tree_so_far u ≡ record (tree_so_far s) { variables = [] } → Heads u (heading h) (map parameter_of h.parameters ++ []) w → p.parameters ≡ h.parameters → p.cycles ≡ h.cycles → p.words ≡ h.words → p.steps ≡ h.steps → p.registers ≡ v.registers → ((t : Script) → Took (procedure_names t p) w (body_pieces t p) v) → Encloses s p v
+encloses : (s : State) (p : Procedure) (u : State) (h : Heading) (w v : State) → Prefix s.rest (first_word p.line keyword.Proc ∷ name p.name ∷ []) u.rest → tree_so_far u ≡ record (tree_so_far s) { variables = [] } → Heads u (heading h) (map parameter_of h.parameters ++ []) w → p.parameters ≡ h.parameters → p.cycles ≡ h.cycles → p.words ≡ h.words → p.steps ≡ h.steps → p.registers ≡ v.registers → ((t : Script) → Took (procedure_names t p) w (body_pieces t p) v) → Encloses s p v
 unfolding body_pieces
 encloses s p u h w v opens start read parameters cycles words steps registers taken =
     let names : List Text = map parameter_of p.parameters in
@@ -249,26 +249,26 @@ encloses s p u h w v opens start read parameters cycles words steps registers ta
     ∙ ap (λ (i : ℕ). let m : Heading = record { parameters = p.parameters; cycles = i; words = h.words; steps = h.steps } in m) (sym cycles)
     ∙ ap (λ (i : ℕ). let m : Heading = record { parameters = p.parameters; cycles = p.cycles; words = i; steps = h.steps } in m) (sym words)
     ∙ ap (λ (i : ℕ). let m : Heading = record { parameters = p.parameters; cycles = p.cycles; words = p.words; steps = i } in m) (sym steps) in
-    let headed : Front u.rest (heading made) w.rest = subst (λ (m : Heading). Front u.rest (heading m) w.rest) same read.front in
-    let front : (t : Script) → Extends (tree_so_far s) t → Front s.rest (spell.procedure_declaration t p) v.rest = λ t ext.
-    let inside : Front w.rest (body_pieces t p) v.rest = (taken t).front (tells_inside v t (tree_so_far s) p ext tree registers) in
-    let both : Front u.rest (heading made ++ body_pieces t p) v.rest = front_join u.rest (heading made) w.rest (body_pieces t p) v.rest headed inside in
-    let joined : Front u.rest (sign mark.LeftBracket ∷ (listed p.parameters ++ (middle_pieces made ++ body_pieces t p))) v.rest =
-    subst (λ (qs : List Piece). Front u.rest (sign mark.LeftBracket ∷ qs) v.rest) (append_assoc (listed p.parameters) (middle_pieces made) (body_pieces t p)) both in
-    front_join s.rest (first_word p.line keyword.Proc ∷ name p.name ∷ []) u.rest (sign mark.LeftBracket ∷ (listed p.parameters ++ (middle_pieces made ++ body_pieces t p))) v.rest opens joined in
-    record { declares = declares_procedure (tree_so_far s) p s.rest v.rest front; tree = tree }
+    let headed : Prefix u.rest (heading made) w.rest = subst (λ (m : Heading). Prefix u.rest (heading m) w.rest) same read.prefix in
+    let prefix : (t : Script) → Extends (tree_so_far s) t → Prefix s.rest (spell.procedure_declaration t p) v.rest = λ t ext.
+    let inside : Prefix w.rest (body_pieces t p) v.rest = (taken t).prefix (tells_inside v t (tree_so_far s) p ext tree registers) in
+    let both : Prefix u.rest (heading made ++ body_pieces t p) v.rest = prefix_join u.rest (heading made) w.rest (body_pieces t p) v.rest headed inside in
+    let joined : Prefix u.rest (sign mark.LeftBracket ∷ (listed p.parameters ++ (middle_pieces made ++ body_pieces t p))) v.rest =
+    subst (λ (qs : List Piece). Prefix u.rest (sign mark.LeftBracket ∷ qs) v.rest) (append_assoc (listed p.parameters) (middle_pieces made) (body_pieces t p)) both in
+    prefix_join s.rest (first_word p.line keyword.Proc ∷ name p.name ∷ []) u.rest (sign mark.LeftBracket ∷ (listed p.parameters ++ (middle_pieces made ++ body_pieces t p))) v.rest opens joined in
+    record { declares = declares_procedure (tree_so_far s) p s.rest v.rest prefix; tree = tree }
 
 -- after its name
-abbrev behind_name : ℕ → Text → List Text → ℕ → Reader (Unit {0})
-behind_name line x variables names = do
+abbrev after_its_name : ℕ → Text → List Text → ℕ → Reader (Unit {0})
+after_its_name line x variables names = do
   h ← heading_at
   body ← block_at 16
   registers ← ask (λ w. w.registers)
   change (procedure_added (procedure_made line x h registers body) variables names)
 
-behind_name_spelled : (s : State) (x : Text) (names : ℕ) (u : State) (y : Unit {0} × State) → Front s.rest (first_word (line_of s.rest s.end_line) keyword.Proc ∷ name x ∷ []) u.rest → tree_so_far u ≡ record (tree_so_far s) { variables = [] } → behind_name (line_of s.rest s.end_line) x s.variables names u ≡ Ok y → Declares (tree_so_far s) s.rest (tree_so_far y.1) y.1.rest
+after_its_name_spelled : (s : State) (x : Text) (names : ℕ) (u : State) (y : Unit {0} × State) → Prefix s.rest (first_word (line_of s.rest s.end_line) keyword.Proc ∷ name x ∷ []) u.rest → tree_so_far u ≡ record (tree_so_far s) { variables = [] } → after_its_name (line_of s.rest s.end_line) x s.variables names u ≡ Ok y → Declares (tree_so_far s) s.rest (tree_so_far y.1) y.1.rest
 unfolding body_pieces
-behind_name_spelled s x names u y opens start e =
+after_its_name_spelled s x names u y opens start e =
     let line : ℕ = line_of s.rest s.end_line in
     let h = then_ok (heading_at u) _ y e in
     let b = then_ok (block_at 16 h.0.1) _ y h.2 in
@@ -284,10 +284,10 @@ procedure_spelled s y ahead e =
     let line : ℕ = line_of s.rest s.end_line in
     let t : State = record s { rest = after_first s.rest } in
     let c0 = check_ok (nat_lt (length s.procedures) 16) LimitPassed _ s y e in
-    let a = then_ok (new_name t) (λ x. advance >> (ask (λ w. w.variables) >>= λ variables. change (in_heading x) >> (ask (λ w. length w.declared) >>= λ names. behind_name line x variables names))) y c0.1 in
+    let a = then_ok (new_name t) (λ x. advance >> (ask (λ w. w.variables) >>= λ variables. change (in_heading x) >> (ask (λ w. length w.declared) >>= λ names. after_its_name line x variables names))) y c0.1 in
     let n = new_name_ok t a.0 a.1 in
-    let after_name : Reader (Unit {0}) = advance >> (ask (λ w. w.variables) >>= λ variables. change (in_heading a.0.0) >> (ask (λ w. length w.declared) >>= λ names. behind_name line a.0.0 variables names)) in
+    let after_name : Reader (Unit {0}) = advance >> (ask (λ w. w.variables) >>= λ variables. change (in_heading a.0.0) >> (ask (λ w. length w.declared) >>= λ names. after_its_name line a.0.0 variables names)) in
     let at : after_name t ≡ Ok y = subst (λ (w : State). after_name w ≡ Ok y) n.left a.2 in
     let u : State = record t { rest = after_first t.rest } in
-    let opens : Front s.rest (first_word line keyword.Proc ∷ name a.0.0 ∷ []) u.rest = front_join s.rest (first_word line keyword.Proc ∷ []) t.rest (name a.0.0 ∷ []) u.rest (front_begin s.rest s.end_line (kind.Keyword keyword.Proc) ahead) (front_token t.rest (kind.Name a.0.0) n.next) in
-    behind_name_spelled s a.0.0 (length (in_heading a.0.0 u).declared) (in_heading a.0.0 u) y opens refl at
+    let opens : Prefix s.rest (first_word line keyword.Proc ∷ name a.0.0 ∷ []) u.rest = prefix_join s.rest (first_word line keyword.Proc ∷ []) t.rest (name a.0.0 ∷ []) u.rest (prefix_begin s.rest s.end_line (kind.Keyword keyword.Proc) ahead) (prefix_token t.rest (kind.Name a.0.0) n.next) in
+    after_its_name_spelled s a.0.0 (length (in_heading a.0.0 u).declared) (in_heading a.0.0 u) y opens refl at

@@ -53,9 +53,9 @@ module _ (n : Names) (room : ℕ) (block : Reader (List Statement)) (block_took 
       took_else s line c.0.0 b.0.0 b.0.1 (kind_of b.0.1.rest) y
       (join (took_begin s (kind.Keyword keyword.If) a.0 next a.1) (join (took_condition room a.0.1 c.0 c.1) (block_took c.0.1 b.0 b.1))) refl b.2
 
-  took_counting : (s : State) (y : Statement × State) → kind_of s.rest ≡ Some (kind.Keyword keyword.For) → for_statement room block (line_of s.rest s.end_line) s ≡ Ok y → Took n s (spell.statement n y.0) y.1
+  took_for : (s : State) (y : Statement × State) → kind_of s.rest ≡ Some (kind.Keyword keyword.For) → for_statement room block (line_of s.rest s.end_line) s ≡ Ok y → Took n s (spell.statement n y.0) y.1
   unfolding for_statement
-  took_counting s y next e =
+  took_for s y next e =
       let line : ℕ = line_of s.rest s.end_line in
       let a = then_ok (begin s) _ y e in
       let x = then_ok (used_variable a.0.1) _ y a.2 in
@@ -70,9 +70,9 @@ module _ (n : Names) (room : ℕ) (block : Reader (List Statement)) (block_took 
       (join (took_expression room q.0.1 f.0 f.1) (join (took_word keyword.To f.0.1 w.0 w.1) (join (took_expression room w.0.1 l.0 l.1)
       (join (took_keeps x.0.0 l.0.1 k.0 k.1) (block_took k.0.1 b.0 b.1))))))))
 
-  took_repetition : (s : State) (y : Statement × State) → kind_of s.rest ≡ Some (kind.Keyword keyword.While) → while_statement room block (line_of s.rest s.end_line) s ≡ Ok y → Took n s (spell.statement n y.0) y.1
+  took_while : (s : State) (y : Statement × State) → kind_of s.rest ≡ Some (kind.Keyword keyword.While) → while_statement room block (line_of s.rest s.end_line) s ≡ Ok y → Took n s (spell.statement n y.0) y.1
   unfolding while_statement
-  took_repetition s y next e =
+  took_while s y next e =
       let line : ℕ = line_of s.rest s.end_line in
       let a = then_ok (begin s) _ y e in
       let c = then_ok (condition_at room a.0.1) _ y a.2 in
@@ -100,8 +100,8 @@ module _ (n : Names) (room : ℕ) (block : Reader (List Statement)) (block_took 
 
   took_nested : (s : State) (k : Option TokenKind) (y : Statement × State) → kind_of s.rest ≡ k → nested_by room block (line_of s.rest s.end_line) k s ≡ Ok y → Took n s (spell.statement n y.0) y.1
   took_nested s (Some (kind.Keyword keyword.If)) y next e = took_choice s y next e
-  took_nested s (Some (kind.Keyword keyword.For)) y next e = took_counting s y next e
-  took_nested s (Some (kind.Keyword keyword.While)) y next e = took_repetition s y next e
+  took_nested s (Some (kind.Keyword keyword.For)) y next e = took_for s y next e
+  took_nested s (Some (kind.Keyword keyword.While)) y next e = took_while s y next e
   took_nested s (Some (kind.Keyword keyword.Lock)) y next e = took_locking s y next e
   took_nested s k y next e = took_transfer_by room s k y next e
 

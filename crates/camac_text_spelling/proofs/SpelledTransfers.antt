@@ -73,9 +73,9 @@ took_stopping {n} room s y next e =
     returns {x = q_stop line f.0.0 r.0.0 g.0.0 b.0.0.0 b.0.0.1} (spell.statement n) b.2
     (join (took_begin s (kind.Keyword keyword.Cfubc) a.0 next a.1) (join (took_token (function_ok a.0.1 f.0 f.1).one) (join (took_register f.0.1 r.0 r.1) (join (took_write r.0.1 g.0 g.1) (took_bound keyword.Max room g.0.1 b.0 b.1)))))
 
-took_repeating : {n : Names} (room : ℕ) (s : State) (y : Statement × State) → kind_of s.rest ≡ Some (kind.Keyword keyword.Cfubr) → q_repeat_statement room (line_of s.rest s.end_line) s ≡ Ok y → Took n s (spell.statement n y.0) y.1
+took_q_repeat : {n : Names} (room : ℕ) (s : State) (y : Statement × State) → kind_of s.rest ≡ Some (kind.Keyword keyword.Cfubr) → q_repeat_statement room (line_of s.rest s.end_line) s ≡ Ok y → Took n s (spell.statement n y.0) y.1
 unfolding q_repeat_statement
-took_repeating {n} room s y next e =
+took_q_repeat {n} room s y next e =
     let line : ℕ = line_of s.rest s.end_line in
     let a = then_ok (begin s) _ y e in
     let f = then_ok (function_number a.0.1) _ y a.2 in
@@ -140,6 +140,6 @@ took_calling {n} room s y next e =
 pub took_transfer_by : {n : Names} (room : ℕ) (s : State) (k : Option TokenKind) (y : Statement × State) → kind_of s.rest ≡ k → transfer_by room (line_of s.rest s.end_line) k s ≡ Ok y → Took n s (spell.statement n y.0) y.1
 took_transfer_by room s (Some (kind.Keyword keyword.Cfmad)) y next e = took_scanning room s y next e
 took_transfer_by room s (Some (kind.Keyword keyword.Cfubc)) y next e = took_stopping room s y next e
-took_transfer_by room s (Some (kind.Keyword keyword.Cfubr)) y next e = took_repeating room s y next e
+took_transfer_by room s (Some (kind.Keyword keyword.Cfubr)) y next e = took_q_repeat room s y next e
 took_transfer_by room s (Some (kind.Keyword keyword.Call)) y next e = took_calling room s y next e
 took_transfer_by room s k y next e = took_crate_call room s k y next e

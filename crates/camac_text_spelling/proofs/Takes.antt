@@ -19,8 +19,8 @@ use Rattle.camac_text_cursor.specs.Readers.{is_keyword, is_sign, expect, expect_
 use Rattle.camac_text.specs.Parser.{tree_so_far}
 use Rattle.camac_text_cursor.proofs.Steps.{then_ok, ok_is, err_no_ok}
 use Rattle.camac_text_cursor.proofs.Moves.{TakesOne, check_ok, name_ok, number_ok}
-use Rattle.camac_text_spelling.specs.Pieces.{Piece, piece, first_piece, text_at, name_at, Names, Front}
-use Rattle.camac_text_spelling.proofs.Fronts.{front_join, front_token, front_begin}
+use Rattle.camac_text_spelling.specs.Pieces.{Piece, piece, first_piece, text_at, name_at, Names, Prefix}
+use Rattle.camac_text_spelling.proofs.Prefixes.{prefix_join, prefix_token, prefix_begin}
 
 -- These are the names of what is declared so far.
 pub record Knows (n : Names) (vs rs : List Text) (ls : List Lam) (gs : List Table) (ps : List Procedure) : Type 0 where
@@ -35,13 +35,13 @@ Tells n s = Knows n s.variables s.registers s.lams s.tables s.procedures
 
 -- The tokens between two states are these pieces, and no declaration is between them.
 pub record Took (n : Names) (s : State) (ps : List Piece) (s' : State) : Type 0 where
-  pub front : Tells n s' → Front s.rest ps s'.rest
+  pub prefix : Tells n s' → Prefix s.rest ps s'.rest
   pub tells : Tells n s' → Tells n s
   pub same : tree_so_far s' ≡ tree_so_far s
 
 pub join : {n : Names} {s : State} {ps : List Piece} {u : State} {qs : List Piece} {v : State} → Took n s ps u → Took n u qs v → Took n s (ps ++ qs) v
 join {n} {s} {ps} {u} {qs} {v} a b = record {
-  front = λ t. front_join s.rest ps u.rest qs v.rest (a.front (b.tells t)) (b.front t);
+  prefix = λ t. prefix_join s.rest ps u.rest qs v.rest (a.prefix (b.tells t)) (b.prefix t);
   tells = λ t. a.tells (b.tells t);
   same = b.same ∙ a.same;
 }
@@ -51,17 +51,17 @@ pub returns : {A : Type 0} {n : Names} {s : State} {x : A} {u : State} {y : A ×
 returns {A} {n} {s} {x} {u} {y} spell e took = subst (λ (p : A × State). Took n s (spell p.0) p.1) (ok_is (x, u) y e) took
 
 pub nothing : (n : Names) (s : State) → Took n s [] s
-nothing n s = record { front = λ t. refl; tells = λ t. t; same = refl }
+nothing n s = record { prefix = λ t. refl; tells = λ t. t; same = refl }
 
 pub took_one : {n : Names} {s : State} {k : TokenKind} {s' : State} → kind_of s.rest ≡ Some k → s' ≡ record s { rest = after_first s.rest } → Took n s (piece k ∷ []) s'
-took_one {n} {s} {k} {s'} next left = subst (λ (u : State). Took n s (piece k ∷ []) u) (sym left) (record { front = λ t. front_token s.rest k next; tells = λ t. t; same = refl })
+took_one {n} {s} {k} {s'} next left = subst (λ (u : State). Took n s (piece k ∷ []) u) (sym left) (record { prefix = λ t. prefix_token s.rest k next; tells = λ t. t; same = refl })
 
 pub took_token : {n : Names} {s : State} {k : TokenKind} {s' : State} → TakesOne s k s' → Took n s (piece k ∷ []) s'
 took_token t = took_one t.next t.left
 
 -- the first token of a declaration
 pub took_first : {n : Names} (s : State) (k : TokenKind) → kind_of s.rest ≡ Some k → Took n s (first_piece (line_of s.rest s.end_line) k ∷ []) (record s { rest = after_first s.rest })
-took_first s k next = record { front = λ t. front_begin s.rest s.end_line k next; tells = λ t. t; same = refl }
+took_first s k next = record { prefix = λ t. prefix_begin s.rest s.end_line k next; tells = λ t. t; same = refl }
 
 -- ---- words and signs
 
@@ -102,7 +102,7 @@ took_branch {n} s y e =
 -- the piece is another where the names are known
 pub named : {n : Names} {s : State} {x : Text} {s' : State} (y : Text) → (Tells n s' → x ≡ y) → Took n s (piece (kind.Name x) ∷ []) s' → Took n s (piece (kind.Name y) ∷ []) s'
 named {n} {s} {x} {s'} y same took = record {
-  front = λ t. subst (λ (z : Text). Front s.rest (piece (kind.Name z) ∷ []) s'.rest) (same t) (took.front t);
+  prefix = λ t. subst (λ (z : Text). Prefix s.rest (piece (kind.Name z) ∷ []) s'.rest) (same t) (took.prefix t);
   tells = took.tells;
   same = took.same;
 }

@@ -20,10 +20,10 @@ use Rattle.camac_text.specs.Declarations.{is_token}
 use Rattle.camac_text.specs.Tables.{is_number as next_is_number}
 use Rattle.camac_text.proofs.ParametersRead.{names_of}
 use Rattle.camac_text_cursor.proofs.Searches.{position_from-map}
-use Rattle.camac_text_spelling.specs.Pieces.{Piece, first_piece, text_at, Names, Front}
+use Rattle.camac_text_spelling.specs.Pieces.{Piece, first_piece, text_at, Names, Prefix}
 use Rattle.camac_text_spelling.specs.Declarations as spell
 use Rattle.camac_text_spelling.specs.Declarations.{Passed, service_names, procedure_names}
-use Rattle.camac_text_spelling.proofs.Fronts.{front_first}
+use Rattle.camac_text_spelling.proofs.Prefixes.{prefix_first}
 use Rattle.camac_text_spelling.proofs.Gives.{Finds, FindsAll}
 use Rattle.camac_text_spelling.proofs.Fresh.{each_new, found_there, absent_there, take_next, take_all}
 use Rattle.camac_text_spelling.proofs.Runs.{Sets}
@@ -157,8 +157,8 @@ sets_names n declared beside new few = record {
 
 -- ---- how a declaration begins
 
-pub there : {A : Type 0} (spell' : A → List Piece) (o : Option A) (x : A) (ts rest : List Token) → o ≡ Some x → Front ts (spell.if_there spell' o) rest → Front ts (spell' x) rest
-there spell' o x ts rest e f = subst (λ (p : Option _). Front ts (spell.if_there spell' p) rest) e f
+pub there : {A : Type 0} (spell' : A → List Piece) (o : Option A) (x : A) (ts rest : List Token) → o ≡ Some x → Prefix ts (spell.if_there spell' o) rest → Prefix ts (spell' x) rest
+there spell' o x ts rest e f = subst (λ (p : Option _). Prefix ts (spell.if_there spell' p) rest) e f
 
 -- what goes on with no declaration
 pub record Closes (k : Option TokenKind) : Type 0 where
@@ -172,10 +172,10 @@ pub record Opens (k : Option TokenKind) : Type 0 where
 opened : (k : Option TokenKind) (j : TokenKind) → k ≡ Some j → Opens (Some j) → Opens k
 opened k j e h = subst Opens (sym e) h
 
-begins_with : (line : ℕ) (k : TokenKind) (ps more : List Piece) (ts rest : List Token) → ps ≡ first_piece line k ∷ more → Front ts ps rest → kind_of ts ≡ Some k
-begins_with line k ps more ts rest e f = (front_first ts (first_piece line k) more rest (subst (λ (qs : List Piece). Front ts qs rest) e f)).0
+begins_with : (line : ℕ) (k : TokenKind) (ps more : List Piece) (ts rest : List Token) → ps ≡ first_piece line k ∷ more → Prefix ts ps rest → kind_of ts ≡ Some k
+begins_with line k ps more ts rest e f = (prefix_first ts (first_piece line k) more rest (subst (λ (qs : List Piece). Prefix ts qs rest) e f)).0
 
-pub declaration_opens : (t : Script) (b b' : Before) (i : Item) (ts rest : List Token) → declared t b i ≡ Some b' → Front ts (spell.declaration t (passed_of b) i) rest → Opens (kind_of ts)
+pub declaration_opens : (t : Script) (b b' : Before) (i : Item) (ts rest : List Token) → declared t b i ≡ Some b' → Prefix ts (spell.declaration t (passed_of b) i) rest → Opens (kind_of ts)
 declaration_opens t b b' next_table ts rest e f =
     let p = then_parts _ (slice_get t.tables b.tables) b' e in
     opened (kind_of ts) _ (begins_with p.0.line (kind.Keyword keyword.Table) (spell.table_declaration p.0) _ ts rest refl (there spell.table_declaration (slice_get t.tables b.tables) p.0 ts rest p.1 f)) (record { closes = record { no_name = refl; no_number = refl }; token = refl })

@@ -16,12 +16,12 @@ use Rattle.camac_text_cursor.specs.Readers.{is_name as next_is_name}
 use Rattle.camac_text.specs.Declarations.{with_lam as lam_added, with_variables_of, declaration_at}
 use Rattle.camac_text.specs.Tables.{is_number as next_is_number, with_table as table_added}
 use Rattle.camac_text_cursor.proofs.Registers.{first_of_both, second_of_both, both}
-use Rattle.camac_text.proofs.Listed.{each_append, new_same, front_or_behind}
-use Rattle.camac_text_spelling.specs.Pieces.{Front}
+use Rattle.camac_text.proofs.Listed.{each_append, new_same, prefix_or_after}
+use Rattle.camac_text_spelling.specs.Pieces.{Prefix}
 use Rattle.camac_text_spelling.specs.Declarations as spell
 use Rattle.camac_text_spelling.specs.Declarations.{Passed, service_names}
 use Rattle.camac_text_spelling.proofs.Gives.{at, ok}
-use Rattle.camac_text_spelling.proofs.Fresh.{take_one, new_behind, total_first}
+use Rattle.camac_text_spelling.proofs.Fresh.{take_one, new_after, total_first}
 use Rattle.camac_text_spelling.proofs.GivesDeclarations.{lam_declared, with_names, variables_declared}
 use Rattle.camac_text_spelling.proofs.GivesTables.{table_declared}
 use Rattle.camac_text_spelling.proofs.Walk.{lam_name, table_name, procedure_name, parameter_count, passed_of, Limited, Stands, there}
@@ -34,7 +34,7 @@ pub record Goes (t : Script) (b : Before) (i : Item) (s : State) (rest : List To
   pub left : next.rest ≡ rest
   pub stands : Stands t b next
 
--- new names among those before, in front or after
+-- new names among those before, before or after
 pub covers_more : (xs vs ds : List Text) → ((x : Text) → is_new x ds ≡ true → is_new x vs ≡ true) → (x : Text) → is_new x (ds ++ xs) ≡ true → is_new x (vs ++ xs) ≡ true
 covers_more xs vs ds covers x e =
     let parts = sym (each_append (λ y. not (bytes_eq x y)) ds xs) ∙ e in
@@ -43,7 +43,7 @@ covers_more xs vs ds covers x e =
 pub covers_still : (xs vs ds : List Text) → ((x : Text) → is_new x ds ≡ true → is_new x vs ≡ true) → (x : Text) → is_new x (ds ++ xs) ≡ true → is_new x vs ≡ true
 covers_still xs vs ds covers x e = covers x (first_of_both (is_new x ds) (is_new x xs) (sym (each_append (λ y. not (bytes_eq x y)) ds xs) ∙ e))
 
-pub lam_goes : (t : Script) (b b' : Before) (s : State) (rest : List Token) → Limited t → Stands t b s → declared t b next_lam ≡ Some b' → Front s.rest (spell.declaration t (passed_of b) next_lam) rest → Goes t b' next_lam s rest
+pub lam_goes : (t : Script) (b b' : Before) (s : State) (rest : List Token) → Limited t → Stands t b s → declared t b next_lam ≡ Some b' → Prefix s.rest (spell.declaration t (passed_of b) next_lam) rest → Goes t b' next_lam s rest
 lam_goes t b b' s rest limits st e f =
     let p = then_parts (λ l. unless_broken (lam_stands b l) (with_lam l.name b)) (slice_get t.lams b.lams) b' e in
     let l : Lam = p.0 in
@@ -77,9 +77,9 @@ lam_goes t b b' s rest limits st e f =
       services_within = st.services_within;
       registers = st.registers;
       statements = st.statements;
-      names = front_or_behind (l.name ∷ []) b.names s.declared st.names;
+      names = prefix_or_after (l.name ∷ []) b.names s.declared st.names;
       new_variables = st.new_variables;
-      new_lams = subst (λ (xs : List Text). are_new xs [] ≡ true) (sym (map-append lam_name s.lams (l ∷ []))) (new_behind (l.name ∷ []) (map lam_name s.lams) s.declared st.new_lams st.covers_lams (both (is_new l.name s.declared) true new refl));
+      new_lams = subst (λ (xs : List Text). are_new xs [] ≡ true) (sym (map-append lam_name s.lams (l ∷ []))) (new_after (l.name ∷ []) (map lam_name s.lams) s.declared st.new_lams st.covers_lams (both (is_new l.name s.declared) true new refl));
       covers_variables = covers_still (l.name ∷ []) s.variables s.declared st.covers_variables;
       covers_lams = λ x h. subst (λ (xs : List Text). is_new x xs ≡ true) (sym (map-append lam_name s.lams (l ∷ []))) (covers_more (l.name ∷ []) (map lam_name s.lams) s.declared st.covers_lams x h);
       new_tables = st.new_tables;
@@ -95,7 +95,7 @@ lam_goes t b b' s rest limits st e f =
       stands = subst (λ (k : Before). Stands t k u) r.1 stands;
     }
 
-pub table_goes : (t : Script) (b b' : Before) (s : State) (rest : List Token) → Limited t → Stands t b s → declared t b next_table ≡ Some b' → Front s.rest (spell.declaration t (passed_of b) next_table) rest → next_is_number (kind_of rest) ≡ false → Goes t b' next_table s rest
+pub table_goes : (t : Script) (b b' : Before) (s : State) (rest : List Token) → Limited t → Stands t b s → declared t b next_table ≡ Some b' → Prefix s.rest (spell.declaration t (passed_of b) next_table) rest → next_is_number (kind_of rest) ≡ false → Goes t b' next_table s rest
 table_goes t b b' s rest limits st e f off =
     let p = then_parts (λ g. unless_broken (table_stands b g) (with_table g.name b)) (slice_get t.tables b.tables) b' e in
     let g : Table = p.0 in
@@ -126,10 +126,10 @@ table_goes t b b' s rest limits st e f off =
       services_within = st.services_within;
       registers = st.registers;
       statements = st.statements;
-      names = front_or_behind (g.name ∷ []) b.names s.declared st.names;
+      names = prefix_or_after (g.name ∷ []) b.names s.declared st.names;
       new_variables = st.new_variables;
       new_lams = st.new_lams;
-      new_tables = subst (λ (xs : List Text). are_new xs [] ≡ true) (sym (map-append table_name s.tables (g ∷ []))) (new_behind (g.name ∷ []) (map table_name s.tables) s.declared st.new_tables st.covers_tables (both (is_new g.name s.declared) true new refl));
+      new_tables = subst (λ (xs : List Text). are_new xs [] ≡ true) (sym (map-append table_name s.tables (g ∷ []))) (new_after (g.name ∷ []) (map table_name s.tables) s.declared st.new_tables st.covers_tables (both (is_new g.name s.declared) true new refl));
       covers_variables = covers_still (g.name ∷ []) s.variables s.declared st.covers_variables;
       covers_lams = covers_still (g.name ∷ []) (map lam_name s.lams) s.declared st.covers_lams;
       covers_tables = λ x h. subst (λ (xs : List Text). is_new x xs ≡ true) (sym (map-append table_name s.tables (g ∷ []))) (covers_more (g.name ∷ []) (map table_name s.tables) s.declared st.covers_tables x h);
@@ -152,7 +152,7 @@ take_names m n ys xs same many within =
     let bound : length (take (m + n) ys) ≡ min (m + n) (length ys) = length-take (m + n) ys in
     (joined, omega arith)
 
-pub variables_goes : (t : Script) (line n : ℕ) (b b' : Before) (s : State) (rest : List Token) → Limited t → Stands t b s → declared t b (next_variables line n) ≡ Some b' → Front s.rest (spell.declaration t (passed_of b) (next_variables line n)) rest → next_is_name (kind_of rest) ≡ false → Goes t b' (next_variables line n) s rest
+pub variables_goes : (t : Script) (line n : ℕ) (b b' : Before) (s : State) (rest : List Token) → Limited t → Stands t b s → declared t b (next_variables line n) ≡ Some b' → Prefix s.rest (spell.declaration t (passed_of b) (next_variables line n)) rest → next_is_name (kind_of rest) ≡ false → Goes t b' (next_variables line n) s rest
 variables_goes t line n b b' s rest limits st e f off =
     let xs : List Text = take n (drop b.variables t.variables) in
     let r = unless_parts (nat_le 1 n && (nat_eq (length xs) n && are_declarable xs b.names)) (with_variables xs b) b' e in
@@ -187,8 +187,8 @@ variables_goes t line n b b' s rest limits st e f off =
       services_within = st.services_within;
       registers = st.registers;
       statements = st.statements;
-      names = front_or_behind xs b.names s.declared st.names;
-      new_variables = new_behind xs s.variables s.declared st.new_variables st.covers_variables new;
+      names = prefix_or_after xs b.names s.declared st.names;
+      new_variables = new_after xs s.variables s.declared st.new_variables st.covers_variables new;
       new_lams = st.new_lams;
       covers_variables = covers_more xs s.variables s.declared st.covers_variables;
       covers_lams = covers_still xs (map lam_name s.lams) s.declared st.covers_lams;

@@ -16,12 +16,12 @@ use Rattle.camac_text_cursor.specs.Reading.{State, kind_of}
 use Rattle.camac_text_cursor.specs.Readers.{other_registers}
 use Rattle.camac_text.proofs.ParametersRead.{names_of, names_counted}
 use Rattle.camac_text_cursor.proofs.Registers.{first_of_both, second_of_both, both}
-use Rattle.camac_text.proofs.Listed.{new_same, front_or_behind, total_push}
+use Rattle.camac_text.proofs.Listed.{new_same, prefix_or_after, total_push}
 use Rattle.camac_text_cursor.proofs.Uses.{scope_of}
-use Rattle.camac_text_spelling.specs.Pieces.{Front}
+use Rattle.camac_text_spelling.specs.Pieces.{Prefix}
 use Rattle.camac_text_spelling.specs.Declarations as spell
 use Rattle.camac_text_spelling.specs.Declarations.{service_names, procedure_names}
-use Rattle.camac_text_spelling.proofs.Fresh.{take_one, new_behind, new_parts, most_there, total_there, total_first, most_first}
+use Rattle.camac_text_spelling.proofs.Fresh.{take_one, new_after, new_parts, most_there, total_there, total_first, most_first}
 use Rattle.camac_text_spelling.proofs.GivesStatements.{RunsBraced}
 use Rattle.camac_text_spelling.proofs.GivesDeclarations.{with_body, service_declared}
 use Rattle.camac_text_spelling.proofs.GivesProcedures.{inside, with_procedure_body, procedure_declared}
@@ -100,7 +100,7 @@ beside_service s out =
 
 -- ---- a service
 
-service_goes : (t : Script) (b b' : Before) (s : State) (rest : List Token) → Limited t → Stands t b s → declared t b next_service ≡ Some b' → Front s.rest (spell.declaration t (passed_of b) next_service) rest → Goes t b' next_service s rest
+service_goes : (t : Script) (b b' : Before) (s : State) (rest : List Token) → Limited t → Stands t b s → declared t b next_service ≡ Some b' → Prefix s.rest (spell.declaration t (passed_of b) next_service) rest → Goes t b' next_service s rest
 service_goes t b b' s rest limits st e f =
     let p = then_parts (λ v. unless_broken (service_stands b v) (with_service b)) (slice_get t.services b.services) b' e in
     let v : Service = p.0 in
@@ -195,7 +195,7 @@ right t b s q st e =
     let new_b = second_of_both (each is_name (q.name ∷ names)) _ declarable in
     let known : List Text = s.declared ++ q.name ∷ [] in
     let inner : are_new names known ≡ true =
-    sym (new_same names (q.name ∷ b.names) known (front_or_behind (q.name ∷ []) b.names s.declared st.names)) ∙ second_of_both (is_new q.name b.names) _ new_b in
+    sym (new_same names (q.name ∷ b.names) known (prefix_or_after (q.name ∷ []) b.names s.declared st.names)) ∙ second_of_both (is_new q.name b.names) _ new_b in
     let parts = new_parts (names_of q.parameters) q.registers known inner in
     record {
       new = sym (st.names q.name) ∙ first_of_both (is_new q.name b.names) _ new_b;
@@ -218,7 +218,7 @@ procedure_runs t b s q limits st here fits =
     let statements_of_services : total service_statements s.services ≤ total service_statements t.services = so_far.of_services in
     let all_statements : total procedure_statements t.procedures + total service_statements t.services ≤ 4096 = limits.statements in
     record {
-      finds = procedure_finds t b s q st (new_behind (names_of q.parameters) [] (s.declared ++ q.name ∷ []) refl (λ z h. refl) fits.new_parameters);
+      finds = procedure_finds t b s q st (new_after (names_of q.parameters) [] (s.declared ++ q.name ∷ []) refl (λ z h. refl) fits.new_parameters);
       sets = sets_names (procedure_names t q) known (other_registers (inside s s.rest q)) fits.new_registers (omega arith);
       registers = st.registers;
       reached = fits.body.0;
@@ -254,18 +254,18 @@ procedure_leaves t b s q rest st here new =
       services_within = st.services_within;
       registers = refl;
       statements = omega arith;
-      names = front_or_behind xs b.names s.declared st.names;
+      names = prefix_or_after xs b.names s.declared st.names;
       new_variables = st.new_variables;
       new_lams = st.new_lams;
       new_tables = st.new_tables;
-      new_procedures = subst (λ (ys : List Text). are_new ys [] ≡ true) (sym (map-append procedure_name s.procedures (q ∷ []))) (new_behind xs (map procedure_name s.procedures) s.declared st.new_procedures st.covers_procedures (both (is_new q.name s.declared) true new refl));
+      new_procedures = subst (λ (ys : List Text). are_new ys [] ≡ true) (sym (map-append procedure_name s.procedures (q ∷ []))) (new_after xs (map procedure_name s.procedures) s.declared st.new_procedures st.covers_procedures (both (is_new q.name s.declared) true new refl));
       covers_variables = covers_still xs s.variables s.declared st.covers_variables;
       covers_lams = covers_still xs (map lam_name s.lams) s.declared st.covers_lams;
       covers_tables = covers_still xs (map table_name s.tables) s.declared st.covers_tables;
       covers_procedures = λ x h. subst (λ (ys : List Text). is_new x ys ≡ true) (sym (map-append procedure_name s.procedures (q ∷ []))) (covers_more xs (map procedure_name s.procedures) s.declared st.covers_procedures x h);
     }
 
-procedure_goes : (t : Script) (b b' : Before) (s : State) (rest : List Token) → Limited t → Stands t b s → declared t b next_procedure ≡ Some b' → Front s.rest (spell.declaration t (passed_of b) next_procedure) rest → Goes t b' next_procedure s rest
+procedure_goes : (t : Script) (b b' : Before) (s : State) (rest : List Token) → Limited t → Stands t b s → declared t b next_procedure ≡ Some b' → Prefix s.rest (spell.declaration t (passed_of b) next_procedure) rest → Goes t b' next_procedure s rest
 procedure_goes t b b' s rest limits st e f =
     let p = then_parts (λ q. unless_broken (procedure_stands b q) (with_procedure q b)) (slice_get t.procedures b.procedures) b' e in
     let q : Procedure = p.0 in
@@ -290,7 +290,7 @@ procedure_goes t b b' s rest limits st e f =
 
 -- ---- every declaration
 
-pub declaration_goes : (t : Script) (i : Item) (b b' : Before) (s : State) (rest : List Token) → Limited t → Stands t b s → declared t b i ≡ Some b' → Front s.rest (spell.declaration t (passed_of b) i) rest → Closes (kind_of rest) → Goes t b' i s rest
+pub declaration_goes : (t : Script) (i : Item) (b b' : Before) (s : State) (rest : List Token) → Limited t → Stands t b s → declared t b i ≡ Some b' → Prefix s.rest (spell.declaration t (passed_of b) i) rest → Closes (kind_of rest) → Goes t b' i s rest
 declaration_goes t next_table b b' s rest limits st e f ends = table_goes t b b' s rest limits st e f ends.no_number
 declaration_goes t next_lam b b' s rest limits st e f ends = lam_goes t b b' s rest limits st e f
 declaration_goes t (next_variables line n) b b' s rest limits st e f ends = variables_goes t line n b b' s rest limits st e f ends.no_name

@@ -11,7 +11,7 @@ use Rattle.camac_text.specs.Parser.{start, tree_so_far, tree_in, tree_of_tokens,
 use Rattle.camac_text_cursor.proofs.Steps.{then_ok, ok_is, Progresses}
 use Rattle.camac_text.proofs.Declares.{declarations_progress}
 use Rattle.camac_text.proofs.WellFormed.{read_well_formed}
-use Rattle.camac_text_spelling.specs.Pieces.{Front}
+use Rattle.camac_text_spelling.specs.Pieces.{Prefix}
 use Rattle.camac_text_spelling.specs.Declarations.{script}
 use Rattle.camac_text_spelling.specs.Spells.{Spells, IsSpelled}
 use Rattle.camac_text_spelling.specs.Laws.{ReadIsSpelled}
@@ -46,14 +46,14 @@ unfolding tree_of_tokens
 tokens_spelled text ts end_line tree made e =
     let r = tree_is (declarations_at (start ts end_line)) tree e in
     subst (λ (w : Script). Spells ts w) r.2 (record {
-      all = subst (λ (rest : List Token). Front ts (script (tree_so_far r.0.1)) rest) (all_read (start ts end_line) r.0 r.1) (declarations_spelled ts end_line r.0 r.1);
+      all = subst (λ (rest : List Token). Prefix ts (script (tree_so_far r.0.1)) rest) (all_read (start ts end_line) r.0 r.1) (declarations_spelled ts end_line r.0 r.1);
       stands = read_well_formed text ts end_line r.0 made r.1;
     })
 
-behind_spelled : (text : List ℕ) (made : Result (List Token) Fault) (end_line : ℕ) (tree : Script) → tokens_of text ≡ made → tree_after made end_line ≡ Ok tree → IsSpelled text tree
-behind_spelled text (Ok ts) end_line tree made e = record { tokens = ts; made = made; spelled = tokens_spelled text ts end_line tree made e }
-behind_spelled text (Err d) end_line tree made e = absurd cc
+after_spelled : (text : List ℕ) (made : Result (List Token) Fault) (end_line : ℕ) (tree : Script) → tokens_of text ≡ made → tree_after made end_line ≡ Ok tree → IsSpelled text tree
+after_spelled text (Ok ts) end_line tree made e = record { tokens = ts; made = made; spelled = tokens_spelled text ts end_line tree made e }
+after_spelled text (Err d) end_line tree made e = absurd cc
 
 pub read_is_spelled : ReadIsSpelled
 unfolding script_of
-read_is_spelled text tree e = behind_spelled text (tokens_of text) (last_line text) tree refl e
+read_is_spelled text tree e = after_spelled text (tokens_of text) (last_line text) tree refl e

@@ -76,7 +76,7 @@ abbrev pub Fits : Token → Piece → Type 0
 Fits t p = (t.kind ≡ p.kind) × IfSome p.line (λ line. t.line ≡ line)
 
 -- the tokens begin with these pieces, and then come the others
-abbrev pub Front : List Token → List Piece → List Token → Type 0
-Front ts [] rest = ts ≡ rest
-Front [] (p ∷ ps) rest = ⊥
-Front (t ∷ ts) (p ∷ ps) rest = Fits t p × Front ts ps rest
+abbrev pub Prefix : List Token → List Piece → List Token → Type 0
+Prefix ts [] rest = ts ≡ rest
+Prefix [] (p ∷ ps) rest = ⊥
+Prefix (t ∷ ts) (p ∷ ps) rest = Fits t p × Prefix ts ps rest

@@ -4,13 +4,13 @@ use Rattle.camac_lang.specs.Scope.{is_well_formed}
 use Rattle.camac_lang.specs.Tree.{Script}
 use Rattle.camac_text_tokens.specs.declared.token.Token.{Token}
 use Rattle.camac_text_tokens.specs.Scanning.{tokens_of}
-use Rattle.camac_text_spelling.specs.Pieces.{Front}
+use Rattle.camac_text_spelling.specs.Pieces.{Prefix}
 use Rattle.camac_text_spelling.specs.Declarations.{script}
 
 -- The tokens are the tree's, each line that it holds is that of its first token, and every rule of the language holds: operators
 -- grouped from the left, scopes, numbers and limits.
 pub record Spells (tokens : List Token) (tree : Script) : Type 0 where
-  pub all : Front tokens (script tree) []
+  pub all : Prefix tokens (script tree) []
   pub stands : IsTrue (is_well_formed tree)
 
 -- the text's tokens spell the tree

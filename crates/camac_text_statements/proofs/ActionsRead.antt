@@ -15,7 +15,7 @@ use Rattle.camac_text_cursor.specs.Readers.{begin, expect_sign, branch_number, f
 use Rattle.camac_text_phrases.specs.Expressions.{expression_at}
 use Rattle.camac_text_statements.specs.Statements.{assignment, register_setting, move_by, move_at, single_action, put_action}
 use Rattle.camac_text_cursor.proofs.Steps.{then_ok, ok_is}
-use Rattle.camac_text_cursor.proofs.Moves.{AllFit, Moves, behind_less, stays, moved, then_moves, one_moves, branch_ok, function_ok, expect_sign_ok}
+use Rattle.camac_text_cursor.proofs.Moves.{AllFit, Moves, after_less, stays, moved, then_moves, one_moves, branch_ok, function_ok, expect_sign_ok}
 use Rattle.camac_text_cursor.proofs.Uses.{scope_of, same_scope, used_register_ok, used_variable_ok, variable_here_ok}
 use Rattle.camac_text_phrases.proofs.BracketsRead.{expression_ok}
 use Rattle.camac_text_cursor.proofs.Registers.{Limits, limits_of, both, below_le, RegistersFit, set_name_ok}
@@ -120,7 +120,7 @@ setting_is room s k line y next e =
     let t : State = u4.0.1 in
     let registers : t.registers ≡ b.0.1.registers = ap (λ (w : State). w.registers) to_4.same in
     let scope_b : scope_of b.0.1 ≡ scope_of s = ap scope_of r.same in
-    let less : length (after_first s.rest) < length s.rest = behind_less s.rest k next in
+    let less : length (after_first s.rest) < length s.rest = after_less s.rest k next in
     let below : s.statements < 4096 = begins.0 in
     let counted : t.statements ≡ suc s.statements = ap (λ (w : State). w.statements) to_4.same ∙ ap (λ (w : State). w.statements) r.same in
     let count : suc s.statements ≡ s.statements + 1 = omega arith in

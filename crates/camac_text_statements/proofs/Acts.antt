@@ -9,7 +9,7 @@ use Rattle.camac_text_tokens.specs.declared.token.TokenKind.{TokenKind}
 use Rattle.camac_text_cursor.specs.Reading.{State, ◌>>◌, change, advance, kind_of, after_first}
 use Rattle.camac_text_cursor.specs.Readers.{begin}
 use Rattle.camac_text_cursor.proofs.Steps.{ok_is}
-use Rattle.camac_text_cursor.proofs.Moves.{AllFit, Moves, behind_less, moved, check_ok}
+use Rattle.camac_text_cursor.proofs.Moves.{AllFit, Moves, after_less, moved, check_ok}
 use Rattle.camac_text_cursor.proofs.Registers.{Limits, limits_of, RegistersFit}
 use Rattle.camac_text_cursor.proofs.Uses.{scope_of}
 
@@ -39,7 +39,7 @@ acts room s x k t next below m rule deep one =
     let registers : t.registers ≡ s.registers = ap (λ (w : State). w.registers) m.same in
     let counted : t.statements ≡ suc s.statements = ap (λ (w : State). w.statements) m.same in
     let count : suc s.statements ≡ s.statements + statements_in x = omega (arith, one) in
-    let less : length (after_first s.rest) < length s.rest = behind_less s.rest k next in
+    let less : length (after_first s.rest) < length s.rest = after_less s.rest k next in
     let shorter : length t.rest ≤ length (after_first s.rest) = m.shorter in
     record {
       same = m.same ∙ ap (λ (rs : List Text). record s { rest = t.rest; registers = rs; statements = suc s.statements }) (sym registers) ∙ ap (λ (n : ℕ). record s { rest = t.rest; registers = t.registers; statements = n }) count;

@@ -9,7 +9,7 @@ use Rattle.camac_lang.specs.Tree.{Text, Statement, choose, choose_else, Conditio
 use Rattle.camac_lang.specs.View.{block_of}
 use Rattle.camac_text_tokens.specs.declared.token.TokenKind.{TokenKind}
 use Rattle.camac_text_cursor.specs.Reading.{State, kind_of, after_first}
-use Rattle.camac_text_cursor.proofs.Moves.{AllFit, Moves, behind_less, moved}
+use Rattle.camac_text_cursor.proofs.Moves.{AllFit, Moves, after_less, moved}
 use Rattle.camac_text_cursor.proofs.Uses.{scope_of}
 use Rattle.camac_text_cursor.proofs.Registers.{Limits, limits_of, RegistersFit}
 use Rattle.camac_text_statements.proofs.Acts.{begun, Acts}
@@ -24,8 +24,8 @@ pub record Body (room : ℕ) (s : State) (xs : List Statement) (s' : State) : Ty
   pub registers : AllFit s.rest → RegistersFit (limits_of s) s.registers → RegistersFit (limits_of s) s'.registers
   pub deep : inner_depth s.callables (block_of xs) < room
 
-pub behind_moves : (room : ℕ) (s t : State) (xs : List Statement) (u : State) → Moves s t → Body room t xs u → Body room s xs u
-behind_moves room s t xs u m b =
+pub after_moves : (room : ℕ) (s t : State) (xs : List Statement) (u : State) → Moves s t → Body room t xs u → Body room s xs u
+after_moves room s t xs u m b =
     let scope : scope_of t ≡ scope_of s = ap scope_of m.same in
     let registers : t.registers ≡ s.registers = ap (λ (w : State). w.registers) m.same in
     let limits : limits_of t ≡ limits_of s = ap limits_of m.same in
@@ -65,7 +65,7 @@ before_moves room s xs t u b m =
 pub holds_block : (room : ℕ) (s : State) (k : TokenKind) (x : Statement) (xs : List Statement) (u : State) → kind_of s.rest ≡ Some k → s.statements < 4096 → (AllFit s.rest → after (scope_of s) (length s.registers) x ≡ after_block (scope_of s) (length s.registers) (block_of xs)) → statements_in x ≡ suc (statements (block_of xs)) → statement_depth s.callables x ≤ room → Body room (begun s) xs u → Acts room s x u
 holds_block room s k x xs u next below rule one deep b =
     let count : suc s.statements + statements (block_of xs) ≡ s.statements + statements_in x = omega (arith, one) in
-    let less : length (after_first s.rest) < length s.rest = behind_less s.rest k next in
+    let less : length (after_first s.rest) < length s.rest = after_less s.rest k next in
     let shorter : length u.rest ≤ length (after_first s.rest) = b.shorter in
     record {
       same = b.same ∙ ap (λ (n : ℕ). record s { rest = u.rest; registers = u.registers; statements = n }) count;
@@ -89,7 +89,7 @@ holds_one room s k line c xs u next below rule deep b =
 pub holds_two : (room : ℕ) (s : State) (k : TokenKind) (line : ℕ) (c : Condition) (xs : List Statement) (u : State) (ys : List Statement) (t : State) → kind_of s.rest ≡ Some k → s.statements < 4096 → (AllFit s.rest → condition_fits (scope_of s) c ≡ true) → most part_depth c ≤ room → Body room (begun s) xs u → Body room u ys t → Acts room s (choose_else line c (block_of xs) (block_of ys)) t
 holds_two room s k line c xs u ys t next below rule deep a b =
     let count : (suc s.statements + statements (block_of xs)) + statements (block_of ys) ≡ s.statements + suc (statements (block_of xs) + statements (block_of ys)) = omega arith in
-    let less : length (after_first s.rest) < length s.rest = behind_less s.rest k next in
+    let less : length (after_first s.rest) < length s.rest = after_less s.rest k next in
     let shorter_u : length u.rest ≤ length (after_first s.rest) = a.shorter in
     let shorter_t : length t.rest ≤ length u.rest = b.shorter in
     let inner_a : inner_depth s.callables (block_of xs) < room = a.deep in

@@ -16,7 +16,7 @@ use Rattle.camac_text_cursor.proofs.Moves.{expect_sign_ok}
 use Rattle.camac_text_cursor.proofs.Uses.{scope_of}
 use Rattle.camac_text_cursor.proofs.Registers.{Limits, limits_of, RegistersFit}
 use Rattle.camac_text_statements.proofs.Acts.{Acts}
-use Rattle.camac_text_statements.proofs.Blocks.{Body, behind_moves, before_moves}
+use Rattle.camac_text_statements.proofs.Blocks.{Body, after_moves, before_moves}
 use Rattle.camac_text_statements.proofs.StatementsRead.{statement_ok}
 
 -- ---- one statement more
@@ -105,7 +105,7 @@ block_ok (suc room) s y e =
     let body = body_ok room (block_at room) (block_ok room) a.0.1 b.0 b.1 in
     let closed = expect_sign_ok sign.RightBrace b.0.1 c.0 c.1 in
     subst (λ (p : List Statement × State). Body (suc room) s p.0 p.1) (ok_is (b.0.0, c.0.1) y c.2)
-    (before_moves (suc room) s b.0.0 b.0.1 c.0.1 (behind_moves (suc room) s a.0.1 b.0.0 b.0.1 opened body) closed)
+    (before_moves (suc room) s b.0.0 b.0.1 c.0.1 (after_moves (suc room) s a.0.1 b.0.0 b.0.1 opened body) closed)
 
 -- the statements of a block
 pub statements_progress : (room : ℕ) → Progresses is_no_end (one_more (statement_with room (block_at room)))

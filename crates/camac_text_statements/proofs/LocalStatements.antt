@@ -90,9 +90,9 @@ module _ (room : ℕ) (block : Reader (List Statement)) (block_is : (s : State) 
       local_then block (λ xs. peek >>= λ k. else_by block line c xs k) u (block_local u) (λ xs v _.
       local_peek (λ k. else_by block line c xs k) v (local_else_by line c xs (kind_of v.rest) v))))
 
-  local_counting : (line : ℕ) (s : State) → IsLocal (for_statement room block line) s
+  local_for_statement : (line : ℕ) (s : State) → IsLocal (for_statement room block line) s
   unfolding for_statement
-  local_counting line s =
+  local_for_statement line s =
       local_then begin (λ _. used_variable >>= λ v. expect_sign sign.Equals >> (expression_at room >>= λ a. expect word.To >> (expression_at room >>= λ b. keeps_at v >>= λ ks. block >>= λ xs. give (for_ line v a b ks (block_of xs))))) s (local_begin s) (λ _ u _.
       local_then used_variable (λ v. expect_sign sign.Equals >> (expression_at room >>= λ a. expect word.To >> (expression_at room >>= λ b. keeps_at v >>= λ ks. block >>= λ xs. give (for_ line v a b ks (block_of xs))))) u (local_used_variable u) (λ v u _.
       local_then (expect_sign sign.Equals) (λ _. expression_at room >>= λ a. expect word.To >> (expression_at room >>= λ b. keeps_at v >>= λ ks. block >>= λ xs. give (for_ line v a b ks (block_of xs)))) u (local_expect_sign sign.Equals u) (λ _ u _.
@@ -102,9 +102,9 @@ module _ (room : ℕ) (block : Reader (List Statement)) (block_is : (s : State) 
       local_then (keeps_at v) (λ ks. block >>= λ xs. give (for_ line v a b ks (block_of xs))) u (local_keeps v u) (λ ks u _.
       local_then block (λ xs. give (for_ line v a b ks (block_of xs))) u (block_local u) (λ xs u _. local_give (for_ line v a b ks (block_of xs)) u))))))))
 
-  local_repetition : (line : ℕ) (s : State) → IsLocal (while_statement room block line) s
+  local_while_statement : (line : ℕ) (s : State) → IsLocal (while_statement room block line) s
   unfolding while_statement
-  local_repetition line s =
+  local_while_statement line s =
       local_then begin (λ _. condition_at room >>= λ c. expect word.Turns >> (any_number >>= λ n. expect word.By >> (used_variable >>= λ v. keeps_at v >>= λ ks. block >>= λ xs. give (while_ line c n v ks (block_of xs))))) s (local_begin s) (λ _ u _.
       local_then (condition_at room) (λ c. expect word.Turns >> (any_number >>= λ n. expect word.By >> (used_variable >>= λ v. keeps_at v >>= λ ks. block >>= λ xs. give (while_ line c n v ks (block_of xs))))) u (local_condition room u) (λ c u _.
       local_then (expect word.Turns) (λ _. any_number >>= λ n. expect word.By >> (used_variable >>= λ v. keeps_at v >>= λ ks. block >>= λ xs. give (while_ line c n v ks (block_of xs)))) u (local_expect word.Turns u) (λ _ u _.
@@ -125,8 +125,8 @@ module _ (room : ℕ) (block : Reader (List Statement)) (block_is : (s : State) 
 
   local_nested_by : (line : ℕ) (k : Option TokenKind) (s : State) → IsLocal (nested_by room block line k) s
   local_nested_by line (Some (kind.Keyword word.If)) s = local_choice line s
-  local_nested_by line (Some (kind.Keyword word.For)) s = local_counting line s
-  local_nested_by line (Some (kind.Keyword word.While)) s = local_repetition line s
+  local_nested_by line (Some (kind.Keyword word.For)) s = local_for_statement line s
+  local_nested_by line (Some (kind.Keyword word.While)) s = local_while_statement line s
   local_nested_by line (Some (kind.Keyword word.Lock)) s = local_locking line s
   local_nested_by line k s = local_transfer_by room line k s
 

@@ -27,7 +27,7 @@ use Rattle.camac_text_phrases.proofs.ConditionsRead.{condition_ok}
 use Rattle.camac_text_phrases.proofs.KeepsRead.{keeps_ok, keeps_stand}
 use Rattle.camac_text_cursor.proofs.Registers.{both}
 use Rattle.camac_text_statements.proofs.Acts.{begun, begin_ok, Acts}
-use Rattle.camac_text_statements.proofs.Blocks.{Body, behind_moves, holds_block}
+use Rattle.camac_text_statements.proofs.Blocks.{Body, after_moves, holds_block}
 
 -- what fits after some tokens fits before them
 expression_before : (s t : State) (e : Expression) → Moves s t → (AllFit t.rest → expression_fits (scope_of t) e ≡ true) → AllFit s.rest → expression_fits (scope_of s) e ≡ true
@@ -74,13 +74,13 @@ module _ (room : ℕ) (block : Reader (List Statement)) (block_is : (s : State) 
         last_fits = expression_before s a.0.1 b.0.0 to_a last.fits;
         last_deep = last.deep;
         keeps_stand = keeps_before s b.0.1 own c.0.0 to_b (keeps_stand own b.0.1 c.0.0 c.0.1 keeps);
-        holds = behind_moves room s c.0.1 d.0.0 d.0.1 to_c (block_is c.0.1 d.0 d.1);
+        holds = after_moves room s c.0.1 d.0.0 d.0.1 to_c (block_is c.0.1 d.0 d.1);
         is = ok_is (for_ line own first b.0.0 c.0.0 (block_of d.0.0), d.0.1) y d.2;
       }
 
   counts : (s : State) (j : TokenKind) (line own : ℕ) (first : Expression) (u : State) (y : Statement × State) → kind_of s.rest ≡ Some j → s.statements < 4096 → own < length s.variables → Moves (begun s) u → (AllFit s.rest → expression_fits (scope_of s) first ≡ true) → expression_depth first ≤ room → Bounded line own first u y → Acts room s y.0 y.1
   counts s j line own first u y next below within to_u first_fits deep_first r =
-      let body : Body room (begun s) r.body r.left = behind_moves room (begun s) u r.body r.left to_u r.holds in
+      let body : Body room (begun s) r.body r.left = after_moves room (begun s) u r.body r.left to_u r.holds in
       let deep_last : expression_depth r.last ≤ room = r.last_deep in
       let inner : inner_depth s.callables (block_of r.body) < room = body.deep in
       subst (λ (p : Statement × State). Acts room s p.0 p.1) r.is
@@ -94,9 +94,9 @@ module _ (room : ℕ) (block : Reader (List Statement)) (block_is : (s : State) 
       (keeps_before (begun s) u own r.keeps to_u r.keeps_stand h_b)))))
       refl (omega arith) body)
 
-  pub counting_is : (s : State) (j : TokenKind) (line : ℕ) (y : Statement × State) → kind_of s.rest ≡ Some j → for_statement room block line s ≡ Ok y → Acts room s y.0 y.1
+  pub for_is : (s : State) (j : TokenKind) (line : ℕ) (y : Statement × State) → kind_of s.rest ≡ Some j → for_statement room block line s ≡ Ok y → Acts room s y.0 y.1
   unfolding for_statement
-  counting_is s j line y next e =
+  for_is s j line y next e =
       let rest : Reader Statement = used_variable >>= λ own. expect_sign sign.Equals >> (expression_at room >>= λ first. from_to line own first) in
       let z = then_ok (begin s) (λ _. rest) y e in
       let begins = begin_ok s z.0 z.1 in
@@ -111,9 +111,9 @@ module _ (room : ℕ) (block : Reader (List Statement)) (block_is : (s : State) 
       let to_2 : Moves b a2.0.1 = then_moves b a1.0.1 a2.0.1 to_1 first.moves in
       counts s j line v.0.0 a2.0.0 a2.0.1 y next begins.0 own.0 to_2 (λ h. expression_before b a1.0.1 a2.0.0 to_1 first.fits ((moved s).fit h)) first.deep (bounded line v.0.0 a2.0.0 a2.0.1 y a2.2)
 
-  pub repetition_is : (s : State) (j : TokenKind) (line : ℕ) (y : Statement × State) → kind_of s.rest ≡ Some j → while_statement room block line s ≡ Ok y → Acts room s y.0 y.1
+  pub while_is : (s : State) (j : TokenKind) (line : ℕ) (y : Statement × State) → kind_of s.rest ≡ Some j → while_statement room block line s ≡ Ok y → Acts room s y.0 y.1
   unfolding while_statement
-  repetition_is s j line y next e =
+  while_is s j line y next e =
       let by_to : Condition → ℕ → Reader Statement = λ c turns. expect word.By >> (used_variable >>= λ own. keeps_at own >>= λ ks. block >>= λ xs. give (while_ line c turns own ks (block_of xs))) in
       let rest : Reader Statement = condition_at room >>= λ c. expect word.Turns >> (any_number >>= λ turns. by_to c turns) in
       let z = then_ok (begin s) (λ _. rest) y e in
@@ -136,7 +136,7 @@ module _ (room : ℕ) (block : Reader (List Statement)) (block_is : (s : State) 
       let keeps = keeps_ok v.0.0 v.0.1 a5.0 a5.1 in
       let to_5 : Moves b a5.0.1 = then_moves b v.0.1 a5.0.1 to_v keeps.moves in
       let a6 = then_ok (block a5.0.1) (λ xs. give (while_ line a1.0.0 a3.0.0 v.0.0 a5.0.0 (block_of xs))) y a5.2 in
-      let body : Body room b a6.0.0 a6.0.1 = behind_moves room b a5.0.1 a6.0.0 a6.0.1 to_5 (block_is a5.0.1 a6.0 a6.1) in
+      let body : Body room b a6.0.0 a6.0.1 = after_moves room b a5.0.1 a6.0.0 a6.0.1 to_5 (block_is a5.0.1 a6.0 a6.1) in
       let x : Statement = while_ line a1.0.0 a3.0.0 v.0.0 a5.0.0 (block_of a6.0.0) in
       let deep_test : most part_depth a1.0.0 ≤ room = test.deep in
       let inner : inner_depth s.callables (block_of a6.0.0) < room = body.deep in
@@ -163,7 +163,7 @@ module _ (room : ℕ) (block : Reader (List Statement)) (block_is : (s : State) 
       let a1 = then_ok (expression_at room b) (λ c. block >>= λ xs. give (locked line c (block_of xs))) y at in
       let read = expression_ok room b a1.0 a1.1 in
       let a2 = then_ok (block a1.0.1) (λ xs. give (locked line a1.0.0 (block_of xs))) y a1.2 in
-      let body : Body room b a2.0.0 a2.0.1 = behind_moves room b a1.0.1 a2.0.0 a2.0.1 read.moves (block_is a1.0.1 a2.0 a2.1) in
+      let body : Body room b a2.0.0 a2.0.1 = after_moves room b a1.0.1 a2.0.0 a2.0.1 read.moves (block_is a1.0.1 a2.0 a2.1) in
       let x : Statement = locked line a1.0.0 (block_of a2.0.0) in
       let deep : expression_depth a1.0.0 ≤ room = read.deep in
       let inner : inner_depth s.callables (block_of a2.0.0) < room = body.deep in

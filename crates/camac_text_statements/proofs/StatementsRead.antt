@@ -12,13 +12,13 @@ use Rattle.camac_text_statements.proofs.Blocks.{Body}
 use Rattle.camac_text_statements.proofs.ActionsRead.{assignment_is, put_is, single_is, setting_is}
 use Rattle.camac_text_statements.proofs.TransfersRead.{transfer_is}
 use Rattle.camac_text_statements.proofs.ChoicesRead.{choice_is}
-use Rattle.camac_text_statements.proofs.LoopsRead.{counting_is, repetition_is, locking_is}
+use Rattle.camac_text_statements.proofs.LoopsRead.{for_is, while_is, locking_is}
 
 module _ (room : ℕ) (block : Reader (List Statement)) (block_is : (s : State) (y : List Statement × State) → block s ≡ Ok y → Body room s y.0 y.1) where
   nested_is : (s : State) (line : ℕ) (k : Option TokenKind) (y : Statement × State) → kind_of s.rest ≡ k → nested_by room block line k s ≡ Ok y → Acts room s y.0 y.1
   nested_is s line (Some (kind.Keyword word.If)) y next e = choice_is room block block_is s (kind.Keyword word.If) line y next e
-  nested_is s line (Some (kind.Keyword word.For)) y next e = counting_is room block block_is s (kind.Keyword word.For) line y next e
-  nested_is s line (Some (kind.Keyword word.While)) y next e = repetition_is room block block_is s (kind.Keyword word.While) line y next e
+  nested_is s line (Some (kind.Keyword word.For)) y next e = for_is room block block_is s (kind.Keyword word.For) line y next e
+  nested_is s line (Some (kind.Keyword word.While)) y next e = while_is room block block_is s (kind.Keyword word.While) line y next e
   nested_is s line (Some (kind.Keyword word.Lock)) y next e = locking_is room block block_is s (kind.Keyword word.Lock) line y next e
   nested_is s line k y next e = transfer_is room s line k y next e
 

@@ -9,27 +9,27 @@ use Rattle.camac_text_tokens.specs.declared.token.Sign.{Sign}
 use Rattle.camac_text_tokens.specs.declared.token.Token.{Token}
 use Rattle.camac_text_tokens.specs.declared.token.TokenKind.{TokenKind}
 use Rattle.camac_text_tokens.specs.declared.token.TokenKind.TheVariants as kind
-use Rattle.camac_text_tokens.specs.declared.scanner.Front.{Front}
-use Rattle.camac_text_tokens.specs.declared.scanner.Front.TheVariants as front
+use Rattle.camac_text_tokens.specs.declared.scanner.Start.{Start}
+use Rattle.camac_text_tokens.specs.declared.scanner.Start.TheVariants as start
 use Rattle.camac_text_tokens.specs.declared.fault.TextRule.{TextRule}
 use Rattle.camac_text_tokens.specs.declared.fault.TextRule.TheVariants as rule
 use Rattle.camac_text_tokens.specs.Fault.{Fault}
 use Rattle.camac_text_tokens.specs.Words.{keyword}
-use Rattle.camac_text_tokens.specs.Scanning.{is_name_byte, is_blank, decimal_value, keyword_or, pair_at, single_at, pair_or_single, front_of, size, added, wrong, line_number, line_after, tokens_by, tokens_from, tokens_of}
+use Rattle.camac_text_tokens.specs.Scanning.{is_name_byte, is_blank, decimal_value, keyword_or, pair_at, single_at, pair_or_single, start_of, size, added, wrong, line_number, line_after, tokens_by, tokens_from, tokens_of}
 use Rattle.camac_text_tokens.specs.Cut.{begins, IsRun, IsWord, Piece, IsPiece, joined}
 use Rattle.camac_text_tokens.specs.Broken.{StandBefore, HasOtherByte, Breaks, TokenFaultsStand}
-use Rattle.camac_text_tokens.proofs.Scans.{line_feeds, feeds-cons, take_run, name_begins, sized_front, with_all, front_step, wrong_is}
-use Rattle.camac_text_tokens.proofs.Cuts.{run_is, Stands, front_stands, kind_at, piece_of}
-use Rattle.camac_text_tokens.proofs.Uncut.{no_letter, digit_high, front_at, piece_fronts, piece_step, good_for}
+use Rattle.camac_text_tokens.proofs.Scans.{line_feeds, feeds-cons, take_run, name_begins, sized_start, with_all, start_step, wrong_is}
+use Rattle.camac_text_tokens.proofs.Cuts.{run_is, Stands, start_stands, kind_at, piece_of}
+use Rattle.camac_text_tokens.proofs.Uncut.{no_letter, digit_high, start_at, piece_starts, piece_step, good_for}
 
--- ---- what is wrong at the front
+-- ---- what is wrong at the start
 
-BreaksIf : Front → List ℕ → Type 0
-BreaksIf (front.Gap n) text = Unit {0}
-BreaksIf (front.Found k n) text = Unit {0}
-BreaksIf (front.Wrong r) text = Breaks r text
+BreaksIf : Start → List ℕ → Type 0
+BreaksIf (start.Gap n) text = Unit {0}
+BreaksIf (start.Found k n) text = Unit {0}
+BreaksIf (start.Wrong r) text = Breaks r text
 
-breaks_if : (b : Bool) (f g : Front) (text : List ℕ) → (b ≡ true → BreaksIf f text) → (b ≡ false → BreaksIf g text) → BreaksIf (cond b f g) text
+breaks_if : (b : Bool) (f g : Start) (text : List ℕ) → (b ≡ true → BreaksIf f text) → (b ≡ false → BreaksIf g text) → BreaksIf (cond b f g) text
 breaks_if true f g text on off = on refl
 breaks_if false f g text on off = off refl
 
@@ -41,7 +41,7 @@ word_breaks : (k : Option Keyword) (text : List ℕ) → keyword (take_while is_
 unfolding BreaksIf
 word_breaks (Some w) text at is = tt
 word_breaks None text at is =
-    breaks_if (ltb 32 (length (take_while is_name_byte text))) (front.Wrong rule.LimitPassed) (front.Found (kind.Name (take_while is_name_byte text)) (length (take_while is_name_byte text))) text
+    breaks_if (ltb 32 (length (take_while is_name_byte text))) (start.Wrong rule.LimitPassed) (start.Found (kind.Name (take_while is_name_byte text)) (length (take_while is_name_byte text))) text
     (λ on. record {
       bytes = take_while is_name_byte text;
       rest = drop (length (take_while is_name_byte text)) text;
@@ -52,10 +52,10 @@ word_breaks None text at is =
     }) (λ _. tt)
 
 number_breaks : (text : List ℕ) → IsRun is_ascii_digit is_ascii_digit (take_while is_ascii_digit text) (drop (length (take_while is_ascii_digit text)) text)
-    → BreaksIf (cond (ltb (decimal_value (take_while is_ascii_digit text)) 4294967296) (front.Found (kind.Number (decimal_value (take_while is_ascii_digit text))) (length (take_while is_ascii_digit text))) (front.Wrong rule.NumberTooLarge)) text
+    → BreaksIf (cond (ltb (decimal_value (take_while is_ascii_digit text)) 4294967296) (start.Found (kind.Number (decimal_value (take_while is_ascii_digit text))) (length (take_while is_ascii_digit text))) (start.Wrong rule.NumberTooLarge)) text
 unfolding BreaksIf
 number_breaks text is =
-    breaks_if (ltb (decimal_value (take_while is_ascii_digit text)) 4294967296) (front.Found (kind.Number (decimal_value (take_while is_ascii_digit text))) (length (take_while is_ascii_digit text))) (front.Wrong rule.NumberTooLarge) text
+    breaks_if (ltb (decimal_value (take_while is_ascii_digit text)) 4294967296) (start.Found (kind.Number (decimal_value (take_while is_ascii_digit text))) (length (take_while is_ascii_digit text))) (start.Wrong rule.NumberTooLarge) text
     (λ _. tt)
     (λ off. record {
       bytes = take_while is_ascii_digit text;
@@ -71,9 +71,9 @@ sign_breaks (Some s) q text is = tt
 sign_breaks None (Some s) text is = tt
 sign_breaks None None text is = is
 
-front_breaks : (b : ℕ) (bs : List ℕ) → BreaksIf (front_of b (b ∷ bs)) (b ∷ bs)
-unfolding front_of BreaksIf
-front_breaks b bs =
+start_breaks : (b : ℕ) (bs : List ℕ) → BreaksIf (start_of b (b ∷ bs)) (b ∷ bs)
+unfolding start_of BreaksIf
+start_breaks b bs =
     let text : List ℕ = b ∷ bs in
     breaks_if (is_blank b) _ _ text (λ _. tt) (λ _.
     breaks_if (eqb b 35) _ _ text (λ _. tt) (λ _.
@@ -81,16 +81,16 @@ front_breaks b bs =
     breaks_if (is_ascii_digit b) _ _ text (λ is. number_breaks (b ∷ bs) (run_is is_ascii_digit is_ascii_digit b bs is is)) (λ no_number.
     sign_breaks (pair_at (b ∷ bs)) (single_at (b ∷ bs)) (b ∷ bs) (record { some = omega arith; no_word = no_word; no_number = no_number })))))
 
-breaks_wrong : (f : Front) (r : TextRule) (text : List ℕ) → wrong f ≡ Some r → BreaksIf f text → Breaks r text
+breaks_wrong : (f : Start) (r : TextRule) (text : List ℕ) → wrong f ≡ Some r → BreaksIf f text → Breaks r text
 unfolding BreaksIf
-breaks_wrong f r text bad is = subst (λ (g : Front). BreaksIf g text) (wrong_is f r bad) is
+breaks_wrong f r text bad is = subst (λ (g : Start). BreaksIf g text) (wrong_is f r bad) is
 
 -- no piece stands where something is wrong
-nothing_stands : (b : ℕ) (bs : List ℕ) (r : TextRule) → wrong (front_of b (b ∷ bs)) ≡ Some r
+nothing_stands : (b : ℕ) (bs : List ℕ) (r : TextRule) → wrong (start_of b (b ∷ bs)) ≡ Some r
     → (k : Option TokenKind) (bytes after : List ℕ) → b ∷ bs ≡ bytes ++ after → IsPiece k bytes after → ⊥
 nothing_stands b bs r bad k bytes after parts is =
-    let fronts = piece_fronts k bytes after is in
-    let good : wrong (front_at (b ∷ bs)) ≡ None = ap (λ (w : List ℕ). wrong (front_at w)) parts ∙ ap wrong fronts.front ∙ good_for k (length bytes) in
+    let starts = piece_starts k bytes after is in
+    let good : wrong (start_at (b ∷ bs)) ≡ None = ap (λ (w : List ℕ). wrong (start_at w)) parts ∙ ap wrong starts.start ∙ good_for k (length bytes) in
     let both : Some r ≡ None = sym bad ∙ good in
     absurd cc
 
@@ -100,9 +100,9 @@ feeds_append : (xs ys : List ℕ) → line_feeds (xs ++ ys) ≡ line_feeds xs + 
 feeds_append [] ys = omega arith
 feeds_append (x ∷ xs) ys =
     let whole = feeds-cons x (xs ++ ys) in
-    let front = feeds-cons x xs in
+    let start = feeds-cons x xs in
     let rest = feeds_append xs ys in
-    omega (arith, whole, front, rest)
+    omega (arith, whole, start, rest)
 
 record BrokenFrom (line : ℕ) (text : List ℕ) (f : Fault) : Type 0 where
   pieces : List Piece
@@ -120,10 +120,10 @@ all_err : (us : List Token) (r : Result (List Token) Fault) (f : Fault) → with
 all_err us (Ok ts) f e = absurd cc
 all_err us (Err d) f e = e
 
-broken_here : (b line : ℕ) (bs : List ℕ) (f : Fault) (r : TextRule) → wrong (front_of b (b ∷ bs)) ≡ Some r → tokens_from 0 line (b ∷ bs) ≡ Err f → BrokenFrom line (b ∷ bs) f
+broken_here : (b line : ℕ) (bs : List ℕ) (f : Fault) (r : TextRule) → wrong (start_of b (b ∷ bs)) ≡ Some r → tokens_from 0 line (b ∷ bs) ≡ Err f → BrokenFrom line (b ∷ bs) f
 unfolding tokens_from
 broken_here b line bs f r bad e =
-    let here : tokens_from 0 line (b ∷ bs) ≡ Err (record { rule = r; line = line_number line }) = ap (λ (g : Front). tokens_by g line (λ n. tokens_from n (line_after line b) bs)) (wrong_is (front_of b (b ∷ bs)) r bad) in
+    let here : tokens_from 0 line (b ∷ bs) ≡ Err (record { rule = r; line = line_number line }) = ap (λ (g : Start). tokens_by g line (λ n. tokens_from n (line_after line b) bs)) (wrong_is (start_of b (b ∷ bs)) r bad) in
     let same : (let d : Fault = record { rule = r; line = line_number line } in d) ≡ f = fault_is _ f (sym here ∙ e) in
     record {
       pieces = [];
@@ -131,11 +131,11 @@ broken_here b line bs f r bad e =
       parts = refl;
       stand = tt;
       nothing = nothing_stands b bs r bad;
-      why = subst (λ (d : Fault). Breaks d.rule (b ∷ bs)) same (breaks_wrong (front_of b (b ∷ bs)) r (b ∷ bs) bad (front_breaks b bs));
+      why = subst (λ (d : Fault). Breaks d.rule (b ∷ bs)) same (breaks_wrong (start_of b (b ∷ bs)) r (b ∷ bs) bad (start_breaks b bs));
       at_line = sym (ap (λ (d : Fault). d.line) same) ∙ ap line_number (omega arith);
     }
 
-broken_later : (f : Front) (line : ℕ) (text : List ℕ) (d : Fault) → wrong f ≡ None → Stands f text
+broken_later : (f : Start) (line : ℕ) (text : List ℕ) (d : Fault) → wrong f ≡ None → Stands f text
     → BrokenFrom (line + line_feeds (take (size f) text)) (drop (size f) text) d → BrokenFrom line text d
 broken_later f line text d good stands rest =
     let feeds : line_feeds (take (size f) text ++ joined rest.pieces) ≡ line_feeds (take (size f) text) + line_feeds (joined rest.pieces) = feeds_append (take (size f) text) (joined rest.pieces) in
@@ -158,13 +158,13 @@ unfolding tokens_from
 broken_from n line [] f few e = absurd cc
 broken_from zero line (b ∷ bs) f few e = absurd (omega arith)
 broken_from (suc n) line (b ∷ bs) f few e =
-    let g : Front = front_of b (b ∷ bs) in
-    elim (wrong_or (wrong (front_of b (b ∷ bs)))) [
+    let g : Start = start_of b (b ∷ bs) in
+    elim (wrong_or (wrong (start_of b (b ∷ bs)))) [
       | inl bad ↦ broken_here b line bs f bad.0 bad.1 e
       | inr good ↦
-          let sized = sized_front b bs good in
-          let later = all_err (added g (line_number line)) (tokens_from 0 (line + line_feeds (take (size g) (b ∷ bs))) (drop (size g) (b ∷ bs))) f (sym (front_step g b line bs good sized.0) ∙ e) in
-          broken_later g line (b ∷ bs) f good (front_stands b bs) (broken_from n (line + line_feeds (take (size g) (b ∷ bs))) (drop (size g) (b ∷ bs)) f (shorter (size g) b bs n sized.0 few) later)
+          let sized = sized_start b bs good in
+          let later = all_err (added g (line_number line)) (tokens_from 0 (line + line_feeds (take (size g) (b ∷ bs))) (drop (size g) (b ∷ bs))) f (sym (start_step g b line bs good sized.0) ∙ e) in
+          broken_later g line (b ∷ bs) f good (start_stands b bs) (broken_from n (line + line_feeds (take (size g) (b ∷ bs))) (drop (size g) (b ∷ bs)) f (shorter (size g) b bs n sized.0 few) later)
     ]
   where
     shorter : (k b : ℕ) (bs : List ℕ) (n : ℕ) → 0 < k → length (b ∷ bs) ≤ suc n → length (drop k (b ∷ bs)) ≤ n
@@ -178,34 +178,34 @@ rule_by true number = rule.LimitPassed
 rule_by false true = rule.NumberTooLarge
 rule_by false false = rule.BadByte
 
-begins_front : (first each : ℕ → Bool) (bytes rest : List ℕ) → IsRun first each bytes rest → begins first (bytes ++ rest) ≡ true
-begins_front first each [] rest is = absurd (let none : false ≡ true = is.front in cc)
-begins_front first each (b ∷ bs) rest is = is.front
+begins_run : (first each : ℕ → Bool) (bytes rest : List ℕ) → IsRun first each bytes rest → begins first (bytes ++ rest) ≡ true
+begins_run first each [] rest is = absurd (let none : false ≡ true = is.start in cc)
+begins_run first each (b ∷ bs) rest is = is.start
 
 no_word_begins : (bytes rest : List ℕ) → IsRun is_ascii_digit is_ascii_digit bytes rest → begins is_ascii_alphabetic (bytes ++ rest) ≡ false
-no_word_begins [] rest is = absurd (let none : false ≡ true = is.front in cc)
-no_word_begins (b ∷ bs) rest is = no_letter b (digit_high b is.front)
+no_word_begins [] rest is = absurd (let none : false ≡ true = is.start in cc)
+no_word_begins (b ∷ bs) rest is = no_letter b (digit_high b is.start)
 
 the_rule : (r : TextRule) (text : List ℕ) → Breaks r text → r ≡ rule_by (begins is_ascii_alphabetic text) (begins is_ascii_digit text)
 unfolding rule_by
 the_rule rule.BadByte text is = rw (is.no_word, is.no_number) refl
-the_rule rule.NumberTooLarge text is = rw (is.parts, no_word_begins is.bytes is.rest is.digits, begins_front is_ascii_digit is_ascii_digit is.bytes is.rest is.digits) refl
-the_rule rule.LimitPassed text is = rw (is.parts, begins_front is_ascii_alphabetic is_name_byte is.bytes is.rest is.word) refl
+the_rule rule.NumberTooLarge text is = rw (is.parts, no_word_begins is.bytes is.rest is.digits, begins_run is_ascii_digit is_ascii_digit is.bytes is.rest is.digits) refl
+the_rule rule.LimitPassed text is = rw (is.parts, begins_run is_ascii_alphabetic is_name_byte is.bytes is.rest is.word) refl
 the_rule rule.UnexpectedToken text is = absurd is
 the_rule rule.DeclaredTwice text is = absurd is
 the_rule rule.NotDeclared text is = absurd is
 the_rule rule.BranchNotOne text is = absurd is
 
 -- it is the rule that the scan finds
-wrong_here : (f : Front) (text : List ℕ) (r : TextRule) → Breaks r text → Stands f text → BreaksIf f text
-    → ((k : Option TokenKind) (bytes after : List ℕ) → text ≡ bytes ++ after → IsPiece k bytes after → ⊥) → f ≡ front.Wrong r
+wrong_here : (f : Start) (text : List ℕ) (r : TextRule) → Breaks r text → Stands f text → BreaksIf f text
+    → ((k : Option TokenKind) (bytes after : List ℕ) → text ≡ bytes ++ after → IsPiece k bytes after → ⊥) → f ≡ start.Wrong r
 unfolding BreaksIf
-wrong_here (front.Gap n) text r why stands breaks nothing = absurd (nothing None (take n text) (drop n text) (sym (take-append-drop n text)) stands)
-wrong_here (front.Found k n) text r why stands breaks nothing = absurd (nothing (Some k) (take n text) (drop n text) (sym (take-append-drop n text)) stands)
-wrong_here (front.Wrong d) text r why stands breaks nothing = ap front.Wrong (the_rule d text breaks ∙ sym (the_rule r text why))
+wrong_here (start.Gap n) text r why stands breaks nothing = absurd (nothing None (take n text) (drop n text) (sym (take-append-drop n text)) stands)
+wrong_here (start.Found k n) text r why stands breaks nothing = absurd (nothing (Some k) (take n text) (drop n text) (sym (take-append-drop n text)) stands)
+wrong_here (start.Wrong d) text r why stands breaks nothing = ap start.Wrong (the_rule d text breaks ∙ sym (the_rule r text why))
 
 no_bytes : {first each : ℕ → Bool} (bytes rest : List ℕ) → [] ≡ bytes ++ rest → IsRun first each bytes rest → ⊥
-no_bytes [] rest e is = absurd (let none : false ≡ true = is.front in cc)
+no_bytes [] rest e is = absurd (let none : false ≡ true = is.start in cc)
 no_bytes (b ∷ bs) rest e is = absurd cc
 
 fault_at : (line : ℕ) (rest : List ℕ) (r : TextRule) → Breaks r rest
@@ -220,7 +220,7 @@ fault_at line [] rule.DeclaredTwice why nothing = absurd why
 fault_at line [] rule.NotDeclared why nothing = absurd why
 fault_at line [] rule.BranchNotOne why nothing = absurd why
 fault_at line (b ∷ bs) r why nothing =
-    ap (λ (g : Front). tokens_by g line (λ n. tokens_from n (line_after line b) bs)) (wrong_here (front_of b (b ∷ bs)) (b ∷ bs) r why (front_stands b bs) (front_breaks b bs) nothing)
+    ap (λ (g : Start). tokens_by g line (λ n. tokens_from n (line_after line b) bs)) (wrong_here (start_of b (b ∷ bs)) (b ∷ bs) r why (start_stands b bs) (start_breaks b bs) nothing)
 
 fault_after : (line : ℕ) (ps : List Piece) (rest : List ℕ) (f : Fault) → StandBefore rest ps → tokens_from 0 (line + line_feeds (joined ps)) rest ≡ Err f
     → tokens_from 0 line (joined ps ++ rest) ≡ Err f
@@ -231,7 +231,7 @@ fault_after line (p ∷ ps) rest f stand e =
     let further : line + line_feeds p.bytes + line_feeds (joined ps) ≡ line + line_feeds (joined (p ∷ ps)) = omega (arith, feeds) in
     let later = fault_after (line + line_feeds p.bytes) ps rest f stand.1 (ap (λ (l : ℕ). tokens_from 0 l rest) further ∙ e) in
     ap (tokens_from 0 line) (append_assoc p.bytes (joined ps) rest)
-    ∙ piece_step p.kind line p.bytes (joined ps ++ rest) (piece_fronts p.kind p.bytes (joined ps ++ rest) stand.0)
+    ∙ piece_step p.kind line p.bytes (joined ps ++ rest) (piece_starts p.kind p.bytes (joined ps ++ rest) stand.0)
     ∙ ap (with_all _) later
 
 pub token_faults_stand : TokenFaultsStand

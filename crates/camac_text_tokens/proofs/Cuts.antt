@@ -11,15 +11,15 @@ use Rattle.camac_text_tokens.specs.declared.token.Sign.{Sign}
 use Rattle.camac_text_tokens.specs.declared.token.Token.{Token}
 use Rattle.camac_text_tokens.specs.declared.token.TokenKind.{TokenKind}
 use Rattle.camac_text_tokens.specs.declared.token.TokenKind.TheVariants as kind
-use Rattle.camac_text_tokens.specs.declared.scanner.Front.{Front}
-use Rattle.camac_text_tokens.specs.declared.scanner.Front.TheVariants as front
+use Rattle.camac_text_tokens.specs.declared.scanner.Start.{Start}
+use Rattle.camac_text_tokens.specs.declared.scanner.Start.TheVariants as start
 use Rattle.camac_text_tokens.specs.declared.fault.TextRule.TheVariants.{LimitPassed, NumberTooLarge}
 use Rattle.camac_text_tokens.specs.declared.fault.TextFault.{TextFault}
 use Rattle.camac_text_tokens.specs.Fault.{Fault, AnswersList}
 use Rattle.camac_text_tokens.specs.Words.{keyword}
-use Rattle.camac_text_tokens.specs.Scanning.{is_name_byte, is_blank, is_no_line_feed, decimal_value, keyword_or, pair_at, single_at, pair_or_single, front_of, size, added, wrong, line_number, line_after, tokens_by, tokens_from, tokens_of}
+use Rattle.camac_text_tokens.specs.Scanning.{is_name_byte, is_blank, is_no_line_feed, decimal_value, keyword_or, pair_at, single_at, pair_or_single, start_of, size, added, wrong, line_number, line_after, tokens_by, tokens_from, tokens_of}
 use Rattle.camac_text_tokens.specs.Cut.{begins, IsRun, IsWord, IsName, IsKeyword, IsNumber, IsGap, Piece, IsPiece, joined, token_at, tokens_in, ArePieces, IsCut}
-use Rattle.camac_text_tokens.proofs.Scans.{line_feeds, take_run, name_begins, sized_front, with_all, front_step}
+use Rattle.camac_text_tokens.proofs.Scans.{line_feeds, take_run, name_begins, sized_start, with_all, start_step}
 
 -- ---- runs of bytes
 
@@ -42,28 +42,28 @@ run_all each (b ∷ bs) = subst (λ (w : List ℕ). list_all each w ≡ true) (s
 run_begins : (first each : ℕ → Bool) (b : ℕ) (bs : List ℕ) → first b ≡ true → each b ≡ true → begins first (take_while each (b ∷ bs)) ≡ true
 run_begins first each b bs is passes = subst (λ (w : List ℕ). begins first w ≡ true) (sym (take_while-cons each b bs ∙ ap (λ (t : Bool). cond t (b ∷ take_while each bs) []) passes)) is
 
--- the longest run at the front of bytes
+-- the longest run at the start of bytes
 pub run_is : (first each : ℕ → Bool) (b : ℕ) (bs : List ℕ) → first b ≡ true → each b ≡ true → IsRun first each (take_while each (b ∷ bs)) (drop (length (take_while each (b ∷ bs))) (b ∷ bs))
 run_is first each b bs is passes = record {
-  front = run_begins first each b bs is passes;
+  start = run_begins first each b bs is passes;
   all = run_all each (b ∷ bs);
   longest = run_ends each (b ∷ bs);
 }
 
--- ---- what stands at the front
+-- ---- what stands at the start
 
-pub kind_at : Front → Option TokenKind
-kind_at (front.Gap n) = None
-kind_at (front.Found k n) = Some k
-kind_at (front.Wrong rule) = None
+pub kind_at : Start → Option TokenKind
+kind_at (start.Gap n) = None
+kind_at (start.Found k n) = Some k
+kind_at (start.Wrong rule) = None
 
 -- it is a piece, unless something is wrong with it
-abbrev pub Stands : Front → List ℕ → Type 0
-Stands (front.Wrong rule) text = Unit {0}
-Stands (front.Gap n) text = IsPiece None (take n text) (drop n text)
-Stands (front.Found k n) text = IsPiece (Some k) (take n text) (drop n text)
+abbrev pub Stands : Start → List ℕ → Type 0
+Stands (start.Wrong rule) text = Unit {0}
+Stands (start.Gap n) text = IsPiece None (take n text) (drop n text)
+Stands (start.Found k n) text = IsPiece (Some k) (take n text) (drop n text)
 
-stands_if : (b : Bool) (f g : Front) (text : List ℕ) → (b ≡ true → Stands f text) → (b ≡ false → Stands g text) → Stands (cond b f g) text
+stands_if : (b : Bool) (f g : Start) (text : List ℕ) → (b ≡ true → Stands f text) → (b ≡ false → Stands g text) → Stands (cond b f g) text
 stands_if true f g text on off = on refl
 stands_if false f g text on off = off refl
 
@@ -77,12 +77,12 @@ run_piece each text P h = subst P (sym (take_run each text)) h
 word_stands : (k : Option Keyword) (text : List ℕ) → keyword (take_while is_name_byte text) ≡ k → IsWord (take_while is_name_byte text) (drop (length (take_while is_name_byte text)) text) → Stands (keyword_or k (take_while is_name_byte text)) text
 word_stands (Some w) text at is = run_piece is_name_byte text (λ bytes. IsKeyword w bytes (drop (length (take_while is_name_byte text)) text)) (record { word = is; kept = at })
 word_stands None text at is =
-    stands_if (ltb 32 (length (take_while is_name_byte text))) (front.Wrong LimitPassed) (front.Found (kind.Name (take_while is_name_byte text)) (length (take_while is_name_byte text))) text (λ _. tt) (λ off.
+    stands_if (ltb 32 (length (take_while is_name_byte text))) (start.Wrong LimitPassed) (start.Found (kind.Name (take_while is_name_byte text)) (length (take_while is_name_byte text))) text (λ _. tt) (λ off.
     run_piece is_name_byte text (λ bytes. IsName (take_while is_name_byte text) bytes (drop (length (take_while is_name_byte text)) text)) (record { word = is; free = at; same = refl; short = short_is _ off }))
 
-number_stands : (text : List ℕ) → IsRun is_ascii_digit is_ascii_digit (take_while is_ascii_digit text) (drop (length (take_while is_ascii_digit text)) text) → Stands (cond (ltb (decimal_value (take_while is_ascii_digit text)) 4294967296) (front.Found (kind.Number (decimal_value (take_while is_ascii_digit text))) (length (take_while is_ascii_digit text))) (front.Wrong NumberTooLarge)) text
+number_stands : (text : List ℕ) → IsRun is_ascii_digit is_ascii_digit (take_while is_ascii_digit text) (drop (length (take_while is_ascii_digit text)) text) → Stands (cond (ltb (decimal_value (take_while is_ascii_digit text)) 4294967296) (start.Found (kind.Number (decimal_value (take_while is_ascii_digit text))) (length (take_while is_ascii_digit text))) (start.Wrong NumberTooLarge)) text
 number_stands text is =
-    stands_if (ltb (decimal_value (take_while is_ascii_digit text)) 4294967296) (front.Found (kind.Number (decimal_value (take_while is_ascii_digit text))) (length (take_while is_ascii_digit text))) (front.Wrong NumberTooLarge) text (λ on.
+    stands_if (ltb (decimal_value (take_while is_ascii_digit text)) 4294967296) (start.Found (kind.Number (decimal_value (take_while is_ascii_digit text))) (length (take_while is_ascii_digit text))) (start.Wrong NumberTooLarge) text (λ on.
     run_piece is_ascii_digit text (λ bytes. IsNumber (decimal_value (take_while is_ascii_digit text)) bytes (drop (length (take_while is_ascii_digit text)) text)) (record { digits = is; value = refl; bounded = ltb-true _ _ on })) (λ _. tt)
 
 sign_stands : (p q : Option Sign) (b : ℕ) (bs : List ℕ) → pair_at (b ∷ bs) ≡ p → single_at (b ∷ bs) ≡ q → Stands (pair_or_single p q) (b ∷ bs)
@@ -94,9 +94,9 @@ sign_stands None None b bs at other = tt
 hash_is : (b : ℕ) → eqb b 35 ≡ true → is_no_line_feed b ≡ true
 hash_is b e = subst (λ (c : ℕ). is_no_line_feed c ≡ true) (sym (eqb-true b 35 e)) refl
 
-pub front_stands : (b : ℕ) (bs : List ℕ) → Stands (front_of b (b ∷ bs)) (b ∷ bs)
-unfolding front_of
-front_stands b bs =
+pub start_stands : (b : ℕ) (bs : List ℕ) → Stands (start_of b (b ∷ bs)) (b ∷ bs)
+unfolding start_of
+start_stands b bs =
     let text : List ℕ = b ∷ bs in
     stands_if (is_blank b) _ _ text (λ is. inl (is, refl)) (λ _.
     stands_if (eqb b 35) _ _ text (λ is. run_piece is_no_line_feed (b ∷ bs) (λ bytes. IsGap bytes (drop (length (take_while is_no_line_feed (b ∷ bs))) (b ∷ bs))) (inr (run_is (λ c. eqb c 35) is_no_line_feed b bs is (hash_is b is)))) (λ _.
@@ -120,24 +120,24 @@ all_ok : (us : List Token) (r : Result (List Token) Fault) (ts : List Token) →
 all_ok us (Ok vs) ts e = (vs, refl, sym (list_is (us ++ vs) ts e))
 all_ok us (Err d) ts e = absurd cc
 
-pub piece_of : (f : Front) (text : List ℕ) → wrong f ≡ None → Stands f text → IsPiece (kind_at f) (take (size f) text) (drop (size f) text)
+pub piece_of : (f : Start) (text : List ℕ) → wrong f ≡ None → Stands f text → IsPiece (kind_at f) (take (size f) text) (drop (size f) text)
 unfolding kind_at
-piece_of (front.Gap n) text good h = h
-piece_of (front.Found k n) text good h = h
-piece_of (front.Wrong rule) text good h = absurd cc
+piece_of (start.Gap n) text good h = h
+piece_of (start.Found k n) text good h = h
+piece_of (start.Wrong rule) text good h = absurd cc
 
-added_is : (f : Front) (line : ℕ) → wrong f ≡ None → added f (line_number line) ≡ token_at (kind_at f) line
+added_is : (f : Start) (line : ℕ) → wrong f ≡ None → added f (line_number line) ≡ token_at (kind_at f) line
 unfolding kind_at
-added_is (front.Gap n) line good = refl
-added_is (front.Found k n) line good = refl
-added_is (front.Wrong rule) line good = absurd cc
+added_is (start.Gap n) line good = refl
+added_is (start.Found k n) line good = refl
+added_is (start.Wrong rule) line good = absurd cc
 
-good_front : (f : Front) (line : ℕ) (more : ℕ → Result (List Token) Fault) (ts : List Token) → tokens_by f line more ≡ Ok ts → wrong f ≡ None
-good_front (front.Gap n) line more ts e = refl
-good_front (front.Found k n) line more ts e = refl
-good_front (front.Wrong rule) line more ts e = absurd cc
+good_start : (f : Start) (line : ℕ) (more : ℕ → Result (List Token) Fault) (ts : List Token) → tokens_by f line more ≡ Ok ts → wrong f ≡ None
+good_start (start.Gap n) line more ts e = refl
+good_start (start.Found k n) line more ts e = refl
+good_start (start.Wrong rule) line more ts e = absurd cc
 
-cut_step : (f : Front) (line : ℕ) (text : List ℕ) (ts us : List Token) → wrong f ≡ None → Stands f text → ts ≡ added f (line_number line) ++ us → CutFrom (line + line_feeds (take (size f) text)) (drop (size f) text) us → CutFrom line text ts
+cut_step : (f : Start) (line : ℕ) (text : List ℕ) (ts us : List Token) → wrong f ≡ None → Stands f text → ts ≡ added f (line_number line) ++ us → CutFrom (line + line_feeds (take (size f) text)) (drop (size f) text) us → CutFrom line text ts
 cut_step f line text ts us good stands tokens rest = record {
   pieces = record { bytes = take (size f) text; kind = kind_at f } ∷ rest.pieces;
   parts = sym (take-append-drop (size f) text) ∙ ap (λ (w : List ℕ). take (size f) text ++ w) rest.parts;
@@ -150,11 +150,11 @@ unfolding tokens_from
 cut_from n line [] ts few e = record { pieces = []; parts = refl; stand = tt; tokens_are = sym (list_is [] ts e) }
 cut_from zero line (b ∷ bs) ts few e = absurd (omega arith)
 cut_from (suc n) line (b ∷ bs) ts few e =
-    let f : Front = front_of b (b ∷ bs) in
-    let good : wrong f ≡ None = good_front f line (λ skip. tokens_from skip (line_after line b) bs) ts e in
-    let sized = sized_front b bs good in
-    let m = all_ok (added f (line_number line)) (tokens_from 0 (line + line_feeds (take (size f) (b ∷ bs))) (drop (size f) (b ∷ bs))) ts (sym (front_step f b line bs good sized.0) ∙ e) in
-    cut_step f line (b ∷ bs) ts m.0 good (front_stands b bs) m.2 (cut_from n (line + line_feeds (take (size f) (b ∷ bs))) (drop (size f) (b ∷ bs)) m.0 (shorter (size f) b bs n sized.0 few) m.1) where
+    let f : Start = start_of b (b ∷ bs) in
+    let good : wrong f ≡ None = good_start f line (λ skip. tokens_from skip (line_after line b) bs) ts e in
+    let sized = sized_start b bs good in
+    let m = all_ok (added f (line_number line)) (tokens_from 0 (line + line_feeds (take (size f) (b ∷ bs))) (drop (size f) (b ∷ bs))) ts (sym (start_step f b line bs good sized.0) ∙ e) in
+    cut_step f line (b ∷ bs) ts m.0 good (start_stands b bs) m.2 (cut_from n (line + line_feeds (take (size f) (b ∷ bs))) (drop (size f) (b ∷ bs)) m.0 (shorter (size f) b bs n sized.0 few) m.1) where
       shorter : (k b : ℕ) (bs : List ℕ) (n : ℕ) → 0 < k → length (b ∷ bs) ≤ suc n → length (drop k (b ∷ bs)) ≤ n
       shorter k b bs n some few = grind (arith, length-drop {A = ℕ})
 

@@ -8,14 +8,14 @@ use Rattle.std.proofs.lemmas.List.Sums.{take_while-cons, sum_by-cons}
 use Rattle.camac_text_tokens.specs.declared.token.Token.{Token}
 use Rattle.camac_text_tokens.specs.declared.token.Keyword.{Keyword}
 use Rattle.camac_text_tokens.specs.declared.token.Sign.{Sign}
-use Rattle.camac_text_tokens.specs.declared.scanner.Front.{Front}
-use Rattle.camac_text_tokens.specs.declared.scanner.Front.TheVariants as front
+use Rattle.camac_text_tokens.specs.declared.scanner.Start.{Start}
+use Rattle.camac_text_tokens.specs.declared.scanner.Start.TheVariants as start
 use Rattle.camac_text_tokens.specs.declared.fault.TextRule.{TextRule}
 use Rattle.camac_text_tokens.specs.Fault.{Fault}
-use Rattle.camac_text_tokens.specs.Scanning.{is_name_byte, is_blank, is_no_line_feed, keyword_or, pair_at, single_at, pair_or_single, front_of, size, added, wrong, decimal_value, tokens_from, tokens_by, with_first, line_after, line_number}
+use Rattle.camac_text_tokens.specs.Scanning.{is_name_byte, is_blank, is_no_line_feed, keyword_or, pair_at, single_at, pair_or_single, start_of, size, added, wrong, decimal_value, tokens_from, tokens_by, with_first, line_after, line_number}
 use Rattle.camac_text_tokens.specs.Words.{keyword}
 
--- ---- the bytes at the front that pass a test
+-- ---- the bytes at the start that pass a test
 
 run_step : (b : Bool) (x : ℕ) (xs ys : List ℕ) → take (length ys) xs ≡ ys → take (length (cond b (x ∷ ys) [])) (x ∷ xs) ≡ cond b (x ∷ ys) []
 run_step true x xs ys e = ap (λ (w : List ℕ). x ∷ w) e
@@ -56,12 +56,12 @@ too_large digits n v e above =
     let off : ltb (decimal_value digits) 4294967296 ≡ false = le-ltb _ _ (omega arith) in
     rw off refl
 
--- ---- the size of what stands at the front
+-- ---- the size of what stands at the start
 
-abbrev pub Sized : Front → ℕ → Type 0
+abbrev pub Sized : Start → ℕ → Type 0
 Sized f len = wrong f ≡ None → (0 < size f) × (size f ≤ len)
 
-sized_if : (b : Bool) (f g : Front) (len : ℕ) → (b ≡ true → Sized f len) → (b ≡ false → Sized g len) → Sized (cond b f g) len
+sized_if : (b : Bool) (f g : Start) (len : ℕ) → (b ≡ true → Sized f len) → (b ≡ false → Sized g len) → Sized (cond b f g) len
 sized_if true f g len on off = on refl
 sized_if false f g len on off = off refl
 
@@ -82,9 +82,9 @@ pair_long (a ∷ b ∷ bs) e = omega arith
 pub name_begins : (b : ℕ) → is_ascii_alphabetic b ≡ true → is_name_byte b ≡ true
 name_begins b e = rw e refl
 
-pub sized_front : (b : ℕ) (bs : List ℕ) → Sized (front_of b (b ∷ bs)) (length (b ∷ bs))
-unfolding front_of
-sized_front b bs =
+pub sized_start : (b : ℕ) (bs : List ℕ) → Sized (start_of b (b ∷ bs)) (length (b ∷ bs))
+unfolding start_of
+sized_start b bs =
     let bytes : List ℕ = b ∷ bs in
     let len = length (b ∷ bs) in
     sized_if (is_blank b) _ _ len (λ _ e. (omega arith, omega arith)) (λ _.
@@ -112,8 +112,8 @@ skip (suc n) line [] = refl
 skip (suc n) line (b ∷ bs) = skip n (line_after line b) bs ∙ ap (λ (l : ℕ). tokens_from 0 l (drop n bs)) (lines_step (eqb b 10) line (line_feeds (take n bs)) ∙ ap (λ (k : ℕ). line + k) (sym (feeds-cons b (take n bs))))
 
 abbrev pub with_all : List Token → Result (List Token) Fault → Result (List Token) Fault
-with_all front (Ok ts) = Ok (front ++ ts)
-with_all front (Err e) = Err e
+with_all start (Ok ts) = Ok (start ++ ts)
+with_all start (Err e) = Err e
 
 all_join : (a b : List Token) (r : Result (List Token) Fault) → with_all a (with_all b r) ≡ with_all (a ++ b) r
 all_join a b (Ok ts) = ap (λ (w : List Token). let r : Result (List Token) Fault = Ok w in r) (sym (append_assoc a b ts))
@@ -127,35 +127,35 @@ pub none_all : (r : Result (List Token) Fault) → r ≡ with_all [] r
 none_all (Ok ts) = refl
 none_all (Err e) = refl
 
--- one step over what stands at the front
-pub front_step : (f : Front) (b line : ℕ) (bs : List ℕ) → wrong f ≡ None → 0 < size f → tokens_by f line (λ n. tokens_from n (line_after line b) bs) ≡ with_all (added f (line_number line)) (tokens_from 0 (line + line_feeds (take (size f) (b ∷ bs))) (drop (size f) (b ∷ bs)))
+-- one step over what stands at the start
+pub start_step : (f : Start) (b line : ℕ) (bs : List ℕ) → wrong f ≡ None → 0 < size f → tokens_by f line (λ n. tokens_from n (line_after line b) bs) ≡ with_all (added f (line_number line)) (tokens_from 0 (line + line_feeds (take (size f) (b ∷ bs))) (drop (size f) (b ∷ bs)))
 unfolding tokens_from
-front_step (front.Gap zero) b line bs good some = absurd (omega arith)
-front_step (front.Gap (suc n)) b line bs good some = ap (λ (k : ℕ). tokens_from k (line_after line b) bs) (omega arith) ∙ skip (suc n) line (b ∷ bs) ∙ none_all _
-front_step (front.Found k zero) b line bs good some = absurd (omega arith)
-front_step (front.Found k (suc n)) b line bs good some = ap (λ (m : ℕ). with_first (record { kind = k; line = line_number line }) (tokens_from m (line_after line b) bs)) (omega arith) ∙ ap (with_first (record { kind = k; line = line_number line })) (skip (suc n) line (b ∷ bs)) ∙ first_all _ _
-front_step (front.Wrong rule) b line bs good some = absurd cc
+start_step (start.Gap zero) b line bs good some = absurd (omega arith)
+start_step (start.Gap (suc n)) b line bs good some = ap (λ (k : ℕ). tokens_from k (line_after line b) bs) (omega arith) ∙ skip (suc n) line (b ∷ bs) ∙ none_all _
+start_step (start.Found k zero) b line bs good some = absurd (omega arith)
+start_step (start.Found k (suc n)) b line bs good some = ap (λ (m : ℕ). with_first (record { kind = k; line = line_number line }) (tokens_from m (line_after line b) bs)) (omega arith) ∙ ap (with_first (record { kind = k; line = line_number line })) (skip (suc n) line (b ∷ bs)) ∙ first_all _ _
+start_step (start.Wrong rule) b line bs good some = absurd cc
 
-pub sizes : (rest : List ℕ) → 0 < length rest → Sized (front_of (slice_index rest 0) rest) (length rest)
+pub sizes : (rest : List ℕ) → 0 < length rest → Sized (start_of (slice_index rest 0) rest) (length rest)
 sizes [] h = absurd (omega arith)
-sizes (b ∷ bs) h = sized_front b bs
+sizes (b ∷ bs) h = sized_start b bs
 
-pub goes : (xs : List Token) (line : ℕ) (rest : List ℕ) (total : Result (List Token) Fault) → 0 < length rest → wrong (front_of (slice_index rest 0) rest) ≡ None → with_all xs (tokens_from 0 line rest) ≡ total → with_all (xs ++ added (front_of (slice_index rest 0) rest) (line_number line)) (tokens_from 0 (line + line_feeds (take (size (front_of (slice_index rest 0) rest)) rest)) (drop (size (front_of (slice_index rest 0) rest)) rest)) ≡ total
+pub goes : (xs : List Token) (line : ℕ) (rest : List ℕ) (total : Result (List Token) Fault) → 0 < length rest → wrong (start_of (slice_index rest 0) rest) ≡ None → with_all xs (tokens_from 0 line rest) ≡ total → with_all (xs ++ added (start_of (slice_index rest 0) rest) (line_number line)) (tokens_from 0 (line + line_feeds (take (size (start_of (slice_index rest 0) rest)) rest)) (drop (size (start_of (slice_index rest 0) rest)) rest)) ≡ total
 unfolding tokens_from
 goes xs line [] total some good so_far = absurd (omega arith)
 goes xs line (b ∷ bs) total some good so_far =
-    let f = front_of b (b ∷ bs) in
-    sym (all_join xs (added f (line_number line)) _) ∙ ap (with_all xs) (sym (front_step f b line bs good (sized_front b bs good).0)) ∙ so_far
+    let f = start_of b (b ∷ bs) in
+    sym (all_join xs (added f (line_number line)) _) ∙ ap (with_all xs) (sym (start_step f b line bs good (sized_start b bs good).0)) ∙ so_far
 
-pub wrong_is : (f : Front) (rule : TextRule) → wrong f ≡ Some rule → f ≡ front.Wrong rule
-wrong_is (front.Wrong c) rule e = ap front.Wrong cc
-wrong_is (front.Gap n) rule e = absurd cc
-wrong_is (front.Found k n) rule e = absurd cc
+pub wrong_is : (f : Start) (rule : TextRule) → wrong f ≡ Some rule → f ≡ start.Wrong rule
+wrong_is (start.Wrong c) rule e = ap start.Wrong cc
+wrong_is (start.Gap n) rule e = absurd cc
+wrong_is (start.Found k n) rule e = absurd cc
 
-pub fails : (xs : List Token) (line : ℕ) (rest : List ℕ) (total : Result (List Token) Fault) (rule : TextRule) → 0 < length rest → wrong (front_of (slice_index rest 0) rest) ≡ Some rule → with_all xs (tokens_from 0 line rest) ≡ total → total ≡ Err (record { rule = rule; line = line_number line })
+pub fails : (xs : List Token) (line : ℕ) (rest : List ℕ) (total : Result (List Token) Fault) (rule : TextRule) → 0 < length rest → wrong (start_of (slice_index rest 0) rest) ≡ Some rule → with_all xs (tokens_from 0 line rest) ≡ total → total ≡ Err (record { rule = rule; line = line_number line })
 unfolding tokens_from
 fails xs line [] total rule some bad so_far = absurd (omega arith)
-fails xs line (b ∷ bs) total rule some bad so_far = sym so_far ∙ ap (λ (f : Front). with_all xs (tokens_by f line (λ n. tokens_from n (line_after line b) bs))) (wrong_is (front_of b (b ∷ bs)) rule bad)
+fails xs line (b ∷ bs) total rule some bad so_far = sym so_far ∙ ap (λ (f : Start). with_all xs (tokens_by f line (λ n. tokens_from n (line_after line b) bs))) (wrong_is (start_of b (b ∷ bs)) rule bad)
 
 pub ends : (xs : List Token) (line : ℕ) (rest : List ℕ) (total : Result (List Token) Fault) → length rest ≡ 0 → with_all xs (tokens_from 0 line rest) ≡ total → total ≡ Ok xs
 unfolding tokens_from

@@ -15,15 +15,15 @@ use Rattle.camac_text_tokens.specs.declared.token.Sign.TheVariants as sign
 use Rattle.camac_text_tokens.specs.declared.token.Token.{Token}
 use Rattle.camac_text_tokens.specs.declared.token.TokenKind.{TokenKind}
 use Rattle.camac_text_tokens.specs.declared.token.TokenKind.TheVariants as kind
-use Rattle.camac_text_tokens.specs.declared.scanner.Front.{Front}
-use Rattle.camac_text_tokens.specs.declared.scanner.Front.TheVariants as front
+use Rattle.camac_text_tokens.specs.declared.scanner.Start.{Start}
+use Rattle.camac_text_tokens.specs.declared.scanner.Start.TheVariants as start
 use Rattle.camac_text_tokens.specs.declared.fault.TextFault.{TextFault}
 use Rattle.camac_text_tokens.specs.declared.fault.TextFault.TheVariants as fault
 use Rattle.camac_text_tokens.specs.Fault.{Fault, AnswersList}
 use Rattle.camac_text_tokens.specs.Words.{Spelling, spelled_in, keyword, pair_signs, single_signs}
-use Rattle.camac_text_tokens.specs.Scanning.{is_name_byte, is_blank, is_no_line_feed, decimal_value, keyword_or, number_or_fault, pair_at, pair_or_single, front_of, size, added, wrong, line_number, tokens_from, tokens_of}
+use Rattle.camac_text_tokens.specs.Scanning.{is_name_byte, is_blank, is_no_line_feed, decimal_value, keyword_or, number_or_fault, pair_at, pair_or_single, start_of, size, added, wrong, line_number, tokens_from, tokens_of}
 use Rattle.camac_text_tokens.specs.Cut.{begins, IsRun, IsWord, IsName, IsKeyword, IsNumber, IsSign, IsGap, Piece, IsPiece, joined, token_at, tokens_in, ArePieces, IsCut, HasTokens}
-use Rattle.camac_text_tokens.proofs.Scans.{line_feeds, with_all, front_step}
+use Rattle.camac_text_tokens.proofs.Scans.{line_feeds, with_all, start_step}
 
 -- ---- bytes
 
@@ -62,15 +62,15 @@ run_of each (b ∷ bs) rest all ends =
       two true y e = e
       two false y e = absurd cc
 
--- ---- what stands at the front of a piece and what follows it
+-- ---- what stands at the start of a piece and what follows it
 
-abbrev pub front_at : List ℕ → Front
-front_at [] = front.Gap 0
-front_at (b ∷ bs) = front_of b (b ∷ bs)
+abbrev pub start_at : List ℕ → Start
+start_at [] = start.Gap 0
+start_at (b ∷ bs) = start_of b (b ∷ bs)
 
-abbrev pub front_for : Option TokenKind → ℕ → Front
-front_for None n = front.Gap n
-front_for (Some k) n = front.Found k n
+abbrev pub start_for : Option TokenKind → ℕ → Start
+start_for None n = start.Gap n
+start_for (Some k) n = start.Found k n
 
 on : {A : Type 0} (t : Bool) (x y : A) → t ≡ true → cond t x y ≡ x
 on true x y e = refl
@@ -80,35 +80,35 @@ off : {A : Type 0} (t : Bool) (x y : A) → t ≡ false → cond t x y ≡ y
 off true x y e = absurd cc
 off false x y e = refl
 
-word_front : (b : ℕ) (bs rest : List ℕ) → IsWord (b ∷ bs) rest → front_at ((b ∷ bs) ++ rest) ≡ keyword_or (keyword (b ∷ bs)) (b ∷ bs)
-unfolding front_of
-word_front b bs rest w =
-    let low : 65 ≤ b = letter_low b w.front in
+word_start : (b : ℕ) (bs rest : List ℕ) → IsWord (b ∷ bs) rest → start_at ((b ∷ bs) ++ rest) ≡ keyword_or (keyword (b ∷ bs)) (b ∷ bs)
+unfolding start_of
+word_start b bs rest w =
+    let low : 65 ≤ b = letter_low b w.start in
     off (is_blank b) _ _ (no_blank b (omega arith))
     ∙ off (eqb b 35) _ _ (no_hash b (omega arith))
-    ∙ on (is_ascii_alphabetic b) _ _ w.front
+    ∙ on (is_ascii_alphabetic b) _ _ w.start
     ∙ ap (λ (text : List ℕ). keyword_or (keyword text) text) (run_of is_name_byte (b ∷ bs) rest w.all w.longest)
 
-digits_front : (b : ℕ) (bs rest : List ℕ) → IsRun is_ascii_digit is_ascii_digit (b ∷ bs) rest → front_at ((b ∷ bs) ++ rest) ≡ number_or_fault (b ∷ bs)
-unfolding front_of
-digits_front b bs rest w =
-    let low : 48 ≤ b = digit_low b w.front in
+digits_start : (b : ℕ) (bs rest : List ℕ) → IsRun is_ascii_digit is_ascii_digit (b ∷ bs) rest → start_at ((b ∷ bs) ++ rest) ≡ number_or_fault (b ∷ bs)
+unfolding start_of
+digits_start b bs rest w =
+    let low : 48 ≤ b = digit_low b w.start in
     off (is_blank b) _ _ (no_blank b (omega arith))
     ∙ off (eqb b 35) _ _ (no_hash b (omega arith))
-    ∙ off (is_ascii_alphabetic b) _ _ (no_letter b (digit_high b w.front))
-    ∙ on (is_ascii_digit b) _ _ w.front
+    ∙ off (is_ascii_alphabetic b) _ _ (no_letter b (digit_high b w.start))
+    ∙ on (is_ascii_digit b) _ _ w.start
     ∙ ap number_or_fault (run_of is_ascii_digit (b ∷ bs) rest w.all w.longest)
 
-comment_front : (b : ℕ) (bs rest : List ℕ) → IsRun (λ c. eqb c 35) is_no_line_feed (b ∷ bs) rest → front_at ((b ∷ bs) ++ rest) ≡ front.Gap (length (b ∷ bs))
-unfolding front_of
-comment_front b bs rest w =
-    off (is_blank b) _ _ (subst (λ (c : ℕ). is_blank c ≡ false) (sym (eqb-true b 35 w.front)) refl)
-    ∙ on (eqb b 35) _ _ w.front
-    ∙ ap (λ (text : List ℕ). front.Gap (length text)) (run_of is_no_line_feed (b ∷ bs) rest w.all w.longest)
+comment_start : (b : ℕ) (bs rest : List ℕ) → IsRun (λ c. eqb c 35) is_no_line_feed (b ∷ bs) rest → start_at ((b ∷ bs) ++ rest) ≡ start.Gap (length (b ∷ bs))
+unfolding start_of
+comment_start b bs rest w =
+    off (is_blank b) _ _ (subst (λ (c : ℕ). is_blank c ≡ false) (sym (eqb-true b 35 w.start)) refl)
+    ∙ on (eqb b 35) _ _ w.start
+    ∙ ap (λ (text : List ℕ). start.Gap (length text)) (run_of is_no_line_feed (b ∷ bs) rest w.all w.longest)
 
-blank_front : (b : ℕ) (rest : List ℕ) → is_blank b ≡ true → front_at (b ∷ rest) ≡ front.Gap 1
-unfolding front_of
-blank_front b rest e = on (is_blank b) _ _ e
+blank_start : (b : ℕ) (rest : List ℕ) → is_blank b ≡ true → start_at (b ∷ rest) ≡ start.Gap 1
+unfolding start_of
+blank_start b rest e = on (is_blank b) _ _ e
 
 -- a fact that holds of each entry of a table holds of what is spelled in it
 abbrev Each : {W : Type 0} → (List ℕ → W → Type 0) → List (Spelling W) → Type 0
@@ -125,19 +125,19 @@ entry_of : {W : Type 0} (P : List ℕ → W → Type 0) (table : List (Spelling 
 entry_of P [] text w each e = absurd cc
 entry_of P (s ∷ ss) text w each e = entry_step P (bytes_eq text s.bytes) s text w (spelled_in ss text) (λ h. (bytes_eq-Decides text s.bytes).0 h) each.0 (λ h. entry_of P ss text w each.1 h) e
 
-abbrev PairFront : List ℕ → Sign → Type 0
-PairFront bytes s = ((rest : List ℕ) → front_at (bytes ++ rest) ≡ front.Found (kind.Sign s) 2) × (length bytes ≡ 2)
+abbrev PairStart : List ℕ → Sign → Type 0
+PairStart bytes s = ((rest : List ℕ) → start_at (bytes ++ rest) ≡ start.Found (kind.Sign s) 2) × (length bytes ≡ 2)
 
-pair_fronts : Each PairFront pair_signs
-unfolding front_of
-pair_fronts = ((λ rest. refl, refl), ((λ rest. refl, refl), ((λ rest. refl, refl), ((λ rest. refl, refl), ((λ rest. refl, refl), ((λ rest. refl, refl), ((λ rest. refl, refl), tt)))))))
+pair_starts : Each PairStart pair_signs
+unfolding start_of
+pair_starts = ((λ rest. refl, refl), ((λ rest. refl, refl), ((λ rest. refl, refl), ((λ rest. refl, refl), ((λ rest. refl, refl), ((λ rest. refl, refl), ((λ rest. refl, refl), tt)))))))
 
-abbrev SingleFront : List ℕ → Sign → Type 0
-SingleFront bytes s = ((rest : List ℕ) → pair_at (bytes ++ rest) ≡ None → front_at (bytes ++ rest) ≡ front.Found (kind.Sign s) 1) × (length bytes ≡ 1)
+abbrev SingleStart : List ℕ → Sign → Type 0
+SingleStart bytes s = ((rest : List ℕ) → pair_at (bytes ++ rest) ≡ None → start_at (bytes ++ rest) ≡ start.Found (kind.Sign s) 1) × (length bytes ≡ 1)
 
-single_fronts : Each SingleFront single_signs
-unfolding front_of
-single_fronts = (
+single_starts : Each SingleStart single_signs
+unfolding start_of
+single_starts = (
   (λ rest e. ap (λ (p : Option Sign). pair_or_single p (Some sign.LeftBrace)) e, refl),
   (
     (λ rest e. ap (λ (p : Option Sign). pair_or_single p (Some sign.RightBrace)) e, refl),
@@ -175,91 +175,91 @@ single_fronts = (
   ),
 )
 
--- ---- what stands at the front of a text of pieces
+-- ---- what stands at the start of a text of pieces
 
--- the front of a piece takes its bytes
-pub record Fronts (k : Option TokenKind) (bytes rest : List ℕ) : Type 0 where
-  pub front : front_at (bytes ++ rest) ≡ front_for k (length bytes)
+-- the prefix of a piece takes its bytes
+pub record Starts (k : Option TokenKind) (bytes rest : List ℕ) : Type 0 where
+  pub start : start_at (bytes ++ rest) ≡ start_for k (length bytes)
   pub some : 0 < length bytes
 
 word_some : (first each : ℕ → Bool) (bytes rest : List ℕ) → IsRun first each bytes rest → (b : ℕ) × (bs : List ℕ) × (bytes ≡ b ∷ bs)
-word_some first each [] rest w = absurd (let none : false ≡ true = w.front in cc)
+word_some first each [] rest w = absurd (let none : false ≡ true = w.start in cc)
 word_some first each (b ∷ bs) rest w = (b, bs, refl)
 
 long_enough : (n : ℕ) → n ≤ 32 → ltb 32 n ≡ false
 long_enough n h = le-ltb 32 n h
 
-name_fronts : (x bytes rest : List ℕ) → IsName x bytes rest → Fronts (Some (kind.Name x)) bytes rest
-name_fronts x [] rest n = absurd (let none : false ≡ true = n.word.front in cc)
-name_fronts x (b ∷ bs) rest n = record {
-  front = word_front b bs rest n.word ∙ ap (λ (k : Option Keyword). keyword_or k (b ∷ bs)) n.free ∙ off (ltb 32 (length (b ∷ bs))) _ _ (long_enough (length (b ∷ bs)) n.short) ∙ ap (λ (y : List ℕ). front.Found (kind.Name y) (length (b ∷ bs))) (sym n.same);
+name_starts : (x bytes rest : List ℕ) → IsName x bytes rest → Starts (Some (kind.Name x)) bytes rest
+name_starts x [] rest n = absurd (let none : false ≡ true = n.word.start in cc)
+name_starts x (b ∷ bs) rest n = record {
+  start = word_start b bs rest n.word ∙ ap (λ (k : Option Keyword). keyword_or k (b ∷ bs)) n.free ∙ off (ltb 32 (length (b ∷ bs))) _ _ (long_enough (length (b ∷ bs)) n.short) ∙ ap (λ (y : List ℕ). start.Found (kind.Name y) (length (b ∷ bs))) (sym n.same);
   some = omega arith;
 }
 
-keyword_fronts : (w : Keyword) (bytes rest : List ℕ) → IsKeyword w bytes rest → Fronts (Some (kind.Keyword w)) bytes rest
-keyword_fronts w [] rest n = absurd (let none : false ≡ true = n.word.front in cc)
-keyword_fronts w (b ∷ bs) rest n = record {
-  front = word_front b bs rest n.word ∙ ap (λ (k : Option Keyword). keyword_or k (b ∷ bs)) n.kept;
+keyword_starts : (w : Keyword) (bytes rest : List ℕ) → IsKeyword w bytes rest → Starts (Some (kind.Keyword w)) bytes rest
+keyword_starts w [] rest n = absurd (let none : false ≡ true = n.word.start in cc)
+keyword_starts w (b ∷ bs) rest n = record {
+  start = word_start b bs rest n.word ∙ ap (λ (k : Option Keyword). keyword_or k (b ∷ bs)) n.kept;
   some = omega arith;
 }
 
-number_fronts : (n : ℕ) (bytes rest : List ℕ) → IsNumber n bytes rest → Fronts (Some (kind.Number n)) bytes rest
-number_fronts n [] rest d = absurd (let none : false ≡ true = d.digits.front in cc)
-number_fronts n (b ∷ bs) rest d =
+number_starts : (n : ℕ) (bytes rest : List ℕ) → IsNumber n bytes rest → Starts (Some (kind.Number n)) bytes rest
+number_starts n [] rest d = absurd (let none : false ≡ true = d.digits.start in cc)
+number_starts n (b ∷ bs) rest d =
     let bounded : decimal_value (b ∷ bs) < 4294967296 = subst (λ (m : ℕ). m < 4294967296) d.value d.bounded in
     record {
-      front = digits_front b bs rest d.digits ∙ on (ltb (decimal_value (b ∷ bs)) 4294967296) _ _ (lt-ltb (decimal_value (b ∷ bs)) 4294967296 bounded) ∙ ap (λ (m : ℕ). front.Found (kind.Number m) (length (b ∷ bs))) (sym d.value);
+      start = digits_start b bs rest d.digits ∙ on (ltb (decimal_value (b ∷ bs)) 4294967296) _ _ (lt-ltb (decimal_value (b ∷ bs)) 4294967296 bounded) ∙ ap (λ (m : ℕ). start.Found (kind.Number m) (length (b ∷ bs))) (sym d.value);
       some = omega arith;
     }
 
-sign_fronts : (s : Sign) (bytes rest : List ℕ) → IsSign s bytes rest → Fronts (Some (kind.Sign s)) bytes rest
-sign_fronts s bytes rest (inl pair) =
-    let is = entry_of PairFront pair_signs bytes s pair_fronts pair in
-    record { front = is.0 rest ∙ ap (λ (n : ℕ). front.Found (kind.Sign s) n) (sym is.1); some = omega (arith, is.1) }
-sign_fronts s bytes rest (inr single) =
-    let is = entry_of SingleFront single_signs bytes s single_fronts single.0 in
-    record { front = is.0 rest single.1 ∙ ap (λ (n : ℕ). front.Found (kind.Sign s) n) (sym is.1); some = omega (arith, is.1) }
+sign_starts : (s : Sign) (bytes rest : List ℕ) → IsSign s bytes rest → Starts (Some (kind.Sign s)) bytes rest
+sign_starts s bytes rest (inl pair) =
+    let is = entry_of PairStart pair_signs bytes s pair_starts pair in
+    record { start = is.0 rest ∙ ap (λ (n : ℕ). start.Found (kind.Sign s) n) (sym is.1); some = omega (arith, is.1) }
+sign_starts s bytes rest (inr single) =
+    let is = entry_of SingleStart single_signs bytes s single_starts single.0 in
+    record { start = is.0 rest single.1 ∙ ap (λ (n : ℕ). start.Found (kind.Sign s) n) (sym is.1); some = omega (arith, is.1) }
 
-gap_fronts : (bytes rest : List ℕ) → IsGap bytes rest → Fronts None bytes rest
-gap_fronts [] rest (inl blank) = absurd (let none : false ≡ true = blank.0 in cc)
-gap_fronts (b ∷ []) rest (inl blank) = record { front = blank_front b rest blank.0; some = omega arith }
-gap_fronts (b ∷ c ∷ cs) rest (inl blank) = absurd (omega (arith, blank.1))
-gap_fronts [] rest (inr comment) = absurd (let none : false ≡ true = comment.front in cc)
-gap_fronts (b ∷ bs) rest (inr comment) = record { front = comment_front b bs rest comment; some = omega arith }
+gap_starts : (bytes rest : List ℕ) → IsGap bytes rest → Starts None bytes rest
+gap_starts [] rest (inl blank) = absurd (let none : false ≡ true = blank.0 in cc)
+gap_starts (b ∷ []) rest (inl blank) = record { start = blank_start b rest blank.0; some = omega arith }
+gap_starts (b ∷ c ∷ cs) rest (inl blank) = absurd (omega (arith, blank.1))
+gap_starts [] rest (inr comment) = absurd (let none : false ≡ true = comment.start in cc)
+gap_starts (b ∷ bs) rest (inr comment) = record { start = comment_start b bs rest comment; some = omega arith }
 
-pub piece_fronts : (k : Option TokenKind) (bytes rest : List ℕ) → IsPiece k bytes rest → Fronts k bytes rest
-piece_fronts None bytes rest is = gap_fronts bytes rest is
-piece_fronts (Some (kind.Name x)) bytes rest is = name_fronts x bytes rest is
-piece_fronts (Some (kind.Number n)) bytes rest is = number_fronts n bytes rest is
-piece_fronts (Some (kind.Keyword w)) bytes rest is = keyword_fronts w bytes rest is
-piece_fronts (Some (kind.Sign s)) bytes rest is = sign_fronts s bytes rest is
+pub piece_starts : (k : Option TokenKind) (bytes rest : List ℕ) → IsPiece k bytes rest → Starts k bytes rest
+piece_starts None bytes rest is = gap_starts bytes rest is
+piece_starts (Some (kind.Name x)) bytes rest is = name_starts x bytes rest is
+piece_starts (Some (kind.Number n)) bytes rest is = number_starts n bytes rest is
+piece_starts (Some (kind.Keyword w)) bytes rest is = keyword_starts w bytes rest is
+piece_starts (Some (kind.Sign s)) bytes rest is = sign_starts s bytes rest is
 
 -- ---- a whole text
 
-pub good_for : (k : Option TokenKind) (n : ℕ) → wrong (front_for k n) ≡ None
+pub good_for : (k : Option TokenKind) (n : ℕ) → wrong (start_for k n) ≡ None
 good_for None n = refl
 good_for (Some k) n = refl
 
-size_for : (k : Option TokenKind) (n : ℕ) → size (front_for k n) ≡ n
+size_for : (k : Option TokenKind) (n : ℕ) → size (start_for k n) ≡ n
 size_for None n = refl
 size_for (Some k) n = refl
 
-added_for : (k : Option TokenKind) (n line : ℕ) → added (front_for k n) (line_number line) ≡ token_at k line
+added_for : (k : Option TokenKind) (n line : ℕ) → added (start_for k n) (line_number line) ≡ token_at k line
 added_for None n line = refl
 added_for (Some k) n line = refl
 
 -- one step over a piece
-pub piece_step : (k : Option TokenKind) (line : ℕ) (bytes rest : List ℕ) → Fronts k bytes rest → tokens_from 0 line (bytes ++ rest) ≡ with_all (token_at k line) (tokens_from 0 (line + line_feeds bytes) rest)
+pub piece_step : (k : Option TokenKind) (line : ℕ) (bytes rest : List ℕ) → Starts k bytes rest → tokens_from 0 line (bytes ++ rest) ≡ with_all (token_at k line) (tokens_from 0 (line + line_feeds bytes) rest)
 unfolding tokens_from
 piece_step k line [] rest f = absurd (omega (arith, f.some))
 piece_step k line (b ∷ bs) rest f =
-    let g : Front = front_of b (b ∷ (bs ++ rest)) in
+    let g : Start = start_of b (b ∷ (bs ++ rest)) in
     let n : ℕ = length (b ∷ bs) in
-    let good : wrong g ≡ None = ap wrong f.front ∙ good_for k n in
-    let sized : size g ≡ n = ap size f.front ∙ size_for k n in
+    let good : wrong g ≡ None = ap wrong f.start ∙ good_for k n in
+    let sized : size g ≡ n = ap size f.start ∙ size_for k n in
     let some : 0 < size g = omega (arith, sized) in
-    front_step g b line (bs ++ rest) good some
-    ∙ ap (λ (us : List Token). with_all us (tokens_from 0 (line + line_feeds (take (size g) ((b ∷ bs) ++ rest))) (drop (size g) ((b ∷ bs) ++ rest)))) (ap (λ (h : Front). added h (line_number line)) f.front ∙ added_for k n line)
+    start_step g b line (bs ++ rest) good some
+    ∙ ap (λ (us : List Token). with_all us (tokens_from 0 (line + line_feeds (take (size g) ((b ∷ bs) ++ rest))) (drop (size g) ((b ∷ bs) ++ rest)))) (ap (λ (h : Start). added h (line_number line)) f.start ∙ added_for k n line)
     ∙ ap (λ (m : ℕ). with_all (token_at k line) (tokens_from 0 (line + line_feeds (take m ((b ∷ bs) ++ rest))) (drop m ((b ∷ bs) ++ rest)))) sized
     ∙ ap (λ (w : List ℕ). with_all (token_at k line) (tokens_from 0 (line + line_feeds w) (drop n ((b ∷ bs) ++ rest)))) (take-append_seam (b ∷ bs) rest)
     ∙ ap (λ (w : List ℕ). with_all (token_at k line) (tokens_from 0 (line + line_feeds (b ∷ bs)) w)) (drop-append_seam (b ∷ bs) rest)
@@ -268,7 +268,7 @@ pieces_read : (line : ℕ) (ps : List Piece) → ArePieces ps → tokens_from 0 
 unfolding tokens_from
 pieces_read line [] stand = refl
 pieces_read line (p ∷ ps) stand =
-    piece_step p.kind line p.bytes (joined ps) (piece_fronts p.kind p.bytes (joined ps) stand.0)
+    piece_step p.kind line p.bytes (joined ps) (piece_starts p.kind p.bytes (joined ps) stand.0)
     ∙ ap (with_all (token_at p.kind line)) (pieces_read (line + line_feeds p.bytes) ps stand.1)
 
 pub cut_tokens : (text : List ℕ) (ts : List Token) → IsCut text ts → tokens_of text ≡ Ok ts

@@ -14,7 +14,7 @@ abbrev pub StandBefore : List ℕ → List Piece → Type 0
 StandBefore rest [] = Unit {0}
 StandBefore rest (p ∷ ps) = IsPiece p.kind p.bytes (joined ps ++ rest) × StandBefore rest ps
 
--- at the front a word that would be a name, but is too long
+-- at the start a word that would be a name, but is too long
 pub record HasLongName (text : List ℕ) : Type 0 where
   pub bytes : List ℕ
   pub rest : List ℕ
@@ -23,7 +23,7 @@ pub record HasLongName (text : List ℕ) : Type 0 where
   pub free : keyword bytes ≡ None
   pub long : 32 < length bytes
 
--- at the front digits whose number is too large
+-- at the start digits whose number is too large
 pub record HasLargeNumber (text : List ℕ) : Type 0 where
   pub bytes : List ℕ
   pub rest : List ℕ
@@ -31,13 +31,13 @@ pub record HasLargeNumber (text : List ℕ) : Type 0 where
   pub digits : IsRun is_ascii_digit is_ascii_digit bytes rest
   pub large : 4294967296 ≤ decimal_value bytes
 
--- at the front a byte that begins neither a word nor a number
+-- at the start a byte that begins neither a word nor a number
 pub record HasOtherByte (text : List ℕ) : Type 0 where
   pub some : 0 < length text
   pub no_word : begins is_ascii_alphabetic text ≡ false
   pub no_number : begins is_ascii_digit text ≡ false
 
--- what is wrong at the front, by the rules of tokens
+-- what is wrong at the start, by the rules of tokens
 abbrev pub Breaks : TextRule → List ℕ → Type 0
 Breaks rule.BadByte text = HasOtherByte text
 Breaks rule.NumberTooLarge text = HasLargeNumber text
@@ -47,7 +47,7 @@ Breaks rule.DeclaredTwice text = ⊥
 Breaks rule.NotDeclared text = ⊥
 Breaks rule.BranchNotOne text = ⊥
 
--- The text is pieces that stand and a rest. No piece stands at the front of the rest, as the rule says, and the line is 1 plus the line
+-- The text is pieces that stand and a rest. No piece stands at the start of the rest, as the rule says, and the line is 1 plus the line
 -- feeds before it.
 pub record IsBrokenAt (text : List ℕ) (f : Fault) : Type 0 where
   pub pieces : List Piece

@@ -20,7 +20,7 @@ begins test (b ∷ bs) = test b
 
 -- bytes of one kind, from a first one on, that no more of that kind follow
 pub record IsRun (first each : ℕ → Bool) (bytes rest : List ℕ) : Type 0 where
-  pub front : begins first bytes ≡ true
+  pub start : begins first bytes ≡ true
   pub all : list_all each bytes ≡ true
   pub longest : begins each rest ≡ false
 

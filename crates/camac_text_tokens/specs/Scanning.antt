@@ -5,8 +5,8 @@ use Rattle.camac_text_tokens.specs.declared.token.Keyword.{Keyword}
 use Rattle.camac_text_tokens.specs.declared.token.Sign.{Sign}
 use Rattle.camac_text_tokens.specs.declared.token.Token.{Token}
 use Rattle.camac_text_tokens.specs.declared.token.TokenKind.TheVariants as kind
-use Rattle.camac_text_tokens.specs.declared.scanner.Front.{Front}
-use Rattle.camac_text_tokens.specs.declared.scanner.Front.TheVariants as front
+use Rattle.camac_text_tokens.specs.declared.scanner.Start.{Start}
+use Rattle.camac_text_tokens.specs.declared.scanner.Start.TheVariants as start
 use Rattle.camac_text_tokens.specs.declared.fault.TextRule.{TextRule}
 use Rattle.camac_text_tokens.specs.declared.fault.TextRule.TheVariants.{BadByte, NumberTooLarge, LimitPassed}
 use Rattle.camac_text_tokens.specs.Fault.{Fault}
@@ -28,19 +28,19 @@ abbrev pub decimal_value : List ℕ → ℕ
 decimal_value digits = fold (λ n d. 10 * n + (d - 48)) 0 digits
 
 -- a NAME, unless it is longer than 32 bytes
-abbrev pub name_or_fault : List ℕ → Front
-name_or_fault text = if nat_lt 32 (length text) then front.Wrong LimitPassed else front.Found (kind.Name text) (length text)
+abbrev pub name_or_fault : List ℕ → Start
+name_or_fault text = if nat_lt 32 (length text) then start.Wrong LimitPassed else start.Found (kind.Name text) (length text)
 
 -- a keyword is no NAME
-abbrev pub keyword_or : Option Keyword → List ℕ → Front
-keyword_or (Some w) text = front.Found (kind.Keyword w) (length text)
+abbrev pub keyword_or : Option Keyword → List ℕ → Start
+keyword_or (Some w) text = start.Found (kind.Keyword w) (length text)
 keyword_or None text = name_or_fault text
 
 -- a NUM, unless it is above 4294967295
-abbrev pub number_or_fault : List ℕ → Front
+abbrev pub number_or_fault : List ℕ → Start
 number_or_fault digits =
-    if nat_lt (decimal_value digits) 4294967296 then front.Found (kind.Number (decimal_value digits)) (length digits)
-    else front.Wrong NumberTooLarge
+    if nat_lt (decimal_value digits) 4294967296 then start.Found (kind.Number (decimal_value digits)) (length digits)
+    else start.Wrong NumberTooLarge
 
 -- the sign that bytes begin with, of two bytes or of one
 abbrev pub pair_at : List ℕ → Option Sign
@@ -51,32 +51,32 @@ abbrev pub single_at : List ℕ → Option Sign
 single_at (a ∷ bs) = spelled_in single_signs (a ∷ [])
 single_at _ = None
 
-abbrev pub pair_or_single : Option Sign → Option Sign → Front
-pair_or_single (Some s) single = front.Found (kind.Sign s) 2
-pair_or_single None (Some s) = front.Found (kind.Sign s) 1
-pair_or_single None None = front.Wrong BadByte
+abbrev pub pair_or_single : Option Sign → Option Sign → Start
+pair_or_single (Some s) single = start.Found (kind.Sign s) 2
+pair_or_single None (Some s) = start.Found (kind.Sign s) 1
+pair_or_single None None = start.Wrong BadByte
 
--- what stands at the front of bytes that begin with b: the longest
-unfoldable pub front_of : ℕ → List ℕ → Front
-front_of b bytes =
-    if is_blank b then front.Gap 1
-    else (if b == 35 then front.Gap (length (take_while is_no_line_feed bytes))
+-- what stands at the start of bytes that begin with b: the longest
+unfoldable pub start_of : ℕ → List ℕ → Start
+start_of b bytes =
+    if is_blank b then start.Gap 1
+    else (if b == 35 then start.Gap (length (take_while is_no_line_feed bytes))
     else (if is_ascii_alphabetic b then keyword_or (keyword (take_while is_name_byte bytes)) (take_while is_name_byte bytes)
     else (if is_ascii_digit b then number_or_fault (take_while is_ascii_digit bytes)
     else pair_or_single (pair_at bytes) (single_at bytes))))
 
 -- the bytes that it takes, the token that it adds, and what is wrong
-abbrev pub size : Front → ℕ
-size (front.Gap n) = n
-size (front.Found k n) = n
-size (front.Wrong rule) = 0
+abbrev pub size : Start → ℕ
+size (start.Gap n) = n
+size (start.Found k n) = n
+size (start.Wrong rule) = 0
 
-abbrev pub added : Front → ℕ → List Token
-added (front.Found k n) line = record { kind = k; line = line } ∷ []
+abbrev pub added : Start → ℕ → List Token
+added (start.Found k n) line = record { kind = k; line = line } ∷ []
 added _ line = []
 
-abbrev pub wrong : Front → Option TextRule
-wrong (front.Wrong rule) = Some rule
+abbrev pub wrong : Start → Option TextRule
+wrong (start.Wrong rule) = Some rule
 wrong _ = None
 
 -- Lines are counted as far as a line number goes.
@@ -90,15 +90,15 @@ abbrev pub with_first : Token → Result (List Token) Fault → Result (List Tok
 with_first t (Ok ts) = Ok (t ∷ ts)
 with_first t (Err e) = Err e
 
-abbrev pub tokens_by : Front → ℕ → (ℕ → Result (List Token) Fault) → Result (List Token) Fault
-tokens_by (front.Gap n) line more = more (n - 1)
-tokens_by (front.Found k n) line more = with_first (record { kind = k; line = line_number line }) (more (n - 1))
-tokens_by (front.Wrong rule) line more = Err (record { rule = rule; line = line_number line })
+abbrev pub tokens_by : Start → ℕ → (ℕ → Result (List Token) Fault) → Result (List Token) Fault
+tokens_by (start.Gap n) line more = more (n - 1)
+tokens_by (start.Found k n) line more = with_first (record { kind = k; line = line_number line }) (more (n - 1))
+tokens_by (start.Wrong rule) line more = Err (record { rule = rule; line = line_number line })
 
 -- The tokens after so many bytes that belong to the one before, from a line on.
 unfoldable pub tokens_from : ℕ → ℕ → List ℕ → Result (List Token) Fault
 tokens_from skip line [] = Ok []
-tokens_from zero line (b ∷ bs) = tokens_by (front_of b (b ∷ bs)) line (λ skip. tokens_from skip (line_after line b) bs)
+tokens_from zero line (b ∷ bs) = tokens_by (start_of b (b ∷ bs)) line (λ skip. tokens_from skip (line_after line b) bs)
 tokens_from (suc skip) line (b ∷ bs) = tokens_from skip (line_after line b) bs
 
 -- the one list of tokens of a text, or its first token fault

@@ -4,7 +4,7 @@ ghost use Rattle.std.specs.Prelude.{◌≡◌, ◌<◌, List, length, take_while
 ghost use Rattle.std.specs.Char.{is_ascii_digit};
 ghost use Rattle.camac_text_tokens.specs.declared.token.Token.{Token};
 ghost use Rattle.camac_text_tokens.specs.Words.{keyword};
-ghost use Rattle.camac_text_tokens.specs.Scanning.{is_name_byte, is_blank, is_no_line_feed, decimal_value, keyword_or, number_or_fault, pair_at, single_at, pair_or_single, front_of, size, added, wrong, line_number, last_line, tokens_of};
+ghost use Rattle.camac_text_tokens.specs.Scanning.{is_name_byte, is_blank, is_no_line_feed, decimal_value, keyword_or, number_or_fault, pair_at, single_at, pair_or_single, start_of, size, added, wrong, line_number, last_line, tokens_of};
 ghost use Rattle.camac_text_tokens.specs.Cut.{IsCut, HasTokens};
 ghost use Rattle.camac_text_tokens.specs.Fault.{AnswersList};
 
@@ -35,16 +35,16 @@ fn scan(alloc: Global, text: &[u8]) -> Result<Vec<Token>, TextFault>
     let mut rest = text;
     let mut line: usize = 1;
     while !rest.is_empty() {
-        let front = front_of(rest);
-        match wrong(&front) {
+        let start = start_of(rest);
+        match wrong(&start) {
             Some(rule) => {
                 let line = line_number(line);
                 return Err(TextFault::Broken { rule, line });
             }
             None => {}
         }
-        let (taken, after) = rest.split_at(size(&front));
-        add(&mut tokens, front, line_number(line))?;
+        let (taken, after) = rest.split_at(size(&start));
+        add(&mut tokens, start, line_number(line))?;
         line += line_feeds(taken);
         rest = after;
     }
@@ -58,9 +58,9 @@ pub fn last_line(text: &[u8]) -> u32
     line_number(line_feeds(text) + 1)
 }
 
-/// What stands at the front of a text, with its number of bytes.
+/// What stands at the start of a text, with its number of bytes.
 #[derive(Drop)]
-pub enum Front {
+pub enum Start {
     /// Blanks, or a comment.
     Gap(usize),
     /// A token.
@@ -139,25 +139,25 @@ fn number(digits: &[u8]) -> Option<u32>
     Some(value as u32)
 }
 
-fn name_front(text: &[u8]) -> Front
+fn name_start(text: &[u8]) -> Start
     requires { 0 < length text.now }
     ensures { result ≡ keyword_or (keyword text.now) text.now }
 {
     match keyword(text) {
-        Some(word) => Front::Found(TokenKind::Keyword(word), text.len()),
+        Some(word) => Start::Found(TokenKind::Keyword(word), text.len()),
         None => match Name::new(text) {
-            Some(name) => Front::Found(TokenKind::Name(name), text.len()),
-            None => Front::Wrong(TextRule::LimitPassed),
+            Some(name) => Start::Found(TokenKind::Name(name), text.len()),
+            None => Start::Wrong(TextRule::LimitPassed),
         },
     }
 }
 
-fn number_front(digits: &[u8]) -> Front
+fn number_start(digits: &[u8]) -> Start
     ensures { result ≡ number_or_fault digits.now }
 {
     match number(digits) {
-        Some(number) => Front::Found(TokenKind::Number(number), digits.len()),
-        None => Front::Wrong(TextRule::NumberTooLarge),
+        Some(number) => Start::Found(TokenKind::Number(number), digits.len()),
+        None => Start::Wrong(TextRule::NumberTooLarge),
     }
 }
 
@@ -179,64 +179,64 @@ fn single_at(text: &[u8]) -> Option<Sign>
     }
 }
 
-fn sign_front(text: &[u8]) -> Front
+fn sign_start(text: &[u8]) -> Start
     ensures { result ≡ pair_or_single (pair_at text.now) (single_at text.now) }
 {
     match pair_at(text) {
-        Some(sign) => Front::Found(TokenKind::Sign(sign), 2),
+        Some(sign) => Start::Found(TokenKind::Sign(sign), 2),
         None => match single_at(text) {
-            Some(sign) => Front::Found(TokenKind::Sign(sign), 1),
-            None => Front::Wrong(TextRule::BadByte),
+            Some(sign) => Start::Found(TokenKind::Sign(sign), 1),
+            None => Start::Wrong(TextRule::BadByte),
         },
     }
 }
 
-/// What stands at the front: the longest.
-#[tactic(auto, unfolding(crate::specs::Scanning::front_of))]
-fn front_of(text: &[u8]) -> Front
+/// What stands at the start: the longest.
+#[tactic(auto, unfolding(crate::specs::Scanning::start_of))]
+fn start_of(text: &[u8]) -> Start
     requires { 0 < length text.now }
-    ensures { result ≡ front_of (slice_index text.now 0) text.now }
+    ensures { result ≡ start_of (slice_index text.now 0) text.now }
 {
     let b = text[0];
     if is_blank(b) {
-        return Front::Gap(1);
+        return Start::Gap(1);
     }
     if b == b'#' {
-        return Front::Gap(comment_len(text));
+        return Start::Gap(comment_len(text));
     }
     if b.is_ascii_alphabetic() {
-        return name_front(name_text(text));
+        return name_start(name_text(text));
     }
     if b.is_ascii_digit() {
-        return number_front(digits_text(text));
+        return number_start(digits_text(text));
     }
-    sign_front(text)
+    sign_start(text)
 }
 
-fn size(front: &Front) -> usize
-    ensures { result ≡ size front.now }
+fn size(start: &Start) -> usize
+    ensures { result ≡ size start.now }
 {
-    match front {
-        Front::Gap(size) => *size,
-        Front::Found(_, size) => *size,
-        Front::Wrong(_) => 0,
+    match start {
+        Start::Gap(size) => *size,
+        Start::Found(_, size) => *size,
+        Start::Wrong(_) => 0,
     }
 }
 
-fn wrong(front: &Front) -> Option<TextRule>
-    ensures { result ≡ wrong front.now }
+fn wrong(start: &Start) -> Option<TextRule>
+    ensures { result ≡ wrong start.now }
 {
-    match front {
-        Front::Wrong(rule) => Some(*rule),
+    match start {
+        Start::Wrong(rule) => Some(*rule),
         _ => None,
     }
 }
 
-fn add(tokens: &mut Vec<Token>, front: Front, line: u32) -> Result<(), TextFault>
-    ensures ok { OnOk result (tokens.new.items ≡ tokens.old.items ++ added front line) }
+fn add(tokens: &mut Vec<Token>, start: Start, line: u32) -> Result<(), TextFault>
+    ensures ok { OnOk result (tokens.new.items ≡ tokens.old.items ++ added start line) }
     ensures memory { IfErr result (λ e. e ≡ TextFault.OutOfMemory) }
 {
-    if let Front::Found(kind, _) = front {
+    if let Start::Found(kind, _) = start {
         tokens.push(Token { kind, line })?;
     }
     Ok(())

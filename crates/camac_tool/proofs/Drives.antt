@@ -2,7 +2,7 @@
 use Rattle.std.proofs.Common.{◌≡◌, ℕ, List, Option, refl, inl, inr}
 use Rattle.std.specs.Prelude.{Result, Ok, Err}
 use Rattle.camac_answer.specs.Reading.{Reading}
-use Rattle.camac_tool_play.specs.Sent.{Held}
+use Rattle.camac_tool_play.specs.Sent.{Outputs}
 use Rattle.camac_tool_play.proofs.Sending.{sends_nothing}
 use Rattle.camac_tool.specs.Drive.{DrivesJudged, DrivesPlan, DriveHeadline, JudgedDriveKeeps}
 use Rattle.camac_tool.specs.Found.{HasJudged, ReadsJudged}
@@ -16,7 +16,7 @@ use Rattle.camac_tool.proofs.Found.{appends_nothing}
 
 module _ {R : Type 0} (of : R → Option (List ℕ)) (plan plan' : PlanSource R) (s t : Option (List ℕ)) (left : Option Reading) where
   -- nothing was judged
-  pub stops_before : (u : Option (List ℕ)) (a : Held) (r : Result Outcome ToolFault) (e : ToolFault) → r ≡ Err e → ReadsJudged of plan plan' s t (Err e) → DrivesPlan of plan plan' s t left u u a a r
+  pub stops_before : (u : Option (List ℕ)) (a : Outputs) (r : Result Outcome ToolFault) (e : ToolFault) → r ≡ Err e → ReadsJudged of plan plan' s t (Err e) → DrivesPlan of plan plan' s t left u u a a r
   stops_before u a r fault.TooLong is h = rw is (h, (refl, sends_nothing a))
   stops_before u a r fault.Read is h = rw is (inl (refl, sends_nothing a))
   stops_before u a r fault.Memory is h = rw is (refl, sends_nothing a)
@@ -30,7 +30,7 @@ module _ {R : Type 0} (of : R → Option (List ℕ)) (plan plan' : PlanSource R)
 
   -- this was judged
   module _ (j : Judged) (has : HasJudged of plan plan' s t j) where
-    pub drives_found : (u v : Option (List ℕ)) (a b : Held) (r : Result Outcome ToolFault) → DrivesJudged j left u v a b r → DrivesPlan of plan plan' s t left u v a b r
+    pub drives_found : (u v : Option (List ℕ)) (a b : Outputs) (r : Result Outcome ToolFault) → DrivesJudged j left u v a b r → DrivesPlan of plan plan' s t left u v a b r
     drives_found u v a b (Ok outcome) d = (j, has, d)
     drives_found u v a b (Err fault.Write) d = (j, has, d)
     drives_found u v a b (Err fault.Read) d = inr (j, has, d)

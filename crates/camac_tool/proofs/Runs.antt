@@ -4,8 +4,8 @@ use Rattle.std.specs.Prelude.{Result, Ok, Err}
 use Rattle.camac_branch.specs.Plan.{Layout}
 use Rattle.camac_answer.specs.Reading.{Reading}
 use Rattle.camac_plan.specs.declared.fault.PlanRule.{PlanRule}
-use Rattle.camac_tool_play.specs.Sent.{Held, held}
-use Rattle.camac_tool_play.proofs.Sending.{sends_listing, front_listing, sends_nothing}
+use Rattle.camac_tool_play.specs.Sent.{Outputs, outputs}
+use Rattle.camac_tool_play.proofs.Sending.{sends_listing, prefix_listing, sends_nothing}
 use Rattle.camac_report.specs.Refusal.{refusal_text}
 use Rattle.camac_report.specs.declared.refusal.Refusal.{Refusal}
 use Rattle.camac_tool.specs.Accepted.{Accepted, Accepts, accepted}
@@ -23,14 +23,14 @@ use Rattle.camac_tool.specs.declared.outcome.Outcome.{Outcome}
 use Rattle.camac_tool.specs.declared.plan.PlanSource.{PlanSource}
 
 -- the line of a refusal, as both writers have it
-pub refuses : (r : Result Outcome ToolFault) (why : Refusal) (l m e : Option (List ℕ)) → Shows (refused why) l m r → Refuses why (held l e) (held m e) r
+pub refuses : (r : Result Outcome ToolFault) (why : Refusal) (l m e : Option (List ℕ)) → Shows (refused why) l m r → Refuses why (outputs l e) (outputs m e) r
 refuses (Ok outcome) why l m e h = (h.0, sends_listing l m e (refusal_text why) h.1)
-refuses (Err fault.Write) why l m e h = front_listing l m e (refusal_text why) h
+refuses (Err fault.Write) why l m e h = prefix_listing l m e (refusal_text why) h
 refuses (Err fault.Read) why l m e h = absurd h
 refuses (Err fault.Memory) why l m e h = absurd h
 refuses (Err fault.TooLong) why l m e h = absurd h
 
-module _ (left : Option Reading) (a b : Held) where
+module _ (left : Option Reading) (a b : Outputs) where
   accepted_runs : (r : Result Outcome ToolFault) (j : Judged) (plan : Layout) (x : Accepted) → Accepts (Ok j) plan x → RunsJudged j left a b r → RunsAccepted plan x left a b r
   accepted_runs r (judged.Accepted c) plan x (same, is) h =
       let here : RunsAccepted plan (Some (Ok c.script)) left a b r = subst (λ (p : Layout). RunsAccepted p (Some (Ok c.script)) left a b r) same h in
@@ -71,7 +71,7 @@ module _ (left : Option Reading) (a b : Held) where
       in_turn_found (Err fault.TooLong) h k = absurd (not_long j h)
 
 -- nothing was judged
-module _ {R : Type 0} (of : R → Option (List ℕ)) (plan plan' : PlanSource R) (s t : Option (List ℕ)) (left : Option Reading) (a : Held) where
+module _ {R : Type 0} (of : R → Option (List ℕ)) (plan plan' : PlanSource R) (s t : Option (List ℕ)) (left : Option Reading) (a : Outputs) where
   pub runs_before : (r : Result Outcome ToolFault) (e : ToolFault) → r ≡ Err e → ReadsJudged of plan plan' s t (Err e) → Runs of plan plan' s t left a a r
   runs_before r fault.TooLong is (inl h) = rw is (inl (h.0, h.1, sends_nothing a))
   runs_before r fault.TooLong is (inr h) = rw is (inr (Ok h.0, h.1, (h.2, sends_nothing a)))

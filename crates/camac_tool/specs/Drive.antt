@@ -9,7 +9,7 @@ use Rattle.camac_check_result.specs.Checked.{CheckedScript}
 use Rattle.camac_check_rules.specs.Accept.{accept}
 use Rattle.camac_tool_play.specs.Headline.{DrivesWhole, DrivesSoFar}
 use Rattle.camac_tool_play.specs.Live.{Drives}
-use Rattle.camac_tool_play.specs.Sent.{Held}
+use Rattle.camac_tool_play.specs.Sent.{Outputs}
 use Rattle.camac_tool_play.specs.declared.ending.Ending.{Ending}
 use Rattle.camac_tool_play.specs.declared.fault.PlayFault.TheVariants as play
 use Rattle.camac_tool.specs.Found.{HasJudged, IsTooLong, StaysQuiet}
@@ -22,22 +22,22 @@ use Rattle.camac_tool.specs.declared.outcome.Outcome.{Outcome}
 use Rattle.camac_tool.specs.declared.plan.PlanSource.{PlanSource}
 
 -- A checked script is run live on answers of which this is left at first, and this text at the end.
-abbrev pub DrivesScript : Layout → Script → Option Reading → Option (List ℕ) → Held → Held → Result Outcome ToolFault → Type 0
+abbrev pub DrivesScript : Layout → Script → Option Reading → Option (List ℕ) → Outputs → Outputs → Result Outcome ToolFault → Type 0
 DrivesScript plan script left now a b (Ok outcome) = (e : Ending) × (outcome ≡ outcome_of e) × Drives plan script left now a b (Ok e)
 DrivesScript plan script left now a b (Err fault.Write) = Drives plan script left now a b (Err play.Write)
 DrivesScript plan script left now a b (Err fault.Read) = Drives plan script left now a b (Err play.Read)
 DrivesScript plan script left now a b (Err _) = ⊥
 
 -- of a refused one nothing is asked for, and no answer read
-abbrev pub DrivesJudged : Judged → Option Reading → (u v : Option (List ℕ)) → Held → Held → Result Outcome ToolFault → Type 0
+abbrev pub DrivesJudged : Judged → Option Reading → (u v : Option (List ℕ)) → Outputs → Outputs → Result Outcome ToolFault → Type 0
 DrivesJudged (judged.Accepted c) left u v a b r = DrivesScript c.plan c.script left v a b r
 DrivesJudged (judged.Refused why) left u v a b r = (v ≡ u) × Refuses why a b r
 
-abbrev pub DrivesFound : {R : Type 0} → (of : R → Option (List ℕ)) → (plan plan' : PlanSource R) → (s t : Option (List ℕ)) → Option Reading → (u v : Option (List ℕ)) → Held → Held → Result Outcome ToolFault → Type 0
+abbrev pub DrivesFound : {R : Type 0} → (of : R → Option (List ℕ)) → (plan plan' : PlanSource R) → (s t : Option (List ℕ)) → Option Reading → (u v : Option (List ℕ)) → Outputs → Outputs → Result Outcome ToolFault → Type 0
 DrivesFound of plan plan' s t left u v a b r = (j : Judged) × HasJudged of plan plan' s t j × DrivesJudged j left u v a b r
 
 -- Of the plan, the script from s to t and the answers from u to v, and what was written.
-abbrev pub DrivesPlan : {R : Type 0} → (of : R → Option (List ℕ)) → (plan plan' : PlanSource R) → (s t : Option (List ℕ)) → Option Reading → (u v : Option (List ℕ)) → Held → Held → Result Outcome ToolFault → Type 0
+abbrev pub DrivesPlan : {R : Type 0} → (of : R → Option (List ℕ)) → (plan plan' : PlanSource R) → (s t : Option (List ℕ)) → Option Reading → (u v : Option (List ℕ)) → Outputs → Outputs → Result Outcome ToolFault → Type 0
 DrivesPlan of plan plan' s t left u v a b (Ok outcome) = DrivesFound of plan plan' s t left u v a b (Ok outcome)
 DrivesPlan of plan plan' s t left u v a b (Err fault.Write) = DrivesFound of plan plan' s t left u v a b (Err fault.Write)
 DrivesPlan of plan plan' s t left u v a b (Err fault.Read) = StaysQuiet u v a b ⊎ DrivesFound of plan plan' s t left u v a b (Err fault.Read)

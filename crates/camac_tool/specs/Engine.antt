@@ -1,7 +1,7 @@
 -- What an engine takes from its readers, writes and answers.
 use Rattle.std.specs.Prelude.{◌≡◌, ◌⊎◌, ℕ, ◌+◌, Bool, true, false, List, Option, Some, None, Result, Ok, Err}
 use Rattle.std.specs.Io.KnownBytes.{Appends, Keeps}
-use Rattle.camac_word.specs.Writing.{AppendsFront}
+use Rattle.camac_word.specs.Writing.{AppendsPrefix}
 use Rattle.camac_branch.specs.Plan.{Layout}
 use Rattle.camac_event.specs.Reading.{file_at}
 use Rattle.camac_plan.specs.declared.fault.PlanRule.{PlanRule}
@@ -29,7 +29,7 @@ Tells (Some r) P = P r.0 r.1
 -- a report was written: all of it at its outcome, or after a write fault a prefix of it
 abbrev pub Shows : Report → Option (List ℕ) → Option (List ℕ) → Result Outcome ToolFault → Type 0
 Shows r old new (Ok outcome) = Tells r (λ told text. (outcome ≡ told) × Appends old new text)
-Shows r old new (Err fault.Write) = Tells r (λ told text. AppendsFront old new text)
+Shows r old new (Err fault.Write) = Tells r (λ told text. AppendsPrefix old new text)
 Shows r old new (Err _) = ⊥
 
 -- What was read of a plan, and written: its lines or its refusal, and nothing after a fault before them.

@@ -1,7 +1,7 @@
 -- What `camac explain` takes from its readers, writes and answers.
 use Rattle.std.specs.Prelude.{◌≡◌, ◌⊎◌, ℕ, ◌+◌, List, ◌++◌, Option, Result, Ok, Err}
 use Rattle.std.specs.Io.KnownBytes.{Appends, Keeps}
-use Rattle.camac_word.specs.Writing.{AppendsFront}
+use Rattle.camac_word.specs.Writing.{AppendsPrefix}
 use Rattle.camac_branch.specs.Plan.{Layout}
 use Rattle.camac_plan.specs.declared.fault.PlanRule.{PlanRule}
 use Rattle.camac_tool.specs.Engine.{Tells}
@@ -21,15 +21,15 @@ AppendsMore o p Good text = Appends o p text
 AppendsMore o p Refused text = (more : List ℕ) × Appends o p (text ++ more)
 
 -- a prefix of these, which lacks at least the last byte
-abbrev pub AppendsFrontOfMore : (o p : Option (List ℕ)) → Outcome → List ℕ → Type 0
-AppendsFrontOfMore o p Good text = AppendsFront o p text
-AppendsFrontOfMore o p Refused text = (more : List ℕ) × AppendsFront o p (text ++ more)
+abbrev pub AppendsPrefixOfMore : (o p : Option (List ℕ)) → Outcome → List ℕ → Type 0
+AppendsPrefixOfMore o p Good text = AppendsPrefix o p text
+AppendsPrefixOfMore o p Refused text = (more : List ℕ) × AppendsPrefix o p (text ++ more)
 
 -- A report was written at its outcome, and after that of a refusal some more; after a write fault a prefix of these; nothing where memory
 -- was refused.
 abbrev pub ShowsMore : Report → (o p : Option (List ℕ)) → Result Outcome ToolFault → Type 0
 ShowsMore r o p (Ok outcome) = Tells r (λ told text. (outcome ≡ told) × AppendsMore o p told text)
-ShowsMore r o p (Err fault.Write) = Tells r (λ told text. AppendsFrontOfMore o p told text)
+ShowsMore r o p (Err fault.Write) = Tells r (λ told text. AppendsPrefixOfMore o p told text)
 ShowsMore r o p (Err fault.Memory) = Keeps o p
 ShowsMore r o p (Err _) = ⊥
 

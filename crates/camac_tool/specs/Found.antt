@@ -2,7 +2,7 @@
 use Rattle.std.specs.Prelude.{◌≡◌, ◌⊎◌, ℕ, ◌+◌, List, Option, Result, Ok, Err}
 use Rattle.camac_branch.specs.Plan.{Layout}
 use Rattle.camac_plan.specs.declared.fault.PlanRule.{PlanRule}
-use Rattle.camac_tool_play.specs.Sent.{Held}
+use Rattle.camac_tool_play.specs.Sent.{Outputs}
 use Rattle.camac_report.specs.declared.refusal.Refusal.TheVariants as refusal
 use Rattle.camac_tool.specs.Accepted.{Accepts, accepted}
 use Rattle.camac_tool.specs.Plan.{Says, IsPlanTooLong}
@@ -49,5 +49,5 @@ ReadsJudged of plan plan' s t (Err fault.Memory) = Unit {0}
 ReadsJudged of plan plan' s t (Err fault.Write) = ⊥
 
 -- Nothing is sent, and no answer read, before plan and script are judged.
-abbrev pub StaysQuiet : (u v : Option (List ℕ)) → Held → Held → Type 0
+abbrev pub StaysQuiet : (u v : Option (List ℕ)) → Outputs → Outputs → Type 0
 StaysQuiet u v a b = (v ≡ u) × SendsNothing a b

@@ -3,7 +3,7 @@
 ghost use Rattle.std.specs.Prelude.{◌≡◌, ◌||◌, true, false};
 ghost use Rattle.camac_answer.specs.Answers.{left_in};
 ghost use Rattle.camac_answer.specs.declared.answers.Stage.TheVariants.{Running};
-ghost use Rattle.camac_tool_play.specs.Sent.{held};
+ghost use Rattle.camac_tool_play.specs.Sent.{outputs};
 ghost use Rattle.camac_tool.specs.Drive.{DrivesFound, DrivesJudged, DrivesPlan, DrivesScript, CheckedDriveKeeps, DriveHeadline, JudgedDriveKeeps};
 ghost use Rattle.camac_tool.specs.Engine.{is_write_fault};
 ghost use Rattle.camac_tool.specs.Found.{StaysQuiet};
@@ -38,7 +38,7 @@ pub fn engine_drive<P: Read, S: Read, A: Read, W: Write, E: Write>(
 ) -> Result<Outcome, ToolFault>
     ensures drives { DrivesPlan P.remaining plan.old plan.new (S.remaining (inner_of script.old)) (S.remaining (inner_of script.new))
         (left_in Running 0 (A.remaining (inner_of answers.old))) (A.remaining (inner_of answers.old)) (A.remaining (inner_of answers.new))
-        (held (W.contents (inner_of requests.old)) (E.contents (inner_of events.old))) (held (W.contents (inner_of requests.new)) (E.contents (inner_of events.new))) result }
+        (outputs (W.contents (inner_of requests.old)) (E.contents (inner_of events.old))) (outputs (W.contents (inner_of requests.new)) (E.contents (inner_of events.new))) result }
     ensures headline { DriveHeadline P.remaining plan.old plan.new (S.remaining (inner_of script.old)) (S.remaining (inner_of script.new))
         (left_in Running 0 (A.remaining (inner_of answers.old))) (E.contents (inner_of events.old)) (E.contents (inner_of events.new)) result }
     ensures out_failed { (has_failed requests.new || has_failed events.new) ≡ ((has_failed requests.old || has_failed events.old) || is_write_fault result) }
@@ -47,12 +47,12 @@ pub fn engine_drive<P: Read, S: Read, A: Read, W: Write, E: Write>(
     // The reader of the plan or of the script failed.
     ensures unread { (plan_failed plan.old || has_failed script.old) ≡ false → (plan_failed plan.new || has_failed script.new) ≡ true
         → StaysQuiet (A.remaining (inner_of answers.old)) (A.remaining (inner_of answers.new))
-        (held (W.contents (inner_of requests.old)) (E.contents (inner_of events.old))) (held (W.contents (inner_of requests.new)) (E.contents (inner_of events.new))) }
+        (outputs (W.contents (inner_of requests.old)) (E.contents (inner_of events.old))) (outputs (W.contents (inner_of requests.new)) (E.contents (inner_of events.new))) }
     // The reader of the answers failed.
     ensures begun { has_failed answers.old ≡ false → has_failed answers.new ≡ true
         → DrivesFound P.remaining plan.old plan.new (S.remaining (inner_of script.old)) (S.remaining (inner_of script.new))
         (left_in Running 0 (A.remaining (inner_of answers.old))) (A.remaining (inner_of answers.old)) (A.remaining (inner_of answers.new))
-        (held (W.contents (inner_of requests.old)) (E.contents (inner_of events.old))) (held (W.contents (inner_of requests.new)) (E.contents (inner_of events.new))) result }
+        (outputs (W.contents (inner_of requests.old)) (E.contents (inner_of events.old))) (outputs (W.contents (inner_of requests.new)) (E.contents (inner_of events.new))) result }
 {
     let judged = read_judged(alloc, plan, script)?;
     drive_judged(alloc, &judged, answers, requests, events)
@@ -66,7 +66,7 @@ fn drive_judged<A: Read, W: Write, E: Write>(
     events: &mut Watched<E>,
 ) -> Result<Outcome, ToolFault>
     ensures drives { DrivesJudged judged.now (left_in Running 0 (A.remaining (inner_of answers.old))) (A.remaining (inner_of answers.old)) (A.remaining (inner_of answers.new))
-        (held (W.contents (inner_of requests.old)) (E.contents (inner_of events.old))) (held (W.contents (inner_of requests.new)) (E.contents (inner_of events.new))) result }
+        (outputs (W.contents (inner_of requests.old)) (E.contents (inner_of events.old))) (outputs (W.contents (inner_of requests.new)) (E.contents (inner_of events.new))) result }
     ensures headline { JudgedDriveKeeps judged.now (left_in Running 0 (A.remaining (inner_of answers.old))) (E.contents (inner_of events.old)) (E.contents (inner_of events.new)) result }
     ensures out_failed { (has_failed requests.new || has_failed events.new) ≡ ((has_failed requests.old || has_failed events.old) || is_write_fault result) }
     ensures in_failed { has_failed answers.new ≡ (has_failed answers.old || is_read_fault result) }
@@ -85,7 +85,7 @@ fn drive_checked<A: Read, W: Write, E: Write>(
     events: &mut Watched<E>,
 ) -> Result<Outcome, ToolFault>
     ensures drives { DrivesScript checked.now.plan checked.now.script (left_in Running 0 (A.remaining (inner_of answers.old))) (A.remaining (inner_of answers.new))
-        (held (W.contents (inner_of requests.old)) (E.contents (inner_of events.old))) (held (W.contents (inner_of requests.new)) (E.contents (inner_of events.new))) result }
+        (outputs (W.contents (inner_of requests.old)) (E.contents (inner_of events.old))) (outputs (W.contents (inner_of requests.new)) (E.contents (inner_of events.new))) result }
     ensures headline { CheckedDriveKeeps checked.now (left_in Running 0 (A.remaining (inner_of answers.old))) (E.contents (inner_of events.old)) (E.contents (inner_of events.new)) result }
     ensures out_failed { (has_failed requests.new || has_failed events.new) ≡ ((has_failed requests.old || has_failed events.old) || is_write_fault result) }
     ensures in_failed { has_failed answers.new ≡ (has_failed answers.old || is_read_fault result) }

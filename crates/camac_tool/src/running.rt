@@ -3,7 +3,7 @@
 ghost use Rattle.std.specs.Prelude.{◌≡◌, ◌||◌, true, false};
 ghost use Rattle.camac_answer.specs.Answers.{left_in};
 ghost use Rattle.camac_answer.specs.declared.answers.Stage.TheVariants.{Running};
-ghost use Rattle.camac_tool_play.specs.Sent.{held};
+ghost use Rattle.camac_tool_play.specs.Sent.{outputs};
 ghost use Rattle.camac_tool.specs.Engine.{is_write_fault};
 ghost use Rattle.camac_tool.specs.Headline.{CheckedKeeps, JudgedKeeps, KeepsHeadline};
 ghost use Rattle.camac_tool.specs.Plan.{plan_failed};
@@ -39,10 +39,10 @@ pub fn engine_run<P: Read, S: Read, A: Read, W: Write, E: Write>(
     events: &mut Watched<E>,
 ) -> Result<Outcome, ToolFault>
     ensures runs { Runs P.remaining plan.old plan.new (S.remaining (inner_of script.old)) (S.remaining (inner_of script.new)) (left_in Running 0 (A.remaining (inner_of answers.old)))
-        (held (W.contents (inner_of out.old)) (E.contents (inner_of events.old))) (held (W.contents (inner_of out.new)) (E.contents (inner_of events.new))) result }
+        (outputs (W.contents (inner_of out.old)) (E.contents (inner_of events.old))) (outputs (W.contents (inner_of out.new)) (E.contents (inner_of events.new))) result }
     ensures in_turn { RunsInTurn P.remaining plan.old plan.new (S.remaining (inner_of script.old)) (S.remaining (inner_of script.new))
         (left_in Running 0 (A.remaining (inner_of answers.old))) (A.remaining (inner_of answers.old)) (A.remaining (inner_of answers.new))
-        (held (W.contents (inner_of out.old)) (E.contents (inner_of events.old))) (held (W.contents (inner_of out.new)) (E.contents (inner_of events.new))) result }
+        (outputs (W.contents (inner_of out.old)) (E.contents (inner_of events.old))) (outputs (W.contents (inner_of out.new)) (E.contents (inner_of events.new))) result }
     ensures headline { KeepsHeadline P.remaining plan.old plan.new (S.remaining (inner_of script.old)) (S.remaining (inner_of script.new))
         (left_in Running 0 (A.remaining (inner_of answers.old))) (E.contents (inner_of events.old)) (E.contents (inner_of events.new)) result }
     ensures out_failed { (has_failed out.new || has_failed events.new) ≡ ((has_failed out.old || has_failed events.old) || is_write_fault result) }
@@ -51,12 +51,12 @@ pub fn engine_run<P: Read, S: Read, A: Read, W: Write, E: Write>(
     // The reader of the plan or of the script failed.
     ensures unread { (plan_failed plan.old || has_failed script.old) ≡ false → (plan_failed plan.new || has_failed script.new) ≡ true
         → StaysQuiet (A.remaining (inner_of answers.old)) (A.remaining (inner_of answers.new))
-        (held (W.contents (inner_of out.old)) (E.contents (inner_of events.old))) (held (W.contents (inner_of out.new)) (E.contents (inner_of events.new))) }
+        (outputs (W.contents (inner_of out.old)) (E.contents (inner_of events.old))) (outputs (W.contents (inner_of out.new)) (E.contents (inner_of events.new))) }
     // The reader of the answers failed.
     ensures begun { has_failed answers.old ≡ false → has_failed answers.new ≡ true
         → FoundInTurn P.remaining plan.old plan.new (S.remaining (inner_of script.old)) (S.remaining (inner_of script.new))
         (left_in Running 0 (A.remaining (inner_of answers.old))) (A.remaining (inner_of answers.old)) (A.remaining (inner_of answers.new))
-        (held (W.contents (inner_of out.old)) (E.contents (inner_of events.old))) (held (W.contents (inner_of out.new)) (E.contents (inner_of events.new))) result }
+        (outputs (W.contents (inner_of out.old)) (E.contents (inner_of events.old))) (outputs (W.contents (inner_of out.new)) (E.contents (inner_of events.new))) result }
 {
     let judged = read_judged(alloc, plan, script)?;
     run_judged(alloc, &judged, answers, out, events)
@@ -70,9 +70,9 @@ fn run_judged<A: Read, W: Write, E: Write>(
     events: &mut Watched<E>,
 ) -> Result<Outcome, ToolFault>
     ensures runs { RunsJudged judged.now (left_in Running 0 (A.remaining (inner_of answers.old)))
-        (held (W.contents (inner_of out.old)) (E.contents (inner_of events.old))) (held (W.contents (inner_of out.new)) (E.contents (inner_of events.new))) result }
+        (outputs (W.contents (inner_of out.old)) (E.contents (inner_of events.old))) (outputs (W.contents (inner_of out.new)) (E.contents (inner_of events.new))) result }
     ensures in_turn { JudgedInTurn judged.now (left_in Running 0 (A.remaining (inner_of answers.old))) (A.remaining (inner_of answers.old)) (A.remaining (inner_of answers.new))
-        (held (W.contents (inner_of out.old)) (E.contents (inner_of events.old))) (held (W.contents (inner_of out.new)) (E.contents (inner_of events.new))) result }
+        (outputs (W.contents (inner_of out.old)) (E.contents (inner_of events.old))) (outputs (W.contents (inner_of out.new)) (E.contents (inner_of events.new))) result }
     ensures headline { JudgedKeeps judged.now (left_in Running 0 (A.remaining (inner_of answers.old))) (E.contents (inner_of events.old)) (E.contents (inner_of events.new)) result }
     ensures out_failed { (has_failed out.new || has_failed events.new) ≡ ((has_failed out.old || has_failed events.old) || is_write_fault result) }
     ensures in_failed { has_failed answers.new ≡ (has_failed answers.old || is_read_fault result) }
@@ -91,9 +91,9 @@ fn run_checked<A: Read, W: Write, E: Write>(
     events: &mut Watched<E>,
 ) -> Result<Outcome, ToolFault>
     ensures runs { RunsScript checked.now.plan checked.now.script (left_in Running 0 (A.remaining (inner_of answers.old)))
-        (held (W.contents (inner_of out.old)) (E.contents (inner_of events.old))) (held (W.contents (inner_of out.new)) (E.contents (inner_of events.new))) result }
+        (outputs (W.contents (inner_of out.old)) (E.contents (inner_of events.old))) (outputs (W.contents (inner_of out.new)) (E.contents (inner_of events.new))) result }
     ensures in_turn { ScriptInTurn checked.now.plan checked.now.script (left_in Running 0 (A.remaining (inner_of answers.old))) (A.remaining (inner_of answers.new))
-        (held (W.contents (inner_of out.old)) (E.contents (inner_of events.old))) (held (W.contents (inner_of out.new)) (E.contents (inner_of events.new))) result }
+        (outputs (W.contents (inner_of out.old)) (E.contents (inner_of events.old))) (outputs (W.contents (inner_of out.new)) (E.contents (inner_of events.new))) result }
     ensures headline { CheckedKeeps checked.now (left_in Running 0 (A.remaining (inner_of answers.old))) (E.contents (inner_of events.old)) (E.contents (inner_of events.new)) result }
     ensures out_failed { (has_failed out.new || has_failed events.new) ≡ ((has_failed out.old || has_failed events.old) || is_write_fault result) }
     ensures in_failed { has_failed answers.new ≡ (has_failed answers.old || is_read_fault result) }

@@ -30,7 +30,7 @@ pub fn create_events<R: Files, S: Drop>(
             return Err(ToolFault::Write);
         }
         for input in [plan, Some(script), Some(answers)].into_iter().flatten() {
-            if is_same(&there, behind(rt, input))? {
+            if is_same(&there, after(rt, input))? {
                 return Err(ToolFault::Write);
             }
         }
@@ -66,7 +66,7 @@ fn file_at<R: Files>(rt: &R, name: &str) -> Result<Option<Metadata>, ToolFault>
     }
 }
 
-fn behind<R: Files, S: Drop>(rt: &R, input: &Input<S, R::File>) -> io::Result<Metadata> {
+fn after<R: Files, S: Drop>(rt: &R, input: &Input<S, R::File>) -> io::Result<Metadata> {
     match input {
         Input::Standard(_) => fs::metadata(rt, STANDARD_INPUT),
         Input::File(file) => file.metadata(),

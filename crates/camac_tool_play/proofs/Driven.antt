@@ -22,12 +22,12 @@ use Rattle.camac_tool_play.specs.InTurn.{ReadsNoMore}
 use Rattle.camac_tool_play.specs.Live.{used_of, open_request, live_sent, asked, driven, Drives, Asks}
 use Rattle.camac_tool_play.specs.Play.{Gives, GivesFirst, HasGiven, with_taken, run_sent}
 use Rattle.camac_tool_play.specs.Played.{ending_text, ending}
-use Rattle.camac_tool_play.specs.Sent.{Held, Sends, SendsFront, SendsBy, Sent, to_listing, to_events, events_of}
+use Rattle.camac_tool_play.specs.Sent.{Outputs, Sends, SendsPrefix, SendsBy, Sent, to_listing, to_events, events_of}
 use Rattle.camac_tool_play.specs.declared.ending.Ending.{Ending}
 use Rattle.camac_tool_play.specs.declared.fault.PlayFault.{PlayFault}
 use Rattle.camac_tool_play.specs.declared.fault.PlayFault.TheVariants as fault
 use Rattle.camac_tool_play.proofs.EventFile.{records_sent}
-use Rattle.camac_tool_play.proofs.Sending.{events_of-append, events_listed, events_recorded, Sends-trans, SendsFront-longer, SendsFront-after}
+use Rattle.camac_tool_play.proofs.Sending.{events_of-append, events_listed, events_recorded, Sends-trans, SendsPrefix-longer, SendsPrefix-after}
 
 module _ (plan : Layout) (script : Script) (left : Option Reading) where
   abbrev start : List Sent
@@ -36,23 +36,23 @@ module _ (plan : Layout) (script : Script) (left : Option Reading) where
   abbrev last : Reading → List Sent
   last r = to_listing (ending_text (ending plan script r) (length (events (the_run plan script r.answers))))
 
-  -- a front of the header was written, and no answer was read
-  pub stops_at_header : (text : Option (List ℕ)) (a b : Held) (r : Result Ending PlayFault) → r ≡ Err fault.Write → left ≡ left_in Running 0 text → SendsFront a b start → Drives plan script left text a b r
-  stops_at_header text a b r write same front =
+  -- a prefix of the header was written, and no answer was read
+  pub stops_at_header : (text : Option (List ℕ)) (a b : Outputs) (r : Result Ending PlayFault) → r ≡ Err fault.Write → left ≡ left_in Running 0 text → SendsPrefix a b start → Drives plan script left text a b r
+  stops_at_header text a b r write same prefix =
       let given : HasGiven left (left_in Running 0 text) [] = λ (whole : Reading) (e : left ≡ Some whole). (whole, sym same ∙ e, refl) in
-      rw write (inl ([], given, SendsFront-longer a b start (live_sent plan script []) front))
+      rw write (inl ([], given, SendsPrefix-longer a b start (live_sent plan script []) prefix))
 
-  module _ (a b : Held) (begun : Sends a b start) (text : Option (List ℕ)) where
-    stops_by : (c : Held) (f : PlayFault) → Asks plan script left text b c (Err f) → Drives plan script left text a c (Err f)
-    stops_by c fault.Write (taken, given, front) = inl (taken, given, SendsFront-after a b c start (live_sent plan script taken) begun front)
+  module _ (a b : Outputs) (begun : Sends a b start) (text : Option (List ℕ)) where
+    stops_by : (c : Outputs) (f : PlayFault) → Asks plan script left text b c (Err f) → Drives plan script left text a c (Err f)
+    stops_by c fault.Write (taken, given, prefix) = inl (taken, given, SendsPrefix-after a b c start (live_sent plan script taken) begun prefix)
     stops_by c fault.Read (taken, before, given, open', few, sends) = (taken, before, given, open', few, Sends-trans a b c start (live_sent plan script taken) begun sends)
 
     -- the run stopped
-    pub stops_in_run : (c : Held) (f : PlayFault) (r : Result Ending PlayFault) → r ≡ Err f → Asks plan script left text b c (Err f) → Drives plan script left text a c r
+    pub stops_in_run : (c : Outputs) (f : PlayFault) (r : Result Ending PlayFault) → r ≡ Err f → Asks plan script left text b c (Err f) → Drives plan script left text a c r
     stops_in_run c f r is asks = rw is (stops_by c f asks)
 
     -- the run came to its last line
-    pub finishes : (c d : Held) (e : Ending) (n : ℕ) (r : Result Ending PlayFault) → Asks plan script left text b c (Ok (e, n)) → IfOk r (λ x. x ≡ e) → IfErr r (λ f. f ≡ fault.Write) → SendsBy c d r (to_listing (ending_text e n)) → Drives plan script left text a d r
+    pub finishes : (c d : Outputs) (e : Ending) (n : ℕ) (r : Result Ending PlayFault) → Asks plan script left text b c (Ok (e, n)) → IfOk r (λ x. x ≡ e) → IfErr r (λ f. f ≡ fault.Write) → SendsBy c d r (to_listing (ending_text e n)) → Drives plan script left text a d r
     finishes c d e n (Ok x) (r, gives, same, beyond, count, sends) is write sent =
         let line : to_listing (ending_text e n) ≡ last r = ap (λ (y : Ending). to_listing (ending_text y n)) same ∙ ap (λ (k : ℕ). to_listing (ending_text (ending plan script r) k)) count in (
           r,
@@ -66,7 +66,7 @@ module _ (plan : Layout) (script : Script) (left : Option Reading) where
         rw write (inr (
           r,
           gives,
-          SendsFront-after a c d (asked plan script r.answers) (last r) (Sends-trans a b c start (live_sent plan script r.answers) begun sends) (subst (λ (l : List Sent). SendsFront c d l) line sent),
+          SendsPrefix-after a c d (asked plan script r.answers) (last r) (Sends-trans a b c start (live_sent plan script r.answers) begun sends) (subst (λ (l : List Sent). SendsPrefix c d l) line sent),
         ))
 
   -- what goes to the event file is the spelling of the run's events
@@ -90,7 +90,7 @@ module _ (plan : Layout) (script : Script) (left : Option Reading) where
     pub nothing_kept : (old new : Option (List ℕ)) (r : Result Ending PlayFault) → r ≡ Err fault.Write → DriveKeepsHeadline plan script ks left old new r
     nothing_kept old new r write = subst (λ (x : Result Ending PlayFault). DriveKeepsHeadline plan script ks left old new x) (sym write) tt
 
-    module _ (law : RunsByHeadline plan script ks) (safe : RequestsAreSafe plan script) (a b : Held) (begun : Sends a b start) (text : Option (List ℕ)) where
+    module _ (law : RunsByHeadline plan script ks) (safe : RequestsAreSafe plan script) (a b : Outputs) (begun : Sends a b start) (text : Option (List ℕ)) where
       numbered : (answers : List Answer) → length (events (the_run plan script answers)) < 2 ^ 32 → length (run_events plan script answers) < 2 ^ 32
       numbered answers few =
           let lengths : length (run_events plan script answers) ≡ length (events (the_run plan script answers)) = length-map (events (the_run plan script answers)) entry_of in omega (arith, lengths, few)
@@ -98,7 +98,7 @@ module _ (plan : Layout) (script : Script) (left : Option Reading) where
       first_of : (now : Option Reading) (taken : List Answer) → HasGiven left now taken → GivesFirst left taken
       first_of now taken h whole e = let g = h whole e in (g.0.answers, ap (λ (w : Reading). w.answers) g.2)
 
-      stopped : (c : Held) (f : PlayFault) → Asks plan script left text b c (Err f) → DriveKeepsHeadline plan script ks left a.events c.events (Err f)
+      stopped : (c : Outputs) (f : PlayFault) → Asks plan script left text b c (Err f) → DriveKeepsHeadline plan script ks left a.events c.events (Err f)
       stopped c fault.Write asks = tt
       stopped c fault.Read (taken, before, given, open', few, sends) =
           let whole = Sends-trans a b c start (live_sent plan script taken) begun sends in (
@@ -110,11 +110,11 @@ module _ (plan : Layout) (script : Script) (left : Option Reading) where
           )
 
       -- the run stopped
-      pub stops_by_headline : (c : Held) (f : PlayFault) (r : Result Ending PlayFault) → r ≡ Err f → Asks plan script left text b c (Err f) → DriveKeepsHeadline plan script ks left a.events c.events r
+      pub stops_by_headline : (c : Outputs) (f : PlayFault) (r : Result Ending PlayFault) → r ≡ Err f → Asks plan script left text b c (Err f) → DriveKeepsHeadline plan script ks left a.events c.events r
       stops_by_headline c f r is asks = subst (λ (x : Result Ending PlayFault). DriveKeepsHeadline plan script ks left a.events c.events x) (sym is) (stopped c f asks)
 
       -- the run came to its last line
-      pub ends_by_headline : (c d : Held) (e : Ending) (n : ℕ) (r : Result Ending PlayFault) → n < 2 ^ 32 → Asks plan script left text b c (Ok (e, n)) → IfErr r (λ f. f ≡ fault.Write) → SendsBy c d r (to_listing (ending_text e n)) → DriveKeepsHeadline plan script ks left a.events d.events r
+      pub ends_by_headline : (c d : Outputs) (e : Ending) (n : ℕ) (r : Result Ending PlayFault) → n < 2 ^ 32 → Asks plan script left text b c (Ok (e, n)) → IfErr r (λ f. f ≡ fault.Write) → SendsBy c d r (to_listing (ending_text e n)) → DriveKeepsHeadline plan script ks left a.events d.events r
       ends_by_headline c d e n (Ok x) few (r, gives, same, beyond, count, sends) write sent =
           let whole = Sends-trans a c d (asked plan script r.answers) (to_listing (ending_text e n)) (Sends-trans a b c start (live_sent plan script r.answers) begun sends) sent in (
             r,
@@ -126,6 +126,6 @@ module _ (plan : Layout) (script : Script) (left : Option Reading) where
       ends_by_headline c d e n (Err f) few asks write sent = nothing_kept a.events d.events (Err f) (ap Err write)
 
 -- along what is left of the answers
-pub drives_along : (plan : Layout) (script : Script) (l l' : Option Reading) (t t' : Option (List ℕ)) (a b : Held) (r : Result Ending PlayFault) → l ≡ l' → t ≡ t' → Drives plan script l t a b r → Drives plan script l' t' a b r
+pub drives_along : (plan : Layout) (script : Script) (l l' : Option Reading) (t t' : Option (List ℕ)) (a b : Outputs) (r : Result Ending PlayFault) → l ≡ l' → t ≡ t' → Drives plan script l t a b r → Drives plan script l' t' a b r
 drives_along plan script l l' t t' a b r e f d =
     subst (λ (x : Option (List ℕ)). Drives plan script l' x a b r) f (subst (λ (x : Option Reading). Drives plan script x t a b r) e d)

@@ -14,10 +14,10 @@ use Rattle.camac_model.specs.Run.{the_run}
 use Rattle.camac_answer.specs.Reading.{Reading}
 use Rattle.camac_report.specs.Items.{item_text}
 use Rattle.camac_run.specs.Headline.{entry_of, run_events, event_file, RunsByHeadline}
-use Rattle.camac_tool_play.specs.Headline.{ToldSendsEventFile, PlayedSendsEventFile, PlayKeepsHeadline}
+use Rattle.camac_tool_play.specs.Headline.{ReportSendsEventFile, PlayedSendsEventFile, PlayKeepsHeadline}
 use Rattle.camac_tool_play.specs.Play.{Feeds, run_sent}
-use Rattle.camac_tool_play.specs.Played.{record_text, number_after, piece_sent, pieces_sent, told, ending_text, ending}
-use Rattle.camac_tool_play.specs.Sent.{Held, Sends, SendsBy, to_listing, to_events, events_of}
+use Rattle.camac_tool_play.specs.Played.{record_text, number_after, piece_sent, pieces_sent, report, ending_text, ending}
+use Rattle.camac_tool_play.specs.Sent.{Outputs, Sends, SendsBy, to_listing, to_events, events_of}
 use Rattle.camac_tool_play.specs.declared.ending.Ending.{Ending}
 use Rattle.camac_tool_play.specs.declared.fault.PlayFault.{PlayFault}
 use Rattle.camac_tool_play.specs.declared.fault.PlayFault.TheVariants as fault
@@ -45,18 +45,18 @@ records_sent line n (p ∷ ps) =
     ∙ ap (λ (l : List ℕ). record_text n p ++ l) (records_sent line (number_after n p) ps)
     ∙ record_first n p ps
 
-pub told_file : ToldSendsEventFile
-told_file plan script answers =
+pub report_file : ReportSendsEventFile
+report_file plan script answers =
     let ps = pieces (the_run plan script answers) in
     events_of-append (to_events (header Two)) (pieces_sent (item_text script) 1 ps)
     ∙ ap (λ (l : List ℕ). l ++ events_of (pieces_sent (item_text script) 1 ps)) (events_recorded (header Two))
     ∙ ap (λ (l : List ℕ). header Two ++ l) (records_sent (item_text script) 1 ps)
 
 -- a last line adds nothing
-with_line : (plan : Layout) (script : Script) (answers : List Answer) (line : List ℕ) → events_of (told plan script answers ++ to_listing line) ≡ event_file plan script answers
+with_line : (plan : Layout) (script : Script) (answers : List Answer) (line : List ℕ) → events_of (report plan script answers ++ to_listing line) ≡ event_file plan script answers
 with_line plan script answers line =
-    let sent = told plan script answers in
-    events_of-append sent (to_listing line) ∙ ap (λ (l : List ℕ). events_of sent ++ l) (events_listed line) ∙ append-nil (events_of sent) ∙ told_file plan script answers
+    let sent = report plan script answers in
+    events_of-append sent (to_listing line) ∙ ap (λ (l : List ℕ). events_of sent ++ l) (events_listed line) ∙ append-nil (events_of sent) ∙ report_file plan script answers
 
 pub played_file : PlayedSendsEventFile
 played_file plan script r = with_line plan script r.answers (ending_text (ending plan script r) (length (events (the_run plan script r.answers))))
@@ -66,30 +66,30 @@ module _ (plan : Layout) (script : Script) (ks : List Bounds) (left : Option Rea
   pub nothing_kept : (old new : Option (List ℕ)) (r : Result Ending PlayFault) → r ≡ Err fault.Write → PlayKeepsHeadline plan script ks left old new r
   nothing_kept old new r write = subst (λ (x : Result Ending PlayFault). PlayKeepsHeadline plan script ks left old new x) (sym write) tt
 
-  module _ (law : RunsByHeadline plan script ks) (a b : Held) (begun : Sends a b (to_events (header Two))) where
+  module _ (law : RunsByHeadline plan script ks) (a b : Outputs) (begun : Sends a b (to_events (header Two))) where
     numbered : (answers : List Answer) → length (events (the_run plan script answers)) < 2 ^ 32 → length (run_events plan script answers) < 2 ^ 32
     numbered answers few =
         let lengths : length (run_events plan script answers) ≡ length (events (the_run plan script answers)) = length-map (events (the_run plan script answers)) entry_of in omega (arith, lengths, few)
 
-    stopped : (c : Held) (f : PlayFault) → Feeds (item_text script) plan script left b c (Err f) → PlayKeepsHeadline plan script ks left a.events c.events (Err f)
+    stopped : (c : Outputs) (f : PlayFault) → Feeds (item_text script) plan script left b c (Err f) → PlayKeepsHeadline plan script ks left a.events c.events (Err f)
     stopped c fault.Write feeds = tt
     stopped c fault.Read (taken, first, few, sends) =
         let whole = Sends-trans a b c (to_events (header Two)) (run_sent (item_text script) plan script taken) begun sends in (
           taken,
           event_file plan script taken,
           first,
-          subst (λ (bytes : List ℕ). Appends a.events c.events bytes) (told_file plan script taken) whole.events,
+          subst (λ (bytes : List ℕ). Appends a.events c.events bytes) (report_file plan script taken) whole.events,
           law taken (numbered taken few),
         )
 
     -- the run stopped
-    pub stops_by_headline : (c : Held) (f : PlayFault) (r : Result Ending PlayFault) → r ≡ Err f → Feeds (item_text script) plan script left b c (Err f) → PlayKeepsHeadline plan script ks left a.events c.events r
+    pub stops_by_headline : (c : Outputs) (f : PlayFault) (r : Result Ending PlayFault) → r ≡ Err f → Feeds (item_text script) plan script left b c (Err f) → PlayKeepsHeadline plan script ks left a.events c.events r
     stops_by_headline c f r is feeds = subst (λ (x : Result Ending PlayFault). PlayKeepsHeadline plan script ks left a.events c.events x) (sym is) (stopped c f feeds)
 
     -- the run came to its last line
-    pub ends_by_headline : (c d : Held) (e : Ending) (n : ℕ) (r : Result Ending PlayFault) → n < 2 ^ 32 → Feeds (item_text script) plan script left b c (Ok (e, n)) → IfErr r (λ f. f ≡ fault.Write) → SendsBy c d r (to_listing (ending_text e n)) → PlayKeepsHeadline plan script ks left a.events d.events r
+    pub ends_by_headline : (c d : Outputs) (e : Ending) (n : ℕ) (r : Result Ending PlayFault) → n < 2 ^ 32 → Feeds (item_text script) plan script left b c (Ok (e, n)) → IfErr r (λ f. f ≡ fault.Write) → SendsBy c d r (to_listing (ending_text e n)) → PlayKeepsHeadline plan script ks left a.events d.events r
     ends_by_headline c d e n (Ok x) few (r, gives, same, count, sends) write sent =
-        let whole = Sends-trans a c d (told plan script r.answers) (to_listing (ending_text e n)) (Sends-trans a b c (to_events (header Two)) (run_sent (item_text script) plan script r.answers) begun sends) sent in (
+        let whole = Sends-trans a c d (report plan script r.answers) (to_listing (ending_text e n)) (Sends-trans a b c (to_events (header Two)) (run_sent (item_text script) plan script r.answers) begun sends) sent in (
           r,
           event_file plan script r.answers,
           gives,

@@ -14,22 +14,22 @@ use Rattle.camac_answer.specs.declared.fault.AnswerFault.{AnswerFault}
 use Rattle.camac_answer.specs.declared.fault.AnswerFault.TheVariants.{OutOfMemory, Read, Broken}
 use Rattle.camac_answer.specs.declared.fault.AnswerRule.{AnswerRule}
 use Rattle.camac_run_machine.specs.Ends.{stop_in}
-use Rattle.camac_run_machine.specs.Runner.{Held as RunHeld, rest}
+use Rattle.camac_run_machine.specs.Runner.{RunnerState, rest}
 use Rattle.camac_run_machine.specs.declared.item.End.{End}
 use Rattle.camac_run_machine.specs.declared.item.End.TheVariants as end
 use Rattle.camac_tool_play.specs.Play.{Gives, GivesFirst, with_taken, HasGiven, Feeds, run_sent, faulted, failed_by}
 use Rattle.camac_tool_play.specs.Played.{pieces_sent, ending_of}
-use Rattle.camac_tool_play.specs.Sent.{Held, Sends, SendsFront, Sent}
+use Rattle.camac_tool_play.specs.Sent.{Outputs, Sends, SendsPrefix, Sent}
 use Rattle.camac_tool_play.specs.Step.{after, count_of, Does, Overruns, IsOut}
 use Rattle.camac_tool_play.specs.declared.ending.Ending.{Ending}
 use Rattle.camac_tool_play.specs.declared.ending.Ending.TheVariants as how
 use Rattle.camac_tool_play.specs.declared.fault.PlayFault.{PlayFault}
 use Rattle.camac_tool_play.specs.declared.fault.PlayFault.TheVariants as fault
 use Rattle.camac_tool_play.proofs.Pieces.{pieces-after, stop_of-after, after-append, count-append, pieces_sent-append}
-use Rattle.camac_tool_play.proofs.Sending.{sends_nothing, Sends-trans, SendsFront-longer, SendsFront-after}
+use Rattle.camac_tool_play.proofs.Sending.{sends_nothing, Sends-trans, SendsPrefix-longer, SendsPrefix-after}
 
 -- the answers so far did these pieces, which were sent, and the runner holds the rest
-pub record IsFed (line : Piece → List ℕ) (plan : Layout) (script : Script) (left now : Option Reading) (start sent_now : Held) (runner : RunHeld) (count : ℕ) : Type 0 where
+pub record IsFed (line : Piece → List ℕ) (plan : Layout) (script : Script) (left now : Option Reading) (start sent_now : Outputs) (runner : RunnerState) (count : ℕ) : Type 0 where
   pub taken : List Answer
   pub done : List Piece
   pub run : (answers : List Answer) → the_run plan script (taken ++ answers) ≡ after done (rest runner answers)
@@ -37,7 +37,7 @@ pub record IsFed (line : Piece → List ℕ) (plan : Layout) (script : Script) (
   pub counted : count ≡ count_of done
   pub given : HasGiven left now taken
 
-abbrev pub starts : (line : Piece → List ℕ) (plan : Layout) (script : Script) (left : Option Reading) (a : Held) (runner : RunHeld) → ((answers : List Answer) → rest runner answers ≡ the_run plan script answers) → IsFed line plan script left left a a runner 0
+abbrev pub starts : (line : Piece → List ℕ) (plan : Layout) (script : Script) (left : Option Reading) (a : Outputs) (runner : RunnerState) → ((answers : List Answer) → rest runner answers ≡ the_run plan script answers) → IsFed line plan script left left a a runner 0
 starts line plan script left a runner run = record {
   taken = [];
   done = [];
@@ -117,7 +117,7 @@ refused_by (Some (overrun c w)) rule line h = absurd h
 refused_by (Some wrong) rule line h = absurd h
 refused_by (Some more) rule line h = absurd h
 
-module _ (line : Piece → List ℕ) (plan : Layout) (script : Script) (left now : Option Reading) (a b : Held) (runner : RunHeld) (count : ℕ) (fed : IsFed line plan script left now a b runner count) where
+module _ (line : Piece → List ℕ) (plan : Layout) (script : Script) (left now : Option Reading) (a b : Outputs) (runner : RunnerState) (count : ℕ) (fed : IsFed line plan script left now a b runner count) where
   abbrev taken : List Answer
   taken = fed.taken ++ []
 
@@ -171,7 +171,7 @@ module _ (line : Piece → List ℕ) (plan : Layout) (script : Script) (left now
     run_then answers = ap (the_run plan script) (append_assoc fed.taken (answer ∷ []) answers) ∙ fed.run (answer ∷ answers)
 
     -- its wait is not permitted
-    pub overruns_here : (c : Held) (o : Overrun) → Overruns runner answer o → Sends b c [] → Feeds line plan script left a c (Ok (how.End (end.Overrun o), count))
+    pub overruns_here : (c : Outputs) (o : Overrun) → Overruns runner answer o → Sends b c [] → Feeds line plan script left a c (Ok (how.End (end.Overrun o), count))
     overruns_here c o s sends =
         let r : Reading = with_taken then_taken (known new) in
         let x = s (known new).answers in
@@ -186,7 +186,7 @@ module _ (line : Piece → List ℕ) (plan : Layout) (script : Script) (left now
               (subst (λ (l : List Sent). Sends a c l) (append-nil (pieces_sent line 1 fed.done)) (Sends-trans a b c (pieces_sent line 1 fed.done) [] fed.sent sends)),
         )
 
-    module _ (runner' : RunHeld) (ps : List Piece) (did : Does runner answer runner' ps) where
+    module _ (runner' : RunnerState) (ps : List Piece) (did : Does runner answer runner' ps) where
       pub run_on : (answers : List Answer) → the_run plan script (then_taken ++ answers) ≡ after (fed.done ++ ps) (rest runner' answers)
       run_on answers = run_then answers ∙ ap (after fed.done) (did.run answers) ∙ after-append fed.done ps (rest runner' answers)
 
@@ -197,7 +197,7 @@ module _ (line : Piece → List ℕ) (plan : Layout) (script : Script) (left now
       numbers = omega (arith, fed.counted)
 
       -- what the answer did was written
-      abbrev pub goes_on : (c : Held) (n : ℕ) → n ≡ count + count_of ps → Sends b c (pieces_sent line (count + 1) ps) → IsFed line plan script left new a c runner' n
+      abbrev pub goes_on : (c : Outputs) (n : ℕ) → n ≡ count + count_of ps → Sends b c (pieces_sent line (count + 1) ps) → IsFed line plan script left new a c runner' n
       goes_on c n counts sends = record {
         taken = then_taken;
         done = fed.done ++ ps;
@@ -208,8 +208,8 @@ module _ (line : Piece → List ℕ) (plan : Layout) (script : Script) (left now
         given = left_then;
       }
 
-      front_here : (c : Held) → SendsFront b c (pieces_sent line (count + 1) ps) → (r : Reading) × Gives left r × SendsFront a c (run_sent line plan script r.answers)
-      front_here c front =
+      prefix_here : (c : Outputs) → SendsPrefix b c (pieces_sent line (count + 1) ps) → (r : Reading) × Gives left r × SendsPrefix a c (run_sent line plan script r.answers)
+      prefix_here c prefix =
           let r : Reading = with_taken then_taken (known new) in
           let more' : List Piece = pieces (rest runner' (known new).answers) in
           let all : pieces (the_run plan script r.answers) ≡ (fed.done ++ ps) ++ more' =
@@ -219,13 +219,13 @@ module _ (line : Piece → List ℕ) (plan : Layout) (script : Script) (left now
           let sent : run_sent line plan script r.answers ≡ first ++ later = ap (pieces_sent line 1) all ∙ pieces_sent-append line 1 (fed.done ++ ps) more' in (
             r,
             given_all left new then_taken left_then,
-            subst (λ (l : List Sent). SendsFront a c l) (sym sent)
-                (SendsFront-longer a c first later
-                (subst (λ (l : List Sent). SendsFront a c l) (sym (pieces_sent-append line 1 fed.done ps))
-                (SendsFront-after a b c (pieces_sent line 1 fed.done) (pieces_sent line next_number ps) fed.sent
-                (subst (λ (k : ℕ). SendsFront b c (pieces_sent line k ps)) numbers front)))),
+            subst (λ (l : List Sent). SendsPrefix a c l) (sym sent)
+                (SendsPrefix-longer a c first later
+                (subst (λ (l : List Sent). SendsPrefix a c l) (sym (pieces_sent-append line 1 fed.done ps))
+                (SendsPrefix-after a b c (pieces_sent line 1 fed.done) (pieces_sent line next_number ps) fed.sent
+                (subst (λ (k : ℕ). SendsPrefix b c (pieces_sent line k ps)) numbers prefix)))),
           )
 
-      -- a front of what the answer did was written
-      pub stops_here : (r : Result (Ending × ℕ) PlayFault) (c : Held) → IsErr r → r ≡ Err fault.Write → SendsFront b c (pieces_sent line (count + 1) ps) → Feeds line plan script left a c r
-      stops_here r c is write front = rw write (front_here c front)
+      -- a prefix of what the answer did was written
+      pub stops_here : (r : Result (Ending × ℕ) PlayFault) (c : Outputs) → IsErr r → r ≡ Err fault.Write → SendsPrefix b c (pieces_sent line (count + 1) ps) → Feeds line plan script left a c r
+      stops_here r c is write prefix = rw write (prefix_here c prefix)

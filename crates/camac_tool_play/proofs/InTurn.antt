@@ -18,13 +18,13 @@ use Rattle.camac_answer.specs.declared.fault.AnswerFault.{AnswerFault}
 use Rattle.camac_answer.specs.declared.fault.AnswerFault.TheVariants.{OutOfMemory, Read, Broken}
 use Rattle.camac_report.specs.Items.{item_text}
 use Rattle.camac_run_machine.specs.Ends.{stop_in}
-use Rattle.camac_run_machine.specs.Runner.{Held as RunHeld, rest}
+use Rattle.camac_run_machine.specs.Runner.{RunnerState, rest}
 use Rattle.camac_run_machine.specs.declared.item.End.{End}
 use Rattle.camac_run_machine.specs.declared.item.End.TheVariants as end
 use Rattle.camac_tool_play.specs.InTurn.{HasRead, ReadsNoMore, FailsAtRead, PlaysInTurn, FeedsInTurn}
 use Rattle.camac_tool_play.specs.Play.{Gives, HasGiven, Feeds, run_sent, faulted, failed_by}
-use Rattle.camac_tool_play.specs.Played.{pieces_sent, ending, ending_of, ending_text, told, played}
-use Rattle.camac_tool_play.specs.Sent.{Held, Sends, SendsFront, SendsBy, Sent, to_listing, to_events}
+use Rattle.camac_tool_play.specs.Played.{pieces_sent, ending, ending_of, ending_text, report, played}
+use Rattle.camac_tool_play.specs.Sent.{Outputs, Sends, SendsPrefix, SendsBy, Sent, to_listing, to_events}
 use Rattle.camac_tool_play.specs.Step.{after, count_of, Does, Overruns, IsOut}
 use Rattle.camac_tool_play.specs.declared.ending.Ending.{Ending}
 use Rattle.camac_tool_play.specs.declared.ending.Ending.TheVariants as how
@@ -32,7 +32,7 @@ use Rattle.camac_tool_play.specs.declared.fault.PlayFault.{PlayFault}
 use Rattle.camac_tool_play.specs.declared.fault.PlayFault.TheVariants as fault
 use Rattle.camac_tool_play.proofs.Fed.{IsFed, pieces_now, then_taken, left_then, run_then, run_on}
 use Rattle.camac_tool_play.proofs.Pieces.{pieces-after, stop_of-after, pieces_sent-append}
-use Rattle.camac_tool_play.proofs.Sending.{Sends-trans, SendsFront-longer, SendsFront-after}
+use Rattle.camac_tool_play.proofs.Sending.{Sends-trans, SendsPrefix-longer, SendsPrefix-after}
 use Rattle.camac_tool_play.proofs.Whole.{finishes}
 
 -- a run that is out of answers did not stop at a wait
@@ -53,7 +53,7 @@ open_is stage r n m old new s e h =
 pub one_more : (n m : ℕ) (taken : List Answer) (answer : Answer) → m ≡ n + 1 → n ≡ length taken → m ≡ length (taken ++ answer ∷ [])
 one_more n m taken answer e f = let l = length-append taken (answer ∷ []) in omega (arith, e, f, l)
 
-module _ (line : Piece → List ℕ) (plan : Layout) (script : Script) (left now : Option Reading) (a b : Held) (runner : RunHeld) (count : ℕ) (fed : IsFed line plan script left now a b runner count) where
+module _ (line : Piece → List ℕ) (plan : Layout) (script : Script) (left now : Option Reading) (a b : Outputs) (runner : RunnerState) (count : ℕ) (fed : IsFed line plan script left now a b runner count) where
   -- a read failed
   pub reads_fail : (before text : Option (List ℕ)) → count < 2 ^ 32 → now ≡ left_in Running (length fed.taken) before → IsOpen (window (length fed.taken)) before text → pieces (rest runner []) ≡ [] → FailsAtRead plan script left text (λ taken. Sends a b (run_sent line plan script taken))
   reads_fail before text few same open' quiet =
@@ -83,10 +83,10 @@ module _ (line : Piece → List ℕ) (plan : Layout) (script : Script) (left now
         let stop : stop_of (the_run plan script taken) ≡ Some (overrun o.c o.wait) = ap (λ (y : Behaviour (Unit {0})). stop_of y) run ∙ stop_of-after fed.done (stops (overrun o.c o.wait) x.0) in
         (taken, has_read same, ap (λ (y : Option Stop). ending_of y None) stop)
 
-    -- a front of what the answer did was written
-    pub front_in_turn : (runner' : RunHeld) (ps : List Piece) → Does runner answer runner' ps → (c : Held) → SendsFront b c (pieces_sent line (count + 1) ps) → new ≡ left_in Running (length taken) text
-        → (taken' : List Answer) × HasRead left text taken' × SendsFront a c (run_sent line plan script taken')
-    front_in_turn runner' ps did c front same =
+    -- a prefix of what the answer did was written
+    pub prefix_in_turn : (runner' : RunnerState) (ps : List Piece) → Does runner answer runner' ps → (c : Outputs) → SendsPrefix b c (pieces_sent line (count + 1) ps) → new ≡ left_in Running (length taken) text
+        → (taken' : List Answer) × HasRead left text taken' × SendsPrefix a c (run_sent line plan script taken')
+    prefix_in_turn runner' ps did c prefix same =
         let more' : List Piece = pieces (rest runner' []) in
         let k : ℕ = 1 + count_of fed.done in
         let number : count + 1 ≡ k = omega (arith, fed.counted) in
@@ -99,13 +99,13 @@ module _ (line : Piece → List ℕ) (plan : Layout) (script : Script) (left now
         ap (pieces_sent line 1) all ∙ pieces_sent-append line 1 (fed.done ++ ps) more' ∙ ap (λ (l : List Sent). l ++ later) (pieces_sent-append line 1 fed.done ps) in (
           taken,
           has_read same,
-          subst (λ (l : List Sent). SendsFront a c l) (sym sent)
-              (SendsFront-longer a c (pieces_sent line 1 fed.done ++ pieces_sent line k ps) later
-              (SendsFront-after a b c (pieces_sent line 1 fed.done) (pieces_sent line k ps) fed.sent (subst (λ (j : ℕ). SendsFront b c (pieces_sent line j ps)) number front))),
+          subst (λ (l : List Sent). SendsPrefix a c l) (sym sent)
+              (SendsPrefix-longer a c (pieces_sent line 1 fed.done ++ pieces_sent line k ps) later
+              (SendsPrefix-after a b c (pieces_sent line 1 fed.done) (pieces_sent line k ps) fed.sent (subst (λ (j : ℕ). SendsPrefix b c (pieces_sent line j ps)) number prefix))),
         )
 
 -- the text has a fault where the next answer is wanted
-pub faults_in_turn : (plan : Layout) (script : Script) (left now : Option Reading) (a b : Held) (runner : RunHeld) (count : ℕ) (fed : IsFed (item_text script) plan script left now a b runner count) (before text : Option (List ℕ)) (f : AnswerFault)
+pub faults_in_turn : (plan : Layout) (script : Script) (left now : Option Reading) (a b : Outputs) (runner : RunnerState) (count : ℕ) (fed : IsFed (item_text script) plan script left now a b runner count) (before text : Option (List ℕ)) (f : AnswerFault)
     → count < 2 ^ 32 → now ≡ left_in Running (length fed.taken) before → FailsInOpenLine Running (Err f) (length fed.taken) before text → is_memory_failure (failed_by f) ≡ false → pieces (rest runner []) ≡ [] → FeedsInTurn plan script left text a b (faulted f count)
 faults_in_turn plan script left now a b runner count fed before text OutOfMemory few same open' fine quiet = cc
 faults_in_turn plan script left now a b runner count fed before text Read few same open' fine quiet = reads_fail (item_text script) plan script left now a b runner count fed before text few same open' quiet
@@ -115,28 +115,28 @@ module _ (plan : Layout) (script : Script) (left : Option Reading) (text : Optio
   abbrev start : List Sent
   start = to_events (header Two)
 
-  -- a front of the header was written, and no answer was read
-  pub header_in_turn : (a b : Held) (r : Result Ending PlayFault) → r ≡ Err fault.Write → left ≡ left_in Running 0 text → SendsFront a b start → PlaysInTurn plan script left text a b r
-  header_in_turn a b r write same front =
+  -- a prefix of the header was written, and no answer was read
+  pub header_in_turn : (a b : Outputs) (r : Result Ending PlayFault) → r ≡ Err fault.Write → left ≡ left_in Running 0 text → SendsPrefix a b start → PlaysInTurn plan script left text a b r
+  header_in_turn a b r write same prefix =
       let given : HasGiven left (left_in Running 0 text) [] = λ (whole : Reading) (e : left ≡ Some whole). (whole, sym same ∙ e, refl) in
-      rw write (inl ([], given, SendsFront-longer a b start (run_sent (item_text script) plan script []) front))
+      rw write (inl ([], given, SendsPrefix-longer a b start (run_sent (item_text script) plan script []) prefix))
 
-  module _ (a b : Held) (begun : Sends a b start) where
-    stopped : (c : Held) (f : PlayFault) → FeedsInTurn plan script left text b c (Err f) → PlaysInTurn plan script left text a c (Err f)
-    stopped c fault.Write (taken, read, front) = inl (taken, read, SendsFront-after a b c start (run_sent (item_text script) plan script taken) begun front)
+  module _ (a b : Outputs) (begun : Sends a b start) where
+    stopped : (c : Outputs) (f : PlayFault) → FeedsInTurn plan script left text b c (Err f) → PlaysInTurn plan script left text a c (Err f)
+    stopped c fault.Write (taken, read, prefix) = inl (taken, read, SendsPrefix-after a b c start (run_sent (item_text script) plan script taken) begun prefix)
     stopped c fault.Read (taken, before, read, open', few, sends) = (taken, before, read, open', few, Sends-trans a b c start (run_sent (item_text script) plan script taken) begun sends)
 
-    pub run_in_turn : (c : Held) (f : PlayFault) (r : Result Ending PlayFault) → r ≡ Err f → FeedsInTurn plan script left text b c (Err f) → PlaysInTurn plan script left text a c r
+    pub run_in_turn : (c : Outputs) (f : PlayFault) (r : Result Ending PlayFault) → r ≡ Err f → FeedsInTurn plan script left text b c (Err f) → PlaysInTurn plan script left text a c r
     run_in_turn c f r is feeds = rw is (stopped c f feeds)
 
-    -- the last line was written, or a front of it
-    pub end_in_turn : (c d : Held) (e : Ending) (n : ℕ) (r : Result Ending PlayFault) → Feeds (item_text script) plan script left b c (Ok (e, n)) → FeedsInTurn plan script left text b c (Ok (e, n)) → IfOk r (λ x. x ≡ e) → IfErr r (λ f. f ≡ fault.Write) → SendsBy c d r (to_listing (ending_text e n)) → PlaysInTurn plan script left text a d r
+    -- the last line was written, or a prefix of it
+    pub end_in_turn : (c d : Outputs) (e : Ending) (n : ℕ) (r : Result Ending PlayFault) → Feeds (item_text script) plan script left b c (Ok (e, n)) → FeedsInTurn plan script left text b c (Ok (e, n)) → IfOk r (λ x. x ≡ e) → IfErr r (λ f. f ≡ fault.Write) → SendsBy c d r (to_listing (ending_text e n)) → PlaysInTurn plan script left text a d r
     end_in_turn c d e n (Ok x) feeds turn is write sent = subst (λ (y : Ending). ReadsNoMore plan script left text y) (sym is) turn
     end_in_turn c d e n (Err f) feeds turn is write sent =
         let whole = finishes plan script left a b begun c d e n (Err fault.Write) feeds tt refl sent in
         rw write (inr whole)
 
 -- along what is left of the answers
-pub in_turn_along : (plan : Layout) (script : Script) (l l' : Option Reading) (t t' : Option (List ℕ)) (a b : Held) (r : Result Ending PlayFault) → l ≡ l' → t ≡ t' → PlaysInTurn plan script l t a b r → PlaysInTurn plan script l' t' a b r
+pub in_turn_along : (plan : Layout) (script : Script) (l l' : Option Reading) (t t' : Option (List ℕ)) (a b : Outputs) (r : Result Ending PlayFault) → l ≡ l' → t ≡ t' → PlaysInTurn plan script l t a b r → PlaysInTurn plan script l' t' a b r
 in_turn_along plan script l l' t t' a b r e f d =
     subst (λ (x : Option (List ℕ)). PlaysInTurn plan script l' x a b r) f (subst (λ (x : Option Reading). PlaysInTurn plan script x t a b r) e d)

@@ -16,9 +16,9 @@ use Rattle.camac_answer.specs.declared.fault.AnswerFault.TheVariants.{OutOfMemor
 use Rattle.camac_answer.specs.declared.fault.AnswerRule.{AnswerRule}
 use Rattle.camac_report.specs.Requests.{request_text, live_text}
 use Rattle.camac_run_machine.specs.Ends.{stop_in}
-use Rattle.camac_run_machine.specs.Held.{piece_of}
+use Rattle.camac_run_machine.specs.MachineState.{piece_of}
 use Rattle.camac_run_machine.specs.Operation.{operation_of, quiet_answer, wanted_after, Begins, Wants}
-use Rattle.camac_run_machine.specs.Runner.{Held as RunHeld, rest}
+use Rattle.camac_run_machine.specs.Runner.{RunnerState, rest}
 use Rattle.camac_run_machine.specs.declared.item.End.{End}
 use Rattle.camac_run_machine.specs.declared.item.End.TheVariants as end
 use Rattle.camac_run_machine.specs.declared.item.Item.{Item}
@@ -29,7 +29,7 @@ use Rattle.camac_tool_play.specs.InTurn.{HasRead, ReadsNoMore, FailsAtRead}
 use Rattle.camac_tool_play.specs.Live.{open_request, live_sent, Asks}
 use Rattle.camac_tool_play.specs.Play.{Gives, HasGiven, with_taken, run_sent, faulted, failed_by}
 use Rattle.camac_tool_play.specs.Played.{pieces_sent, ending, ending_of}
-use Rattle.camac_tool_play.specs.Sent.{Held, Sends, SendsFront, Sent, to_listing}
+use Rattle.camac_tool_play.specs.Sent.{Outputs, Sends, SendsPrefix, Sent, to_listing}
 use Rattle.camac_tool_play.specs.Step.{after, count_of, Does, Overruns, IsOut}
 use Rattle.camac_tool_play.specs.declared.ending.Ending.{Ending}
 use Rattle.camac_tool_play.specs.declared.ending.Ending.TheVariants as how
@@ -38,7 +38,7 @@ use Rattle.camac_tool_play.specs.declared.fault.PlayFault.TheVariants as fault
 use Rattle.camac_tool_play.proofs.Fed.{IsFed, pieces_now, counts_now, stop_now, few_now, given_end, given_fault, given_all, known, refused_by, ends_by, then_taken, left_then, run_then, run_on, goes_on}
 use Rattle.camac_tool_play.proofs.InTurn.{no_overrun}
 use Rattle.camac_tool_play.proofs.Pieces.{pieces-after, stop_of-after, pieces_sent-append, first_sent}
-use Rattle.camac_tool_play.proofs.Sending.{Sends-trans, SendsFront-longer, SendsFront-after}
+use Rattle.camac_tool_play.proofs.Sending.{Sends-trans, SendsPrefix-longer, SendsPrefix-after}
 
 -- with no wait the operation is made
 made : {A : Type 0} (o : Wanted) (b : Behaviour A) → Begins o quiet_answer b → (p : Piece) × (rest : Behaviour A) × (b ≡ does p rest) × (operation_of p ≡ Some o)
@@ -68,7 +68,7 @@ asked_is (item.Lock c w) o h = (ap (λ x. request_text (unwrap_or x wanted.Deman
 asked_is (item.Unlock c) o h = cc
 asked_is (item.Demand p v) o h = (ap (λ x. request_text (unwrap_or x wanted.Demand)) h, refl)
 
-module _ (plan : Layout) (script : Script) (left now : Option Reading) (a b : Held) (runner : RunHeld) (count : ℕ) (fed : IsFed live_text plan script left now a b runner count)
+module _ (plan : Layout) (script : Script) (left now : Option Reading) (a b : Outputs) (runner : RunnerState) (count : ℕ) (fed : IsFed live_text plan script left now a b runner count)
     (quiet : pieces (rest runner []) ≡ []) (used : uses fed.done ≡ length fed.taken) (o : Wanted) (wants : Wants runner (Some o)) where
   did : pieces (the_run plan script fed.taken) ≡ fed.done
   did = ap (λ (answers : List Answer). pieces (the_run plan script answers)) (sym (append-nil fed.taken)) ∙ pieces_now live_text plan script left now a b runner count fed quiet
@@ -99,15 +99,15 @@ module _ (plan : Layout) (script : Script) (left now : Option Reading) (a b : He
       ap (λ (ps : List Piece). pieces_sent live_text 1 ps ++ to_listing (open_request plan script fed.taken)) did
       ∙ ap (λ (t : List ℕ). pieces_sent live_text 1 fed.done ++ to_listing t) open_now
 
-  -- a front of the request was written
-  pub stops_asking : (r : Result (Ending × ℕ) PlayFault) (text : Option (List ℕ)) (c : Held) → r ≡ Err fault.Write → now ≡ left_in Running (length fed.taken) text → SendsFront b c (to_listing (request_text o)) → Asks plan script left text a c r
-  stops_asking r text c write same front = rw write (
+  -- a prefix of the request was written
+  pub stops_asking : (r : Result (Ending × ℕ) PlayFault) (text : Option (List ℕ)) (c : Outputs) → r ≡ Err fault.Write → now ≡ left_in Running (length fed.taken) text → SendsPrefix b c (to_listing (request_text o)) → Asks plan script left text a c r
+  stops_asking r text c write same prefix = rw write (
     fed.taken,
     subst (λ (n : Option Reading). HasGiven left n fed.taken) same fed.given,
-    subst (λ (l : List Sent). SendsFront a c l) (sym live_now) (SendsFront-after a b c (pieces_sent live_text 1 fed.done) (to_listing (request_text o)) fed.sent front),
+    subst (λ (l : List Sent). SendsPrefix a c l) (sym live_now) (SendsPrefix-after a b c (pieces_sent live_text 1 fed.done) (to_listing (request_text o)) fed.sent prefix),
   )
 
-  module _ (c : Held) (asks : Sends b c (to_listing (request_text o))) where
+  module _ (c : Outputs) (asks : Sends b c (to_listing (request_text o))) where
     sends_all : Sends a c (live_sent plan script fed.taken)
     sends_all = subst (λ (l : List Sent). Sends a c l) (sym live_now) (Sends-trans a b c (pieces_sent live_text 1 fed.done) (to_listing (request_text o)) fed.sent asks)
 
@@ -165,7 +165,7 @@ module _ (plan : Layout) (script : Script) (left now : Option Reading) (a b : He
       run_taken : (answers : List Answer) → the_run plan script (taken ++ answers) ≡ after fed.done (rest runner (answer ∷ answers))
       run_taken = run_then live_text plan script left now a b runner count fed new answer given
 
-      module _ (d : Held) (halt : Overrun) (halts : Overruns runner answer halt) (silent : Sends c d []) where
+      module _ (d : Outputs) (halt : Overrun) (halts : Overruns runner answer halt) (silent : Sends c d []) where
         stopped : (answers : List Answer) → (pieces (the_run plan script (taken ++ answers)) ≡ fed.done) × (stop_of (the_run plan script (taken ++ answers)) ≡ Some (overrun halt.c halt.wait))
         stopped answers =
             let x = halts answers in
@@ -199,7 +199,7 @@ module _ (plan : Layout) (script : Script) (left now : Option Reading) (a b : He
                   (Sends-trans a b c (pieces_sent live_text 1 fed.done) (to_listing (request_text o)) fed.sent asks) silent),
             )
 
-      module _ (runner' : RunHeld) (told : Item) (ps : List Piece) (does' : Does runner answer runner' (piece_of told ∷ ps)) where
+      module _ (runner' : RunnerState) (told : Item) (ps : List Piece) (does' : Does runner answer runner' (piece_of told ∷ ps)) where
         pub told_is : operation_of (piece_of told) ≡ Some o
         told_is = subst (λ (x : Behaviour (Unit {0})). Begins o answer x) (does'.run []) (wants.1 answer [])
 
@@ -209,7 +209,7 @@ module _ (plan : Layout) (script : Script) (left now : Option Reading) (a b : He
             first_sent live_text (λ k. refl) (λ e. refl) (count + 1) told ps
             ∙ ap (λ (t : List ℕ). to_listing t ++ pieces_sent live_text (count + 1) ps) (asked_is told o told_is).0
 
-        abbrev pub goes_live : (d : Held) (n : ℕ) → n ≡ count + count_of (piece_of told ∷ ps) → Sends c d (pieces_sent live_text (count + 1) ps) → IsFed live_text plan script left new a d runner' n
+        abbrev pub goes_live : (d : Outputs) (n : ℕ) → n ≡ count + count_of (piece_of told ∷ ps) → Sends c d (pieces_sent live_text (count + 1) ps) → IsFed live_text plan script left new a d runner' n
         goes_live d n counts sends =
             goes_on live_text plan script left now a b runner count fed new answer given runner' (piece_of told ∷ ps) does' d n counts
             (subst (λ (l : List Sent). Sends b d l) (sym as_sent) (Sends-trans b c d (to_listing (request_text o)) (pieces_sent live_text (count + 1) ps) asks sends))
@@ -221,9 +221,9 @@ module _ (plan : Layout) (script : Script) (left now : Option Reading) (a b : He
             let len = length-append fed.taken (answer ∷ []) in
             omega (arith, one, sum, len, used, none)
 
-        -- a front of what followed was written
-        pub stops_live : (r : Result (Ending × ℕ) PlayFault) (d : Held) → r ≡ Err fault.Write → new ≡ left_in Running (length taken) text → SendsFront c d (pieces_sent live_text (count + 1) ps) → Asks plan script left text a d r
-        stops_live r d write same front =
+        -- a prefix of what followed was written
+        pub stops_live : (r : Result (Ending × ℕ) PlayFault) (d : Outputs) → r ≡ Err fault.Write → new ≡ left_in Running (length taken) text → SendsPrefix c d (pieces_sent live_text (count + 1) ps) → Asks plan script left text a d r
+        stops_live r d write same prefix =
             let all : List Piece = piece_of told ∷ ps in
             let more' : List Piece = pieces (rest runner' []) in
             let k : ℕ = 1 + count_of fed.done in
@@ -236,14 +236,14 @@ module _ (plan : Layout) (script : Script) (left now : Option Reading) (a b : He
             let sent : run_sent live_text plan script taken ≡ (pieces_sent live_text 1 fed.done ++ pieces_sent live_text k all) ++ later =
             ap (pieces_sent live_text 1) did_all ∙ pieces_sent-append live_text 1 (fed.done ++ all) more'
             ∙ ap (λ (l : List Sent). l ++ later) (pieces_sent-append live_text 1 fed.done all) in
-            let here : SendsFront b d (pieces_sent live_text k all) =
-            subst (λ (j : ℕ). SendsFront b d (pieces_sent live_text j all)) number
-            (subst (λ (l : List Sent). SendsFront b d l) (sym as_sent) (SendsFront-after b c d (to_listing (request_text o)) (pieces_sent live_text (count + 1) ps) asks front)) in
+            let here : SendsPrefix b d (pieces_sent live_text k all) =
+            subst (λ (j : ℕ). SendsPrefix b d (pieces_sent live_text j all)) number
+            (subst (λ (l : List Sent). SendsPrefix b d l) (sym as_sent) (SendsPrefix-after b c d (to_listing (request_text o)) (pieces_sent live_text (count + 1) ps) asks prefix)) in
             rw write (
               taken,
               has_read same,
-              SendsFront-longer a d (run_sent live_text plan script taken) (to_listing (open_request plan script taken))
-                  (subst (λ (l : List Sent). SendsFront a d l) (sym sent)
-                  (SendsFront-longer a d (pieces_sent live_text 1 fed.done ++ pieces_sent live_text k all) later
-                  (SendsFront-after a b d (pieces_sent live_text 1 fed.done) (pieces_sent live_text k all) fed.sent here))),
+              SendsPrefix-longer a d (run_sent live_text plan script taken) (to_listing (open_request plan script taken))
+                  (subst (λ (l : List Sent). SendsPrefix a d l) (sym sent)
+                  (SendsPrefix-longer a d (pieces_sent live_text 1 fed.done ++ pieces_sent live_text k all) later
+                  (SendsPrefix-after a b d (pieces_sent live_text 1 fed.done) (pieces_sent live_text k all) fed.sent here))),
             )

@@ -4,8 +4,8 @@ use Rattle.std.specs.Prelude.{Result, Ok, Err}
 use Rattle.std.specs.Result.{IsErr}
 use Rattle.std.specs.Io.KnownBytes.{Appends}
 use Rattle.std.proofs.KnownBytes.{Appends-trans}
-use Rattle.camac_word.specs.Writing.{AppendsFront, Writes}
-use Rattle.camac_tool_play.specs.Sent.{Sent, listed, recorded, to_listing, to_events, listing_of, events_of, Held, held, Sends, SendsFront, SendsBy}
+use Rattle.camac_word.specs.Writing.{AppendsPrefix, Writes}
+use Rattle.camac_tool_play.specs.Sent.{Sent, listed, recorded, to_listing, to_events, listing_of, events_of, Outputs, outputs, Sends, SendsPrefix, SendsBy}
 
 pub listing_of-append : (a b : List Sent) → listing_of (a ++ b) ≡ listing_of a ++ listing_of b
 listing_of-append [] b = refl
@@ -53,59 +53,59 @@ stays : (a : Option (List ℕ)) (t : List ℕ) → t ≡ [] → Appends a a t
 stays None t e = tt
 stays (Some xs) t e = sym (ap (λ (l : List ℕ). xs ++ l) e ∙ append-nil xs)
 
-pub sends_nothing : (a : Held) → Sends a a []
+pub sends_nothing : (a : Outputs) → Sends a a []
 sends_nothing a = record { listing = stays a.listing [] refl; events = stays a.events [] refl }
 
-pub sends_listing : (l m e : Option (List ℕ)) (t : List ℕ) → Appends l m t → Sends (held l e) (held m e) (to_listing t)
+pub sends_listing : (l m e : Option (List ℕ)) (t : List ℕ) → Appends l m t → Sends (outputs l e) (outputs m e) (to_listing t)
 sends_listing l m e t p = record {
   listing = subst (λ (x : List ℕ). Appends l m x) (sym (listing_listed t)) p;
   events = stays e (events_of (to_listing t)) (events_listed t);
 }
 
-pub sends_events : (l e f : Option (List ℕ)) (t : List ℕ) → Appends e f t → Sends (held l e) (held l f) (to_events t)
+pub sends_events : (l e f : Option (List ℕ)) (t : List ℕ) → Appends e f t → Sends (outputs l e) (outputs l f) (to_events t)
 sends_events l e f t p = record {
   listing = stays l (listing_of (to_events t)) (listing_recorded t);
   events = subst (λ (x : List ℕ). Appends e f x) (sym (events_recorded t)) p;
 }
 
-pub front_listing : (l m e : Option (List ℕ)) (t : List ℕ) → AppendsFront l m t → SendsFront (held l e) (held m e) (to_listing t)
-front_listing l m e t (front, rest, split, some, p) =
-    (to_listing front, to_listing rest, ap to_listing split ∙ to_listing-append front rest, some_listed rest some, sends_listing l m e front p)
+pub prefix_listing : (l m e : Option (List ℕ)) (t : List ℕ) → AppendsPrefix l m t → SendsPrefix (outputs l e) (outputs m e) (to_listing t)
+prefix_listing l m e t (prefix, rest, split, some, p) =
+    (to_listing prefix, to_listing rest, ap to_listing split ∙ to_listing-append prefix rest, some_listed rest some, sends_listing l m e prefix p)
 
-pub front_events : (l e f : Option (List ℕ)) (t : List ℕ) → AppendsFront e f t → SendsFront (held l e) (held l f) (to_events t)
-front_events l e f t (front, rest, split, some, p) =
-    (to_events front, to_events rest, ap to_events split ∙ to_events-append front rest, some_recorded rest some, sends_events l e f front p)
+pub prefix_events : (l e f : Option (List ℕ)) (t : List ℕ) → AppendsPrefix e f t → SendsPrefix (outputs l e) (outputs l f) (to_events t)
+prefix_events l e f t (prefix, rest, split, some, p) =
+    (to_events prefix, to_events rest, ap to_events split ∙ to_events-append prefix rest, some_recorded rest some, sends_events l e f prefix p)
 
-pub Sends-trans : (a b c : Held) (x y : List Sent) → Sends a b x → Sends b c y → Sends a c (x ++ y)
+pub Sends-trans : (a b c : Outputs) (x y : List Sent) → Sends a b x → Sends b c y → Sends a c (x ++ y)
 Sends-trans a b c x y p q = record {
   listing = subst (λ (l : List ℕ). Appends a.listing c.listing l) (sym (listing_of-append x y)) (Appends-trans a.listing b.listing c.listing (listing_of x) (listing_of y) p.listing q.listing);
   events = subst (λ (l : List ℕ). Appends a.events c.events l) (sym (events_of-append x y)) (Appends-trans a.events b.events c.events (events_of x) (events_of y) p.events q.events);
 }
 
--- a front of the first text
-pub SendsFront-longer : (a c : Held) (x y : List Sent) → SendsFront a c x → SendsFront a c (x ++ y)
-SendsFront-longer a c x y (front, rest, split, some, p) =
-    (front, rest ++ y, ap (λ (l : List Sent). l ++ y) split ∙ append_assoc front rest y, omega (arith, length-append rest y), p)
+-- a prefix of the first text
+pub SendsPrefix-longer : (a c : Outputs) (x y : List Sent) → SendsPrefix a c x → SendsPrefix a c (x ++ y)
+SendsPrefix-longer a c x y (prefix, rest, split, some, p) =
+    (prefix, rest ++ y, ap (λ (l : List Sent). l ++ y) split ∙ append_assoc prefix rest y, omega (arith, length-append rest y), p)
 
--- a front of the second text
-pub SendsFront-after : (a b c : Held) (x y : List Sent) → Sends a b x → SendsFront b c y → SendsFront a c (x ++ y)
-SendsFront-after a b c x y p (front, rest, split, some, q) =
-    (x ++ front, rest, ap (λ (l : List Sent). x ++ l) split ∙ sym (append_assoc x front rest), some, Sends-trans a b c x front p q)
+-- a prefix of the second text
+pub SendsPrefix-after : (a b c : Outputs) (x y : List Sent) → Sends a b x → SendsPrefix b c y → SendsPrefix a c (x ++ y)
+SendsPrefix-after a b c x y p (prefix, rest, split, some, q) =
+    (x ++ prefix, rest, ap (λ (l : List Sent). x ++ l) split ∙ sym (append_assoc x prefix rest), some, Sends-trans a b c x prefix p q)
 
 -- the second text, as far as it went
-pub SendsBy-after : {T E : Type 0} (r : Result T E) (a b c : Held) (x y : List Sent) → Sends a b x → SendsBy b c r y → SendsBy a c r (x ++ y)
+pub SendsBy-after : {T E : Type 0} (r : Result T E) (a b c : Outputs) (x y : List Sent) → Sends a b x → SendsBy b c r y → SendsBy a c r (x ++ y)
 SendsBy-after (Ok v) a b c x y p q = Sends-trans a b c x y p q
-SendsBy-after (Err e) a b c x y p q = SendsFront-after a b c x y p q
+SendsBy-after (Err e) a b c x y p q = SendsPrefix-after a b c x y p q
 
-pub SendsBy-at_err : {T E : Type 0} (r : Result T E) (a c : Held) (x : List Sent) → IsErr r → SendsFront a c x → SendsBy a c r x
-SendsBy-at_err (Ok v) a c x is front = cc
-SendsBy-at_err (Err e) a c x is front = front
+pub SendsBy-at_err : {T E : Type 0} (r : Result T E) (a c : Outputs) (x : List Sent) → IsErr r → SendsPrefix a c x → SendsBy a c r x
+SendsBy-at_err (Ok v) a c x is prefix = cc
+SendsBy-at_err (Err e) a c x is prefix = prefix
 
 -- a text for one of the writers, as far as it went
-pub by_listing : {T E : Type 0} (r : Result T E) (l m e : Option (List ℕ)) (t : List ℕ) → Writes l m r t → SendsBy (held l e) (held m e) r (to_listing t)
+pub by_listing : {T E : Type 0} (r : Result T E) (l m e : Option (List ℕ)) (t : List ℕ) → Writes l m r t → SendsBy (outputs l e) (outputs m e) r (to_listing t)
 by_listing (Ok v) l m e t p = sends_listing l m e t p
-by_listing (Err x) l m e t p = front_listing l m e t p
+by_listing (Err x) l m e t p = prefix_listing l m e t p
 
-pub by_events : {T E : Type 0} (r : Result T E) (l e f : Option (List ℕ)) (t : List ℕ) → Writes e f r t → SendsBy (held l e) (held l f) r (to_events t)
+pub by_events : {T E : Type 0} (r : Result T E) (l e f : Option (List ℕ)) (t : List ℕ) → Writes e f r t → SendsBy (outputs l e) (outputs l f) r (to_events t)
 by_events (Ok v) l e f t p = sends_events l e f t p
-by_events (Err x) l e f t p = front_events l e f t p
+by_events (Err x) l e f t p = prefix_events l e f t p

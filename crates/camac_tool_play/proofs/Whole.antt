@@ -10,13 +10,13 @@ use Rattle.camac_model.specs.Run.{the_run}
 use Rattle.camac_answer.specs.Reading.{Reading}
 use Rattle.camac_report.specs.Items.{item_text}
 use Rattle.camac_tool_play.specs.Play.{Gives, Plays, Feeds, run_sent}
-use Rattle.camac_tool_play.specs.Played.{ending_text, ending, played, told}
-use Rattle.camac_tool_play.specs.Sent.{Held, Sends, SendsFront, SendsBy, Sent, to_listing, to_events}
+use Rattle.camac_tool_play.specs.Played.{ending_text, ending, played, report}
+use Rattle.camac_tool_play.specs.Sent.{Outputs, Sends, SendsPrefix, SendsBy, Sent, to_listing, to_events}
 use Rattle.camac_tool_play.specs.declared.ending.Ending.{Ending}
 use Rattle.camac_tool_play.specs.declared.fault.PlayFault.{PlayFault}
 use Rattle.camac_tool_play.specs.declared.fault.PlayFault.TheVariants as fault
 use Rattle.camac_tool_play.proofs.Fed.{known}
-use Rattle.camac_tool_play.proofs.Sending.{Sends-trans, SendsFront-longer, SendsFront-after}
+use Rattle.camac_tool_play.proofs.Sending.{Sends-trans, SendsPrefix-longer, SendsPrefix-after}
 
 module _ (plan : Layout) (script : Script) (left : Option Reading) where
   abbrev start : List Sent
@@ -28,37 +28,37 @@ module _ (plan : Layout) (script : Script) (left : Option Reading) where
   all_known : Gives left (known left)
   all_known whole e = ap known (sym e)
 
-  front_of_told : (a b : Held) (r : Reading) → SendsFront a b (told plan script r.answers) → SendsFront a b (played plan script r)
-  front_of_told a b r front = SendsFront-longer a b (told plan script r.answers) (last r) front
+  prefix_of_report : (a b : Outputs) (r : Reading) → SendsPrefix a b (report plan script r.answers) → SendsPrefix a b (played plan script r)
+  prefix_of_report a b r prefix = SendsPrefix-longer a b (report plan script r.answers) (last r) prefix
 
-  -- a front of the header was written
-  pub stops_at_header : (a b : Held) (r : Result Ending PlayFault) → r ≡ Err fault.Write → SendsFront a b start → Plays plan script left a b r
-  stops_at_header a b r write front =
+  -- a prefix of the header was written
+  pub stops_at_header : (a b : Outputs) (r : Result Ending PlayFault) → r ≡ Err fault.Write → SendsPrefix a b start → Plays plan script left a b r
+  stops_at_header a b r write prefix =
       let x : Reading = known left in
-      rw write (x, all_known, front_of_told a b x (SendsFront-longer a b start (run_sent (item_text script) plan script x.answers) front))
+      rw write (x, all_known, prefix_of_report a b x (SendsPrefix-longer a b start (run_sent (item_text script) plan script x.answers) prefix))
 
-  module _ (a b : Held) (begun : Sends a b start) where
-    stops_by : (c : Held) (f : PlayFault) → Feeds (item_text script) plan script left b c (Err f) → Plays plan script left a c (Err f)
-    stops_by c fault.Write (r, gives, front) = (r, gives, front_of_told a c r (SendsFront-after a b c start (run_sent (item_text script) plan script r.answers) begun front))
+  module _ (a b : Outputs) (begun : Sends a b start) where
+    stops_by : (c : Outputs) (f : PlayFault) → Feeds (item_text script) plan script left b c (Err f) → Plays plan script left a c (Err f)
+    stops_by c fault.Write (r, gives, prefix) = (r, gives, prefix_of_report a c r (SendsPrefix-after a b c start (run_sent (item_text script) plan script r.answers) begun prefix))
     stops_by c fault.Read (taken, first, few, sends) = (taken, first, Sends-trans a b c start (run_sent (item_text script) plan script taken) begun sends)
 
     -- the run stopped
-    pub stops_in_run : (c : Held) (f : PlayFault) (r : Result Ending PlayFault) → r ≡ Err f → Feeds (item_text script) plan script left b c (Err f) → Plays plan script left a c r
+    pub stops_in_run : (c : Outputs) (f : PlayFault) (r : Result Ending PlayFault) → r ≡ Err f → Feeds (item_text script) plan script left b c (Err f) → Plays plan script left a c r
     stops_in_run c f r is feeds = rw is (stops_by c f feeds)
 
     -- the run came to its last line
-    pub finishes : (c d : Held) (e : Ending) (n : ℕ) (r : Result Ending PlayFault) → Feeds (item_text script) plan script left b c (Ok (e, n)) → IfOk r (λ x. x ≡ e) → IfErr r (λ f. f ≡ fault.Write) → SendsBy c d r (to_listing (ending_text e n)) → Plays plan script left a d r
+    pub finishes : (c d : Outputs) (e : Ending) (n : ℕ) (r : Result Ending PlayFault) → Feeds (item_text script) plan script left b c (Ok (e, n)) → IfOk r (λ x. x ≡ e) → IfErr r (λ f. f ≡ fault.Write) → SendsBy c d r (to_listing (ending_text e n)) → Plays plan script left a d r
     finishes c d e n (Ok x) (r, gives, same, count, sends) is write sent =
         let line : to_listing (ending_text e n) ≡ last r = ap (λ (y : Ending). to_listing (ending_text y n)) same ∙ ap (λ (k : ℕ). to_listing (ending_text (ending plan script r) k)) count in (
           r,
           gives,
           is ∙ same,
-          Sends-trans a c d (told plan script r.answers) (last r) (Sends-trans a b c start (run_sent (item_text script) plan script r.answers) begun sends) (subst (λ (l : List Sent). Sends c d l) line sent),
+          Sends-trans a c d (report plan script r.answers) (last r) (Sends-trans a b c start (run_sent (item_text script) plan script r.answers) begun sends) (subst (λ (l : List Sent). Sends c d l) line sent),
         )
     finishes c d e n (Err f) (r, gives, same, count, sends) is write sent =
         let line : to_listing (ending_text e n) ≡ last r = ap (λ (y : Ending). to_listing (ending_text y n)) same ∙ ap (λ (k : ℕ). to_listing (ending_text (ending plan script r) k)) count in
         rw write (
           r,
           gives,
-          SendsFront-after a c d (told plan script r.answers) (last r) (Sends-trans a b c start (run_sent (item_text script) plan script r.answers) begun sends) (subst (λ (l : List Sent). SendsFront c d l) line sent),
+          SendsPrefix-after a c d (report plan script r.answers) (last r) (Sends-trans a b c start (run_sent (item_text script) plan script r.answers) begun sends) (subst (λ (l : List Sent). SendsPrefix c d l) line sent),
         )

@@ -11,16 +11,16 @@ use Rattle.camac_run.specs.Requested.{IsSafeRequest}
 use Rattle.camac_run_machine.specs.Operation.{wanted_after}
 use Rattle.camac_tool_play.specs.Live.{used_of}
 use Rattle.camac_tool_play.specs.Play.{Gives, GivesFirst}
-use Rattle.camac_tool_play.specs.Played.{told, played}
+use Rattle.camac_tool_play.specs.Played.{report, played}
 use Rattle.camac_tool_play.specs.Sent.{events_of}
 use Rattle.camac_tool_play.specs.declared.ending.Ending.{Ending}
 use Rattle.camac_tool_play.specs.declared.fault.PlayFault.{PlayFault}
 use Rattle.camac_tool_play.specs.declared.fault.PlayFault.TheVariants as fault
 
 -- what is sent to the event file is the spelling of the run's events
-abbrev pub ToldSendsEventFile : Type 0
-ToldSendsEventFile =
-    (plan : Layout) (script : Script) (answers : List Answer) → events_of (told plan script answers) ≡ event_file plan script answers
+abbrev pub ReportSendsEventFile : Type 0
+ReportSendsEventFile =
+    (plan : Layout) (script : Script) (answers : List Answer) → events_of (report plan script answers) ≡ event_file plan script answers
 
 abbrev pub PlayedSendsEventFile : Type 0
 PlayedSendsEventFile =

@@ -11,8 +11,8 @@ use Rattle.camac_answer.specs.declared.answers.Stage.TheVariants.{Running}
 use Rattle.camac_report.specs.Items.{item_text}
 use Rattle.camac_run_machine.specs.declared.item.End.TheVariants as end
 use Rattle.camac_tool_play.specs.Play.{Gives, HasGiven, run_sent}
-use Rattle.camac_tool_play.specs.Played.{ending, told, played}
-use Rattle.camac_tool_play.specs.Sent.{Held, Sends, SendsFront}
+use Rattle.camac_tool_play.specs.Played.{ending, report, played}
+use Rattle.camac_tool_play.specs.Sent.{Outputs, Sends, SendsPrefix}
 use Rattle.camac_tool_play.specs.declared.ending.Ending.{Ending}
 use Rattle.camac_tool_play.specs.declared.ending.Ending.TheVariants as how
 use Rattle.camac_tool_play.specs.declared.fault.PlayFault.{PlayFault}
@@ -38,18 +38,18 @@ FailsAtRead plan script left now sends =
 
 -- At a failed write the answers that were read are those whose telling failed, or the last line failed; at a failed read all that belongs
 -- to the answers before it was written.
-abbrev pub PlaysInTurn : Layout → Script → Option Reading → Option (List ℕ) → Held → Held → Result Ending PlayFault → Type 0
+abbrev pub PlaysInTurn : Layout → Script → Option Reading → Option (List ℕ) → Outputs → Outputs → Result Ending PlayFault → Type 0
 PlaysInTurn plan script left now old new (Ok e) = ReadsNoMore plan script left now e
 PlaysInTurn plan script left now old new (Err fault.Write) =
-    ((taken : List Answer) × HasRead left now taken × SendsFront old new (told plan script taken))
-    ⊎ ((r : Reading) × Gives left r × SendsFront old new (played plan script r))
+    ((taken : List Answer) × HasRead left now taken × SendsPrefix old new (report plan script taken))
+    ⊎ ((r : Reading) × Gives left r × SendsPrefix old new (played plan script r))
 PlaysInTurn plan script left now old new (Err fault.Read) =
-    FailsAtRead plan script left now (λ taken. Sends old new (told plan script taken))
+    FailsAtRead plan script left now (λ taken. Sends old new (report plan script taken))
 
 -- the same after the header and before the last line
-abbrev pub FeedsInTurn : Layout → Script → Option Reading → Option (List ℕ) → Held → Held → Result (Ending × ℕ) PlayFault → Type 0
+abbrev pub FeedsInTurn : Layout → Script → Option Reading → Option (List ℕ) → Outputs → Outputs → Result (Ending × ℕ) PlayFault → Type 0
 FeedsInTurn plan script left now old new (Ok v) = ReadsNoMore plan script left now v.0
 FeedsInTurn plan script left now old new (Err fault.Write) =
-    (taken : List Answer) × HasRead left now taken × SendsFront old new (run_sent (item_text script) plan script taken)
+    (taken : List Answer) × HasRead left now taken × SendsPrefix old new (run_sent (item_text script) plan script taken)
 FeedsInTurn plan script left now old new (Err fault.Read) =
     FailsAtRead plan script left now (λ taken. Sends old new (run_sent (item_text script) plan script taken))

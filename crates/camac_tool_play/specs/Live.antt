@@ -10,14 +10,14 @@ use Rattle.camac_model.specs.Run.{the_run}
 use Rattle.camac_answer.specs.Reading.{Reading}
 use Rattle.camac_report.specs.Requests.{request_text, live_text}
 use Rattle.camac_run_machine.specs.Operation.{Wants, wanted_after}
-use Rattle.camac_run_machine.specs.Held.{piece_of}
-use Rattle.camac_run_machine.specs.Runner.{Held as RunHeld}
+use Rattle.camac_run_machine.specs.MachineState.{piece_of}
+use Rattle.camac_run_machine.specs.Runner.{RunnerState}
 use Rattle.camac_run_machine.specs.declared.item.Item.{Item}
 use Rattle.camac_run_machine.specs.declared.item.Wanted.{Wanted}
 use Rattle.camac_tool_play.specs.InTurn.{HasRead, ReadsNoMore, FailsAtRead}
 use Rattle.camac_tool_play.specs.Play.{Gives, run_sent}
 use Rattle.camac_tool_play.specs.Played.{pieces_sent, ending, ending_text}
-use Rattle.camac_tool_play.specs.Sent.{Held, Sends, SendsFront, Sent, to_listing, to_events}
+use Rattle.camac_tool_play.specs.Sent.{Outputs, Sends, SendsPrefix, Sent, to_listing, to_events}
 use Rattle.camac_tool_play.specs.Step.{Does, Overruns, count_of}
 use Rattle.camac_tool_play.specs.declared.ending.Ending.{Ending}
 use Rattle.camac_tool_play.specs.declared.fault.PlayFault.{PlayFault}
@@ -51,34 +51,34 @@ driven plan script r =
 
 -- All was written at an ending. After a write fault a prefix of what the answers that were read call for, or of all with the last line:
 -- so no answer is read before the request for it was written.
-abbrev pub Drives : Layout → Script → Option Reading → Option (List ℕ) → Held → Held → Result Ending PlayFault → Type 0
+abbrev pub Drives : Layout → Script → Option Reading → Option (List ℕ) → Outputs → Outputs → Result Ending PlayFault → Type 0
 Drives plan script left now old new (Ok e) =
     (r : Reading) × Gives left r × (e ≡ ending plan script r) × ReadsNoMore plan script left now e × Sends old new (driven plan script r)
 Drives plan script left now old new (Err fault.Write) =
-    ((taken : List Answer) × HasRead left now taken × SendsFront old new (asked plan script taken))
-    ⊎ ((r : Reading) × Gives left r × SendsFront old new (driven plan script r))
+    ((taken : List Answer) × HasRead left now taken × SendsPrefix old new (asked plan script taken))
+    ⊎ ((r : Reading) × Gives left r × SendsPrefix old new (driven plan script r))
 Drives plan script left now old new (Err fault.Read) =
     FailsAtRead plan script left now (λ taken. Sends old new (asked plan script taken))
 
 -- the same after the header and before the last line, with the number of events
-abbrev pub Asks : Layout → Script → Option Reading → Option (List ℕ) → Held → Held → Result (Ending × ℕ) PlayFault → Type 0
+abbrev pub Asks : Layout → Script → Option Reading → Option (List ℕ) → Outputs → Outputs → Result (Ending × ℕ) PlayFault → Type 0
 Asks plan script left now old new (Ok v) =
     (r : Reading) × Gives left r × (v.0 ≡ ending plan script r) × ReadsNoMore plan script left now v.0
     × (v.1 ≡ length (events (the_run plan script r.answers))) × Sends old new (live_sent plan script r.answers)
 Asks plan script left now old new (Err fault.Write) =
-    (taken : List Answer) × HasRead left now taken × SendsFront old new (live_sent plan script taken)
+    (taken : List Answer) × HasRead left now taken × SendsPrefix old new (live_sent plan script taken)
 Asks plan script left now old new (Err fault.Read) =
     FailsAtRead plan script left now (λ taken. Sends old new (live_sent plan script taken))
 
 -- the request of what the run wants was written, or a prefix of it
-abbrev pub Requests : {T E : Type 0} → RunHeld → (old new : Option (List ℕ)) → Result T E → Type 0
+abbrev pub Requests : {T E : Type 0} → RunnerState → (old new : Option (List ℕ)) → Result T E → Type 0
 Requests h old new r = (o : Wanted) × Wants h (Some o) × Writes old new r (request_text o)
 
 -- what followed the operation of an answer was written, or a prefix of it, or the run stopped
-abbrev pub FollowsBy : RunHeld → Answer → ℕ → Held → Held → Result Step WriteFault → RunHeld → Type 0
+abbrev pub FollowsBy : RunnerState → Answer → ℕ → Outputs → Outputs → Result Step WriteFault → RunnerState → Type 0
 FollowsBy old answer count a b (Ok (step.Went n)) new =
     (told : Item) × (ps : List Piece) × Does old answer new (piece_of told ∷ ps) × (uses ps ≡ 0) × (n ≡ count + count_of (piece_of told ∷ ps)) × (new.events ≡ n)
     × Sends a b (pieces_sent live_text (count + 1) ps)
 FollowsBy old answer count a b (Ok (step.Overrun o)) new = Overruns old answer o × Sends a b []
 FollowsBy old answer count a b (Err e) new =
-    (told : Item) × (ps : List Piece) × Does old answer new (piece_of told ∷ ps) × (uses ps ≡ 0) × SendsFront a b (pieces_sent live_text (count + 1) ps)
+    (told : Item) × (ps : List Piece) × Does old answer new (piece_of told ∷ ps) × (uses ps ≡ 0) × SendsPrefix a b (pieces_sent live_text (count + 1) ps)

@@ -8,8 +8,8 @@ use Rattle.camac_model.specs.Run.{the_run}
 use Rattle.camac_answer.specs.Reading.{Reading, Answered}
 use Rattle.camac_answer.specs.declared.fault.AnswerFault.{AnswerFault}
 use Rattle.camac_answer.specs.declared.fault.AnswerFault.TheVariants.{OutOfMemory, Read, Broken}
-use Rattle.camac_tool_play.specs.Played.{pieces_sent, told, ending, played}
-use Rattle.camac_tool_play.specs.Sent.{Held, Sends, SendsFront, Sent}
+use Rattle.camac_tool_play.specs.Played.{pieces_sent, report, ending, played}
+use Rattle.camac_tool_play.specs.Sent.{Outputs, Sends, SendsPrefix, Sent}
 use Rattle.camac_tool_play.specs.declared.ending.Ending.{Ending}
 use Rattle.camac_tool_play.specs.declared.ending.Ending.TheVariants.{Refused}
 use Rattle.camac_tool_play.specs.declared.fault.PlayFault.{PlayFault}
@@ -32,25 +32,25 @@ abbrev pub HasGiven : Option Reading → Option Reading → List Answer → Type
 HasGiven left now taken = (whole : Reading) → left ≡ Some whole → (r : Reading) × (now ≡ Some r) × (whole ≡ with_taken taken r)
 
 -- All was written at an ending; a prefix of it after a write fault; after a read fault what the run on the answers before it tells.
-abbrev pub Plays : Layout → Script → Option Reading → Held → Held → Result Ending PlayFault → Type 0
+abbrev pub Plays : Layout → Script → Option Reading → Outputs → Outputs → Result Ending PlayFault → Type 0
 Plays plan script left old new (Ok e) =
     (r : Reading) × Gives left r × (e ≡ ending plan script r) × Sends old new (played plan script r)
 Plays plan script left old new (Err fault.Write) =
-    (r : Reading) × Gives left r × SendsFront old new (played plan script r)
+    (r : Reading) × Gives left r × SendsPrefix old new (played plan script r)
 Plays plan script left old new (Err fault.Read) =
-    (taken : List Answer) × GivesFirst left taken × Sends old new (told plan script taken)
+    (taken : List Answer) × GivesFirst left taken × Sends old new (report plan script taken)
 
 -- what a run tells on these answers, after the header of its event file
 abbrev pub run_sent : (Piece → List ℕ) → Layout → Script → List Answer → List Sent
 run_sent line plan script answers = pieces_sent line 1 (pieces (the_run plan script answers))
 
 -- the same after the header and before the last line, with the number of events; after a read fault they can be numbered
-abbrev pub Feeds : (Piece → List ℕ) → Layout → Script → Option Reading → Held → Held → Result (Ending × ℕ) PlayFault → Type 0
+abbrev pub Feeds : (Piece → List ℕ) → Layout → Script → Option Reading → Outputs → Outputs → Result (Ending × ℕ) PlayFault → Type 0
 Feeds line plan script left old new (Ok v) =
     (r : Reading) × Gives left r × (v.0 ≡ ending plan script r) × (v.1 ≡ length (events (the_run plan script r.answers)))
     × Sends old new (run_sent line plan script r.answers)
 Feeds line plan script left old new (Err fault.Write) =
-    (r : Reading) × Gives left r × SendsFront old new (run_sent line plan script r.answers)
+    (r : Reading) × Gives left r × SendsPrefix old new (run_sent line plan script r.answers)
 Feeds line plan script left old new (Err fault.Read) =
     (taken : List Answer) × GivesFirst left taken × (length (events (the_run plan script taken)) < 2 ^ 32)
     × Sends old new (run_sent line plan script taken)

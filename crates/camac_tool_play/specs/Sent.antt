@@ -30,23 +30,23 @@ events_of (listed b ∷ sent) = events_of sent
 events_of (recorded b ∷ sent) = b ∷ events_of sent
 
 -- what the two writers hold, where that is known
-pub record Held : Type 0 where
+pub record Outputs : Type 0 where
   pub listing : Option (List ℕ)
   pub events : Option (List ℕ)
 
-abbrev pub held : Option (List ℕ) → Option (List ℕ) → Held
-held listing events = record { listing = listing; events = events }
+abbrev pub outputs : Option (List ℕ) → Option (List ℕ) → Outputs
+outputs listing events = record { listing = listing; events = events }
 
 -- each writer has got its part
-pub record Sends (old new : Held) (sent : List Sent) : Type 0 where
+pub record Sends (old new : Outputs) (sent : List Sent) : Type 0 where
   pub listing : Appends old.listing new.listing (listing_of sent)
   pub events : Appends old.events new.events (events_of sent)
 
 -- They have got a prefix of it, which lacks at least its last byte: what comes after a byte that one writer did not take
 -- has gone to neither.
-abbrev pub SendsFront : Held → Held → List Sent → Type 0
-SendsFront old new sent = (front rest : List Sent) × (sent ≡ front ++ rest) × (0 < length rest) × Sends old new front
+abbrev pub SendsPrefix : Outputs → Outputs → List Sent → Type 0
+SendsPrefix old new sent = (prefix rest : List Sent) × (sent ≡ prefix ++ rest) × (0 < length rest) × Sends old new prefix
 
 -- all of it at `Ok`, and else a prefix
-abbrev pub SendsBy : {T E : Type 0} → Held → Held → Result T E → List Sent → Type 0
-SendsBy old new r sent = MatchResult r (λ _. Sends old new sent) (λ _. SendsFront old new sent)
+abbrev pub SendsBy : {T E : Type 0} → Outputs → Outputs → Result T E → List Sent → Type 0
+SendsBy old new r sent = MatchResult r (λ _. Sends old new sent) (λ _. SendsPrefix old new sent)

@@ -6,9 +6,9 @@ use Rattle.camac_branch.specs.declared.answer.Overrun.{Overrun}
 use Rattle.camac_model.specs.State.{State}
 use Rattle.camac_model.specs.Behaviour.{Behaviour, does, stops, Piece, events_in, Stop, short, overrun, wrong, more}
 use Rattle.camac_report.specs.Items.{item_text}
-use Rattle.camac_run_machine.specs.Runner.{Held as RunHeld, rest}
+use Rattle.camac_run_machine.specs.Runner.{RunnerState, rest}
 use Rattle.camac_tool_play.specs.Played.{pieces_sent}
-use Rattle.camac_tool_play.specs.Sent.{Held, Sends, SendsFront}
+use Rattle.camac_tool_play.specs.Sent.{Outputs, Sends, SendsPrefix}
 use Rattle.camac_tool_play.specs.declared.step.Step.{Step}
 use Rattle.camac_tool_play.specs.declared.step.Step.TheVariants as step
 use Rattle.camac_word.specs.declared.writing.WriteFault.{WriteFault}
@@ -22,22 +22,22 @@ abbrev pub count_of : List Piece → ℕ
 count_of ps = length (events_in ps)
 
 -- with this answer the run does these pieces, and the new runner holds the rest
-pub record Does (old : RunHeld) (answer : Answer) (new : RunHeld) (ps : List Piece) : Type 0 where
+pub record Does (old : RunnerState) (answer : Answer) (new : RunnerState) (ps : List Piece) : Type 0 where
   pub run : (answers : List Answer) → rest old (answer ∷ answers) ≡ after ps (rest new answers)
   pub fed : new.fed ≡ old.fed + 1
   pub overrun : new.overrun ≡ None
 
 -- with this answer the run stops
-abbrev pub Overruns : RunHeld → Answer → Overrun → Type 0
+abbrev pub Overruns : RunnerState → Answer → Overrun → Type 0
 Overruns old answer o = (answers : List Answer) → (s : State) × (rest old (answer ∷ answers) ≡ stops (overrun o.c o.wait) s)
 
 -- the pieces of the answer were written, or a prefix of them, or the run stopped
-abbrev pub StepsBy : Script → RunHeld → Answer → ℕ → Held → Held → Result Step WriteFault → RunHeld → Type 0
+abbrev pub StepsBy : Script → RunnerState → Answer → ℕ → Outputs → Outputs → Result Step WriteFault → RunnerState → Type 0
 StepsBy script old answer count a b (Ok (step.Went n)) new =
     (ps : List Piece) × Does old answer new ps × (n ≡ count + count_of ps) × (new.events ≡ n) × Sends a b (pieces_sent (item_text script) (count + 1) ps)
 StepsBy script old answer count a b (Ok (step.Overrun o)) new = Overruns old answer o × Sends a b []
 StepsBy script old answer count a b (Err e) new =
-    (ps : List Piece) × Does old answer new ps × SendsFront a b (pieces_sent (item_text script) (count + 1) ps)
+    (ps : List Piece) × Does old answer new ps × SendsPrefix a b (pieces_sent (item_text script) (count + 1) ps)
 
 -- why a run stops, if it does, is only that no answer is left
 abbrev pub IsOut : Option Stop → Type 0

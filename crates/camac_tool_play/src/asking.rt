@@ -5,7 +5,7 @@ ghost use Rattle.camac_answer.specs.Answers.{left_of, stage_of, given_by, text_o
 ghost use Rattle.camac_answer.specs.declared.answers.Stage.TheVariants.{Running};
 ghost use Rattle.camac_tool_play.specs.Live.{Asks};
 ghost use Rattle.camac_tool_play.specs.Play.{is_read_fault, is_write_fault};
-ghost use Rattle.camac_tool_play.specs.Sent.{held};
+ghost use Rattle.camac_tool_play.specs.Sent.{outputs};
 ghost use Rattle.camac_word.specs.Watched.{inner_of, has_failed};
 
 use crate::ending::Ending;
@@ -30,7 +30,7 @@ pub fn ask<R: Read, W: Write, E: Write>(
     requires running { stage_of answers.old ≡ Running }
     requires given { given_by answers.old ≡ 0 }
     ensures asks { Asks checked.now.plan checked.now.script (left_of R.remaining answers.old) (text_of R.remaining answers.new)
-        (held (W.contents (inner_of requests.old)) (E.contents (inner_of events.old))) (held (W.contents (inner_of requests.new)) (E.contents (inner_of events.new))) result }
+        (outputs (W.contents (inner_of requests.old)) (E.contents (inner_of events.old))) (outputs (W.contents (inner_of requests.new)) (E.contents (inner_of events.new))) result }
     ensures out_failed { (has_failed requests.new || has_failed events.new) ≡ ((has_failed requests.old || has_failed events.old) || is_write_fault result) }
     ensures in_failed { reader_failed answers.new ≡ (reader_failed answers.old || is_read_fault result) }
     ensures same_reader { answers.new.reader.ghost_name ≡ answers.old.reader.ghost_name }

@@ -6,7 +6,7 @@ ghost use Rattle.camac_answer.specs.declared.answers.Stage.TheVariants.{Running}
 ghost use Rattle.camac_tool_play.specs.Headline.{DriveKeepsHeadline};
 ghost use Rattle.camac_tool_play.specs.Live.{Drives};
 ghost use Rattle.camac_tool_play.specs.Play.{is_read_fault, is_write_fault};
-ghost use Rattle.camac_tool_play.specs.Sent.{held};
+ghost use Rattle.camac_tool_play.specs.Sent.{outputs};
 ghost use Rattle.camac_word.specs.Watched.{inner_of, has_failed};
 
 use crate::asking::ask;
@@ -33,7 +33,7 @@ pub fn drive<R: Read, W: Write, E: Write>(
     events: &mut Watched<E>,
 ) -> Result<Ending, PlayFault>
     ensures drives { Drives checked.now.plan checked.now.script (left_in Running 0 (R.remaining (inner_of answers.old))) (R.remaining (inner_of answers.new))
-        (held (W.contents (inner_of requests.old)) (E.contents (inner_of events.old))) (held (W.contents (inner_of requests.new)) (E.contents (inner_of events.new))) result }
+        (outputs (W.contents (inner_of requests.old)) (E.contents (inner_of events.old))) (outputs (W.contents (inner_of requests.new)) (E.contents (inner_of events.new))) result }
     ensures headline { DriveKeepsHeadline checked.now.plan checked.now.script checked.now.bounds (left_in Running 0 (R.remaining (inner_of answers.old)))
         (E.contents (inner_of events.old)) (E.contents (inner_of events.new)) result }
     ensures out_failed { (has_failed requests.new || has_failed events.new) ≡ ((has_failed requests.old || has_failed events.old) || is_write_fault result) }
@@ -53,7 +53,7 @@ fn drive_on<R: Read, W: Write, E: Write>(
     requires running { stage_of answers.old ≡ Running }
     requires given { given_by answers.old ≡ 0 }
     ensures drives { Drives checked.now.plan checked.now.script (left_of R.remaining answers.old) (text_of R.remaining answers.new)
-        (held (W.contents (inner_of requests.old)) (E.contents (inner_of events.old))) (held (W.contents (inner_of requests.new)) (E.contents (inner_of events.new))) result }
+        (outputs (W.contents (inner_of requests.old)) (E.contents (inner_of events.old))) (outputs (W.contents (inner_of requests.new)) (E.contents (inner_of events.new))) result }
     ensures headline { DriveKeepsHeadline checked.now.plan checked.now.script checked.now.bounds (left_of R.remaining answers.old)
         (E.contents (inner_of events.old)) (E.contents (inner_of events.new)) result }
     ensures out_failed { (has_failed requests.new || has_failed events.new) ≡ ((has_failed requests.old || has_failed events.old) || is_write_fault result) }

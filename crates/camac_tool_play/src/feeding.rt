@@ -9,7 +9,7 @@ ghost use Rattle.camac_report.specs.Items.{item_text};
 ghost use Rattle.camac_tool_play.specs.InTurn.{FeedsInTurn};
 ghost use Rattle.camac_tool_play.specs.Play.{Feeds, failed_by, faulted, is_read_fault, is_write_fault};
 ghost use Rattle.camac_tool_play.specs.Step.{IsOut};
-ghost use Rattle.camac_tool_play.specs.Sent.{held};
+ghost use Rattle.camac_tool_play.specs.Sent.{outputs};
 ghost use Rattle.camac_run_machine.specs.Runner.{rest};
 ghost use Rattle.camac_word.specs.Watched.{inner_of, has_failed};
 
@@ -33,9 +33,9 @@ pub fn feed<R: Read, W: Write, E: Write>(
     requires running { stage_of answers.old ≡ Running }
     requires given { given_by answers.old ≡ 0 }
     ensures feeds { Feeds (item_text checked.now.script) checked.now.plan checked.now.script (left_of R.remaining answers.old)
-        (held (W.contents (inner_of out.old)) (E.contents (inner_of events.old))) (held (W.contents (inner_of out.new)) (E.contents (inner_of events.new))) result }
+        (outputs (W.contents (inner_of out.old)) (E.contents (inner_of events.old))) (outputs (W.contents (inner_of out.new)) (E.contents (inner_of events.new))) result }
     ensures in_turn { FeedsInTurn checked.now.plan checked.now.script (left_of R.remaining answers.old) (text_of R.remaining answers.new)
-        (held (W.contents (inner_of out.old)) (E.contents (inner_of events.old))) (held (W.contents (inner_of out.new)) (E.contents (inner_of events.new))) result }
+        (outputs (W.contents (inner_of out.old)) (E.contents (inner_of events.old))) (outputs (W.contents (inner_of out.new)) (E.contents (inner_of events.new))) result }
     ensures out_failed { (has_failed out.new || has_failed events.new) ≡ ((has_failed out.old || has_failed events.old) || is_write_fault result) }
     ensures in_failed { reader_failed answers.new ≡ (reader_failed answers.old || is_read_fault result) }
     ensures same_reader { answers.new.reader.ghost_name ≡ answers.old.reader.ghost_name }

@@ -3,7 +3,7 @@
 ghost use Rattle.std.specs.Prelude.{◌≡◌, ◌<◌, ◌≤◌, ◌||◌, ◌++◌, length, is_err, IfSome, None, []};
 ghost use Rattle.camac_report.specs.Items.{unlock_texts};
 ghost use Rattle.camac_tool_play.specs.Live.{FollowsBy, Requests};
-ghost use Rattle.camac_tool_play.specs.Sent.{held, to_listing, to_events, SendsBy};
+ghost use Rattle.camac_tool_play.specs.Sent.{outputs, to_listing, to_events, SendsBy};
 ghost use Rattle.camac_tool_play.specs.Telling.{event_record};
 ghost use Rattle.camac_model.specs.Behaviour.{pieces};
 ghost use Rattle.camac_run_machine.specs.Runner.{rest};
@@ -46,7 +46,7 @@ pub fn follow<W: Write, E: Write>(
     requires count { runner.old.events ≡ count }
     requires first { runner.old.overrun ≡ None }
     ensures follows { FollowsBy runner.old answer count
-        (held (W.contents (inner_of requests.old)) (E.contents (inner_of events.old))) (held (W.contents (inner_of requests.new)) (E.contents (inner_of events.new))) result runner.new }
+        (outputs (W.contents (inner_of requests.old)) (E.contents (inner_of events.old))) (outputs (W.contents (inner_of requests.new)) (E.contents (inner_of events.new))) result runner.new }
     ensures failed { (has_failed requests.new || has_failed events.new) ≡ ((has_failed requests.old || has_failed events.old) || is_err result) }
 {
     match runner.next(answer) {
@@ -70,7 +70,7 @@ fn tell_after<W: Write, E: Write>(
     requires few { length unlocks.now ≤ 7 }
     requires words { length words.now ≤ 4096 }
     requires usage { IfSome event.now (λ e. e.2.missed ≤ e.2.cycles) }
-    ensures sends { SendsBy (held (W.contents (inner_of requests.old)) (E.contents (inner_of events.old))) (held (W.contents (inner_of requests.new)) (E.contents (inner_of events.new))) result
+    ensures sends { SendsBy (outputs (W.contents (inner_of requests.old)) (E.contents (inner_of events.old))) (outputs (W.contents (inner_of requests.new)) (E.contents (inner_of events.new))) result
         (to_listing (unlock_texts unlocks.now) ++ to_events (event_record event.now words.now)) }
     ensures failed { (has_failed requests.new || has_failed events.new) ≡ ((has_failed requests.old || has_failed events.old) || is_err result) }
 {

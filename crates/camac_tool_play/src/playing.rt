@@ -7,7 +7,7 @@ ghost use Rattle.camac_tool_play.specs.Headline.{PlayKeepsHeadline};
 ghost use Rattle.camac_tool_play.specs.InTurn.{PlaysInTurn};
 ghost use Rattle.camac_tool_play.specs.Play.{Plays, is_read_fault, is_write_fault};
 ghost use Rattle.camac_tool_play.specs.Played.{ending_text};
-ghost use Rattle.camac_tool_play.specs.Sent.{held};
+ghost use Rattle.camac_tool_play.specs.Sent.{outputs};
 ghost use Rattle.camac_tool_play.specs.declared.fault.PlayFault.TheVariants.{Write};
 ghost use Rattle.camac_word.specs.Watched.{inner_of, has_failed};
 ghost use Rattle.camac_word.specs.Writing.{Writes};
@@ -35,9 +35,9 @@ pub fn play<R: Read, W: Write, E: Write>(
     events: &mut Watched<E>,
 ) -> Result<Ending, PlayFault>
     ensures plays { Plays checked.now.plan checked.now.script (left_in Running 0 (R.remaining (inner_of answers.old)))
-        (held (W.contents (inner_of out.old)) (E.contents (inner_of events.old))) (held (W.contents (inner_of out.new)) (E.contents (inner_of events.new))) result }
+        (outputs (W.contents (inner_of out.old)) (E.contents (inner_of events.old))) (outputs (W.contents (inner_of out.new)) (E.contents (inner_of events.new))) result }
     ensures in_turn { PlaysInTurn checked.now.plan checked.now.script (left_in Running 0 (R.remaining (inner_of answers.old))) (R.remaining (inner_of answers.new))
-        (held (W.contents (inner_of out.old)) (E.contents (inner_of events.old))) (held (W.contents (inner_of out.new)) (E.contents (inner_of events.new))) result }
+        (outputs (W.contents (inner_of out.old)) (E.contents (inner_of events.old))) (outputs (W.contents (inner_of out.new)) (E.contents (inner_of events.new))) result }
     ensures headline { PlayKeepsHeadline checked.now.plan checked.now.script checked.now.bounds (left_in Running 0 (R.remaining (inner_of answers.old)))
         (E.contents (inner_of events.old)) (E.contents (inner_of events.new)) result }
     ensures out_failed { (has_failed out.new || has_failed events.new) ≡ ((has_failed out.old || has_failed events.old) || is_write_fault result) }
@@ -57,9 +57,9 @@ fn play_on<R: Read, W: Write, E: Write>(
     requires running { stage_of answers.old ≡ Running }
     requires given { given_by answers.old ≡ 0 }
     ensures plays { Plays checked.now.plan checked.now.script (left_of R.remaining answers.old)
-        (held (W.contents (inner_of out.old)) (E.contents (inner_of events.old))) (held (W.contents (inner_of out.new)) (E.contents (inner_of events.new))) result }
+        (outputs (W.contents (inner_of out.old)) (E.contents (inner_of events.old))) (outputs (W.contents (inner_of out.new)) (E.contents (inner_of events.new))) result }
     ensures in_turn { PlaysInTurn checked.now.plan checked.now.script (left_of R.remaining answers.old) (text_of R.remaining answers.new)
-        (held (W.contents (inner_of out.old)) (E.contents (inner_of events.old))) (held (W.contents (inner_of out.new)) (E.contents (inner_of events.new))) result }
+        (outputs (W.contents (inner_of out.old)) (E.contents (inner_of events.old))) (outputs (W.contents (inner_of out.new)) (E.contents (inner_of events.new))) result }
     ensures headline { PlayKeepsHeadline checked.now.plan checked.now.script checked.now.bounds (left_of R.remaining answers.old)
         (E.contents (inner_of events.old)) (E.contents (inner_of events.new)) result }
     ensures out_failed { (has_failed out.new || has_failed events.new) ≡ ((has_failed out.old || has_failed events.old) || is_write_fault result) }

@@ -2,7 +2,7 @@
 
 ghost use Rattle.std.specs.Prelude.{◌≡◌, ◌||◌, ◌<◌, is_err, IfNone, IfSome, None};
 ghost use Rattle.camac_tool_play.specs.Step.{StepsBy};
-ghost use Rattle.camac_tool_play.specs.Sent.{held};
+ghost use Rattle.camac_tool_play.specs.Sent.{outputs};
 ghost use Rattle.camac_word.specs.Watched.{inner_of, has_failed};
 
 use crate::telling::{Left, tell};
@@ -34,7 +34,7 @@ pub fn take_step<W: Write, E: Write>(
     requires count { runner.old.events ≡ count }
     requires first { runner.old.overrun ≡ None }
     ensures steps { StepsBy checked.now.script runner.old answer count
-        (held (W.contents (inner_of out.old)) (E.contents (inner_of events.old))) (held (W.contents (inner_of out.new)) (E.contents (inner_of events.new))) result runner.new }
+        (outputs (W.contents (inner_of out.old)) (E.contents (inner_of events.old))) (outputs (W.contents (inner_of out.new)) (E.contents (inner_of events.new))) result runner.new }
     ensures failed { (has_failed out.new || has_failed events.new) ≡ ((has_failed out.old || has_failed events.old) || is_err result) }
 {
     match runner.next(answer) {

@@ -3,9 +3,9 @@
 ghost use Rattle.std.specs.Prelude.{◌≡◌, ◌≤◌, ◌||◌, ◌++◌, length, is_err, IfSome};
 ghost use Rattle.camac_report.specs.Items.{item_text, unlock_texts};
 ghost use Rattle.camac_tool_play.specs.Played.{ending_text};
-ghost use Rattle.camac_tool_play.specs.Sent.{held, to_listing, to_events, SendsBy};
+ghost use Rattle.camac_tool_play.specs.Sent.{outputs, to_listing, to_events, SendsBy};
 ghost use Rattle.camac_tool_play.specs.Telling.{event_record};
-ghost use Rattle.camac_run_machine.specs.Held.{piece_of};
+ghost use Rattle.camac_run_machine.specs.MachineState.{piece_of};
 ghost use Rattle.camac_word.specs.Watched.{inner_of, has_failed};
 ghost use Rattle.camac_word.specs.Writing.{Writes};
 
@@ -34,7 +34,7 @@ pub fn tell<W: Write, E: Write>(
     requires few { length unlocks.now ≤ 7 }
     requires words { length words.now ≤ 4096 }
     requires usage { IfSome event.now (λ e. e.2.missed ≤ e.2.cycles) }
-    ensures sends { SendsBy (held (W.contents (inner_of out.old)) (E.contents (inner_of events.old))) (held (W.contents (inner_of out.new)) (E.contents (inner_of events.new))) result
+    ensures sends { SendsBy (outputs (W.contents (inner_of out.old)) (E.contents (inner_of events.old))) (outputs (W.contents (inner_of out.new)) (E.contents (inner_of events.new))) result
         (to_listing (item_text checked.now.script (piece_of item.now) ++ unlock_texts unlocks.now) ++ to_events (event_record event.now words.now)) }
     ensures failed { (has_failed out.new || has_failed events.new) ≡ ((has_failed out.old || has_failed events.old) || is_err result) }
 {

@@ -10,7 +10,7 @@ ghost use Rattle.camac_model.specs.Cycle.{sized};
 ghost use Rattle.camac_model.specs.Fine.{most_turns};
 ghost use Rattle.camac_model.specs.Meaning.{effect};
 ghost use Rattle.camac_model.specs.Value.{value};
-ghost use Rattle.camac_run_machine.specs.Held.{reach, with_value, free, FineThen, HasRoom, Advances, Wants};
+ghost use Rattle.camac_run_machine.specs.MachineState.{reach, with_value, free, FineThen, HasRoom, Advances, Wants};
 ghost use Rattle.camac_run_machine.specs.Rest.{address_of};
 ghost use Rattle.camac_run_machine.specs.Within.{Refers, MoveFits, StatementFits};
 

@@ -6,7 +6,7 @@ ghost use Rattle.camac_branch.specs.Crates.{branch_of, is_permitted};
 ghost use Rattle.camac_branch.specs.Plan.{crate_waits};
 ghost use Rattle.camac_lang.specs.Tree.{done};
 ghost use Rattle.camac_model.specs.State.{missed_with};
-ghost use Rattle.camac_run_machine.specs.Held.{reach, stands, IsFineHere, FineThen, HasRoom, IsWanting, want_of, CanFollow, Makes, TakesLock, IsRefused, Settles, Takes, Overruns};
+ghost use Rattle.camac_run_machine.specs.MachineState.{reach, stands, IsFineHere, FineThen, HasRoom, IsWanting, want_of, CanFollow, Makes, TakesLock, IsRefused, Settles, Takes, Overruns};
 ghost use Rattle.camac_run_machine.specs.Rest.{follows};
 
 use crate::command::command;

@@ -8,7 +8,7 @@ ghost use Rattle.camac_lang.specs.Tree.{done, choose_else, for_, locked, call};
 ghost use Rattle.camac_model.specs.Fine.{most_turns};
 ghost use Rattle.camac_model.specs.Meaning.{effect, block_meaning, for_turns, turns as while_turns};
 ghost use Rattle.camac_model.specs.Value.{value};
-ghost use Rattle.camac_run_machine.specs.Held.{context_in, reach, state_of, owner_in, open_in, opens_in, holds, free, FineThen, HasRoomFor, HasRoom, Advances, Enters, Wants};
+ghost use Rattle.camac_run_machine.specs.MachineState.{context_in, reach, state_of, owner_in, open_in, opens_in, holds, free, FineThen, HasRoomFor, HasRoom, Advances, Enters, Wants};
 ghost use Rattle.camac_run_machine.specs.Rest.{releases, owed, left_of};
 ghost use Rattle.camac_run_machine.specs.Within.{Refers, CallFits, PartsRefer, StatementFits, Opens, OwnerFits, outer};
 
@@ -70,7 +70,7 @@ impl<'a, const V: usize, const DEPTH: usize, const CAP: usize> Machine<'a, V, DE
     }
 
     // `for`.
-    pub fn count(&mut self, variable: usize, from: &Expr, to: &Expr, body: &'a [Stmt])
+    pub fn begin_for(&mut self, variable: usize, from: &Expr, to: &Expr, body: &'a [Stmt])
         requires room { HasRoom self.old }
         requires variable { variable < (reach self.old).variables }
         requires from { Refers (reach self.old).variables (expression_of from.now) }
@@ -87,7 +87,7 @@ impl<'a, const V: usize, const DEPTH: usize, const CAP: usize> Machine<'a, V, DE
     }
 
     // Tests a `while`, and begins a turn where it holds.
-    pub fn again(&mut self, test: &'a [Part], turns: u32, body: &'a [Stmt])
+    pub fn test_while(&mut self, test: &'a [Part], turns: u32, body: &'a [Stmt])
         requires room { HasRoom self.old }
         requires declared { PartsRefer (reach self.old).variables (map part_of test.now) }
         requires body { Opens (reach self.old) (free self.old) (statements_of body.now) }
@@ -190,8 +190,8 @@ impl<'a, const V: usize, const DEPTH: usize, const CAP: usize> Machine<'a, V, DE
                 to,
                 body,
                 ..
-            } => self.count(*variable, from, to, body),
-            Stmt::While { test, body, .. } => self.again(&test.parts, MOST_TURNS, body),
+            } => self.begin_for(*variable, from, to, body),
+            Stmt::While { test, body, .. } => self.test_while(&test.parts, MOST_TURNS, body),
             _ => unreachable!(),
         }
     }
@@ -236,7 +236,7 @@ impl<'a, const V: usize, const DEPTH: usize, const CAP: usize> Machine<'a, V, DE
                     self.set_variable(*variable, *last);
                 }
             }
-            Owner::While { test, turns, body } => self.again(test, *turns, body),
+            Owner::While { test, turns, body } => self.test_while(test, *turns, body),
             Owner::Return(caller) => self.scope = *caller,
         }
     }

@@ -7,7 +7,7 @@ ghost use Rattle.camac_lang.specs.View.{expression_of, statement_of};
 ghost use Rattle.camac_lang.specs.Tree.{done, address_scan, q_stop, q_repeat};
 ghost use Rattle.camac_model.specs.Fine.{most_turns};
 ghost use Rattle.camac_model.specs.Meaning.{sent, effect};
-ghost use Rattle.camac_run_machine.specs.Held.{context_in, reach, free, FineThen, HasRoom, Proceeds, transferred};
+ghost use Rattle.camac_run_machine.specs.MachineState.{context_in, reach, free, FineThen, HasRoom, Proceeds, transferred};
 ghost use Rattle.camac_run_machine.specs.Course.{words_sent, words_after};
 ghost use Rattle.camac_run_machine.specs.Rest.{address_of};
 ghost use Rattle.camac_run_machine.specs.Within.{Refers, StatementFits};

@@ -53,7 +53,7 @@ impl<W: Write + Drop> Gathered<W> {
         ensures failed { has_stopped self.new ≡ is_err result }
     {
         let (written, result) = write_out(self.held.as_slice(), &mut self.inner);
-        remove_front(&mut self.held, written);
+        remove_prefix(&mut self.held, written);
         self.failed = result.is_err();
         result
     }
@@ -119,7 +119,7 @@ fn write_out<W: Write>(bytes: &[u8], to: &mut W) -> (usize, io::Result<()>)
     (written, Ok(()))
 }
 
-fn remove_front(held: &mut Vec<u8>, n: usize)
+fn remove_prefix(held: &mut Vec<u8>, n: usize)
     requires { n ≤ vec_len held.old }
     ensures items { held.new.items ≡ drop n held.old.items }
     ensures len { vec_len held.new ≡ vec_len held.old - n }

@@ -7,7 +7,7 @@ use Rattle.camac_event.proofs.reading.pass_records.Given as goal
 abbrev pub invariant-loop-rest : goal.invariant-loop-rest
 invariant-loop-rest l =
     (l.number + length l.rest ≤ length l.bytes)
-    × (front : List Entry) × (length front ≡ l.number) × IsReading l.version l.total front l.rest (records_at (length l.bytes) l.version 1 l.total l.bytes)
+    × (prefix : List Entry) × (length prefix ≡ l.number) × IsReading l.version l.total prefix l.rest (records_at (length l.bytes) l.version 1 l.total l.bytes)
 
 abbrev pub decreases-loop-rest : goal.decreases-loop-rest
 decreases-loop-rest l = length l.rest

@@ -1,13 +1,13 @@
 use Rattle.std.proofs.Common.{◌≡◌, ◌-◌, ◌∙◌, ◌++◌, ◌∷◌, [], ℕ, ap, arith}
 use Rattle.std.proofs.lemmas.Result.{err_from_is_err_and}
 use Rattle.camac_event.specs.Reading.{words_at}
-use Rattle.camac_event.proofs.Loops.{with_front, starts, goes_on, ends, is_done}
+use Rattle.camac_event.proofs.Loops.{with_prefix, starts, goes_on, ends, is_done}
 use Rattle.camac_event.proofs.reading.pass_words.Goals as goal
 
 pub loop-init : goal.loop-init
 loop-init c =
     let all : c.args.count - 0 ≡ c.args.count = omega arith in
-    ([], ap (λ (n : ℕ). with_front [] (words_at n c.args.total c.args.bytes.now.now)) all ∙ starts (words_at c.args.count c.args.total c.args.bytes.now.now))
+    ([], ap (λ (n : ℕ). with_prefix [] (words_at n c.args.total c.args.bytes.now.now)) all ∙ starts (words_at c.args.count c.args.total c.args.bytes.now.now))
 
 pub returns-in_err-word_of : goal.returns-in_err-word_of
 returns-in_err-word_of c =

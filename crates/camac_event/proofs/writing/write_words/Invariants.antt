@@ -2,7 +2,7 @@ use Rattle.std.proofs.Common.{◌≡◌, ◌++◌, drop}
 use Rattle.std.specs.List.{flat_map}
 use Rattle.byteorder.specs.Endian.{big_bytes}
 use Rattle.camac_word.specs.Watched.{inner_of, has_failed}
-use Rattle.camac_word.proofs.Fronts.{IsUnderWay}
+use Rattle.camac_word.proofs.Prefixes.{IsUnderWay}
 use Rattle.camac_event.proofs.writing.write_words.Given as goal
 
 abbrev pub invariant-words : goal.invariant-words

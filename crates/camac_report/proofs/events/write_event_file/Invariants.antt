@@ -1,6 +1,6 @@
 use Rattle.std.proofs.Common.{◌≡◌, ◌+◌, ◌++◌, length}
 use Rattle.camac_word.specs.Watched.{inner_of, has_failed}
-use Rattle.camac_word.proofs.Fronts.{IsUnderWay}
+use Rattle.camac_word.proofs.Prefixes.{IsUnderWay}
 use Rattle.camac_report.specs.Events.{event_lines, last_line, events_text}
 use Rattle.camac_report.proofs.events.write_event_file.Given as goal
 

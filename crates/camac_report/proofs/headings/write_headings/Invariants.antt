@@ -1,7 +1,7 @@
 use Rattle.std.proofs.Common.{◌≡◌, drop, map}
 use Rattle.camac_lang.specs.View.{item_of, procedure_of, service_of}
 use Rattle.camac_word.specs.Watched.{inner_of, has_failed}
-use Rattle.camac_word.proofs.Fronts.{IsUnderWay}
+use Rattle.camac_word.proofs.Prefixes.{IsUnderWay}
 use Rattle.camac_report.specs.Headings.{headings_of, headings_text}
 use Rattle.camac_report.proofs.headings.write_headings.Given as goal
 

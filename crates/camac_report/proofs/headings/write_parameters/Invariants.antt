@@ -1,7 +1,7 @@
 use Rattle.std.proofs.Common.{◌≡◌, ◌≤◌, drop, length, map}
 use Rattle.camac_lang.specs.View.{parameter_of}
 use Rattle.camac_word.specs.Watched.{inner_of, has_failed}
-use Rattle.camac_word.proofs.Fronts.{IsUnderWay}
+use Rattle.camac_word.proofs.Prefixes.{IsUnderWay}
 use Rattle.camac_report.specs.Headings.{parameters_after, parameters_text}
 use Rattle.camac_report.proofs.headings.write_parameters.Given as goal
 

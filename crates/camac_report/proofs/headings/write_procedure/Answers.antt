@@ -2,8 +2,8 @@ use Rattle.std.proofs.Common.{◌∙◌, ◌++◌, ap}
 use Rattle.std.proofs.KnownBytes.{Appends-trans}
 use Rattle.camac_lang.specs.View.{procedure_of}
 use Rattle.camac_report.specs.Headings.{parameters_text, procedure_end, procedure_start}
-use Rattle.camac_report.proofs.Lines.{front_longer, Writes-at_err}
-use Rattle.camac_report.proofs.Texts.{front_after, Writes-after}
+use Rattle.camac_report.proofs.Lines.{prefix_longer, Writes-at_err}
+use Rattle.camac_report.proofs.Texts.{prefix_after, Writes-after}
 use Rattle.camac_report.proofs.headings.write_procedure.Goals as goal
 
 pub returns-in_err-write_text-clause-text : goal.returns-in_err-write_text-clause-text
@@ -12,7 +12,7 @@ returns-in_err-write_text-clause-text g c =
     let parameters = parameters_text p.parameters in
     let start = c.as_bytes-2.ensures ∙ c.start_of_procedure.ensures ∙ ap procedure_start c.as_bytes.ensures.value in
     Writes-at_err c.from_residual.result _ _ _ c.from_residual.ensures.0
-    (front_longer (procedure_start p.name ++ parameters) (procedure_end p.cycles p.words p.steps) _ _ (front_longer (procedure_start p.name) parameters _ _ (rw start at c.in_err-write_text.ensures.text)))
+    (prefix_longer (procedure_start p.name ++ parameters) (procedure_end p.cycles p.words p.steps) _ _ (prefix_longer (procedure_start p.name) parameters _ _ (rw start at c.in_err-write_text.ensures.text)))
 
 pub returns-in_err-write_parameters-clause-text : goal.returns-in_err-write_parameters-clause-text
 returns-in_err-write_parameters-clause-text g c =
@@ -20,7 +20,7 @@ returns-in_err-write_parameters-clause-text g c =
     let parameters = parameters_text p.parameters in
     let start = c.as_bytes-2.ensures ∙ c.start_of_procedure.ensures ∙ ap procedure_start c.as_bytes.ensures.value in
     Writes-at_err c.from_residual-in_err-write_parameters.result _ _ _ c.from_residual-in_err-write_parameters.ensures.0
-    (front_longer (procedure_start p.name ++ parameters) (procedure_end p.cycles p.words p.steps) _ _ (front_after (procedure_start p.name) parameters _ _ _ (rw start at c.in_ok-write_text.ensures.text) (rw c.deref.ensures.value at c.in_err-write_parameters.ensures.text)))
+    (prefix_longer (procedure_start p.name ++ parameters) (procedure_end p.cycles p.words p.steps) _ _ (prefix_after (procedure_start p.name) parameters _ _ _ (rw start at c.in_ok-write_text.ensures.text) (rw c.deref.ensures.value at c.in_err-write_parameters.ensures.text)))
 
 pub returns-clause-text : goal.returns-clause-text
 returns-clause-text g c =

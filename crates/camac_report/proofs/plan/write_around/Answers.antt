@@ -1,18 +1,18 @@
 use Rattle.std.proofs.Common.{◌++◌}
 use Rattle.std.proofs.KnownBytes.{Appends-trans}
-use Rattle.camac_report.proofs.Lines.{front_longer, Writes-at_err}
-use Rattle.camac_report.proofs.Texts.{front_after, Writes-after}
+use Rattle.camac_report.proofs.Lines.{prefix_longer, Writes-at_err}
+use Rattle.camac_report.proofs.Texts.{prefix_after, Writes-after}
 use Rattle.camac_report.proofs.plan.write_around.Goals as goal
 
 pub returns-in_err-write_text-clause-text : goal.returns-in_err-write_text-clause-text
 returns-in_err-write_text-clause-text g c =
     Writes-at_err c.from_residual.result _ _ _ c.from_residual.ensures.0
-    (front_longer (c.args.start.now ++ c.args.name.now) c.args.end.now _ _ (front_longer c.args.start.now c.args.name.now _ _ (rw c.as_bytes.ensures at c.in_err-write_text.ensures.text)))
+    (prefix_longer (c.args.start.now ++ c.args.name.now) c.args.end.now _ _ (prefix_longer c.args.start.now c.args.name.now _ _ (rw c.as_bytes.ensures at c.in_err-write_text.ensures.text)))
 
 pub returns-in_err-write_text-2-clause-text : goal.returns-in_err-write_text-2-clause-text
 returns-in_err-write_text-2-clause-text g c =
     Writes-at_err c.from_residual-in_err-write_text-2.result _ _ _ c.from_residual-in_err-write_text-2.ensures.0
-    (front_longer (c.args.start.now ++ c.args.name.now) c.args.end.now _ _ (front_after c.args.start.now c.args.name.now _ _ _ (rw c.as_bytes.ensures at c.in_ok-write_text.ensures.text) c.in_err-write_text-2.ensures.text))
+    (prefix_longer (c.args.start.now ++ c.args.name.now) c.args.end.now _ _ (prefix_after c.args.start.now c.args.name.now _ _ _ (rw c.as_bytes.ensures at c.in_ok-write_text.ensures.text) c.in_err-write_text-2.ensures.text))
 
 pub returns-clause-text : goal.returns-clause-text
 returns-clause-text g c =

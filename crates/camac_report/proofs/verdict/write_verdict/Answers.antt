@@ -1,10 +1,10 @@
 use Rattle.std.proofs.Common.{codes, ◌∙◌, arith}
-use Rattle.camac_report.proofs.Lines.{front_longer, under_way_next, under_way_stops, service_texts-next, Writes-at_err}
+use Rattle.camac_report.proofs.Lines.{prefix_longer, under_way_next, under_way_stops, service_texts-next, Writes-at_err}
 use Rattle.std.proofs.Math.Bool.{or-false}
 use Rattle.camac_report.proofs.verdict.write_verdict.Goals as goal
 
 pub returns-in_err-write_text-clause-text : goal.returns-in_err-write_text-clause-text
-returns-in_err-write_text-clause-text g c = Writes-at_err c.from_residual.result _ _ _ c.from_residual.ensures.0 (front_longer (codes "accepted\n") _ _ _ c.in_err-write_text.ensures.text)
+returns-in_err-write_text-clause-text g c = Writes-at_err c.from_residual.result _ _ _ c.from_residual.ensures.0 (prefix_longer (codes "accepted\n") _ _ _ c.in_err-write_text.ensures.text)
 
 pub returns-in_err-write_text-2-clause-text : goal.returns-in_err-write_text-2-clause-text
 returns-in_err-write_text-2-clause-text g c =

@@ -1,6 +1,6 @@
 use Rattle.std.proofs.Common.{◌≡◌, drop}
 use Rattle.camac_word.specs.Watched.{inner_of, has_failed}
-use Rattle.camac_word.proofs.Fronts.{IsUnderWay}
+use Rattle.camac_word.proofs.Prefixes.{IsUnderWay}
 use Rattle.camac_report.specs.Verdict.{service_texts, verdict_text}
 use Rattle.camac_report.proofs.verdict.write_verdict.Given as goal
 

@@ -22,7 +22,7 @@ returns-in-len1-up-clause-values t c =
     let some = c.in-len1-up.len_at_least in
     let room = c.requires.room in
     subst P (sym (first_of es c.first-item.result some c.first-item.is))
-    (pass_more (expression_of c.first-item.result) (map expression_of rest) p place v old c.requires.behind (length rest) new (omega (arith, some, room)) (c.pass.ensures.count ∙ length-set old place v) c.value_of.ensures c.pass.ensures.values c.pass.ensures.before)
+    (pass_more (expression_of c.first-item.result) (map expression_of rest) p place v old c.requires.after (length rest) new (omega (arith, some, room)) (c.pass.ensures.count ∙ length-set old place v) c.value_of.ensures c.pass.ensures.values c.pass.ensures.before)
 
 pub returns-in-len1-up-clause-before : goal.returns-in-len1-up-clause-before
 returns-in-len1-up-clause-before t c = before_set c.args.variables.now c.pass.new.variables c.args.place c.value_of.result c.pass.ensures.before

@@ -7,7 +7,7 @@ use Rattle.camac_word.specs.Watched.{has_failed}
 use Rattle.camac_tool_play.proofs.Fed.{starts}
 use Rattle.camac_tool_play.proofs.InTurn.{left_is, open_is, one_more}
 use Rattle.camac_tool_play.proofs.Live.{stops_asking, ends_live, fault_live, overruns_live, goes_live, uses_live, stops_live}
-use Rattle.camac_tool_play.proofs.Sending.{front_listing, sends_listing}
+use Rattle.camac_tool_play.proofs.Sending.{prefix_listing, sends_listing}
 use Rattle.camac_tool_play.proofs.asking.ask.Goals as goal
 
 pub answers-init : goal.answers-init
@@ -31,7 +31,7 @@ returns-in_err-request-clause-asks g c =
     let q = c.in_err-request.ensures.requests in
     let i = c.answers.invariant in
     stops_asking c.args.checked.now.plan c.args.checked.now.script _ _ _ _ c.answers.runner c.answers.count i.fed c.in_err-request.ensures.quiet i.used q.0 q.1
-    c.from_residual.result _ _ (p.1 ∙ ap Err p.2) (left_is g.R.Read.remaining c.answers.answers _ i.stage i.number) (front_listing _ _ _ (request_text q.0) q.2)
+    c.from_residual.result _ _ (p.1 ∙ ap Err p.2) (left_is g.R.Read.remaining c.answers.answers _ i.stage i.number) (prefix_listing _ _ _ (request_text q.0) q.2)
 
 pub returns-in-Ok-None-clause-asks : goal.returns-in-Ok-None-clause-asks
 returns-in-Ok-None-clause-asks g c =

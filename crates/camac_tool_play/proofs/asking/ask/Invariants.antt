@@ -4,14 +4,14 @@ use Rattle.camac_answer.specs.declared.answers.Stage.TheVariants.{Running}
 use Rattle.camac_model.specs.Behaviour.{uses}
 use Rattle.camac_report.specs.Requests.{live_text}
 use Rattle.camac_word.specs.Watched.{inner_of, has_failed}
-use Rattle.camac_tool_play.specs.Sent.{held}
+use Rattle.camac_tool_play.specs.Sent.{outputs}
 use Rattle.camac_tool_play.proofs.Fed.{IsFed}
 use Rattle.camac_tool_play.proofs.asking.ask.Given as goal
 
 abbrev pub invariant-answers : goal.invariant-answers
 invariant-answers g l = record {
   fed : IsFed live_text l.checked.plan l.checked.script (left_of g.R.Read.remaining l.fn.answers) (left_of g.R.Read.remaining l.answers)
-      (held (g.W.Write.contents (inner_of l.fn.requests)) (g.E.Write.contents (inner_of l.fn.events))) (held (g.W.Write.contents (inner_of l.requests)) (g.E.Write.contents (inner_of l.events)))
+      (outputs (g.W.Write.contents (inner_of l.fn.requests)) (g.E.Write.contents (inner_of l.fn.events))) (outputs (g.W.Write.contents (inner_of l.requests)) (g.E.Write.contents (inner_of l.events)))
       l.runner l.count;
   used : uses fed.done ≡ length fed.taken;
   number : given_by l.answers ≡ length fed.taken;

@@ -7,14 +7,14 @@ use Rattle.camac_word.specs.Watched.{inner_of}
 use Rattle.camac_tool_play.specs.Played.{ending_text}
 use Rattle.camac_tool_play.proofs.InTurn.{left_is}
 use Rattle.camac_tool_play.proofs.Driven.{stops_at_header, stops_in_run, finishes, nothing_kept, stops_by_headline, ends_by_headline}
-use Rattle.camac_tool_play.proofs.Sending.{by_listing, front_events, sends_events}
+use Rattle.camac_tool_play.proofs.Sending.{by_listing, prefix_events, sends_events}
 use Rattle.camac_tool_play.proofs.driving.drive_on.Goals as goal
 
 pub returns-in_err-write_header-clause-drives : goal.returns-in_err-write_header-clause-drives
 returns-in_err-write_header-clause-drives g c =
     let p = err_from_is_err_and c.from_residual.result c.from_residual.ensures.1 in
     stops_at_header c.args.checked.now.plan c.args.checked.now.script (left_of g.R.Read.remaining c.args.answers.now) _ _ _ c.from_residual.result (p.1 ∙ ap Err p.2)
-    (left_is g.R.Read.remaining c.args.answers.now 0 c.requires.running c.requires.given) (front_events _ _ _ (header Two) c.in_err-write_header.ensures.text)
+    (left_is g.R.Read.remaining c.args.answers.now 0 c.requires.running c.requires.given) (prefix_events _ _ _ (header Two) c.in_err-write_header.ensures.text)
 
 pub returns-in_err-ending-clause-drives : goal.returns-in_err-ending-clause-drives
 returns-in_err-ending-clause-drives g c =

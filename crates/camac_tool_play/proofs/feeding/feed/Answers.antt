@@ -3,7 +3,7 @@ use Rattle.std.proofs.lemmas.Result.{err_from_is_err_and}
 use Rattle.std.proofs.Math.Bool.{or-false}
 use Rattle.camac_report.specs.Items.{item_text}
 use Rattle.camac_tool_play.proofs.Fed.{starts, ends_here, faults_here, overruns_here, goes_on, stops_here}
-use Rattle.camac_tool_play.proofs.InTurn.{no_overrun, left_is, open_is, one_more, reads_no_more, front_in_turn, faults_in_turn}
+use Rattle.camac_tool_play.proofs.InTurn.{no_overrun, left_is, open_is, one_more, reads_no_more, prefix_in_turn, faults_in_turn}
 use Rattle.camac_tool_play.proofs.feeding.feed.Goals as goal
 
 pub answers-init : goal.answers-init
@@ -81,7 +81,7 @@ returns-in_err-events-clause-in_turn g c =
     let counts = rw c.in-Ok-Some.field-0-is at c.in-Ok-Some.ensures.given in
     let stage = rw c.in-Ok-Some.field-0-is at c.in-Ok-Some.ensures.stage in
     rw (p.1 ∙ ap Err p.2)
-    (front_in_turn (item_text c.args.checked.now.script) c.args.checked.now.plan c.args.checked.now.script _ _ _ _ c.answers.runner c.answers.count i.fed _ _ c.in-Ok-Some.answer given c.take_step.new.runner step.0 step.1 _ step.2
+    (prefix_in_turn (item_text c.args.checked.now.script) c.args.checked.now.plan c.args.checked.now.script _ _ _ _ c.answers.runner c.answers.count i.fed _ _ c.in-Ok-Some.answer given c.take_step.new.runner step.0 step.1 _ step.2
     (left_is g.R.Read.remaining c.next.new.self _ stage (one_more _ _ i.fed.taken c.in-Ok-Some.answer counts.0 i.number)))
 
 pub returns-in-Overrun-clause-in_turn : goal.returns-in-Overrun-clause-in_turn

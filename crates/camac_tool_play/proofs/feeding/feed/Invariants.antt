@@ -2,7 +2,7 @@ use Rattle.std.proofs.Common.{◌≡◌, ◌≤◌, ◌-◌, ◌||◌, None, len
 use Rattle.camac_answer.specs.Answers.{left_of, stage_of, given_by, reader_failed}
 use Rattle.camac_answer.specs.declared.answers.Stage.TheVariants.{Running}
 use Rattle.camac_word.specs.Watched.{inner_of, has_failed}
-use Rattle.camac_tool_play.specs.Sent.{held}
+use Rattle.camac_tool_play.specs.Sent.{outputs}
 use Rattle.camac_report.specs.Items.{item_text}
 use Rattle.camac_tool_play.proofs.Fed.{IsFed}
 use Rattle.camac_tool_play.proofs.feeding.feed.Given as goal
@@ -10,7 +10,7 @@ use Rattle.camac_tool_play.proofs.feeding.feed.Given as goal
 abbrev pub invariant-answers : goal.invariant-answers
 invariant-answers g l = record {
   fed : IsFed (item_text l.checked.script) l.checked.plan l.checked.script (left_of g.R.Read.remaining l.fn.answers) (left_of g.R.Read.remaining l.answers)
-      (held (g.W.Write.contents (inner_of l.fn.out)) (g.E.Write.contents (inner_of l.fn.events))) (held (g.W.Write.contents (inner_of l.out)) (g.E.Write.contents (inner_of l.events)))
+      (outputs (g.W.Write.contents (inner_of l.fn.out)) (g.E.Write.contents (inner_of l.fn.events))) (outputs (g.W.Write.contents (inner_of l.out)) (g.E.Write.contents (inner_of l.events)))
       l.runner l.count;
   number : given_by l.answers ≡ length fed.taken;
   stage : stage_of l.answers ≡ Running;

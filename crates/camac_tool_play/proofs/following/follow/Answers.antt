@@ -1,5 +1,5 @@
 use Rattle.camac_word.specs.Watched.{inner_of}
-use Rattle.camac_tool_play.specs.Sent.{held}
+use Rattle.camac_tool_play.specs.Sent.{outputs}
 use Rattle.camac_tool_play.proofs.Followed.{followed_on, followed_short}
 use Rattle.camac_tool_play.proofs.Sending.{sends_nothing}
 use Rattle.camac_tool_play.proofs.Steps.{stopped}
@@ -18,5 +18,5 @@ returns-in_ok-tell_after-in-Went-clause-follows g c =
 pub returns-in-Overrun-clause-follows : goal.returns-in-Overrun-clause-follows
 returns-in-Overrun-clause-follows g c = (
   stopped c.args.runner.now c.next.new.self c.args.answer c.in-Overrun.overrun c.requires.first c.in-Overrun.ensures,
-  sends_nothing (held (g.W.Write.contents (inner_of c.args.requests.now)) (g.E.Write.contents (inner_of c.args.events.now))),
+  sends_nothing (outputs (g.W.Write.contents (inner_of c.args.requests.now)) (g.E.Write.contents (inner_of c.args.events.now))),
 )

@@ -1,14 +1,14 @@
 use Rattle.camac_word.specs.Watched.{inner_of}
 use Rattle.camac_report.specs.Items.{unlock_texts}
-use Rattle.camac_tool_play.specs.Sent.{held, to_listing, to_events}
+use Rattle.camac_tool_play.specs.Sent.{outputs, to_listing, to_events}
 use Rattle.camac_tool_play.specs.Telling.{event_record}
-use Rattle.camac_tool_play.proofs.Sending.{SendsFront-longer, SendsBy-after, SendsBy-at_err, front_listing, sends_listing, by_events}
+use Rattle.camac_tool_play.proofs.Sending.{SendsPrefix-longer, SendsBy-after, SendsBy-at_err, prefix_listing, sends_listing, by_events}
 use Rattle.camac_tool_play.proofs.following.tell_after.Goals as goal
 
 pub returns-in_err-write_unlocks-clause-sends : goal.returns-in_err-write_unlocks-clause-sends
 returns-in_err-write_unlocks-clause-sends g c =
     SendsBy-at_err c.from_residual.result _ _ _ c.from_residual.ensures.0
-    (SendsFront-longer _ _ (to_listing (unlock_texts c.args.unlocks.now)) (to_events (event_record c.args.event.now c.args.words.now)) (front_listing _ _ _ (unlock_texts c.args.unlocks.now) c.in_err-write_unlocks.ensures.text))
+    (SendsPrefix-longer _ _ (to_listing (unlock_texts c.args.unlocks.now)) (to_events (event_record c.args.event.now c.args.words.now)) (prefix_listing _ _ _ (unlock_texts c.args.unlocks.now) c.in_err-write_unlocks.ensures.text))
 
 pub returns-clause-sends : goal.returns-clause-sends
 returns-clause-sends g c =
@@ -16,5 +16,5 @@ returns-clause-sends g c =
     let out' = g.W.Write.contents (inner_of c.write_unlocks.new.out) in
     let events = g.E.Write.contents (inner_of c.args.events.now) in
     let events' = g.E.Write.contents (inner_of c.write_event.new.events) in
-    SendsBy-after c.write_event.result (held out events) (held out' events) (held out' events') (to_listing (unlock_texts c.args.unlocks.now)) (to_events (event_record c.args.event.now c.args.words.now))
+    SendsBy-after c.write_event.result (outputs out events) (outputs out' events) (outputs out' events') (to_listing (unlock_texts c.args.unlocks.now)) (to_events (event_record c.args.event.now c.args.words.now))
     (sends_listing out out' events (unlock_texts c.args.unlocks.now) c.in_ok-write_unlocks.ensures.text) (by_events c.write_event.result out' events events' _ c.write_event.ensures.text)

@@ -7,7 +7,7 @@ use Rattle.camac_word.specs.Watched.{inner_of}
 use Rattle.camac_tool_play.specs.Played.{ending_text}
 use Rattle.camac_tool_play.proofs.EventFile.{nothing_kept, stops_by_headline, ends_by_headline}
 use Rattle.camac_tool_play.proofs.InTurn.{left_is, header_in_turn, run_in_turn, end_in_turn}
-use Rattle.camac_tool_play.proofs.Sending.{by_listing, front_events, sends_events}
+use Rattle.camac_tool_play.proofs.Sending.{by_listing, prefix_events, sends_events}
 use Rattle.camac_tool_play.proofs.Whole.{stops_at_header, stops_in_run, finishes}
 use Rattle.camac_tool_play.proofs.playing.play_on.Goals as goal
 
@@ -15,7 +15,7 @@ pub returns-in_err-write_header-clause-plays : goal.returns-in_err-write_header-
 returns-in_err-write_header-clause-plays g c =
     let p = err_from_is_err_and c.from_residual.result c.from_residual.ensures.1 in
     stops_at_header c.args.checked.now.plan c.args.checked.now.script (left_of g.R.Read.remaining c.args.answers.now) _ _ c.from_residual.result (p.1 ∙ ap Err p.2)
-    (front_events _ _ _ (header Two) c.in_err-write_header.ensures.text)
+    (prefix_events _ _ _ (header Two) c.in_err-write_header.ensures.text)
 
 pub returns-in_err-ending-clause-plays : goal.returns-in_err-ending-clause-plays
 returns-in_err-ending-clause-plays g c =
@@ -50,7 +50,7 @@ pub returns-in_err-write_header-clause-in_turn : goal.returns-in_err-write_heade
 returns-in_err-write_header-clause-in_turn g c =
     let p = err_from_is_err_and c.from_residual.result c.from_residual.ensures.1 in
     header_in_turn c.args.checked.now.plan c.args.checked.now.script (left_of g.R.Read.remaining c.args.answers.now) _ _ _ c.from_residual.result (p.1 ∙ ap Err p.2)
-    (left_is g.R.Read.remaining c.args.answers.now 0 c.requires.running c.requires.given) (front_events _ _ _ (header Two) c.in_err-write_header.ensures.text)
+    (left_is g.R.Read.remaining c.args.answers.now 0 c.requires.running c.requires.given) (prefix_events _ _ _ (header Two) c.in_err-write_header.ensures.text)
 
 pub returns-in_err-ending-clause-in_turn : goal.returns-in_err-ending-clause-in_turn
 returns-in_err-ending-clause-in_turn g c =

@@ -1,5 +1,5 @@
 use Rattle.camac_word.specs.Watched.{inner_of}
-use Rattle.camac_tool_play.specs.Sent.{held}
+use Rattle.camac_tool_play.specs.Sent.{outputs}
 use Rattle.camac_tool_play.proofs.Sending.{sends_nothing}
 use Rattle.camac_tool_play.proofs.Steps.{went_on, went_short, stopped}
 use Rattle.camac_tool_play.proofs.step.take_step.Goals as goal
@@ -17,5 +17,5 @@ returns-in_ok-tell-in-Went-clause-steps g c =
 pub returns-in-Overrun-clause-steps : goal.returns-in-Overrun-clause-steps
 returns-in-Overrun-clause-steps g c = (
   stopped c.args.runner.now c.next.new.self c.args.answer c.in-Overrun.overrun c.requires.first c.in-Overrun.ensures,
-  sends_nothing (held (g.W.Write.contents (inner_of c.args.out.now)) (g.E.Write.contents (inner_of c.args.events.now))),
+  sends_nothing (outputs (g.W.Write.contents (inner_of c.args.out.now)) (g.E.Write.contents (inner_of c.args.events.now))),
 )

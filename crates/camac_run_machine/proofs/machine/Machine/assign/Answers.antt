@@ -2,7 +2,7 @@ use Rattle.std.proofs.Common.{[], ap, refl, sym, ◌∙◌, arith, rules}
 use Rattle.std.proofs.lemmas.List.{append-nil}
 use Rattle.camac_lang.specs.View.{expression_of}
 use Rattle.camac_run_machine.proofs.Actions.{has_value, assign_goes}
-use Rattle.camac_run_machine.specs.Held.{context_in, with_value, state_of, variables_here}
+use Rattle.camac_run_machine.specs.MachineState.{context_in, with_value, state_of, variables_here}
 use Rattle.camac_run_machine.specs.Rest.{rest_in}
 use Rattle.camac_run_machine.proofs.Scopes.{opens_written, room_written, variables_written}
 use Rattle.camac_run_machine.proofs.machine.Machine.assign.Goals as goal
@@ -22,7 +22,7 @@ returns g c =
       service = refl;
       wants = tt;
       pace = omega arith;
-      told = [];
+      released = [];
       unlocks = sym (append-nil h.unlocks.items);
       goes = λ answers.
           ap (λ os. rest_in (context_in h.checked.now) os (state_of (with_value h x v) answers)) (sym (opens_written h x v c.requires.room))

@@ -1,6 +1,6 @@
 use Rattle.std.proofs.Common.{◌+◌, arith, rules, map}
 use Rattle.std.specs.Prelude.{None}
-use Rattle.camac_run_machine.specs.Held.{free, reach}
+use Rattle.camac_run_machine.specs.MachineState.{free, reach}
 use Rattle.camac_lang.specs.Tree.{locked, call}
 use Rattle.camac_lang.specs.View.{expression_of, statement_of, statements_of}
 use Rattle.camac_run_machine.proofs.Actions.{begun}

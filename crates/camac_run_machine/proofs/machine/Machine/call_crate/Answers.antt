@@ -6,7 +6,7 @@ use Rattle.camac_esone.specs.Calls.{crate_address, crate_function}
 use Rattle.camac_func.specs.declared.data.DataMove.TheVariants as moved
 use Rattle.camac_lang.specs.View.{expression_of}
 use Rattle.camac_model.specs.Value.{value}
-use Rattle.camac_run_machine.specs.Held.{variables_here}
+use Rattle.camac_run_machine.specs.MachineState.{variables_here}
 use Rattle.camac_run_machine.proofs.Actions.{crate_has, crate_can, crate_wants, crate_of}
 use Rattle.camac_run_machine.proofs.Commands.{on_branch}
 use Rattle.camac_run_machine.proofs.machine.Machine.call_crate.Goals as goal

@@ -7,7 +7,7 @@ use Rattle.camac_esone.specs.Calls.{IsOnBranch, command_at, lam_function}
 use Rattle.camac_func.specs.declared.data.DataMove.TheVariants as moved
 use Rattle.camac_lang.specs.View.{lam_of}
 use Rattle.camac_model.specs.Meaning.{lam_address}
-use Rattle.camac_run_machine.specs.Held.{context_in}
+use Rattle.camac_run_machine.specs.MachineState.{context_in}
 use Rattle.camac_run_machine.proofs.Actions.{lam_can, lam_wants}
 use Rattle.camac_run_machine.proofs.Commands.{on_branch}
 use Rattle.camac_run_machine.proofs.Lams.{lam_at}

@@ -2,7 +2,7 @@ use Rattle.std.proofs.Common.{◌≡◌, [], ◌∷◌, ◌++◌, refl, rules, a
 use Rattle.camac_lang.specs.View.{statement_of, statements_of}
 use Rattle.std.specs.Prelude.{None}
 use Rattle.camac_lang.specs.Tree.{Block}
-use Rattle.camac_run_machine.specs.Held.{state_of, owner_in, open_in, opens_in, FineThen, HasRoomFor, Advances}
+use Rattle.camac_run_machine.specs.MachineState.{state_of, owner_in, open_in, opens_in, FineThen, HasRoomFor, Advances}
 use Rattle.camac_run_machine.specs.Rest.{left_of}
 use Rattle.camac_run_machine.proofs.Leaves.{depth_left}
 use Rattle.camac_run_machine.proofs.Frames.{room_begun, goes_begun, fine_along}
@@ -64,7 +64,7 @@ returns-in-len1-up g c =
       pace =
           let p = c.begin.ensures.pace in
           let n : length c.push.new.self.items ≡ length h.frames.items + 1 = c.push.ensures.len in omega (arith, p, n);
-      told = a.told;
+      released = a.released;
       unlocks = a.unlocks;
       goes = λ answers.
           a.goes answers ∙ goes_begun h _ c.push.new.self o st c.push.ensures.items e refl (state_of h answers);

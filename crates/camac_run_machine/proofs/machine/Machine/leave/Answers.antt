@@ -21,8 +21,8 @@ set_variable-requires g c =
     let o = owner_left h _ r in
     (search rules, (room_left h _ refl (λ k. refl) r, o.0))
 
-pub again-requires : goal.again-requires
-again-requires g c =
+pub test_while-requires : goal.test_while-requires
+test_while-requires g c =
     let h = c.args.self.now in
     let r = rw c.in-While.is at c.requires.room in
     let o = owner_left h _ r in
@@ -47,7 +47,7 @@ returns-else-current-last g c =
 
 pub returns-in-While : goal.returns-in-While
 returns-in-While g c =
-    rw c.in-While.is (while_leaves c.args.self.now (map part_of c.in-While.test.now) c.in-While.turns (statements_of c.in-While.body.now) c.again.new.self c.again.ensures)
+    rw c.in-While.is (while_leaves c.args.self.now (map part_of c.in-While.test.now) c.in-While.turns (statements_of c.in-While.body.now) c.test_while.new.self c.test_while.ensures)
 
 pub returns-in-Return : goal.returns-in-Return
 returns-in-Return g c =

@@ -1,7 +1,7 @@
 use Rattle.std.proofs.Common.{ap, subst, ◌∙◌}
 use Rattle.camac_branch.specs.Allowed.{AllowsCommands}
 use Rattle.camac_branch.specs.Plan.{Layout}
-use Rattle.camac_run_machine.specs.Held.{with_value}
+use Rattle.camac_run_machine.specs.MachineState.{with_value}
 use Rattle.camac_run_machine.proofs.Courses.{next_at, next_data, proceeds_on, proceeds_over}
 use Rattle.camac_run_machine.proofs.machine.Machine.proceed.Goals as goal
 

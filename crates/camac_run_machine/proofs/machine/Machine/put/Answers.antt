@@ -2,7 +2,7 @@ use Rattle.std.proofs.Common.{◌<◌, [], ◌∷◌, ◌++◌, length, refl, ap
 use Rattle.std.proofs.lemmas.List.{append-nil}
 use Rattle.std.proofs.lemmas.Bool.{false≢true}
 use Rattle.camac_lang.specs.View.{expression_of}
-use Rattle.camac_run_machine.specs.Held.{bounds_of}
+use Rattle.camac_run_machine.specs.MachineState.{bounds_of}
 use Rattle.camac_run_machine.proofs.Actions.{has_value, put_fits, put_goes}
 use Rattle.camac_run_machine.proofs.machine.Machine.put.Goals as goal
 
@@ -44,7 +44,7 @@ returns g c =
       service = refl;
       wants = tt;
       pace = omega arith;
-      told = [];
+      released = [];
       unlocks = sym (append-nil h.unlocks.items);
       goes = λ answers.
           put_goes h (expression_of c.args.value.now) c.value_of.result c.value_of.ensures c.push.new.self

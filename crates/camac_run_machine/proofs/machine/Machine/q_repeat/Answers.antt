@@ -1,26 +1,26 @@
 use Rattle.std.proofs.Common.{refl, ap, rules}
-use Rattle.camac_esone.specs.Held.{q_repeat_left}
+use Rattle.camac_esone.specs.InProgress.{q_repeat_left}
 use Rattle.camac_esone.specs.Transfers.{q_repeat_wanted}
 use Rattle.camac_lang.specs.Tree.{q_repeat}
 use Rattle.camac_lang.specs.View.{expression_of}
 use Rattle.camac_run_machine.specs.Course.{words_sent}
-use Rattle.camac_run_machine.proofs.Courses.{repeat_sent, repeat_set, repeat_max, repeat_limit, repeat_goes, begins_fine, begins_proceed}
+use Rattle.camac_run_machine.proofs.Courses.{q_repeat_sent, q_repeat_set, q_repeat_max, q_repeat_limit, repeat_goes, begins_fine, begins_proceed}
 use Rattle.camac_run_machine.proofs.machine.Machine.q_repeat.Goals as goal
 
 pub sent-words-requires : goal.sent-words-requires
 sent-words-requires g c = (
   search rules,
-  repeat_sent c.args.self.now c.args.function c.args.register c.args.table (expression_of c.args.max.now) (expression_of c.args.limit.now) c.args.tally c.requires.fine,
+  q_repeat_sent c.args.self.now c.args.function c.args.register c.args.table (expression_of c.args.max.now) (expression_of c.args.limit.now) c.args.tally c.requires.fine,
 )
 
 pub address_in-at-requires : goal.address_in-at-requires
-address_in-at-requires g c = (search rules, (c.requires.room, (c.requires.register, repeat_set c.args.self.now c.args.function c.args.register c.args.table (expression_of c.args.max.now) (expression_of c.args.limit.now) c.args.tally c.requires.fine (words_sent c.sent-words.result) c.sent-words.ensures)))
+address_in-at-requires g c = (search rules, (c.requires.room, (c.requires.register, q_repeat_set c.args.self.now c.args.function c.args.register c.args.table (expression_of c.args.max.now) (expression_of c.args.limit.now) c.args.tally c.requires.fine (words_sent c.sent-words.result) c.sent-words.ensures)))
 
 pub value_of-max-requires : goal.value_of-max-requires
-value_of-max-requires g c = (search rules, (c.requires.room, (c.requires.max, repeat_max c.args.self.now c.args.function c.args.register c.args.table (expression_of c.args.max.now) (expression_of c.args.limit.now) c.args.tally c.requires.fine (words_sent c.sent-words.result) c.sent-words.ensures c.address_in-at.result c.address_in-at.ensures)))
+value_of-max-requires g c = (search rules, (c.requires.room, (c.requires.max, q_repeat_max c.args.self.now c.args.function c.args.register c.args.table (expression_of c.args.max.now) (expression_of c.args.limit.now) c.args.tally c.requires.fine (words_sent c.sent-words.result) c.sent-words.ensures c.address_in-at.result c.address_in-at.ensures)))
 
 pub value_of-limit-requires : goal.value_of-limit-requires
-value_of-limit-requires g c = (search rules, (c.requires.room, (c.requires.limit, repeat_limit c.args.self.now c.args.function c.args.register c.args.table (expression_of c.args.max.now) (expression_of c.args.limit.now) c.args.tally c.requires.fine (words_sent c.sent-words.result) c.sent-words.ensures c.address_in-at.result c.address_in-at.ensures c.value_of-max.result c.value_of-max.ensures)))
+value_of-limit-requires g c = (search rules, (c.requires.room, (c.requires.limit, q_repeat_limit c.args.self.now c.args.function c.args.register c.args.table (expression_of c.args.max.now) (expression_of c.args.limit.now) c.args.tally c.requires.fine (words_sent c.sent-words.result) c.sent-words.ensures c.address_in-at.result c.address_in-at.ensures c.value_of-max.result c.value_of-max.ensures)))
 
 pub proceed-requires : goal.proceed-requires
 proceed-requires g c =

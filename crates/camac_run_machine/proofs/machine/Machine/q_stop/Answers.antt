@@ -1,5 +1,5 @@
 use Rattle.std.proofs.Common.{refl, ap, rules}
-use Rattle.camac_esone.specs.Held.{q_stop_left}
+use Rattle.camac_esone.specs.InProgress.{q_stop_left}
 use Rattle.camac_esone.specs.Transfers.{q_stop_wanted}
 use Rattle.camac_lang.specs.Tree.{q_stop}
 use Rattle.camac_lang.specs.View.{expression_of}

@@ -1,6 +1,6 @@
 use Rattle.std.proofs.Common.{refl, ap, rules}
 use Rattle.std.specs.Prelude.{None}
-use Rattle.camac_esone.specs.Held.{scan_left}
+use Rattle.camac_esone.specs.InProgress.{scan_left}
 use Rattle.camac_esone.specs.Transfers.{scan_wanted}
 use Rattle.camac_lang.specs.Tree.{address_scan}
 use Rattle.camac_lang.specs.View.{expression_of}

@@ -10,7 +10,7 @@ use Rattle.camac_model.specs.Fine.{IsFine, most_turns}
 use Rattle.camac_run_machine.specs.declared.machine.Frame.{Frame}
 use Rattle.camac_run_machine.specs.declared.machine.Machine.{Machine}
 use Rattle.camac_run_machine.specs.declared.machine.Owner.TheVariants.{Plain}
-use Rattle.camac_run_machine.specs.Held.{bounds_at, stands, IsFineHere, HasRoom}
+use Rattle.camac_run_machine.specs.MachineState.{bounds_at, stands, IsFineHere, HasRoom}
 use Rattle.camac_run_machine.specs.declared.scope.Scope.{Scope}
 use Rattle.camac_run_machine.specs.Store.{seen_by_service}
 use Rattle.camac_run_machine.specs.Within.{reach_of, ScopeFits, Opens}

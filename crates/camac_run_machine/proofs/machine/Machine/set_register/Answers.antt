@@ -3,7 +3,7 @@ use Rattle.std.proofs.lemmas.List.{append-nil}
 use Rattle.camac_lang.specs.View.{expression_of}
 use Rattle.camac_branch.specs.Address.{address}
 use Rattle.camac_model.specs.Value.{value}
-use Rattle.camac_run_machine.specs.Held.{context_in, variables_here, state_of}
+use Rattle.camac_run_machine.specs.MachineState.{context_in, variables_here, state_of}
 use Rattle.camac_run_machine.specs.Rest.{rest_in}
 use Rattle.camac_run_machine.specs.Store.{registers_in, held_at}
 use Rattle.camac_run_machine.proofs.Actions.{has_value, known, register_goes}
@@ -42,7 +42,7 @@ returns g c =
       service = refl;
       wants = tt;
       pace = omega arith;
-      told = [];
+      released = [];
       unlocks = sym (append-nil h.unlocks.items);
       goes = λ answers.
           ap (λ os. rest_in (context_in h.checked.now) os (state_of (record h { registers = rs }) answers)) (sym (opens_register h r at c.requires.room))

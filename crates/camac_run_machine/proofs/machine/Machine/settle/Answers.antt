@@ -3,7 +3,7 @@ use Rattle.std.specs.Prelude.{Some, None}
 use Rattle.std.proofs.lemmas.Bool.{false≢true}
 use Rattle.arrayvec.specs.ArrayVec.{ArrayVec}
 use Rattle.camac_run_machine.specs.declared.machine.Frame.{Frame}
-use Rattle.camac_run_machine.specs.Held.{bounds_of, state_of, stands, HasRoom}
+use Rattle.camac_run_machine.specs.MachineState.{bounds_of, state_of, stands, HasRoom}
 use Rattle.camac_run_machine.specs.Rest.{says}
 use Rattle.camac_run_machine.proofs.Fine.{keeps_rest, fine_says}
 use Rattle.camac_run_machine.proofs.Frames.{room_popped, goes_popped, goes_further, fine_along, smaller}
@@ -40,7 +40,7 @@ returns-in-Some-go_on g c =
       wants = e.wants;
       over = tt;
       goes = λ answers.
-          goes_further h new c.in-Some.frame c.pop.new.self c.in-Some.ensures.items e.told e.unlocks (Some w) answers (e.goes answers) ∙ v.goes answers;
+          goes_further h new c.in-Some.frame c.pop.new.self c.in-Some.ensures.items e.released e.unlocks (Some w) answers (e.goes answers) ∙ v.goes answers;
     }
 
 pub loop-frame-smaller : goal.loop-frame-smaller
@@ -49,7 +49,7 @@ loop-frame-smaller g c =
     let v = c.loop-frame.invariant in
     let e = c.in_default-go_on.ensures in
     let new = c.go_on.new.self in
-    let same = goes_further h new c.in-Some.frame c.pop.new.self c.in-Some.ensures.items e.told e.unlocks None [] (e.goes []) ∙ v.goes [] in
+    let same = goes_further h new c.in-Some.frame c.pop.new.self c.in-Some.ensures.items e.released e.unlocks None [] (e.goes []) ∙ v.goes [] in
     let fine = fine_says new.checked.now.plan (bounds_of new) new.unlocks.items _ (fine_along new c.args.self.now (e.checked ∙ v.checked) (e.service ∙ v.service) _ _ same (c.requires.fine [])) in
     let within = keeps_rest new.checked.now.plan (bounds_of new) new.checked.now.script _ (state_of new []) fine in
     smaller new h c.pop.new.self c.in-Some.frame e.checked e.service within.steps e.pace c.in-Some.ensures.items
@@ -65,7 +65,7 @@ loop-frame-preserved g c =
       checked = e.checked ∙ v.checked;
       service = e.service ∙ v.service;
       goes = λ answers.
-          goes_further h new c.in-Some.frame c.pop.new.self c.in-Some.ensures.items e.told e.unlocks None answers (e.goes answers) ∙ v.goes answers;
+          goes_further h new c.in-Some.frame c.pop.new.self c.in-Some.ensures.items e.released e.unlocks None answers (e.goes answers) ∙ v.goes answers;
     }
 
 pub returns : goal.returns

@@ -1,7 +1,7 @@
 use Rattle.std.proofs.Common.{◌≡◌, ◌+◌, ◌-◌, ◌*◌, List, length}
 use Rattle.std.specs.Prelude.{None}
 use Rattle.camac_branch.specs.Branch.{Answer}
-use Rattle.camac_run_machine.specs.Held.{bounds_of, stands, HasRoom}
+use Rattle.camac_run_machine.specs.MachineState.{bounds_of, stands, HasRoom}
 use Rattle.camac_run_machine.specs.Rest.{says}
 use Rattle.camac_run_machine.proofs.machine.Machine.settle.Given as goal
 

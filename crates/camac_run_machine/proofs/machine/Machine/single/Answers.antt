@@ -6,7 +6,7 @@ use Rattle.camac_func.specs.declared.data.DataMove.TheVariants as moved
 use Rattle.camac_lang.specs.View.{expression_of, move_of}
 use Rattle.camac_model.specs.Cycle.{sized}
 use Rattle.camac_model.specs.Value.{value}
-use Rattle.camac_run_machine.specs.Held.{variables_here}
+use Rattle.camac_run_machine.specs.MachineState.{variables_here}
 use Rattle.camac_run_machine.specs.Rest.{address_of}
 use Rattle.camac_run_machine.proofs.Actions.{address_set, control_can, read_can, write_has, write_can, control_wants, read_wants, write_wants}
 use Rattle.camac_run_machine.proofs.Commands.{on_branch, word_fits}

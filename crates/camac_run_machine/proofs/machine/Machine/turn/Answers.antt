@@ -2,7 +2,7 @@ use Rattle.std.proofs.Common.{◌+◌, ◌-◌, ◌<◌, ◌++◌, ◌∷◌, []
 use Rattle.camac_lang.specs.View.{statements_of}
 use Rattle.camac_run_machine.specs.declared.machine.Machine.{Machine}
 use Rattle.camac_run_machine.specs.declared.machine.Owner.TheVariants.{For}
-use Rattle.camac_run_machine.specs.Held.{reach, free}
+use Rattle.camac_run_machine.specs.MachineState.{reach, free}
 use Rattle.camac_run_machine.specs.Within.{Opens}
 use Rattle.camac_run_machine.proofs.Frames.{room_stepped}
 use Rattle.camac_run_machine.proofs.Loops.{turn_fine, turn_advances}

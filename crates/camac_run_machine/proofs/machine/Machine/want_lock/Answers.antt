@@ -3,7 +3,7 @@ use Rattle.std.proofs.lemmas.Bool.{false≢true}
 use Rattle.camac_branch.specs.Plan.{Layout, IsPlan}
 use Rattle.camac_lang.specs.View.{expression_of, statements_of}
 use Rattle.camac_model.specs.Value.{value}
-use Rattle.camac_run_machine.specs.Held.{variables_here}
+use Rattle.camac_run_machine.specs.MachineState.{variables_here}
 use Rattle.camac_run_machine.proofs.Actions.{lock_has, lock_can, lock_wants}
 use Rattle.camac_run_machine.proofs.Commands.{crate_in_range}
 use Rattle.camac_run_machine.proofs.machine.Machine.want_lock.Goals as goal

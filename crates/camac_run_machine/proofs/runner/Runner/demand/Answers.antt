@@ -8,10 +8,10 @@ use Rattle.arrayvec.specs.ArrayVec.{ArrayVec}
 use Rattle.camac_check_result.specs.Checked.{CheckedScript}
 use Rattle.camac_model.specs.Fine.{most_turns}
 use Rattle.camac_model.specs.Run.{Chosen, service_for, service_meaning}
-use Rattle.camac_run_machine.specs.Held.{context_in, want_of}
+use Rattle.camac_run_machine.specs.MachineState.{context_in, want_of}
 use Rattle.camac_run_machine.specs.Rest.{onward, served, says}
 use Rattle.camac_run_machine.specs.Runner.{bit_at, rest, with_event, last_words_in}
-use Rattle.camac_run_machine.specs.Sound.{held}
+use Rattle.camac_run_machine.specs.Sound.{runner_state}
 use Rattle.camac_run_machine.proofs.Services.{place}
 use Rattle.camac_run_machine.proofs.Serving.{onward_passes, onward_serves}
 use Rattle.camac_run_machine.proofs.Sizes.{machine_fits}
@@ -119,7 +119,7 @@ returns-in-Some g c =
           ∙ ap (does (demanded c.demand-pattern.result (Some i)))
           (ap (served (context_in k) k.script.services bit) (sym (s.goes answers))
           ∙ told_along new r.machine.checked i bit next' c.if_over.result (r.fed + 1) n' c.is_over-over.result r.overrun answers s.checked s.service its s.over ended silent c.is_over-over.ensures.ended new.unlocks.items
-          ∙ ap (λ us. says us (with_event c.if_over.result (last_words_in (held new next' (r.fed + 1) n' c.is_over-over.result r.overrun)) (rest (held new next' (r.fed + 1) n' c.is_over-over.result r.overrun) answers))) (ap (λ (v : ArrayVec ℕ). v.items) (sym c.take-unlocks.ensures.value))));
+          ∙ ap (λ us. says us (with_event c.if_over.result (last_words_in (runner_state new next' (r.fed + 1) n' c.is_over-over.result r.overrun)) (rest (runner_state new next' (r.fed + 1) n' c.is_over-over.result r.overrun) answers))) (ap (λ (v : ArrayVec ℕ). v.items) (sym c.take-unlocks.ensures.value))));
       fed = refl;
       same = number.0;
       next = number.1;

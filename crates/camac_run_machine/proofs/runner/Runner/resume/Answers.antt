@@ -5,10 +5,10 @@ use Rattle.arrayvec.specs.ArrayVec.{ArrayVec}
 use Rattle.camac_check_result.specs.Checked.{CheckedScript}
 use Rattle.camac_model.specs.Behaviour.{does, then_do}
 use Rattle.camac_run_machine.specs.declared.machine.Machine.{Machine}
-use Rattle.camac_run_machine.specs.Held.{context_in, state_of, left_in, want_of, piece_of}
+use Rattle.camac_run_machine.specs.MachineState.{context_in, state_of, left_in, want_of, piece_of}
 use Rattle.camac_run_machine.specs.Rest.{follows, served, says}
 use Rattle.camac_run_machine.specs.Runner.{bit_at, rest, with_event, last_words_in}
-use Rattle.camac_run_machine.specs.Sound.{held}
+use Rattle.camac_run_machine.specs.Sound.{runner_state}
 use Rattle.camac_run_machine.proofs.Serving.{served_does, served_stops}
 use Rattle.camac_run_machine.proofs.Sizes.{machine_fits}
 use Rattle.camac_run_machine.proofs.Told.{told_along, numbered, quiet, sound_after, take_fine, settle_fine, none_mapped, some_mapped, few_events, below_along}
@@ -80,7 +80,7 @@ returns-in-Ok g c =
           ∙ ap (does (piece_of d))
           (ap (served ctx vs bit) (sym (s.goes answers))
           ∙ told_along new r.machine.checked r.machine.service bit next' c.if_over.result (r.fed + 1) n' c.is_over-over.result r.overrun answers (s.checked ∙ t.checked) (s.service ∙ t.service) refl s.over ended silent c.is_over-over.ensures.ended new.unlocks.items
-          ∙ ap (λ us. says us (with_event c.if_over.result (last_words_in (held new next' (r.fed + 1) n' c.is_over-over.result r.overrun)) (rest (held new next' (r.fed + 1) n' c.is_over-over.result r.overrun) answers))) (ap (λ (v : ArrayVec ℕ). v.items) (sym c.take-unlocks.ensures.value))));
+          ∙ ap (λ us. says us (with_event c.if_over.result (last_words_in (runner_state new next' (r.fed + 1) n' c.is_over-over.result r.overrun)) (rest (runner_state new next' (r.fed + 1) n' c.is_over-over.result r.overrun) answers))) (ap (λ (v : ArrayVec ℕ). v.items) (sym c.take-unlocks.ensures.value))));
       fed = refl;
       same = number.0;
       next = number.1;
@@ -101,6 +101,6 @@ returns-in-Err g c =
           ∙ served_stops (context_in k) k.script.services (bit_at k r.machine.service) _ _));
       again = rw first tt;
       same =
-          ap (λ (m : Machine g.row.V g.row.DEPTH g.row.CAP). held m (Some c.in-Some.wanting) r.fed r.events r.has_event (Some c.in-Err.overrun)) c.in-Err.ensures.same
-          ∙ ap (λ o. held r.machine o r.fed r.events r.has_event (Some c.in-Err.overrun)) (sym wanting);
+          ap (λ (m : Machine g.row.V g.row.DEPTH g.row.CAP). runner_state m (Some c.in-Some.wanting) r.fed r.events r.has_event (Some c.in-Err.overrun)) c.in-Err.ensures.same
+          ∙ ap (λ o. runner_state r.machine o r.fed r.events r.has_event (Some c.in-Err.overrun)) (sym wanting);
     })

@@ -9,7 +9,7 @@ use Rattle.camac_check_result.specs.Checked.{CheckedScript, IsChecked}
 use Rattle.camac_lang.specs.Fits.{fits}
 use Rattle.camac_model.specs.Meaning.{context}
 use Rattle.camac_model.specs.Run.{rounds}
-use Rattle.camac_run_machine.specs.Held.{context_in}
+use Rattle.camac_run_machine.specs.MachineState.{context_in}
 use Rattle.camac_run_machine.specs.Rest.{onward}
 use Rattle.camac_run_machine.proofs.Sizes.{machine_fits}
 use Rattle.camac_run_machine.proofs.Serving.{starts}

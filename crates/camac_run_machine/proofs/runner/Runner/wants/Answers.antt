@@ -1,7 +1,7 @@
 use Rattle.std.proofs.Common.{◌≡◌, None, Some, subst, sym, ◌∙◌}
 use Rattle.camac_run_machine.specs.Operation.{CanLock}
-use Rattle.camac_run_machine.specs.Runner.{Held}
-use Rattle.camac_run_machine.specs.Sound.{held}
+use Rattle.camac_run_machine.specs.Runner.{RunnerState}
+use Rattle.camac_run_machine.specs.Sound.{runner_state}
 use Rattle.camac_run_machine.specs.declared.item.Wanted.{Wanted}
 use Rattle.camac_run_machine.proofs.Operation.{not_some, can_lock, wanted_begins, idle_begins}
 use Rattle.camac_run_machine.proofs.runner.Runner.wants.Goals as goal
@@ -16,8 +16,8 @@ returns-in-Some-clause-wants g c =
 pub returns-in-Some-clause-lock : goal.returns-in-Some-clause-lock
 returns-in-Some-clause-lock g c =
     let r = c.self.inside in
-    subst (λ (x : Held). CanLock x (Some c.operation.result)) c.self.view_is
-    (subst (λ (o : Wanted). CanLock (held r.machine r.wanting r.fed r.events r.has_event r.overrun) (Some o)) (sym c.operation.ensures)
+    subst (λ (x : RunnerState). CanLock x (Some c.operation.result)) c.self.view_is
+    (subst (λ (o : Wanted). CanLock (runner_state r.machine r.wanting r.fed r.events r.has_event r.overrun) (Some o)) (sym c.operation.ensures)
     (can_lock r.machine c.in-Some.wanting r.wanting r.fed r.events r.has_event r.overrun c.in-Some.is c.self.invariant.wants))
 
 pub returns-in-None-clause-wants : goal.returns-in-None-clause-wants

@@ -10,7 +10,7 @@ use Rattle.camac_branch.specs.Plan.{Layout}
 use Rattle.camac_model.specs.State.{State, stepped, with_variable}
 use Rattle.camac_model.specs.Behaviour.{Action, given}
 use Rattle.camac_model.specs.Value.{value}
-use Rattle.camac_model.specs.Meaning.{counted, for_from, effect, block_meaning}
+use Rattle.camac_model.specs.Meaning.{for_state, for_from, effect, block_meaning}
 use Rattle.camac_model.specs.Fine.{Bounds}
 use Rattle.camac_model.proofs.Rules.{counts_meet_within}
 use Rattle.camac_check_rules.specs.Known.{Facts, Known, range_at, with_range}
@@ -86,7 +86,7 @@ module _ (plan : Layout) (around : Place) (x : ℕ) (body : Block) (qs : List Ke
     in_values : (n : ℕ) → v ≤ n → n ≤ w → IsWithin (values_between l) n
     in_values n low high = record { low = omega (arith, first.within); high = omega (arith, last.within) }
 
-    turn_left : (left next : ℕ) (t u : State) → Turned (suc left) next t → Ended (fixing x around) turn.after turn.costs (counted x next t) u → Same (block_writes body) (block_sets body) (counted x next t) u → Turned left (next + 1) u
+    turn_left : (left next : ℕ) (t u : State) → Turned (suc left) next t → Ended (fixing x around) turn.after turn.costs (for_state x next t) u → Same (block_writes body) (block_sets body) (for_state x next t) u → Turned left (next + 1) u
     turn_left left next t u g e f =
         let old = g.between in
         let wrote : Same Written (block_sets body) s (with_variable x next t) =
@@ -95,7 +95,7 @@ module _ (plan : Layout) (around : Place) (x : ℕ) (body : Block) (qs : List Ke
           made = g.made + 1;
           turns = omega (arith, g.turns);
           is_next = omega (arith, g.is_next);
-          paid = paid_turn g.made turn.costs s t (counted x next t) u g.paid (record { cycles = refl; words = refl; steps = refl; answers = refl }) e.paid;
+          paid = paid_turn g.made turn.costs s t (for_state x next t) u g.paid (record { cycles = refl; words = refl; steps = refl; answers = refl }) e.paid;
           between = record {
             same = record {
               variables = λ y o. f.variables y (or_parts (nat_eq y x) (block_writes body y) o).1 ∙ wrote.variables y o;
@@ -108,18 +108,18 @@ module _ (plan : Layout) (around : Place) (x : ℕ) (body : Block) (qs : List Ke
           untouched = λ y among. e.untouched y (or_right (nat_eq y x) (is_among y around.fixed) among) ∙ (written_other around x next t.variables h.may y among ∙ g.untouched y among);
         }
 
-    counting : (m n : ℕ) → m ≡ w + 1 - v → m ≤ n → Between around Written body qs s (stepped s) → Sound plan around (After x body qs k l) Costs s (for_from m n x v w run (stepped s))
-    counting zero n is le b = record {
+    all_turns : (m n : ℕ) → m ≡ w + 1 - v → m ≤ n → Between around Written body qs s (stepped s) → Sound plan around (After x body qs k l) Costs s (for_from m n x v w run (stepped s))
+    all_turns zero n is le b = record {
       reaches = inside_narrowed around (head body qs k) (stepped s) x (hull (range_at k.ranges x) (values_between l))
           (inside_head around body qs k s (stepped s) i (record { same = record { variables = λ y e. refl; registers = λ r e. refl }; small = b.small; locks = b.locks; kept = b.kept }))
           (hull_left (range_at k.ranges x) (values_between l) (s.variables x) (i.variables.each x));
       paid = paid_begun (turns_between l) turn.costs s;
       untouched = λ y e. refl;
     }
-    counting (suc m) n is le b =
+    all_turns (suc m) n is le b =
         counts_meet_within step (SafePiece plan) (StopsWell Costs s) (EndsWell around (After x body qs k l) Costs s) x w run (λ u. Turned)
         (λ u left next t g.
-        let t' : State = counted x next t in
+        let t' : State = for_state x next t in
         let old = g.between in
         let high : next ≤ w = omega (arith, g.turns, g.is_next) in
         let value_in : IsWithin (values_between l) next = in_values next (omega (arith, g.is_next)) high in
@@ -177,7 +177,7 @@ module _ (c : Setting) (around : Place) (line x : ℕ) (e1 e2 : Expression) (qs 
         let enough : turn_limit ≤ n = limit_is_most n le in
         let few : turns_between l ≤ turn_limit = m.few in
         let fewer : w + 1 - v ≤ turns_between l = omega (arith, f.within, g.within) in
-        counting c.plan around x body qs k l turn (block_meaning (of c) n body)
+        all_turns c.plan around x body qs k l turn (block_meaning (of c) n body)
         (record { may = m.may; sound = λ t j. h.each n le t j; leaves = λ t. block_leaves (of c) n body t; keep = keep }) s i v w f g
         (w + 1 - v) n refl (omega arith)
         (record { same = record { variables = λ y e. refl; registers = λ r e. refl }; small = i.variables.small; locks = i.locks; kept = in_keeps around qs k s m.entry i }));

@@ -6,7 +6,7 @@ use Rattle.std.proofs.lemmas.Bool.{and_parts, lt-ltb, le-ltb, ltb-true, ltb-fals
 use Rattle.std.proofs.lemmas.List.{length-append, length-take, take_all}
 use Rattle.camac_branch.specs.Address.{Address}
 use Rattle.camac_esone.specs.Transfers.{all_true, q_stop_wanted}
-use Rattle.camac_esone.specs.Lists.{Cycle, replies, first_zero, IsStopList}
+use Rattle.camac_esone.specs.Lists.{Cycle, replies, first_zero, IsQStopList}
 use Rattle.camac_esone.specs.Laws.{IsDrivenToEnd, StopTestGivesQStop}
 use Rattle.camac_esone.proofs.Parts.{replies-append, length-replies, empty_or_ending, when_true, when_false, was_true, was_false}
 use Rattle.camac_esone.proofs.Drives.{Falls, gives}
@@ -108,10 +108,10 @@ wanted_goes_on at to max qs e =
     let parts = and_parts (all_true qs) (nat_lt (length qs) max) was.0 in
     (record { ones = parts.0; less = ltb-true (length qs) max parts.1 }, was.1)
 
-ones_front : (xs ys : List Bool) → all_true (xs ++ ys) ≡ true → all_true xs ≡ true
-ones_front [] ys h = refl
-ones_front (true ∷ xs) ys h = ones_front xs ys h
-ones_front (false ∷ xs) ys h = cc
+ones_prefix : (xs ys : List Bool) → all_true (xs ++ ys) ≡ true → all_true xs ≡ true
+ones_prefix [] ys h = refl
+ones_prefix (true ∷ xs) ys h = ones_prefix xs ys h
+ones_prefix (false ∷ xs) ys h = cc
 
 ones_more : (xs : List Bool) → all_true xs ≡ true → all_true (xs ++ true ∷ []) ≡ true
 ones_more [] h = refl
@@ -124,25 +124,25 @@ zero_last (true ∷ xs) = zero_last xs
 zero_last (false ∷ xs) = refl
 
 -- what stands before some reply stands before the last one
-front_of : (xs ys before : List Bool) (x y : Bool) → xs ++ x ∷ ys ≡ before ++ y ∷ [] → all_true before ≡ true → (all_true xs ≡ true) × (length xs ≤ length before)
-front_of [] ys before x y e h = (refl, omega arith)
-front_of (a ∷ xs) ys [] x y e h =
+prefix_of : (xs ys before : List Bool) (x y : Bool) → xs ++ x ∷ ys ≡ before ++ y ∷ [] → all_true before ≡ true → (all_true xs ≡ true) × (length xs ≤ length before)
+prefix_of [] ys before x y e h = (refl, omega arith)
+prefix_of (a ∷ xs) ys [] x y e h =
     let same = ap length e in let parts = length-append xs (x ∷ ys) in absurd (omega (arith, same, parts))
-front_of (a ∷ xs) ys (true ∷ before) x y e h =
+prefix_of (a ∷ xs) ys (true ∷ before) x y e h =
     let tails : xs ++ x ∷ ys ≡ before ++ y ∷ [] = cc in
     let first : a ≡ true = cc in
-    let r = front_of xs ys before x y tails h in
+    let r = prefix_of xs ys before x y tails h in
     (subst (λ b. all_true (b ∷ xs) ≡ true) (sym first) r.0, omega arith)
-front_of (a ∷ xs) ys (false ∷ before) x y e h = cc
+prefix_of (a ∷ xs) ys (false ∷ before) x y e h = cc
 
 goes_on_before : (max : ℕ) (qs xs ys : List Bool) (x : Bool) → IsStop max qs → xs ++ x ∷ ys ≡ qs → GoesOn max xs
 unfolding IsStop
 goes_on_before max qs xs ys x (inl a) e =
     let same = ap length e in
     let parts = length-append xs (x ∷ ys) in
-    record { ones = ones_front xs (x ∷ ys) (subst (λ l. all_true l ≡ true) (sym e) a.ones); less = omega (arith, a.count) }
+    record { ones = ones_prefix xs (x ∷ ys) (subst (λ l. all_true l ≡ true) (sym e) a.ones); less = omega (arith, a.count) }
 goes_on_before max qs xs ys x (inr z) e =
-    let f = front_of xs ys z.before x false (e ∙ sym z.parts) z.ones in
+    let f = prefix_of xs ys z.before x false (e ∙ sym z.parts) z.ones in
     record { ones = f.0; less = omega (arith, z.count) }
 
 ends_after : (at : Address) (max : ℕ) (qs : List Bool) → IsStop max qs → q_stop_wanted at max qs ≡ None
@@ -173,7 +173,7 @@ nothing_wanted at max e =
     let none : max ≤ 0 = ltb-false 0 max (was_false (nat_lt 0 max) at e) in
     inl (record { ones = refl; count = omega arith })
 
-to_end : (at : Address) (max : ℕ) (cycles : List Cycle) → IsStopList at max cycles → IsDrivenToEnd (q_stop_wanted at max) cycles
+to_end : (at : Address) (max : ℕ) (cycles : List Cycle) → IsQStopList at max cycles → IsDrivenToEnd (q_stop_wanted at max) cycles
 unfolding stop_count
 to_end at max cycles h =
     let stop = count_means max (replies cycles) (length-replies cycles ∙ h.count) in
@@ -191,15 +191,15 @@ stops at max cycles h =
     elim (empty_or_ending cycles) [
       | inl e ↦ subst (λ l. IsStop max (replies l)) (sym e)
           (nothing_wanted at max (subst (λ l. q_stop_wanted at max (replies l) ≡ None) e h.ended))
-      | inr end ↦ let qs : replies end.front ++ end.last.q ∷ [] ≡ replies cycles
-          = sym (replies-append end.front (end.last ∷ [])) ∙ ap replies end.parts in
+      | inr end ↦ let qs : replies end.prefix ++ end.last.q ∷ [] ≡ replies cycles
+          = sym (replies-append end.prefix (end.last ∷ [])) ∙ ap replies end.parts in
           subst (IsStop max) qs
-          (whole_of at max (replies end.front) end.last.q
-          (wanted_goes_on at end.last.at max (replies end.front) (h.driven end.front [] end.last end.parts)).0
+          (whole_of at max (replies end.prefix) end.last.q
+          (wanted_goes_on at end.last.at max (replies end.prefix) (h.driven end.prefix [] end.last end.parts)).0
           (subst (λ l. q_stop_wanted at max l ≡ None) (sym qs) h.ended))
     ]
 
-from_end : (at : Address) (max : ℕ) (cycles : List Cycle) → IsDrivenToEnd (q_stop_wanted at max) cycles → IsStopList at max cycles
+from_end : (at : Address) (max : ℕ) (cycles : List Cycle) → IsDrivenToEnd (q_stop_wanted at max) cycles → IsQStopList at max cycles
 unfolding stop_count
 from_end at max cycles h = record {
   address = λ before after c e. (wanted_goes_on at c.at max (replies before) (h.driven before after c e)).1;
@@ -212,7 +212,7 @@ stop_falls at max qs to e =
     let parts = length-append qs (false ∷ []) in
     omega (arith, g.less)
 
-pub stop_gives : StopTestGivesQStop
-stop_gives at max =
-    gives (q_stop_wanted at max) (IsStopList at max) (λ qs. max - length qs) (stop_falls at max)
+pub q_stop_gives : StopTestGivesQStop
+q_stop_gives at max =
+    gives (q_stop_wanted at max) (IsQStopList at max) (λ qs. max - length qs) (stop_falls at max)
     (λ cycles. (to_end at max cycles, from_end at max cycles))

@@ -2,47 +2,47 @@
 use Rattle.std.specs.Prelude.{ℕ, List, Option}
 use Rattle.camac_branch.specs.Address.{Address}
 use Rattle.camac_esone.specs.Transfers.{q_stop_wanted, q_repeat_wanted, scan_wanted}
-use Rattle.camac_esone.specs.Lists.{Cycle, IsStopList, IsRepeatList, IsScanList}
+use Rattle.camac_esone.specs.Lists.{Cycle, IsQStopList, IsQRepeatList, IsScanList}
 use Rattle.camac_esone.specs.Progress.{Left, StandsAt, LeadsOn}
 
 -- Q-stop: how many further cycles there are at most, none after Q=0
-pub record StopHeld : Type 0 where
+pub record QStopState : Type 0 where
   pub at : Address
   pub cycles : ℕ
   pub tally : ℕ
 
 -- Q-repeat: how many words are missing, and how many further cycles there are at most
-pub record RepeatHeld : Type 0 where
+pub record QRepeatState : Type 0 where
   pub at : Address
   pub words : ℕ
   pub cycles : ℕ
   pub tally : ℕ
 
 -- Scan: the next address, the final one, and how many words are missing
-pub record ScanHeld : Type 0 where
+pub record ScanState : Type 0 where
   pub at : Address
   pub last : Address
   pub words : ℕ
   pub tally : ℕ
 
-abbrev pub q_stop_left : StopHeld → Left
+abbrev pub q_stop_left : QStopState → Left
 q_stop_left h = record { wanted = q_stop_wanted h.at h.cycles; tally = h.tally }
 
-abbrev pub q_repeat_left : RepeatHeld → Left
+abbrev pub q_repeat_left : QRepeatState → Left
 q_repeat_left h = record { wanted = q_repeat_wanted h.at h.words h.cycles; tally = h.tally }
 
-abbrev pub scan_left : ScanHeld → Left
+abbrev pub scan_left : ScanState → Left
 scan_left h = record { wanted = scan_wanted h.at h.last h.words; tally = h.tally }
 
 -- At all cycles at which it stands, a transfer leads on along its lists.
-abbrev pub LeadsAlongStop : Left → Option Address → Type 0
-LeadsAlongStop left next =
-    (at : Address) (max : ℕ) (cycles : List Cycle) → StandsAt (q_stop_wanted at max) left cycles → LeadsOn (IsStopList at max) cycles next
+abbrev pub LeadsAlongQStop : Left → Option Address → Type 0
+LeadsAlongQStop left next =
+    (at : Address) (max : ℕ) (cycles : List Cycle) → StandsAt (q_stop_wanted at max) left cycles → LeadsOn (IsQStopList at max) cycles next
 
-abbrev pub LeadsAlongRepeat : Left → Option Address → Type 0
-LeadsAlongRepeat left next =
+abbrev pub LeadsAlongQRepeat : Left → Option Address → Type 0
+LeadsAlongQRepeat left next =
     (at : Address) (max limit : ℕ) (cycles : List Cycle) → StandsAt (q_repeat_wanted at max limit) left cycles
-    → LeadsOn (IsRepeatList at max limit) cycles next
+    → LeadsOn (IsQRepeatList at max limit) cycles next
 
 abbrev pub LeadsAlongScan : Left → Option Address → Type 0
 LeadsAlongScan left next =

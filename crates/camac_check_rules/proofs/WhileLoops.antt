@@ -30,7 +30,7 @@ use Rattle.camac_check_rules.proofs.Falls.{Fell, Falls, fall_positive, block_fal
 use Rattle.camac_check_rules.proofs.Turns.{meets_both, Between, inside_head, paid_begun, paid_turns, paid_turn, stopped_turn, limit_is_most}
 
 -- by what a `while` may begin
-pub record MayRepeat (most m : ℕ) (qs : List Keep) (body : Block) (k top : Facts) : Type 0 where
+pub record MayTurn (most m : ℕ) (qs : List Keep) (body : Block) (k top : Facts) : Type 0 where
   pub fall : ℕ
   pub falls : fall_of m body ≡ Some fall
   pub most_turns : most ≤ turn_limit
@@ -38,7 +38,7 @@ pub record MayRepeat (most m : ℕ) (qs : List Keep) (body : Block) (k top : Fac
   pub entry : keeps_hold qs k ≡ true
   pub is : with_range m (interval 0 (range_at k.ranges m).hi) (head body qs k) ≡ top
 
-pub head_allowed : (line most m : ℕ) (qs : List Keep) (body : Block) (k : Facts) → Allows (while_head line most m qs body k) (MayRepeat most m qs body k)
+pub head_allowed : (line most m : ℕ) (qs : List Keep) (body : Block) (k : Facts) → Allows (while_head line most m qs body k) (MayTurn most m qs body k)
 head_allowed line most m qs body k =
     then_allowed (given_allowed (fall_of m body) _ line) (λ fall falls.
     required_allowed _ line (λ few.
@@ -200,7 +200,7 @@ bound_small : (holds : Known) (most : ℕ) → turn_bound holds most ≤ most
 bound_small None most = omega arith
 bound_small (Some q) most = omega arith
 
-pub while_sound : (c : Setting) (around : Place) (line : ℕ) (test : Condition) (most m : ℕ) (qs : List Keep) (body : Block) (k top : Facts) (arms : Branches) (turn : Verdict) → MayRepeat most m qs body k top → ((s : State) → Inside around top s → Decides around (truth test s.variables s.q s.x) arms s) → SoundFor c.plan around arms.holds (λ n. block_meaning (of c) n body) turn → keeps_hold_after qs turn.after ≡ true → SoundFor c.plan around (Some k) (λ n s. effect (of c) n (while_ line test most m qs body) (stepped s)) (verdict arms.fails (loop_costs (turn_bound arms.holds most) turn.costs))
+pub while_sound : (c : Setting) (around : Place) (line : ℕ) (test : Condition) (most m : ℕ) (qs : List Keep) (body : Block) (k top : Facts) (arms : Branches) (turn : Verdict) → MayTurn most m qs body k top → ((s : State) → Inside around top s → Decides around (truth test s.variables s.q s.x) arms s) → SoundFor c.plan around arms.holds (λ n. block_meaning (of c) n body) turn → keeps_hold_after qs turn.after ≡ true → SoundFor c.plan around (Some k) (λ n s. effect (of c) n (while_ line test most m qs body) (stepped s)) (verdict arms.fails (loop_costs (turn_bound arms.holds most) turn.costs))
 while_sound c around line test most m qs body k top arms turn may d h keep = record {
   each = λ n le s i.
       let last : ℕ = (range_at k.ranges m).hi in

@@ -5,10 +5,10 @@ use Rattle.camac_lang.specs.View.{expression_of, statements_of}
 use Rattle.camac_model.specs.Fine.{most_turns}
 use Rattle.camac_model.specs.Meaning.{effect, for_turns, block_meaning}
 use Rattle.camac_model.specs.Value.{value}
-use Rattle.camac_run_machine.specs.Held.{variables_here}
+use Rattle.camac_run_machine.specs.MachineState.{variables_here}
 use Rattle.camac_run_machine.proofs.Actions.{has_value, known}
 use Rattle.camac_run_machine.proofs.Loops.{fine_as, advances_as, unchanged, count_goes, count_none}
-use Rattle.camac_run_machine.proofs.machine.Machine.count.Goals as goal
+use Rattle.camac_run_machine.proofs.machine.Machine.begin_for.Goals as goal
 
 pub value_of-first-requires : goal.value_of-first-requires
 value_of-first-requires g c =

@@ -19,7 +19,7 @@ use Rattle.camac_model.specs.Value.{greatest}
 use Rattle.camac_run_machine.specs.Store.{variables_in, registers_in, held_at}
 use Rattle.camac_lang.specs.Fits.{fits}
 use Rattle.camac_run_machine.specs.Course.{left_at, words_sent, data_of}
-use Rattle.camac_run_machine.specs.Rest.{address_of, Want, makes, reads, locks, transfers, awaited, follows, Owner, nothing, releases, counts, repeats, returns, Open, rest_in, says}
+use Rattle.camac_run_machine.specs.Rest.{address_of, Want, makes, reads, locks, transfers, awaited, follows, Owner, nothing, releases, for_loop, while_loop, returns, Open, rest_in, says}
 use Rattle.camac_run_machine.specs.Within.{Reach, reach_of, ScopeFits, Opens, OpenFit}
 use Rattle.camac_run_machine.specs.declared.item.Item.{Item}
 use Rattle.camac_run_machine.specs.declared.item.Item.TheVariants as item
@@ -42,7 +42,7 @@ context_in c = context c.plan c.script
 abbrev pub owner_of : List ℕ → List (Option Address) → rust.Owner → Owner
 owner_of vs rs rust.TheVariants.Plain = nothing
 owner_of vs rs (rust.TheVariants.Locked k) = releases k
-owner_of vs rs (rust.TheVariants.For x v last n body) = counts x v last n (statements_of body.now)
+owner_of vs rs (rust.TheVariants.For x v last n body) = for_loop x v last n (statements_of body.now)
 owner_of vs rs (rust.TheVariants.While test n body) = repeats (map part_of test.now) n (statements_of body.now)
 owner_of vs rs (rust.TheVariants.Return p) = returns p (held_at p.variables vs) (held_at p.registers rs)
 
@@ -93,8 +93,8 @@ piece_of (item.Demand p v) = demanded p v
 abbrev pub holds : ℕ → Owner → ℕ
 holds c nothing = 0
 holds c (releases k) = if nat_eq c k then 1 else 0
-holds c (counts x v last n body) = 0
-holds c (repeats test n body) = 0
+holds c (for_loop x v last n body) = 0
+holds c (while_loop test n body) = 0
 holds c (returns p vs rs) = 0
 
 abbrev pub times_held : ℕ → List Open → ℕ
@@ -215,11 +215,11 @@ module _ {V D C : ℕ} where
     -- a block more costs a step
     pub pace : length new.frames.items + 2 * old.steps ≤ 2 * new.steps + length old.frames.items
     -- the locks that it releases
-    pub told : List ℕ
-    pub unlocks : new.unlocks.items ≡ old.unlocks.items ++ told
+    pub released : List ℕ
+    pub unlocks : new.unlocks.items ≡ old.unlocks.items ++ released
     pub goes :
         (answers : List Answer)
-        → says told (stands wanting new answers) ≡ then_do (go (context_in old.checked.now) (state_of old answers)) (left_in old)
+        → says released (stands wanting new answers) ≡ then_do (go (context_in old.checked.now) (state_of old answers)) (left_in old)
 
   -- this goes on at once, and sets a variable at most
   pub record Proceeds (old : Machine V D C) (go : Context → Action) (next : Option Wanting) (new : Machine V D C) : Type 0 where

@@ -5,7 +5,7 @@ use Rattle.std.proofs.lemmas.Bool.{and_parts, lt-ltb, ltb-true, cases_lt}
 use Rattle.std.proofs.lemmas.List.{length-append}
 use Rattle.camac_branch.specs.Address.{Address}
 use Rattle.camac_esone.specs.Transfers.{tally, q_repeat_wanted}
-use Rattle.camac_esone.specs.Lists.{Cycle, replies, EachCycle, IsRepeatList}
+use Rattle.camac_esone.specs.Lists.{Cycle, replies, EachCycle, IsQRepeatList}
 use Rattle.camac_esone.specs.Laws.{IsDriven, IsDrivenToEnd, RepeatTestGivesQRepeat}
 use Rattle.camac_esone.specs.Bounds.{IsUpTo}
 use Rattle.camac_esone.proofs.Parts.{replies-append, length-replies, empty_or_ending, tally_more, when_true, was_true}
@@ -37,20 +37,20 @@ not_wanted at max limit qs never =
 stands_still : (at : Address) (max limit : ℕ) (qs : List Bool) → q_repeat_wanted at max limit qs ≡ None → GoesOn max limit qs → ⊥
 stands_still at max limit qs e g = let some = go_on_wanted at max limit qs g in cc
 
-fewer_before : (at : Address) (max limit : ℕ) (cycles : List Cycle) → IsRepeatList at max limit cycles → EachCycle (λ before c. tally (replies before) < max) cycles
+fewer_before : (at : Address) (max limit : ℕ) (cycles : List Cycle) → IsQRepeatList at max limit cycles → EachCycle (λ before c. tally (replies before) < max) cycles
 fewer_before at max limit cycles h =
     elim (h.count) [ inl k ↦ k.0.before | inr k ↦ k.0.before ]
 
-at_most : (at : Address) (max limit : ℕ) (cycles : List Cycle) → IsRepeatList at max limit cycles → length cycles ≤ limit
+at_most : (at : Address) (max limit : ℕ) (cycles : List Cycle) → IsQRepeatList at max limit cycles → length cycles ≤ limit
 at_most at max limit cycles h =
     elim (h.count) [ inl k ↦ k.1 | inr k ↦ omega (arith, k.1) ]
 
-stops : (at : Address) (max limit : ℕ) (cycles : List Cycle) → IsRepeatList at max limit cycles → GoesOn max limit (replies cycles) → ⊥
+stops : (at : Address) (max limit : ℕ) (cycles : List Cycle) → IsQRepeatList at max limit cycles → GoesOn max limit (replies cycles) → ⊥
 stops at max limit cycles h g =
     let same = length-replies cycles in
     elim (h.count) [ inl k ↦ omega (arith, k.0.reached, g.fewer) | inr k ↦ omega (arith, k.1, g.room) ]
 
-to_end : (at : Address) (max limit : ℕ) (cycles : List Cycle) → IsRepeatList at max limit cycles → IsDrivenToEnd (q_repeat_wanted at max limit) cycles
+to_end : (at : Address) (max limit : ℕ) (cycles : List Cycle) → IsQRepeatList at max limit cycles → IsDrivenToEnd (q_repeat_wanted at max limit) cycles
 to_end at max limit cycles h = record {
   driven = λ before after c e.
       let same = ap length e in
@@ -67,17 +67,17 @@ pub up_to : (at : Address) (max limit : ℕ) (cycles : List Cycle) → IsDriven 
 up_to at max limit cycles h =
     elim (empty_or_ending cycles) [
       | inl e ↦ subst (IsUpTo limit max) (sym e) (record { count = omega arith; tally = omega arith })
-      | inr end ↦ let g = (wanted_goes_on at end.last.at max limit (replies end.front) (h end.front [] end.last end.parts)).0 in
-          let more = tally_more (replies end.front) end.last.q in
-          let parts = replies-append end.front (end.last ∷ []) in
-          let words : tally (replies (end.front ++ end.last ∷ [])) ≤ max
+      | inr end ↦ let g = (wanted_goes_on at end.last.at max limit (replies end.prefix) (h end.prefix [] end.last end.parts)).0 in
+          let more = tally_more (replies end.prefix) end.last.q in
+          let parts = replies-append end.prefix (end.last ∷ []) in
+          let words : tally (replies (end.prefix ++ end.last ∷ [])) ≤ max
           = subst (λ l. tally l ≤ max) (sym parts) (omega (arith, g.fewer)) in
-          let count = length-append end.front (end.last ∷ []) in
-          let same = length-replies end.front in
+          let count = length-append end.prefix (end.last ∷ []) in
+          let same = length-replies end.prefix in
           subst (IsUpTo limit max) end.parts (record { count = omega (arith, g.room); tally = words })
     ]
 
-from_end : (at : Address) (max limit : ℕ) (cycles : List Cycle) → IsDrivenToEnd (q_repeat_wanted at max limit) cycles → IsRepeatList at max limit cycles
+from_end : (at : Address) (max limit : ℕ) (cycles : List Cycle) → IsDrivenToEnd (q_repeat_wanted at max limit) cycles → IsQRepeatList at max limit cycles
 from_end at max limit cycles h =
     let most = up_to at max limit cycles h.driven in
     let same = length-replies cycles in
@@ -100,7 +100,7 @@ repeat_falls at max limit qs to e =
     let parts = length-append qs (false ∷ []) in
     omega (arith, g.room)
 
-pub repeat_gives : RepeatTestGivesQRepeat
-repeat_gives at max limit =
-    gives (q_repeat_wanted at max limit) (IsRepeatList at max limit) (λ qs. limit - length qs) (repeat_falls at max limit)
+pub q_repeat_gives : RepeatTestGivesQRepeat
+q_repeat_gives at max limit =
+    gives (q_repeat_wanted at max limit) (IsQRepeatList at max limit) (λ qs. limit - length qs) (repeat_falls at max limit)
     (λ cycles. (to_end at max limit cycles, from_end at max limit cycles))
