@@ -98,7 +98,7 @@ impl<'a, R: Read> Answers<'a, R> {
         self.advance()
     }
 
-    // One call.
+    // What `next` does. Where the reader stands then follows from these clauses, so `next` adds it without the body.
     fn advance(&mut self) -> Result<Option<Answer>, AnswerFault>
         ensures again { Repeats (stage_of self.old) result }
         ensures stage { stage_of self.new ≡ stage_after result }

@@ -113,7 +113,8 @@ pub fn procedure_within(
     procedure_capped(alloc, context, procedure, cycles, words, steps)
 }
 
-// The same with costs in 64 bits.
+// The same by the costs of the code, which are 64 bits wide and stay at their greatest number. The rules count without bounds. That
+// both give one result is proved in the function above, from this clause.
 #[tactic(auto, unfolding(camac_check_rules::specs::Refusal::go_on, camac_check_rules::specs::Refusal::if_reached))]
 fn procedure_capped(
     alloc: Global,
@@ -143,7 +144,7 @@ fn accept_service(alloc: Global, context: &Context, service: &Service) -> Result
     accept_capped(alloc, context, service, service.cycles, service.words)
 }
 
-// The same with costs in 64 bits.
+// The same with costs in 64 bits, as above.
 #[tactic(auto, unfolding(camac_check_rules::specs::Refusal::go_on, camac_check_rules::specs::Refusal::if_reached))]
 fn accept_capped(
     alloc: Global,
@@ -178,7 +179,7 @@ pub fn service_needs(
     needs_capped(alloc, context, service)
 }
 
-// The same with costs in 64 bits.
+// The same with costs in 64 bits, as above.
 #[tactic(auto, unfolding(camac_check_rules::specs::Refusal::go_on, camac_check_rules::specs::Refusal::if_reached, crate::specs::Least::and_then))]
 fn needs_capped(alloc: Global, context: &Context, service: &Service) -> Result<Bounds, LeastFault>
     ensures { Finds (λ b. b) result (service_needs (by_code context.now) (service_of service.now)) }

@@ -27,6 +27,7 @@ pub fn parse(alloc: Global, text: &[u8]) -> Result<Script, TextFault>
     read(alloc, text)
 }
 
+// What `parse` does. Where a fault stands follows from the tree of the text, so `parse` adds it without the body.
 #[tactic(auto, unfolding(crate::specs::Parser::script_of, crate::specs::Parser::tree_of_tokens))]
 fn read(alloc: Global, text: &[u8]) -> Result<Script, TextFault>
     ensures { Answers result (script_of text.now) }

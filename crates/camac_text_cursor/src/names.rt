@@ -23,6 +23,7 @@ pub fn lam_place(lams: &[Lam], name: &Name) -> Option<usize>
     lam_position(lams, name)
 }
 
+// The same over the parser's own LAMs, whose views the clause above takes. So for tables and procedures below.
 fn lam_position(lams: &[Lam], name: &Name) -> Option<usize>
     ensures { result ≡ position_from (λ l. bytes_eq name.now l.name) 0 lams.now }
 {

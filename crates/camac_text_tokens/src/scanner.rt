@@ -28,6 +28,7 @@ pub fn tokens(alloc: Global, text: &[u8]) -> Result<Vec<Token>, TextFault>
     scan(alloc, text)
 }
 
+// What `tokens` does. That the text is cut so follows from the list of tokens, so `tokens` adds it without the loop.
 fn scan(alloc: Global, text: &[u8]) -> Result<Vec<Token>, TextFault>
     ensures { AnswersList result (tokens_of text.now) }
 {
