@@ -106,7 +106,7 @@ module _ (s : Script) where
       subst (Between b) p.1 one
   declared_between b m next_procedure h =
       let p = procedure_parts b m h in
-      let one : Between b (with_procedure p.0 b) = record { tables = omega arith; lams = omega arith; variables = omega arith; callables = prefix b.callables (callable b.callables p.0 ∷ []) } in
+      let one : Between b (with_procedure p.0 b) = record { tables = omega arith; lams = omega arith; variables = omega arith; callables = in_prefix b.callables (callable b.callables p.0 ∷ []) } in
       subst (Between b) p.3 one
   declared_between b m next_service h =
       let p = service_parts b m h in

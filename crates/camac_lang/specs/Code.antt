@@ -14,12 +14,12 @@ use Rattle.camac_lang.specs.Tree.{Text, Expression, number, variable, group, add
 abbrev pub tag : Gv → ℕ
 tag gnil = 0
 tag (gnum n) = n
-tag (gcons a b) = prefix a
+tag (gcons a b) = number_of a
   where
-    prefix : Gv → ℕ
-    prefix gnil = 0
-    prefix (gnum n) = n
-    prefix (gcons a b) = 0
+    number_of : Gv → ℕ
+    number_of gnil = 0
+    number_of (gnum n) = n
+    number_of (gcons a b) = 0
 
 -- codes with different numbers at the start are not equal
 pub clash : {A : Type 0} (x y : Gv) → x ≡ y → eqb (tag x) (tag y) ≡ false → A

@@ -41,7 +41,7 @@ loop-rest-preserved c =
     let good : wrong f ≡ None = ap wrong (sym c.start_of-start.ensures) ∙ sym c.in-None.ensures in
     let same : c.size.result ≡ size f = c.size.ensures ∙ ap size c.start_of-start.ensures in
     let items : c.add.new.tokens.items ≡ c.loop-rest.tokens.items ++ added f (line_number c.loop-rest.line) = c.in_ok-add.ensures.ok ∙ ap (λ (n : ℕ). c.loop-rest.tokens.items ++ added c.start_of-start.result n) c.line_number.ensures ∙ ap (λ (g : Start). c.loop-rest.tokens.items ++ added g (line_number c.loop-rest.line)) c.start_of-start.ensures in
-    let feeds : c.line_feeds-line.result ≡ line_feeds (take (size f) rest) = c.line_feeds-line.ensures ∙ ap line_feeds (c.split_at.ensures.start ∙ ap (λ (n : ℕ). take n rest) same) in
+    let feeds : c.line_feeds-line.result ≡ line_feeds (take (size f) rest) = c.line_feeds-line.ensures ∙ ap line_feeds (c.split_at.ensures.front ∙ ap (λ (n : ℕ). take n rest) same) in
     let back : c.split_at.result.1.now ≡ drop (size f) rest = c.split_at.ensures.back ∙ ap (λ (n : ℕ). drop n rest) same in (
       rw (items, feeds, back) (goes c.loop-rest.tokens.items c.loop-rest.line rest (tokens_of c.args.text.now) some good c.loop-rest.invariant.0),
       omega (arith, feeds_le (size f) rest, feeds, ap length back, c.loop-rest.invariant.1),

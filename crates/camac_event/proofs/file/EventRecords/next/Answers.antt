@@ -30,21 +30,21 @@ split_at-requires c =
 pub invariant_of-result : goal.invariant_of-result
 invariant_of-result c =
     let some : 0 < length c.self.inside.rest.now = grind (arith, common_steps) in
-    (first_split _ _ _ _ _ _ _ _ _ (first_is _ _ _ _ _ _ _ _ some c.self.invariant c.in-Ok.ensures) c.split_at.ensures.prefix c.split_at.ensures.back).words
+    (first_split _ _ _ _ _ _ _ _ _ (first_is _ _ _ _ _ _ _ _ some c.self.invariant c.in-Ok.ensures) c.split_at.ensures.front c.split_at.ensures.back).words
 
 pub invariant_of-self : goal.invariant_of-self
 invariant_of-self c =
     let some : 0 < length c.self.inside.rest.now = grind (arith, common_steps) in
-    (first_split _ _ _ _ _ _ _ _ _ (first_is _ _ _ _ _ _ _ _ some c.self.invariant c.in-Ok.ensures) c.split_at.ensures.prefix c.split_at.ensures.back).rest
+    (first_split _ _ _ _ _ _ _ _ _ (first_is _ _ _ _ _ _ _ _ some c.self.invariant c.in-Ok.ensures) c.split_at.ensures.front c.split_at.ensures.back).rest
 
 pub returns-clause-some : goal.returns-clause-some
 returns-clause-some c =
     let some : 0 < length c.self.inside.rest.now = grind (arith, common_steps) in
     ap (λ (u : Unread). u.events) (sym c.self.view_is)
-    ∙ (first_split _ _ _ _ _ _ _ _ _ (first_is _ _ _ _ _ _ _ _ some c.self.invariant c.in-Ok.ensures) c.split_at.ensures.prefix c.split_at.ensures.back).first
+    ∙ (first_split _ _ _ _ _ _ _ _ _ (first_is _ _ _ _ _ _ _ _ some c.self.invariant c.in-Ok.ensures) c.split_at.ensures.front c.split_at.ensures.back).first
 
 pub returns-clause-fits : goal.returns-clause-fits
 returns-clause-fits c =
     let some : 0 < length c.self.inside.rest.now = grind (arith, common_steps) in
-    let f = first_split _ _ _ _ _ _ _ _ _ (first_is _ _ _ _ _ _ _ _ some c.self.invariant c.in-Ok.ensures) c.split_at.ensures.prefix c.split_at.ensures.back in
+    let f = first_split _ _ _ _ _ _ _ _ _ (first_is _ _ _ _ _ _ _ _ some c.self.invariant c.in-Ok.ensures) c.split_at.ensures.front c.split_at.ensures.back in
     subst (λ (v : Version). IsEvent v (record { gl = c.in-Ok.head.gl; usage = c.in-Ok.head.usage; words = words_in c.in-Ok.head.words c.split_at.result.0.now })) (ap (λ (u : Unread). u.version) c.self.view_is) f.right
