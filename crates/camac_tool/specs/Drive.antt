@@ -12,8 +12,8 @@ use Rattle.camac_tool_play.specs.Live.{Drives}
 use Rattle.camac_tool_play.specs.Sent.{Outputs}
 use Rattle.camac_tool_play.specs.declared.ending.Ending.{Ending}
 use Rattle.camac_tool_play.specs.declared.fault.PlayFault.TheVariants as play
-use Rattle.camac_tool.specs.Found.{HasJudged, IsTooLong, StaysQuiet}
-use Rattle.camac_tool.specs.Run.{outcome_of, Refuses}
+use Rattle.camac_tool.specs.Found.{HasJudged, IsTooLong}
+use Rattle.camac_tool.specs.Run.{outcome_of, Refuses, StaysQuiet}
 use Rattle.camac_tool.specs.declared.fault.ToolFault.{ToolFault}
 use Rattle.camac_tool.specs.declared.fault.ToolFault.TheVariants as fault
 use Rattle.camac_tool.specs.declared.judging.Judged.{Judged}

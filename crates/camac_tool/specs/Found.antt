@@ -2,12 +2,10 @@
 use Rattle.std.specs.Prelude.{◌≡◌, ◌⊎◌, ℕ, ◌+◌, List, Option, Result, Ok, Err}
 use Rattle.camac_branch.specs.Plan.{Layout}
 use Rattle.camac_plan.specs.declared.fault.PlanRule.{PlanRule}
-use Rattle.camac_tool_play.specs.Sent.{Outputs}
 use Rattle.camac_report.specs.declared.refusal.Refusal.TheVariants as refusal
 use Rattle.camac_tool.specs.Accepted.{Accepts, accepted}
 use Rattle.camac_tool.specs.Plan.{Says, IsPlanTooLong}
 use Rattle.camac_tool.specs.Reading.{ConsumesSome, WasRead}
-use Rattle.camac_tool.specs.Run.{SendsNothing}
 use Rattle.camac_tool.specs.declared.fault.ToolFault.{ToolFault}
 use Rattle.camac_tool.specs.declared.fault.ToolFault.TheVariants as fault
 use Rattle.camac_tool.specs.declared.judging.Judged.{Judged}
@@ -47,7 +45,3 @@ ReadsJudged of plan plan' s t (Err fault.TooLong) = IsTooLong of plan plan' s t
 ReadsJudged of plan plan' s t (Err fault.Read) = Unit {0}
 ReadsJudged of plan plan' s t (Err fault.Memory) = Unit {0}
 ReadsJudged of plan plan' s t (Err fault.Write) = ⊥
-
--- Nothing is sent, and no answer read, before plan and script are judged.
-abbrev pub StaysQuiet : (u v : Option (List ℕ)) → Outputs → Outputs → Type 0
-StaysQuiet u v a b = (v ≡ u) × SendsNothing a b

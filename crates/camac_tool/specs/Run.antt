@@ -37,6 +37,10 @@ outcome_of (how.Refused rule line) = Refused
 abbrev pub SendsNothing : Outputs → Outputs → Type 0
 SendsNothing a b = Sends a b []
 
+-- Nothing is sent, and no answer read, before plan and script are judged.
+abbrev pub StaysQuiet : (u v : Option (List ℕ)) → Outputs → Outputs → Type 0
+StaysQuiet u v a b = (v ≡ u) × SendsNothing a b
+
 -- the line of a refusal, and nothing else
 abbrev pub Refuses : Refusal → Outputs → Outputs → Result Outcome ToolFault → Type 0
 Refuses r a b (Ok outcome) = (outcome ≡ Refused) × Sends a b (to_listing (refusal_text r))

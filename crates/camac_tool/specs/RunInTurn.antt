@@ -7,8 +7,8 @@ use Rattle.camac_tool_play.specs.InTurn.{PlaysInTurn}
 use Rattle.camac_tool_play.specs.Sent.{Outputs}
 use Rattle.camac_tool_play.specs.declared.ending.Ending.{Ending}
 use Rattle.camac_tool_play.specs.declared.fault.PlayFault.TheVariants as play
-use Rattle.camac_tool.specs.Found.{HasJudged, StaysQuiet}
-use Rattle.camac_tool.specs.Run.{outcome_of}
+use Rattle.camac_tool.specs.Found.{HasJudged}
+use Rattle.camac_tool.specs.Run.{outcome_of, StaysQuiet}
 use Rattle.camac_tool.specs.declared.fault.ToolFault.{ToolFault}
 use Rattle.camac_tool.specs.declared.fault.ToolFault.TheVariants as fault
 use Rattle.camac_tool.specs.declared.judging.Judged.{Judged}

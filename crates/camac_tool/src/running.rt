@@ -8,8 +8,7 @@ ghost use Rattle.camac_tool.specs.Engine.{is_write_fault};
 ghost use Rattle.camac_tool.specs.Headline.{CheckedKeeps, JudgedKeeps, KeepsHeadline};
 ghost use Rattle.camac_tool.specs.Plan.{plan_failed};
 ghost use Rattle.camac_tool.specs.Reading.{is_read_fault};
-ghost use Rattle.camac_tool.specs.Run.{Runs, RunsJudged, RunsScript, outcome_of};
-ghost use Rattle.camac_tool.specs.Found.{StaysQuiet};
+ghost use Rattle.camac_tool.specs.Run.{Runs, RunsJudged, RunsScript, outcome_of, StaysQuiet};
 ghost use Rattle.camac_tool.specs.RunInTurn.{FoundInTurn, JudgedInTurn, RunsInTurn, ScriptInTurn};
 ghost use Rattle.camac_word.specs.Watched.{inner_of, has_failed};
 
