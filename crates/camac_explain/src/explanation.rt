@@ -7,7 +7,7 @@ use camac_explain_plan::plan_case;
 use camac_explain_text::text_case;
 use camac_explain_words::source_line;
 use camac_plan::PlanRule;
-use camac_report::{Code, Refusal};
+use camac_report_text::{Code, Refusal};
 use std::alloc::{AllocError, Global};
 
 /// Why a plan's text is refused by a rule: the lines that follow the refusal.

@@ -1,14 +1,14 @@
 -- The lines of what a run tells.
 use Rattle.std.specs.Prelude.{ℕ, Bool, true, false, List, [], ◌++◌, codes, decimal, Option, Some, None, option_map, unwrap_or, slice_get}
 use Rattle.std.specs.List.{flat_map}
-use Rattle.camac_report.specs.Digits.{hex_word}
+use Rattle.camac_report_text.specs.Digits.{hex_word}
 use Rattle.camac_func.specs.declared.data.DataMove.{DataMove}
 use Rattle.camac_func.specs.declared.data.DataMove.TheVariants as moved
 use Rattle.camac_branch.specs.Address.{Address}
 use Rattle.camac_branch.specs.Branch.{Reply}
 use Rattle.camac_lang.specs.Tree.{Script}
 use Rattle.camac_model.specs.Behaviour.{Piece, demanded, cycled, lock_taken, lock_released, event_left}
-use Rattle.camac_report.specs.Verdict.{lam_name}
+use Rattle.camac_report_text.specs.Verdict.{lam_name}
 
 abbrev pub bit_text : Bool → List ℕ
 bit_text true = codes "1"

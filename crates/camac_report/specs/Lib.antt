@@ -1,10 +1,3 @@
-pub mod Codes
-pub mod Digits
 pub mod Ends
-pub mod Events
-pub mod Headings
 pub mod Items
-pub mod Plan
-pub mod Refusal
 pub mod Requests
-pub mod Verdict

@@ -1,6 +1,6 @@
 -- The lines by which a live run asks a driver for its operations.
 use Rattle.std.specs.Prelude.{ℕ, List, [], ◌++◌, codes, decimal, Option, Some, None}
-use Rattle.camac_report.specs.Digits.{hex_word}
+use Rattle.camac_report_text.specs.Digits.{hex_word}
 use Rattle.camac_report.specs.Items.{command_text, unlock_text}
 use Rattle.camac_func.specs.declared.data.DataMove.{DataMove}
 use Rattle.camac_func.specs.declared.data.DataMove.TheVariants as moved

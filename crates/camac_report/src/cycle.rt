@@ -6,9 +6,9 @@ ghost use Rattle.camac_report.specs.Items.{bit_text, command_text, move_text, cy
 ghost use Rattle.camac_word.specs.Watched.{inner_of, has_failed};
 ghost use Rattle.camac_word.specs.Writing.{Writes};
 
-use crate::line::Line;
 use camac_branch::{Command, CycleDone, Reply};
 use camac_func::DataMove;
+use camac_report_text::Line;
 use camac_word::{Watched, WriteFault};
 use std::io::Write;
 

@@ -6,8 +6,8 @@ ghost use Rattle.camac_run_machine.specs.Ends.{stop_in};
 ghost use Rattle.camac_word.specs.Watched.{inner_of, has_failed};
 ghost use Rattle.camac_word.specs.Writing.{Writes};
 
-use crate::line::Line;
 use camac_branch::Overrun;
+use camac_report_text::Line;
 use camac_run_machine::End;
 use camac_word::{Watched, WriteFault};
 use std::io::Write;

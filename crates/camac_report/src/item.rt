@@ -7,10 +7,9 @@ ghost use Rattle.camac_word.specs.Watched.{inner_of, has_failed};
 ghost use Rattle.camac_word.specs.Writing.{Writes};
 
 use crate::cycle::push_cycle;
-use crate::line::Line;
-use crate::verdict::lam_name;
 use camac_check_result::Checked;
 use camac_lang::Script;
+use camac_report_text::{Line, lam_name};
 use camac_run_machine::Item;
 use camac_word::{CrateNo, Watched, Word24, WriteFault};
 use std::io::Write;

@@ -9,9 +9,9 @@ ghost use Rattle.camac_word.specs.Writing.{Writes};
 
 use crate::cycle::push_command;
 use crate::item::push_unlocks;
-use crate::line::Line;
 use camac_branch::Command;
 use camac_func::DataMove;
+use camac_report_text::Line;
 use camac_run_machine::Wanted;
 use camac_word::{CrateNo, Watched, WriteFault};
 use std::io::Write;

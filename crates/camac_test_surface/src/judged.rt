@@ -7,7 +7,7 @@ use camac_names::resolve;
 use camac_run::{End, Item, Log, Runner, run};
 use camac_test_fixtures::scripts::STRAIGHT_LINE;
 use camac_text::parse;
-use camac_tool::sample_plan;
+use camac_tool_check::sample_plan;
 use camac_word::Word24;
 use std::alloc::Global;
 use std::process::Abort;

@@ -5,14 +5,14 @@ use Rattle.camac_answer.specs.Reading.{Reading}
 use Rattle.camac_tool_play.specs.Sent.{Outputs}
 use Rattle.camac_tool_play.proofs.Sending.{sends_nothing}
 use Rattle.camac_tool.specs.Drive.{DrivesJudged, DrivesPlan, DriveHeadline, JudgedDriveKeeps}
-use Rattle.camac_tool.specs.Found.{HasJudged, ReadsJudged}
-use Rattle.camac_tool.specs.declared.fault.ToolFault.{ToolFault}
-use Rattle.camac_tool.specs.declared.fault.ToolFault.TheVariants as fault
-use Rattle.camac_tool.specs.declared.judging.Judged.{Judged}
-use Rattle.camac_tool.specs.declared.judging.Judged.TheVariants as judged
-use Rattle.camac_tool.specs.declared.outcome.Outcome.{Outcome}
-use Rattle.camac_tool.specs.declared.plan.PlanSource.{PlanSource}
-use Rattle.camac_tool.proofs.Found.{appends_nothing}
+use Rattle.camac_tool_check.specs.Found.{HasJudged, ReadsJudged}
+use Rattle.camac_tool_check.specs.declared.fault.ToolFault.{ToolFault}
+use Rattle.camac_tool_check.specs.declared.fault.ToolFault.TheVariants as fault
+use Rattle.camac_tool_check.specs.declared.judging.Judged.{Judged}
+use Rattle.camac_tool_check.specs.declared.judging.Judged.TheVariants as judged
+use Rattle.camac_tool_check.specs.declared.outcome.Outcome.{Outcome}
+use Rattle.camac_tool_check.specs.declared.plan.PlanSource.{PlanSource}
+use Rattle.camac_tool_check.proofs.Found.{appends_nothing}
 
 module _ {R : Type 0} (of : R → Option (List ℕ)) (plan plan' : PlanSource R) (s t : Option (List ℕ)) (left : Option Reading) where
   -- nothing was judged

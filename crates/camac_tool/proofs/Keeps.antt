@@ -4,16 +4,16 @@ use Rattle.std.specs.Prelude.{Result, Ok, Err}
 use Rattle.camac_branch.specs.Plan.{Layout}
 use Rattle.camac_answer.specs.Reading.{Reading}
 use Rattle.camac_plan.specs.declared.fault.PlanRule.{PlanRule}
-use Rattle.camac_tool.specs.Accepted.{Accepted, accepted, Accepts}
-use Rattle.camac_tool.specs.Found.{IsJudgedIf, HasJudged}
+use Rattle.camac_tool_check.specs.Accepted.{Accepted, accepted, Accepts}
+use Rattle.camac_tool_check.specs.Found.{IsJudgedIf, HasJudged}
 use Rattle.camac_tool.specs.Headline.{AcceptedKeeps, JudgedKeeps, TextKeepsIf, KeepsHeadline}
-use Rattle.camac_tool.specs.declared.fault.ToolFault.{ToolFault}
-use Rattle.camac_tool.specs.declared.fault.ToolFault.TheVariants as fault
-use Rattle.camac_tool.specs.declared.judging.Judged.{Judged}
-use Rattle.camac_tool.specs.declared.judging.Judged.TheVariants as judged
-use Rattle.camac_tool.specs.declared.outcome.Outcome.{Outcome}
-use Rattle.camac_tool.specs.declared.plan.PlanSource.{PlanSource}
-use Rattle.camac_tool.proofs.Found.{appends_nothing}
+use Rattle.camac_tool_check.specs.declared.fault.ToolFault.{ToolFault}
+use Rattle.camac_tool_check.specs.declared.fault.ToolFault.TheVariants as fault
+use Rattle.camac_tool_check.specs.declared.judging.Judged.{Judged}
+use Rattle.camac_tool_check.specs.declared.judging.Judged.TheVariants as judged
+use Rattle.camac_tool_check.specs.declared.outcome.Outcome.{Outcome}
+use Rattle.camac_tool_check.specs.declared.plan.PlanSource.{PlanSource}
+use Rattle.camac_tool_check.proofs.Found.{appends_nothing}
 
 module _ (left : Option Reading) (old new : Option (List ℕ)) where
   accepted_keeps : (r : Result Outcome ToolFault) (j : Judged) (plan : Layout) (a : Accepted) → Accepts (Ok j) plan a → JudgedKeeps j left old new r → AcceptedKeeps plan a left old new r

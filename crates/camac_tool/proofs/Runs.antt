@@ -6,21 +6,21 @@ use Rattle.camac_answer.specs.Reading.{Reading}
 use Rattle.camac_plan.specs.declared.fault.PlanRule.{PlanRule}
 use Rattle.camac_tool_play.specs.Sent.{Outputs, outputs}
 use Rattle.camac_tool_play.proofs.Sending.{sends_listing, prefix_listing, sends_nothing}
-use Rattle.camac_report.specs.Refusal.{refusal_text}
-use Rattle.camac_report.specs.declared.refusal.Refusal.{Refusal}
-use Rattle.camac_tool.specs.Accepted.{Accepted, Accepts, accepted}
-use Rattle.camac_tool.specs.Engine.{Shows}
-use Rattle.camac_tool.specs.Found.{IsJudgedIf, HasJudged, ReadsJudged}
-use Rattle.camac_tool.specs.Plan.{Says}
-use Rattle.camac_tool.specs.Report.{refused}
+use Rattle.camac_report_text.specs.Refusal.{refusal_text}
+use Rattle.camac_report_text.specs.declared.refusal.Refusal.{Refusal}
+use Rattle.camac_tool_check.specs.Accepted.{Accepted, Accepts, accepted}
+use Rattle.camac_tool_check.specs.Engine.{Shows}
+use Rattle.camac_tool_check.specs.Found.{IsJudgedIf, HasJudged, ReadsJudged}
+use Rattle.camac_tool_check.specs.Plan.{Says}
+use Rattle.camac_tool_check.specs.Report.{refused}
 use Rattle.camac_tool.specs.Run.{Refuses, RunsAccepted, RunsJudged, RunsText, RunsOn, RunsIf, RunsPlan, Runs}
 use Rattle.camac_tool.specs.RunInTurn.{JudgedInTurn, RunsInTurn}
-use Rattle.camac_tool.specs.declared.fault.ToolFault.{ToolFault}
-use Rattle.camac_tool.specs.declared.fault.ToolFault.TheVariants as fault
-use Rattle.camac_tool.specs.declared.judging.Judged.{Judged}
-use Rattle.camac_tool.specs.declared.judging.Judged.TheVariants as judged
-use Rattle.camac_tool.specs.declared.outcome.Outcome.{Outcome}
-use Rattle.camac_tool.specs.declared.plan.PlanSource.{PlanSource}
+use Rattle.camac_tool_check.specs.declared.fault.ToolFault.{ToolFault}
+use Rattle.camac_tool_check.specs.declared.fault.ToolFault.TheVariants as fault
+use Rattle.camac_tool_check.specs.declared.judging.Judged.{Judged}
+use Rattle.camac_tool_check.specs.declared.judging.Judged.TheVariants as judged
+use Rattle.camac_tool_check.specs.declared.outcome.Outcome.{Outcome}
+use Rattle.camac_tool_check.specs.declared.plan.PlanSource.{PlanSource}
 
 -- the line of a refusal, as both writers have it
 pub refuses : (r : Result Outcome ToolFault) (why : Refusal) (l m e : Option (List ℕ)) → Shows (refused why) l m r → Refuses why (outputs l e) (outputs m e) r

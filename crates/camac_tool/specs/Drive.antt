@@ -12,14 +12,14 @@ use Rattle.camac_tool_play.specs.Live.{Drives}
 use Rattle.camac_tool_play.specs.Sent.{Outputs}
 use Rattle.camac_tool_play.specs.declared.ending.Ending.{Ending}
 use Rattle.camac_tool_play.specs.declared.fault.PlayFault.TheVariants as play
-use Rattle.camac_tool.specs.Found.{HasJudged, IsTooLong}
+use Rattle.camac_tool_check.specs.Found.{HasJudged, IsTooLong}
 use Rattle.camac_tool.specs.Run.{outcome_of, Refuses, StaysQuiet}
-use Rattle.camac_tool.specs.declared.fault.ToolFault.{ToolFault}
-use Rattle.camac_tool.specs.declared.fault.ToolFault.TheVariants as fault
-use Rattle.camac_tool.specs.declared.judging.Judged.{Judged}
-use Rattle.camac_tool.specs.declared.judging.Judged.TheVariants as judged
-use Rattle.camac_tool.specs.declared.outcome.Outcome.{Outcome}
-use Rattle.camac_tool.specs.declared.plan.PlanSource.{PlanSource}
+use Rattle.camac_tool_check.specs.declared.fault.ToolFault.{ToolFault}
+use Rattle.camac_tool_check.specs.declared.fault.ToolFault.TheVariants as fault
+use Rattle.camac_tool_check.specs.declared.judging.Judged.{Judged}
+use Rattle.camac_tool_check.specs.declared.judging.Judged.TheVariants as judged
+use Rattle.camac_tool_check.specs.declared.outcome.Outcome.{Outcome}
+use Rattle.camac_tool_check.specs.declared.plan.PlanSource.{PlanSource}
 
 -- A checked script is run live on answers of which this is left at first, and this text at the end.
 abbrev pub DrivesScript : Layout → Script → Option Reading → Option (List ℕ) → Outputs → Outputs → Result Outcome ToolFault → Type 0

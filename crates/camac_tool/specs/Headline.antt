@@ -9,16 +9,16 @@ use Rattle.camac_plan.specs.declared.fault.PlanRule.{PlanRule}
 use Rattle.camac_check_result.specs.Checked.{CheckedScript}
 use Rattle.camac_tool_play.specs.Headline.{PlaysByHeadline, PlaysByHeadlineSoFar}
 use Rattle.camac_check_rules.specs.Accept.{accept}
-use Rattle.camac_tool.specs.Accepted.{Accepted, accepted}
-use Rattle.camac_tool.specs.Plan.{Says}
-use Rattle.camac_tool.specs.Reading.{WasRead}
-use Rattle.camac_tool.specs.declared.fault.ToolFault.{ToolFault}
-use Rattle.camac_tool.specs.declared.fault.ToolFault.TheVariants as fault
-use Rattle.camac_tool.specs.declared.judging.Judged.{Judged}
-use Rattle.camac_tool.specs.declared.judging.Judged.TheVariants as judged
-use Rattle.camac_tool.specs.declared.outcome.Outcome.{Outcome}
-use Rattle.camac_tool.specs.declared.plan.PlanSource.{PlanSource}
-use Rattle.camac_tool.specs.declared.reading.TheConstants.{TEXT_LIMIT}
+use Rattle.camac_tool_check.specs.Accepted.{Accepted, accepted}
+use Rattle.camac_tool_check.specs.Plan.{Says}
+use Rattle.camac_tool_check.specs.Reading.{WasRead}
+use Rattle.camac_tool_check.specs.declared.fault.ToolFault.{ToolFault}
+use Rattle.camac_tool_check.specs.declared.fault.ToolFault.TheVariants as fault
+use Rattle.camac_tool_check.specs.declared.judging.Judged.{Judged}
+use Rattle.camac_tool_check.specs.declared.judging.Judged.TheVariants as judged
+use Rattle.camac_tool_check.specs.declared.outcome.Outcome.{Outcome}
+use Rattle.camac_tool_check.specs.declared.plan.PlanSource.{PlanSource}
+use Rattle.camac_tool_check.specs.declared.reading.TheConstants.{TEXT_LIMIT}
 
 -- of a run that came to its end the headline is true, and where an answer could not be read of the run on the answers before it
 abbrev pub RunKeeps : Layout → Script → List Bounds → Option Reading → (old new : Option (List ℕ)) → Result Outcome ToolFault → Type 0

@@ -1,14 +1,5 @@
-pub mod Sample
-pub mod Report
-pub mod Reading
-pub mod Plan
-pub mod Engine
-pub mod Headings
-pub mod Accepted
 pub mod Run
 pub mod Headline
-pub mod Found
 pub mod RunInTurn
 pub mod Drive
 pub mod Input
-pub mod Explain

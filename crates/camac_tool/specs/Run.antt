@@ -10,21 +10,21 @@ use Rattle.camac_tool_play.specs.Played.{ending, played, report}
 use Rattle.camac_tool_play.specs.Sent.{Outputs, Sends, SendsPrefix, to_listing}
 use Rattle.camac_tool_play.specs.declared.ending.Ending.{Ending}
 use Rattle.camac_tool_play.specs.declared.ending.Ending.TheVariants as how
-use Rattle.camac_report.specs.Refusal.{refusal_text}
-use Rattle.camac_report.specs.declared.refusal.Refusal.{Refusal}
-use Rattle.camac_report.specs.declared.refusal.Refusal.TheVariants as refusal
+use Rattle.camac_report_text.specs.Refusal.{refusal_text}
+use Rattle.camac_report_text.specs.declared.refusal.Refusal.{Refusal}
+use Rattle.camac_report_text.specs.declared.refusal.Refusal.TheVariants as refusal
 use Rattle.camac_run_machine.specs.declared.item.End.TheVariants as end
-use Rattle.camac_tool.specs.Accepted.{Accepted, accepted}
-use Rattle.camac_tool.specs.Plan.{Says, IsPlanTooLong}
-use Rattle.camac_tool.specs.Reading.{ConsumesSome, WasRead}
-use Rattle.camac_tool.specs.declared.fault.ToolFault.{ToolFault}
-use Rattle.camac_tool.specs.declared.fault.ToolFault.TheVariants as fault
-use Rattle.camac_tool.specs.declared.judging.Judged.{Judged}
-use Rattle.camac_tool.specs.declared.judging.Judged.TheVariants as judged
-use Rattle.camac_tool.specs.declared.outcome.Outcome.{Outcome}
-use Rattle.camac_tool.specs.declared.outcome.Outcome.TheVariants.{Good, Refused}
-use Rattle.camac_tool.specs.declared.plan.PlanSource.{PlanSource}
-use Rattle.camac_tool.specs.declared.reading.TheConstants.{TEXT_LIMIT}
+use Rattle.camac_tool_check.specs.Accepted.{Accepted, accepted}
+use Rattle.camac_tool_check.specs.Plan.{Says, IsPlanTooLong}
+use Rattle.camac_tool_check.specs.Reading.{ConsumesSome, WasRead}
+use Rattle.camac_tool_check.specs.declared.fault.ToolFault.{ToolFault}
+use Rattle.camac_tool_check.specs.declared.fault.ToolFault.TheVariants as fault
+use Rattle.camac_tool_check.specs.declared.judging.Judged.{Judged}
+use Rattle.camac_tool_check.specs.declared.judging.Judged.TheVariants as judged
+use Rattle.camac_tool_check.specs.declared.outcome.Outcome.{Outcome}
+use Rattle.camac_tool_check.specs.declared.outcome.Outcome.TheVariants.{Good, Refused}
+use Rattle.camac_tool_check.specs.declared.plan.PlanSource.{PlanSource}
+use Rattle.camac_tool_check.specs.declared.reading.TheConstants.{TEXT_LIMIT}
 
 -- a wait that is not permitted and a fault of the answers refuse, the end of the answers does not
 abbrev pub outcome_of : Ending → Outcome

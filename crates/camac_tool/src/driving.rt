@@ -6,18 +6,14 @@ ghost use Rattle.camac_answer.specs.declared.answers.Stage.TheVariants.{Running}
 ghost use Rattle.camac_tool_play.specs.Sent.{outputs};
 ghost use Rattle.camac_tool.specs.Run.{StaysQuiet};
 ghost use Rattle.camac_tool.specs.Drive.{DrivesFound, DrivesJudged, DrivesPlan, DrivesScript, CheckedDriveKeeps, DriveHeadline, JudgedDriveKeeps};
-ghost use Rattle.camac_tool.specs.Engine.{is_write_fault};
-ghost use Rattle.camac_tool.specs.Plan.{plan_failed};
-ghost use Rattle.camac_tool.specs.Reading.{is_read_fault};
+ghost use Rattle.camac_tool_check.specs.Engine.{is_write_fault};
+ghost use Rattle.camac_tool_check.specs.Plan.{plan_failed};
+ghost use Rattle.camac_tool_check.specs.Reading.{is_read_fault};
 ghost use Rattle.camac_word.specs.Watched.{inner_of, has_failed};
 
-use crate::engine::refuse;
-use crate::fault::ToolFault;
-use crate::judging::{Judged, read_judged};
-use crate::outcome::Outcome;
-use crate::plan::PlanSource;
 use crate::running::outcome_of;
 use camac_check::Checked;
+use camac_tool_check::{Judged, Outcome, PlanSource, ToolFault, read_judged, refuse};
 use camac_tool_play::{PlayFault, drive};
 use camac_word::Watched;
 use std::alloc::Global;

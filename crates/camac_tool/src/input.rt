@@ -5,9 +5,9 @@ ghost use Rattle.std.specs.Io.{ReadsAtMost};
 ghost use Rattle.std.specs.Io.KnownBytes.{ReadConsumes};
 ghost use Rattle.std.specs.Str.{bytes_eq};
 ghost use Rattle.camac_tool.specs.Input.{is_standard, left_in};
-ghost use Rattle.camac_tool.specs.declared.fault.ToolFault.TheVariants.{Read as read-fault};
+ghost use Rattle.camac_tool_check.specs.declared.fault.ToolFault.TheVariants.{Read as read-fault};
 
-use crate::fault::ToolFault;
+use camac_tool_check::ToolFault;
 use std::fs::Files;
 use std::io::{Input as StandardInput, Read};
 use std::{fs, io};

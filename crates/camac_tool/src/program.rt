@@ -2,23 +2,21 @@
 
 ghost use Rattle.std.specs.Prelude.{◌≡◌, ◌||◌, IfOk, IfErr, codes, is_err, is_none};
 ghost use Rattle.std.specs.Str.{bytes_eq};
-ghost use Rattle.camac_tool.specs.Engine.{status_of};
-ghost use Rattle.camac_tool.specs.declared.fault.ToolFault.TheVariants.{Read as read-fault, Write};
+ghost use Rattle.camac_tool_check.specs.Engine.{status_of};
+ghost use Rattle.camac_tool_check.specs.declared.fault.ToolFault.TheVariants.{Read as read-fault, Write};
 ghost use Rattle.camac_tool.specs.declared.launch.ArgumentsFault.TheVariants.{Memory, NotText};
 ghost use Rattle.camac_word.specs.Watched.{has_failed};
 
 use crate::driving::engine_drive;
-use crate::engine::{engine_check, engine_events, engine_plan};
-use crate::explaining::engine_explain;
-use crate::fault::ToolFault;
-use crate::headings::engine_bounds;
 use crate::input::{Input, open};
 use crate::launch::ArgumentsFault;
-use crate::outcome::{Outcome, status};
-use crate::plan::PlanSource;
 use crate::running::engine_run;
 use crate::streams::hold_places;
 use crate::target::{create_events, settle};
+use camac_tool_check::{
+    Outcome, PlanSource, ToolFault, engine_bounds, engine_check, engine_events, engine_explain,
+    engine_plan, status,
+};
 use camac_tool_streams::{FromAnswers, Gathered, Streams, ToListing, ToRecords};
 use camac_tool_words::{Job, JobFault, read_words};
 use camac_word::Watched;

@@ -1,10 +1,10 @@
 // The event file of a run. Nothing is lost but an earlier event file, and no run ends well before it is on the disk.
 
 ghost use Rattle.std.specs.Prelude.{◌≡◌, IfErr};
-ghost use Rattle.camac_tool.specs.declared.fault.ToolFault.TheVariants.{Write};
+ghost use Rattle.camac_tool_check.specs.declared.fault.ToolFault.TheVariants.{Write};
 
-use crate::fault::ToolFault;
 use crate::input::Input;
+use camac_tool_check::ToolFault;
 use std::fs::{Files, Metadata, OpenFile};
 use std::os::unix::fs::MetadataExt;
 use std::{fs, io};

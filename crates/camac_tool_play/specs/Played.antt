@@ -10,8 +10,8 @@ use Rattle.camac_model.specs.Run.{the_run}
 use Rattle.camac_answer.specs.Reading.{Reading}
 use Rattle.camac_answer.specs.declared.fault.AnswerFault.{AnswerFault}
 use Rattle.camac_answer.specs.declared.fault.AnswerFault.TheVariants.{Broken}
-use Rattle.camac_report.specs.declared.refusal.Refusal.TheVariants as refusal
-use Rattle.camac_report.specs.Refusal.{refusal_text}
+use Rattle.camac_report_text.specs.declared.refusal.Refusal.TheVariants as refusal
+use Rattle.camac_report_text.specs.Refusal.{refusal_text}
 use Rattle.camac_run_machine.specs.Ends.{stop_in}
 use Rattle.camac_report.specs.Ends.{end_text}
 use Rattle.camac_report.specs.Items.{item_text}

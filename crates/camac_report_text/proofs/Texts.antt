@@ -1,0 +1,94 @@
+-- Texts one after another.
+use Rattle.std.proofs.Common.{◌≡◌, ℕ, ◌+◌, ◌-◌, ◌<◌, ◌≤◌, List, [], ◌∷◌, ◌++◌, length, get_or, drop, refl, Option, ap, sym, ◌∙◌, zero, suc, append_assoc, append-nil, add-one, subst, arith}
+use Rattle.std.specs.Prelude.{Some, Result, Ok, Err, slice_get}
+use Rattle.std.proofs.lemmas.Option.{slice_get_within, get_or_from_slice_get}
+use Rattle.std.specs.List.{flat_map, range_with_len}
+use Rattle.std.specs.Io.KnownBytes.{Appends}
+use Rattle.std.proofs.KnownBytes.{Appends-trans}
+use Rattle.camac_word.proofs.Prefixes.{IsUnderWay}
+use Rattle.camac_word.specs.Writing.{AppendsPrefix, Writes}
+use Rattle.camac_report_text.specs.Plan.{texts}
+
+-- a prefix of the second text
+pub prefix_after : (x y : List ℕ) (a b c : Option (List ℕ)) → Appends a b x → AppendsPrefix b c y → AppendsPrefix a c (x ++ y)
+prefix_after x y a b c p (prefix, left, split, some, q) = (
+  x ++ prefix,
+  left,
+  ap (λ (l : List ℕ). x ++ l) split ∙ sym (append_assoc x prefix left),
+  some,
+  Appends-trans a b c x prefix p q,
+)
+
+-- the second text, as far as it went
+pub Writes-after : {T E : Type 0} (r : Result T E) (x y : List ℕ) (a b c : Option (List ℕ)) → Appends a b x → Writes b c r y → Writes a c r (x ++ y)
+Writes-after (Ok v) x y a b c p q = Appends-trans a b c x y p q
+Writes-after (Err e) x y a b c p q = prefix_after x y a b c p q
+
+-- the first text, and then the others
+pub texts-next : (f : ℕ → List ℕ) (i end j : ℕ) → i < end → j ≡ i → texts f i (end - i) ≡ f j ++ texts f (i + 1) (end - (i + 1))
+unfolding texts
+texts-next f i end j lt same =
+    let count : end - i ≡ suc (end - (i + 1)) = omega (arith, lt) in
+    ap (λ (n : ℕ). flat_map f (range_with_len i n)) count ∙ ap (λ (k : ℕ). f k ++ flat_map f (range_with_len (i + 1) (end - (i + 1)))) (sym same)
+
+-- no texts
+pub texts-none : (f : ℕ → List ℕ) (i end : ℕ) → end ≤ i → texts f i (end - i) ≡ []
+unfolding texts
+texts-none f i end le =
+    let count : end - i ≡ 0 = omega (arith, le) in
+    ap (λ (n : ℕ). flat_map f (range_with_len i n)) count
+
+-- all was written
+pub under_way_ends : (text rest : List ℕ) (a b : Option (List ℕ)) → IsUnderWay text rest a b → rest ≡ [] → Appends a b text
+under_way_ends text rest a b so_far none =
+    let whole : text ≡ so_far.prefix = so_far.parts ∙ ap (λ (l : List ℕ). so_far.prefix ++ l) none ∙ append-nil so_far.prefix in
+    subst (λ (t : List ℕ). Appends a b t) (sym whole) so_far.written
+
+-- the last of a text was written
+pub under_way_last : {T E : Type 0} (r : Result T E) (text rest last : List ℕ) (a b c : Option (List ℕ)) → IsUnderWay text rest a b → rest ≡ last → Writes b c r last → Writes a c r text
+under_way_last r text rest last a b c so_far same p =
+    let whole : text ≡ so_far.prefix ++ last = so_far.parts ∙ ap (λ (l : List ℕ). so_far.prefix ++ l) same in
+    subst (λ (t : List ℕ). Writes a c r t) (sym whole) (Writes-after r so_far.prefix last a b c so_far.written p)
+
+-- the texts of a list's elements from one of them on
+flat_map-drop : {X : Type 0} (f : X → List ℕ) (xs : List X) (i : ℕ) (x : X) → i < length xs → x ≡ get_or xs i x → flat_map f (drop i xs) ≡ f x ++ flat_map f (drop (suc i) xs)
+flat_map-drop f [] i x lt is = absurd (omega (arith, lt))
+flat_map-drop f (y ∷ ys) zero x lt is = ap (λ e. f e ++ flat_map f ys) (sym is)
+flat_map-drop f (y ∷ ys) (suc i) x lt is =
+    let less : i < length ys = omega (arith, lt) in
+    flat_map-drop f ys i x less is
+
+-- the same of a line that is the element's text
+pub flat_map-next : {X : Type 0} (f : X → List ℕ) (xs : List X) (i : ℕ) (x : X) (line : List ℕ) → i < length xs → x ≡ get_or xs i x → line ≡ f x
+    → flat_map f (drop i xs) ≡ line ++ flat_map f (drop (i + 1) xs)
+flat_map-next f xs i x line lt is text =
+    flat_map-drop f xs i x lt is ∙ ap (λ (l : List ℕ). l ++ flat_map f (drop (suc i) xs)) (sym text) ∙ ap (λ (j : ℕ). line ++ flat_map f (drop j xs)) (sym (add-one i))
+
+-- the same under other names
+pub under_way_as : (text rest renamed : List ℕ) (a b c : Option (List ℕ)) → IsUnderWay text rest a b → rest ≡ renamed → b ≡ c → IsUnderWay text renamed a c
+under_way_as text rest renamed a b c so_far same new =
+    subst (λ (o : Option (List ℕ)). IsUnderWay text renamed a o) new (subst (λ (l : List ℕ). IsUnderWay text l a b) same so_far)
+
+-- an element's text was laid after others
+pub laid_next : (f : ℕ → List ℕ) (xs : List ℕ) (i x : ℕ) (old line new : List ℕ) → i < length xs → x ≡ get_or xs i x → line ≡ f x → new ≡ old ++ line
+    → old ++ flat_map f (drop i xs) ≡ new ++ flat_map f (drop (i + 1) xs)
+laid_next f xs i x old line new lt is text laid =
+    ap (λ (l : List ℕ). old ++ l) (flat_map-next f xs i x line lt is text) ∙ sym (append_assoc old line (flat_map f (drop (i + 1) xs)))
+    ∙ ap (λ (l : List ℕ). l ++ flat_map f (drop (i + 1) xs)) (sym laid)
+
+-- the same of an element that was found
+pub laid_found : (f : ℕ → List ℕ) (xs : List ℕ) (i x : ℕ) (old line new : List ℕ) → slice_get xs i ≡ Some x → line ≡ f x → new ≡ old ++ line
+    → old ++ flat_map f (drop i xs) ≡ new ++ flat_map f (drop (i + 1) xs)
+laid_found f xs i x old line new at text laid = laid_next f xs i x old line new (slice_get_within xs i x at) (sym (get_or_from_slice_get xs i x x at)) text laid
+
+flat_map-none : (f : ℕ → List ℕ) (xs : List ℕ) (i : ℕ) → length xs ≤ i → flat_map f (drop i xs) ≡ []
+flat_map-none f [] zero le = refl
+flat_map-none f [] (suc i) le = refl
+flat_map-none f (x ∷ xs) zero le = absurd (omega (arith, le))
+flat_map-none f (x ∷ xs) (suc i) le =
+    let less : length xs ≤ i = omega (arith, le) in
+    flat_map-none f xs i less
+
+-- no element is left
+pub laid_all : (f : ℕ → List ℕ) (xs : List ℕ) (i : ℕ) (old : List ℕ) → length xs ≤ i → old ++ flat_map f (drop i xs) ≡ old
+laid_all f xs i old le = ap (λ (l : List ℕ). old ++ l) (flat_map-none f xs i le) ∙ append-nil old

@@ -1,0 +1,5 @@
+use Rattle.camac_report_text.proofs.Pairs.{PAIRS_at}
+use Rattle.camac_report_text.proofs.digits.low_digit.Goals as goal
+
+pub returns : goal.returns
+returns c = (PAIRS_at c.args.byte c.requires).1

@@ -1,0 +1,48 @@
+// Words of 24 bits in hexadecimal.
+
+ghost use Rattle.std.specs.Prelude.{◌≡◌, ◌<◌, ◌/◌, ◌%◌, slice_index};
+ghost use Rattle.hex.specs.Hex.{lower_digits};
+ghost use Rattle.camac_report_text.specs.Digits.{hex_word};
+
+use camac_word::Word24;
+
+/// The two digits of each byte, in lower case.
+static PAIRS: [u8; 512] =
+    *b"000102030405060708090a0b0c0d0e0f101112131415161718191a1b1c1d1e1f202122232425262728292a2b2c2d2e2f303132333435363738393a3b3c3d3e3f404142434445464748494a4b4c4d4e4f505152535455565758595a5b5c5d5e5f606162636465666768696a6b6c6d6e6f707172737475767778797a7b7c7d7e7f808182838485868788898a8b8c8d8e8f909192939495969798999a9b9c9d9e9fa0a1a2a3a4a5a6a7a8a9aaabacadaeafb0b1b2b3b4b5b6b7b8b9babbbcbdbebfc0c1c2c3c4c5c6c7c8c9cacbcccdcecfd0d1d2d3d4d5d6d7d8d9dadbdcdddedfe0e1e2e3e4e5e6e7e8e9eaebecedeeeff0f1f2f3f4f5f6f7f8f9fafbfcfdfeff";
+
+/// The six digits of a word, in lower case.
+#[inline(always)]
+pub fn hex_word(word: Word24) -> [u8; 6]
+    ensures { result ≡ hex_word word }
+{
+    let word = word.get();
+    let high = word / 0x10000;
+    let middle = word / 0x100 % 0x100;
+    let low = word % 0x100;
+    [
+        high_digit(high),
+        low_digit(high),
+        high_digit(middle),
+        low_digit(middle),
+        high_digit(low),
+        low_digit(low),
+    ]
+}
+
+// The digit of a byte's high four bits.
+#[inline(always)]
+fn high_digit(byte: u32) -> u8
+    requires { byte < 256 }
+    ensures { result ≡ slice_index lower_digits (byte / 16) }
+{
+    PAIRS[byte as usize * 2]
+}
+
+// The digit of a byte's low four bits.
+#[inline(always)]
+fn low_digit(byte: u32) -> u8
+    requires { byte < 256 }
+    ensures { result ≡ slice_index lower_digits (byte % 16) }
+{
+    PAIRS[byte as usize * 2 + 1]
+}

@@ -1,0 +1,19 @@
+//! The lines of verdicts, headings, refusals, plans and event files.
+#![tactic(auto)]
+
+mod code;
+mod digits;
+mod events;
+mod headings;
+mod line;
+mod plan;
+mod refusal;
+mod verdict;
+
+pub use code::Code;
+pub use events::{write_event_file, write_events};
+pub use headings::write_headings;
+pub use line::{LONGEST_LINE, Line};
+pub use plan::write_plan;
+pub use refusal::{Refusal, write_refusal};
+pub use verdict::{lam_name, write_verdict};

@@ -1,0 +1,114 @@
+// An output line while it is laid out.
+
+ghost use Rattle.std.specs.Prelude.{◌≡◌, ◌≤◌, ◌+◌, ◌++◌, [], length, decimal};
+ghost use Rattle.camac_report_text.specs.Digits.{hex_word};
+
+use crate::digits::hex_word;
+use arrayvec::ArrayVec;
+use camac_word::Word24;
+use itoa::{Buffer, Integer};
+use std::marker::Model;
+
+/// The greatest length of a line, in bytes.
+pub const LONGEST_LINE: usize = 256;
+
+/// A line of at most `LONGEST_LINE` bytes.
+#[derive(Drop)]
+pub struct Line {
+    bytes: ArrayVec<u8, LONGEST_LINE>,
+}
+
+impl Model for Line {
+    ghost use Rattle.std.specs.Prelude.{List, ℕ};
+
+    ghost Value = { List ℕ };
+
+    ghost view = { λ l. l.bytes.items };
+}
+
+impl Line {
+    /// A line with nothing in it.
+    pub fn new() -> Line
+        ensures { result ≡ [] }
+    {
+        Line {
+            bytes: ArrayVec::new(),
+        }
+    }
+
+    /// Puts the text at the end.
+    #[inline(always)]
+    pub fn push_str(&mut self, text: &str)
+        requires { length self.old + length text.now ≤ LONGEST_LINE }
+        ensures bytes { self.new ≡ self.old ++ text.now }
+        ensures len { length self.new ≡ length self.old + length text.now }
+    {
+        self.push_bytes(text.as_bytes());
+    }
+
+    /// Puts the bytes at the end.
+    #[inline(always)]
+    pub fn push_bytes(&mut self, bytes: &[u8])
+        requires { length self.old + length bytes.now ≤ LONGEST_LINE }
+        ensures bytes { self.new ≡ self.old ++ bytes.now }
+        ensures len { length self.new ≡ length self.old + length bytes.now }
+    {
+        self.bytes.try_extend_from_slice(bytes).unwrap();
+    }
+
+    /// Puts the number at the end, in decimal.
+    pub fn push_number<N: Integer>(&mut self, number: N)
+        requires room { length self.old + N.MAX_STR_LEN ≤ LONGEST_LINE }
+        ensures bytes { self.new ≡ self.old ++ N.text number }
+        ensures len { length self.new ≤ length self.old + N.MAX_STR_LEN }
+    {
+        let mut buffer = Buffer::new();
+        self.push_str(buffer.format(number));
+    }
+
+    /// Puts the number at the end, in decimal. It is quick where the number has one digit or two.
+    #[inline(always)]
+    pub fn push_small(&mut self, number: u8)
+        requires room { length self.old + 3 ≤ LONGEST_LINE }
+        ensures bytes { self.new ≡ self.old ++ decimal number }
+        ensures len { length self.new ≤ length self.old + 3 }
+    {
+        if number < 10 {
+            self.push_bytes(&[b'0' + number]);
+        } else if number < 100 {
+            self.push_bytes(&[b'0' + number / 10, b'0' + number % 10]);
+        } else {
+            self.push_number(number);
+        }
+    }
+
+    /// Puts the word at the end, in six hexadecimal digits.
+    pub fn push_word(&mut self, word: Word24)
+        requires room { length self.old + 6 ≤ LONGEST_LINE }
+        ensures bytes { self.new ≡ self.old ++ hex_word word }
+        ensures len { length self.new ≡ length self.old + 6 }
+    {
+        self.push_bytes(&hex_word(word));
+    }
+
+    /// How many bytes it has.
+    pub fn len(&self) -> usize
+        ensures value { result ≡ length self.now }
+        ensures fits { result ≤ LONGEST_LINE }
+    {
+        self.bytes.len()
+    }
+
+    /// Forgets what is in it.
+    pub fn clear(&mut self)
+        ensures { self.new ≡ [] }
+    {
+        self.bytes.clear();
+    }
+
+    pub fn as_bytes(&self) -> &[u8]
+        ensures { result.now ≡ self.now }
+    {
+        &self.bytes
+    }
+}

@@ -1,0 +1,9 @@
+pub mod Sample
+pub mod Report
+pub mod Reading
+pub mod Plan
+pub mod Engine
+pub mod Headings
+pub mod Accepted
+pub mod Found
+pub mod Explain

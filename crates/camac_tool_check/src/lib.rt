@@ -1,0 +1,21 @@
+//! The engines that tell of a plan, a script or an event file, and run nothing: `plan`, `check`, `explain`, `bounds` and `events`.
+#![tactic(auto)]
+
+mod engine;
+mod explaining;
+mod fault;
+mod headings;
+mod judging;
+mod outcome;
+mod plan;
+mod reading;
+mod sample;
+
+pub use engine::{engine_check, engine_events, engine_plan, refuse};
+pub use explaining::engine_explain;
+pub use fault::ToolFault;
+pub use headings::engine_bounds;
+pub use judging::{Judged, read_judged};
+pub use outcome::{Outcome, status};
+pub use plan::PlanSource;
+pub use sample::sample_plan;
