@@ -13,8 +13,8 @@ use Rattle.camac_esone.specs.Lists.{Cycle, replies, IsQStopList, IsQRepeatList, 
 use Rattle.camac_esone.specs.Laws.{IsDriven, IsDrivenToEnd, IsDrivenSoFar, GivesExactly}
 use Rattle.camac_esone.proofs.Parts.{replies-append, each_more, each_none}
 use Rattle.camac_esone.proofs.Drives.{is_some}
-use Rattle.camac_esone.proofs.QStopLists.{stop_gives}
-use Rattle.camac_esone.proofs.QRepeatLists.{repeat_gives}
+use Rattle.camac_esone.proofs.QStopLists.{q_stop_gives}
+use Rattle.camac_esone.proofs.QRepeatLists.{q_repeat_gives}
 use Rattle.camac_esone.proofs.ScanLists.{scan_gives}
 use Rattle.camac_model.specs.State.{State, stepped, with_variable, with_word, set_at}
 use Rattle.camac_model.specs.Behaviour.{Piece, cycled, Behaviour, does, ends, stops, Stop, Action, pieces, reached, stop_of}
@@ -143,10 +143,10 @@ module _ (plan : Layout) (f : ℕ) (table : Option (List ℕ)) (wanted : Wanted)
       }
 
 pub stops_are_q_stop : StopsAreQStop
-stops_are_q_stop plan f table x s at max = is_transfer plan f table (q_stop_wanted at max) x s (IsQStopList at max) (stop_gives at max)
+stops_are_q_stop plan f table x s at max = is_transfer plan f table (q_stop_wanted at max) x s (IsQStopList at max) (q_stop_gives at max)
 
 pub repeats_are_q_repeat : RepeatsAreQRepeat
-repeats_are_q_repeat plan f table x s at max limit = is_transfer plan f table (q_repeat_wanted at max limit) x s (IsQRepeatList at max limit) (repeat_gives at max limit)
+repeats_are_q_repeat plan f table x s at max limit = is_transfer plan f table (q_repeat_wanted at max limit) x s (IsQRepeatList at max limit) (q_repeat_gives at max limit)
 
 pub scans_are_scan : ScansAreScan
 scans_are_scan plan f table x s first last max = is_transfer plan f table (scan_wanted first last max) x s (IsScanList first last max) (scan_gives first last max)

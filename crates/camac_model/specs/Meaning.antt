@@ -49,7 +49,7 @@ sent c None = Some None
 sent c (Some k) = option_map Some (slice_get c.tables k)
 
 -- a turn of a `for` begins
-abbrev pub counted : ℕ → ℕ → State → State
+abbrev pub for_state : ℕ → ℕ → State → State
 for_state x v s = stepped (with_variable x v s)
 
 -- k further turns of a `for`, from v up to the last

@@ -11,7 +11,7 @@ use Rattle.camac_model.specs.Behaviour.{Behaviour, does, ends, stops, more, Acti
 use Rattle.camac_model.specs.Cycle.{cycle, next_answer, make_cycle, after_cycle, take_lock, after_lock}
 use Rattle.camac_model.specs.Fine.{Bounds, AreWords, IsWithin, IsFine, most_turns}
 use Rattle.camac_model.specs.Laws.{HasGrown}
-use Rattle.camac_model.specs.Meaning.{context, counted, for_turns, turns, block_meaning}
+use Rattle.camac_model.specs.Meaning.{context, for_state, for_turns, turns, block_meaning}
 use Rattle.camac_model.specs.Safe.{IsSafe}
 use Rattle.camac_model.specs.Value.{truth}
 use Rattle.camac_model.proofs.Grown.{counts_grow}
@@ -73,7 +73,7 @@ module _ (plan : Layout) (k : Bounds) where
   before_step : (s : State) → IsWithin k (stepped s) → IsWithin k s
   before_step s h = record { cycles = h.cycles; words = h.words; steps = let le = h.steps in omega (arith, le); are_words = h.are_words }
 
-  before_turn : (x v : ℕ) (s : State) → IsWithin k (counted x v s) → IsWithin k s
+  before_turn : (x v : ℕ) (s : State) → IsWithin k (for_state x v s) → IsWithin k s
   before_turn x v s h = record { cycles = h.cycles; words = h.words; steps = let le = h.steps in omega (arith, le); are_words = h.are_words }
 
   pub keeps_for : (script : Script) (b : Block) (j n x v last : ℕ) (s : State) → IsFine plan k (for_turns j n x v last (block_meaning (context plan script) most_turns b) s) → IsWithin k s
@@ -82,8 +82,8 @@ module _ (plan : Layout) (k : Bounds) where
   keeps_for script b (suc j) (suc n) x v last s h =
       let body : Action = block_meaning (context plan script) most_turns b in
       before_turn x v s
-      (keeps_block script most_turns b (counted x v s)
-      (fine_first (body (counted x v s)) (for_turns j n x (v + 1) last body) (λ t f. keeps_for script b j n x (v + 1) last t f) h))
+      (keeps_block script most_turns b (for_state x v s)
+      (fine_first (body (for_state x v s)) (for_turns j n x (v + 1) last body) (λ t f. keeps_for script b j n x (v + 1) last t f) h))
 
   pub keeps_turns : (script : Script) (b : Block) (test : Condition) (n : ℕ) (s : State) → IsFine plan k (turns n test (block_meaning (context plan script) most_turns b) s) → IsWithin k s
   keeps_turns script b test zero s h = go (truth test s.variables s.q s.x) h

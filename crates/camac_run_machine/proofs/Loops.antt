@@ -11,7 +11,7 @@ use Rattle.camac_branch.specs.Branch.{Answer}
 use Rattle.camac_model.specs.State.{State, Variables, stepped}
 use Rattle.camac_model.specs.Behaviour.{Behaviour, ends, stops, more, Action, then_do, given, decide}
 use Rattle.camac_model.specs.Fine.{IsWithin, most_turns}
-use Rattle.camac_model.specs.Meaning.{Context, counted, for_turns, for_from, turns, effect, block_meaning}
+use Rattle.camac_model.specs.Meaning.{Context, for_state, for_turns, for_from, turns, effect, block_meaning}
 use Rattle.camac_model.specs.Value.{value, truth}
 use Rattle.camac_run_machine.specs.declared.machine.Frame.{Frame}
 use Rattle.camac_run_machine.specs.declared.machine.Machine.{Machine}
@@ -71,15 +71,15 @@ module _ {V D C : ℕ} (h : Machine V D C) where
   turn_fine x value last zero b fine = absurd (fine []).0
   turn_fine x value last (suc n) b fine =
       let s : State = state_of h [] in
-      let f = first_fine (then_do (does_all b (counted x value s)) (for_turns (last - value) n x (value + 1) last (does_all b))) (fine []) in
-      let g = fine_first h.checked.now.plan (bounds_of h) (does_all b (counted x value s)) (for_turns (last - value) n x (value + 1) last (does_all b))
+      let f = first_fine (then_do (does_all b (for_state x value s)) (for_turns (last - value) n x (value + 1) last (does_all b))) (fine []) in
+      let g = fine_first h.checked.now.plan (bounds_of h) (does_all b (for_state x value s)) (for_turns (last - value) n x (value + 1) last (does_all b))
       (λ t k. keeps_for h.checked.now.plan (bounds_of h) h.checked.now.script b (last - value) n x (value + 1) last t k) f in
-      (omega arith, (keeps_block h.checked.now.plan (bounds_of h) h.checked.now.script most_turns b (counted x value s) g).steps)
+      (omega arith, (keeps_block h.checked.now.plan (bounds_of h) h.checked.now.script most_turns b (for_state x value s) g).steps)
 
   abbrev turning : ℕ → ℕ → ℕ → ℕ → Bor (List Stmt) → Frame
   turning x value last n body = record { rest = body; owner = For x value last n body }
 
-  turn_left : (x value last n : ℕ) (body : Bor (List Stmt)) (s : State) → left_of ctx (open_in h (turning x value last n body)) (counted x value s) ≡ for_turns (suc (last - value)) (suc n) x value last (does_all (statements_of body.now)) s
+  turn_left : (x value last n : ℕ) (body : Bor (List Stmt)) (s : State) → left_of ctx (open_in h (turning x value last n body)) (for_state x value s) ≡ for_turns (suc (last - value)) (suc n) x value last (does_all (statements_of body.now)) s
   unfolding owed
   turn_left x value last n body s = refl
 

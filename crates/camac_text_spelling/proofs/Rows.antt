@@ -7,7 +7,7 @@ use Rattle.camac_text_tokens.specs.declared.token.Sign.TheVariants as mark
 use Rattle.camac_text_tokens.specs.declared.token.Token.{Token}
 use Rattle.camac_text_tokens.specs.declared.token.TokenKind.{TokenKind}
 use Rattle.camac_text_tokens.specs.declared.token.TokenKind.TheVariants as kind
-use Rattle.camac_text_tokens.specs.Scanning.{prefix_of, tokens_from, tokens_of}
+use Rattle.camac_text_tokens.specs.Scanning.{start_of, tokens_from, tokens_of}
 use Rattle.camac_text_tokens.specs.Words.{keyword as keyword_of}
 use Rattle.camac_lang.specs.Example.{straight_line}
 use Rattle.camac_text_spelling.specs.Spells.{IsSpelled}
@@ -51,7 +51,7 @@ example_tokens =
     at 6 (kind.Sign mark.RightBrace) ∷ []
 
 pub example_is_spelled : IsSpelled example_text straight_line
-unfolding tokens_of tokens_from prefix_of keyword_of is_well_formed
+unfolding tokens_of tokens_from start_of keyword_of is_well_formed
 example_is_spelled = record {
   tokens = example_tokens;
   made = refl;

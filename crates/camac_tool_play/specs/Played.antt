@@ -47,8 +47,8 @@ pieces_sent line n [] = []
 pieces_sent line n (p ∷ ps) = piece_sent line n p ++ pieces_sent line (number_after n p) ps
 
 -- the header of the event file, and then the run on these answers
-abbrev pub told : Layout → Script → List Answer → List Sent
-told plan script answers = to_events (header Two) ++ pieces_sent (item_text script) 1 (pieces (the_run plan script answers))
+abbrev pub report : Layout → Script → List Answer → List Sent
+report plan script answers = to_events (header Two) ++ pieces_sent (item_text script) 1 (pieces (the_run plan script answers))
 
 -- How a run ends, by why it stopped and what is wrong with the text of its answers. Such a fault counts only where the run comes to
 -- the end of the answers. A run of a checked script stops for no other reasons.
@@ -69,5 +69,5 @@ ending plan script r = ending_of (stop_of (the_run plan script r.answers)) r.fau
 -- all that a run writes: what it tells, and its last line
 abbrev pub played : Layout → Script → Reading → List Sent
 played plan script r =
-    told plan script r.answers
+    report plan script r.answers
     ++ to_listing (ending_text (ending plan script r) (length (events (the_run plan script r.answers))))
