@@ -4,7 +4,7 @@ pub mod Course
 pub mod Rest
 pub mod Codes
 pub mod Within
-pub mod RunnerState
+pub mod MachineState
 pub mod Runner
 pub mod Sound
 pub mod Ends
