@@ -53,7 +53,7 @@ owner_code (returns p vs rs) = gcons (gnum 4) (gcons (scope.the_row.coded.code p
 pub same_owner : (a b : Owner) → owner_code a ≡ owner_code b → a ≡ b
 same_owner nothing nothing e = refl
 same_owner (releases k) (releases l) e = cc
-same_owner (for_loop x v last n a) (counts y w top m b) e =
+same_owner (for_loop x v last n a) (for_loop y w top m b) e =
     let h : block_coded.code a ≡ block_coded.code b = cc in cc (block_coded.inj a b h)
 same_owner (while_loop t n a) (while_loop u m b) e =
     let g : condition_coded.code t ≡ condition_coded.code u = cc in

@@ -43,7 +43,7 @@ abbrev pub owner_of : List ℕ → List (Option Address) → rust.Owner → Owne
 owner_of vs rs rust.TheVariants.Plain = nothing
 owner_of vs rs (rust.TheVariants.Locked k) = releases k
 owner_of vs rs (rust.TheVariants.For x v last n body) = for_loop x v last n (statements_of body.now)
-owner_of vs rs (rust.TheVariants.While test n body) = repeats (map part_of test.now) n (statements_of body.now)
+owner_of vs rs (rust.TheVariants.While test n body) = while_loop (map part_of test.now) n (statements_of body.now)
 owner_of vs rs (rust.TheVariants.Return p) = returns p (held_at p.variables vs) (held_at p.registers rs)
 
 abbrev pub open_of : List ℕ → List (Option Address) → Frame → Open
