@@ -15,18 +15,21 @@ word_rule name = record (new_rule name) { required = true }
 abbrev pub plan_app : App
 plan_app = with_rule (new_app (codes "plan")) (word_rule (codes "PLAN"))
 
+-- of a command that takes a plan and a script
+abbrev pub script_app : Text → App
+script_app name = with_rule (with_rule (new_app name) (word_rule (codes "PLAN"))) (word_rule (codes "SCRIPT"))
+
 abbrev pub check_app : App
-check_app = with_rule (with_rule (new_app (codes "check")) (word_rule (codes "PLAN"))) (word_rule (codes "SCRIPT"))
+check_app = script_app (codes "check")
 
 abbrev pub explain_app : App
-explain_app = with_rule (with_rule (new_app (codes "explain")) (word_rule (codes "PLAN"))) (word_rule (codes "SCRIPT"))
+explain_app = script_app (codes "explain")
 
 abbrev pub bounds_app : App
-bounds_app = with_rule (with_rule (new_app (codes "bounds")) (word_rule (codes "PLAN"))) (word_rule (codes "SCRIPT"))
+bounds_app = script_app (codes "bounds")
 
 abbrev pub run_app : App
-run_app =
-    with_rule (with_rule (with_rule (with_rule (new_app (codes "run")) (word_rule (codes "PLAN"))) (word_rule (codes "SCRIPT"))) (word_rule (codes "ANSWERS"))) (word_rule (codes "EVENTS"))
+run_app = with_rule (with_rule (script_app (codes "run")) (word_rule (codes "ANSWERS"))) (word_rule (codes "EVENTS"))
 
 abbrev pub drive_app : App
 drive_app =

@@ -3,7 +3,7 @@
 ghost use Rattle.std.specs.Prelude.{◌≡◌, IfOk, false};
 ghost use Rattle.clap.specs.Words.{app_of, new_app, rule_of};
 ghost use Rattle.clap.specs.declared.builder.command.Command.TheViews.{out-Command};
-ghost use Rattle.camac_tool_words.specs.Words.{word_rule, plan_app, check_app, explain_app, bounds_app, run_app, drive_app, events_app, camac_top, camac_app};
+ghost use Rattle.camac_tool_words.specs.Words.{word_rule, script_app, plan_app, check_app, explain_app, bounds_app, run_app, drive_app, events_app, camac_top, camac_app};
 
 use crate::texts;
 use clap::{Arg, Command};
@@ -27,9 +27,7 @@ pub fn camac_command<'a>(alloc: Global) -> Result<Command<'a>, AllocError>
 fn top_command<'a>(alloc: Global) -> Result<Command<'a>, AllocError>
     ensures { IfOk result (λ c. app_of c ≡ camac_top) }
 {
-    Command::new(alloc, "camac")
-        .about(texts::PROGRAM)
-        .after_help(texts::AFTER_PROGRAM)
+    subcommand(alloc, "camac", texts::PROGRAM, texts::AFTER_PROGRAM)
         .version(texts::VERSION)
         .no_binary_name(true)
         .subcommand_required(true)
@@ -60,46 +58,52 @@ fn plan_command<'a>(alloc: Global) -> Result<Command<'a>, AllocError>
     plan.arg(word(alloc, "PLAN", texts::PLAN))
 }
 
+// A command that takes a plan and a script.
+fn script_command<'a>(
+    alloc: Global,
+    name: &'a str,
+    about: &'a str,
+    after: &'a str,
+) -> Result<Command<'a>, AllocError>
+    ensures app { IfOk result (λ c. app_of c ≡ script_app name.entry.now) }
+    ensures local { IfOk result (λ c. (out-Command c).has_globals ≡ false) }
+{
+    subcommand(alloc, name, about, after)
+        .arg(word(alloc, "PLAN", texts::PLAN))?
+        .arg(word(alloc, "SCRIPT", texts::SCRIPT))
+}
+
 fn check_command<'a>(alloc: Global) -> Result<Command<'a>, AllocError>
     ensures app { IfOk result (λ c. app_of c ≡ check_app) }
     ensures local { IfOk result (λ c. (out-Command c).has_globals ≡ false) }
 {
-    subcommand(alloc, "check", texts::CHECK_COMMAND, texts::AFTER_CHECK)
-        .arg(word(alloc, "PLAN", texts::PLAN))?
-        .arg(word(alloc, "SCRIPT", texts::SCRIPT))
+    script_command(alloc, "check", texts::CHECK_COMMAND, texts::AFTER_CHECK)
 }
 
 fn explain_command<'a>(alloc: Global) -> Result<Command<'a>, AllocError>
     ensures app { IfOk result (λ c. app_of c ≡ explain_app) }
     ensures local { IfOk result (λ c. (out-Command c).has_globals ≡ false) }
 {
-    let explain = subcommand(
+    script_command(
         alloc,
         "explain",
         texts::EXPLAIN_COMMAND,
         texts::AFTER_EXPLAIN,
-    );
-    explain
-        .arg(word(alloc, "PLAN", texts::PLAN))?
-        .arg(word(alloc, "SCRIPT", texts::SCRIPT))
+    )
 }
 
 fn bounds_command<'a>(alloc: Global) -> Result<Command<'a>, AllocError>
     ensures app { IfOk result (λ c. app_of c ≡ bounds_app) }
     ensures local { IfOk result (λ c. (out-Command c).has_globals ≡ false) }
 {
-    subcommand(alloc, "bounds", texts::BOUNDS_COMMAND, texts::AFTER_BOUNDS)
-        .arg(word(alloc, "PLAN", texts::PLAN))?
-        .arg(word(alloc, "SCRIPT", texts::SCRIPT))
+    script_command(alloc, "bounds", texts::BOUNDS_COMMAND, texts::AFTER_BOUNDS)
 }
 
 fn run_command<'a>(alloc: Global) -> Result<Command<'a>, AllocError>
     ensures app { IfOk result (λ c. app_of c ≡ run_app) }
     ensures local { IfOk result (λ c. (out-Command c).has_globals ≡ false) }
 {
-    subcommand(alloc, "run", texts::RUN_COMMAND, texts::AFTER_RUN)
-        .arg(word(alloc, "PLAN", texts::PLAN))?
-        .arg(word(alloc, "SCRIPT", texts::SCRIPT))?
+    script_command(alloc, "run", texts::RUN_COMMAND, texts::AFTER_RUN)?
         .arg(word(alloc, "ANSWERS", texts::ANSWERS))?
         .arg(word(alloc, "EVENTS", texts::EVENTS))
 }
