@@ -1,4 +1,5 @@
-use Rattle.std.proofs.Common.{◌≡◌, Some, map, sym, ap, subst, ◌∙◌}
+use Rattle.std.proofs.Common.{◌≡◌, Some, length, map, sym, ap, subst, ◌∙◌, arith}
+use Rattle.std.proofs.lemmas.List.{length-map}
 use Rattle.std.specs.Prelude.{slice_get}
 use Rattle.camac_branch.specs.Address.{address}
 use Rattle.camac_branch.specs.Allowed.{AllowsCommands}
@@ -12,6 +13,29 @@ use Rattle.camac_run_machine.proofs.Actions.{lam_can, lam_wants}
 use Rattle.camac_run_machine.proofs.Commands.{on_branch}
 use Rattle.camac_run_machine.proofs.Lams.{lam_at}
 use Rattle.camac_run_machine.proofs.machine.Machine.call_lam.Goals as goal
+
+pub bounds-lams-lam : goal.bounds-lams-lam
+bounds-lams-lam g c =
+    let ls = c.args.self.now.checked.now.script.lams in
+    let e : map lam_of c.lams.result.now ≡ ls = c.lams.ensures ∙ ap (λ s. s.lams) c.script.ensures in
+    let n : length ls ≡ length c.lams.result.now = sym (ap length e) ∙ length-map c.lams.result.now lam_of in
+    omega (arith, c.requires.lam, n)
+
+pub offset_bounds-lams-lam : goal.offset_bounds-lams-lam
+offset_bounds-lams-lam g c =
+    let ls = c.args.self.now.checked.now.script.lams in
+    let e : map lam_of c.lams.result.now ≡ ls = c.lams.ensures ∙ ap (λ s. s.lams) c.script.ensures in
+    let n : length ls ≡ length c.lams.result.now = sym (ap length e) ∙ length-map c.lams.result.now lam_of in
+    omega (arith, c.requires.lam, n, c.lams.type_inv)
+
+pub script-requires : goal.script-requires
+script-requires g c = tt
+
+pub lams-requires : goal.lams-requires
+lams-requires g c = tt
+
+pub get-requires : goal.get-requires
+get-requires g c = tt
 
 pub lam_call-requires : goal.lam_call-requires
 lam_call-requires g c =
