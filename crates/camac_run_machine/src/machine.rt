@@ -181,8 +181,7 @@ impl<'a, const V: usize, const DEPTH: usize, const CAP: usize> Machine<'a, V, DE
         ensures values { result.now ≡ held_at self.now.scope.variables self.now.variables }
         ensures count { length result.now ≡ (reach self.now).variables }
     {
-        let all = &self.variables[..];
-        &all[self.scope.variables.start..self.scope.variables.end]
+        self.scope.variables.of(&self.variables)
     }
 
     // The registers of the innermost body.
@@ -191,8 +190,7 @@ impl<'a, const V: usize, const DEPTH: usize, const CAP: usize> Machine<'a, V, DE
         ensures values { result.now ≡ held_at self.now.scope.registers self.now.registers }
         ensures count { length result.now ≡ (reach self.now).registers }
     {
-        let all = &self.registers[..];
-        &all[self.scope.registers.start..self.scope.registers.end]
+        self.scope.registers.of(&self.registers)
     }
 
     // The value of an expression that has one.

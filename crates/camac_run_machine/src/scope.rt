@@ -1,8 +1,8 @@
 // The part of a machine's store that a body sees. A procedure in progress has places of its own, after those of its caller.
 
-ghost use Rattle.std.specs.Prelude.{◌≡◌, ◌+◌, ◌<◌, ◌^◌, vec_len};
+ghost use Rattle.std.specs.Prelude.{◌≡◌, ◌≤◌, ◌+◌, ◌<◌, ◌^◌, length, vec_len};
 ghost use Rattle.camac_lang.specs.View.{procedure_of, service_of};
-ghost use Rattle.camac_run_machine.specs.Store.{nothing_seen, seen_by_procedure, seen_by_service};
+ghost use Rattle.camac_run_machine.specs.Store.{held_at, nothing_seen, seen_by_procedure, seen_by_service};
 
 use camac_lang::{Procedure, Script, Service};
 
@@ -11,6 +11,17 @@ use camac_lang::{Procedure, Script, Service};
 pub struct Places {
     pub start: usize,
     pub end: usize,
+}
+
+impl Places {
+    /// What lies at these places.
+    pub fn of<T>(self, all: &[T]) -> &[T]
+        requires order { self.start ≤ self.end }
+        requires inside { self.end ≤ length all.now }
+        ensures values { result.now ≡ held_at self all.now }
+    {
+        &all[self.start..self.end]
+    }
 }
 
 /// What a body sees: its variables, its registers, and so many of the script's procedures.
