@@ -1,4 +1,4 @@
-use Rattle.std.proofs.Common.{◌+◌, arith, rules, map}
+use Rattle.std.proofs.Common.{◌+◌, arith, map}
 use Rattle.std.specs.Prelude.{None}
 use Rattle.camac_run_machine.specs.MachineState.{free, reach}
 use Rattle.camac_lang.specs.Tree.{locked, call}
@@ -18,37 +18,37 @@ overflow_add-self g c =
 
 pub plain_statement-requires : goal.plain_statement-requires
 plain_statement-requires g c =
-    (search rules, (room_stepped c.args.self.now (c.args.self.now.steps + 1) c.requires.room, (plain_is c.args.statement.now c.in-Assign.is, (c.requires.fits, c.requires.fine))))
+    (search, (room_stepped c.args.self.now (c.args.self.now.steps + 1) c.requires.room, (plain_is c.args.statement.now c.in-Assign.is, (c.requires.fits, c.requires.fine))))
 
 pub cycle_statement-requires : goal.cycle_statement-requires
 cycle_statement-requires g c =
-    (search rules, (room_stepped c.args.self.now (c.args.self.now.steps + 1) c.requires.room, (cycle_is c.args.statement.now c.in-Single.is, (c.requires.fits, c.requires.fine))))
+    (search, (room_stepped c.args.self.now (c.args.self.now.steps + 1) c.requires.room, (cycle_is c.args.statement.now c.in-Single.is, (c.requires.fits, c.requires.fine))))
 
 pub transfer_statement-requires : goal.transfer_statement-requires
 transfer_statement-requires g c =
-    (search rules, (room_stepped c.args.self.now (c.args.self.now.steps + 1) c.requires.room, (transfer_is c.args.statement.now c.in-Scan.is, (c.requires.fits, c.requires.fine))))
+    (search, (room_stepped c.args.self.now (c.args.self.now.steps + 1) c.requires.room, (transfer_is c.args.statement.now c.in-Scan.is, (c.requires.fits, c.requires.fine))))
 
 pub choice-requires : goal.choice-requires
 choice-requires g c =
-    (search rules, (room_stepped c.args.self.now (c.args.self.now.steps + 1) c.requires.room, (choice_is c.args.statement.now c.in-If.is, (c.requires.fits, c.requires.fine))))
+    (search, (room_stepped c.args.self.now (c.args.self.now.steps + 1) c.requires.room, (choice_is c.args.statement.now c.in-If.is, (c.requires.fits, c.requires.fine))))
 
 pub loop_statement-requires : goal.loop_statement-requires
 loop_statement-requires g c =
-    (search rules, (room_stepped c.args.self.now (c.args.self.now.steps + 1) c.requires.room, (loop_is c.args.statement.now c.in-For.is, (c.requires.fits, c.requires.fine))))
+    (search, (room_stepped c.args.self.now (c.args.self.now.steps + 1) c.requires.room, (loop_is c.args.statement.now c.in-For.is, (c.requires.fits, c.requires.fine))))
 
 pub want_lock-requires : goal.want_lock-requires
 want_lock-requires g c =
     let e = lock_is c.in-Lock.line c.in-Lock.crate_no c.in-Lock.body in
     let fits = rw (c.in-Lock.is, e) at c.requires.fits in
     let fine = rw (c.in-Lock.is, e) at c.requires.fine in
-    (search rules, (room_stepped c.args.self.now (c.args.self.now.steps + 1) c.requires.room, (fits.0, (rw c.deref.ensures.value (fits.1, fits.2), rw c.deref.ensures.value fine))))
+    (search, (room_stepped c.args.self.now (c.args.self.now.steps + 1) c.requires.room, (fits.0, (rw c.deref.ensures.value (fits.1, fits.2), rw c.deref.ensures.value fine))))
 
 pub call-requires : goal.call-requires
 call-requires g c =
     let e = call_is c.in-Call.line c.in-Call.procedure c.in-Call.arguments in
     let fits = rw (c.in-Call.is, e) at c.requires.fits in
     let fine = rw (c.in-Call.is, e) at c.requires.fine in
-    (search rules, (room_stepped c.args.self.now (c.args.self.now.steps + 1) c.requires.room, (rw c.deref-in-Call.ensures.value fits, rw c.deref-in-Call.ensures.value fine)))
+    (search, (room_stepped c.args.self.now (c.args.self.now.steps + 1) c.requires.room, (rw c.deref-in-Call.ensures.value fits, rw c.deref-in-Call.ensures.value fine)))
 
 pub returns-in-Lock-clause-advances : goal.returns-in-Lock-clause-advances
 returns-in-Lock-clause-advances g c =
