@@ -1,4 +1,4 @@
-use Rattle.std.proofs.Common.{◌-◌, suc, [], sym, rules}
+use Rattle.std.proofs.Common.{◌-◌, suc, [], sym}
 use Rattle.std.specs.Prelude.{None}
 use Rattle.camac_lang.specs.Tree.{for_}
 use Rattle.camac_lang.specs.View.{expression_of, statements_of}
@@ -12,14 +12,14 @@ use Rattle.camac_run_machine.proofs.machine.Machine.begin_for.Goals as goal
 
 pub value_of-first-requires : goal.value_of-first-requires
 value_of-first-requires g c =
-    (search rules, (c.requires.room, (c.requires.from, has_value c.args.self.now (expression_of c.args.from.now) _ (c.requires.fine []))))
+    (search, (c.requires.room, (c.requires.from, has_value c.args.self.now (expression_of c.args.from.now) _ (c.requires.fine []))))
 
 pub value_of-last-requires : goal.value_of-last-requires
 value_of-last-requires g c =
     let h = c.args.self.now in
     let has = has_value h (expression_of c.args.to.now) _
     (known h (value (expression_of c.args.from.now) (variables_here h)) c.value_of-first.result _ [] c.value_of-first.ensures (c.requires.fine [])) in
-    (search rules, (c.requires.room, (c.requires.to, has)))
+    (search, (c.requires.room, (c.requires.to, has)))
 
 pub turn-requires : goal.turn-requires
 turn-requires g c =
@@ -30,7 +30,7 @@ turn-requires g c =
     let b = statements_of c.args.body.now in
     let v = c.value_of-first.result in
     let w = c.value_of-last.result in (
-      search rules,
+      search,
       (
         c.requires.room,
         (

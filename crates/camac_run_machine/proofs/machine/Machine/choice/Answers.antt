@@ -1,4 +1,3 @@
-use Rattle.std.proofs.Common.{rules}
 use Rattle.camac_lang.specs.Tree.{choose, choose_else}
 use Rattle.camac_lang.specs.View.{condition_of, statements_of}
 use Rattle.camac_run_machine.proofs.Frames.{block_enters}
@@ -11,7 +10,7 @@ chosen-body-requires g c =
     let e = choose_is w.line w.test w.then in
     let fits = rw (w.is, e) at c.requires.fits in
     let fine = rw (w.is, e) at c.requires.fine in
-    (search rules, (c.requires.room, (rw c.deref.ensures.value fits.0, (rw c.deref-in-If.ensures.value (fits.1, fits.2), ((fits.1, tt), rw (c.deref.ensures.value, c.deref-in-If.ensures.value) fine)))))
+    (search, (c.requires.room, (rw c.deref.ensures.value fits.0, (rw c.deref-in-If.ensures.value (fits.1, fits.2), ((fits.1, tt), rw (c.deref.ensures.value, c.deref-in-If.ensures.value) fine)))))
 
 pub chosen-body-requires-in-IfElse : goal.chosen-body-requires-in-IfElse
 chosen-body-requires-in-IfElse g c =
@@ -19,7 +18,7 @@ chosen-body-requires-in-IfElse g c =
     let e = choose_else_is w.line w.test w.then w.otherwise in
     let fits = rw (w.is, e) at c.requires.fits in
     let fine = rw (w.is, e) at c.requires.fine in
-    (search rules, (c.requires.room, (rw c.deref-in-IfElse.ensures.value fits.0, (rw c.deref-in-IfElse-2.ensures.value (fits.1, fits.2), (rw c.deref-in-IfElse-3.ensures.value (fits.1, fits.3), rw (c.deref-in-IfElse.ensures.value, c.deref-in-IfElse-2.ensures.value, c.deref-in-IfElse-3.ensures.value) fine)))))
+    (search, (c.requires.room, (rw c.deref-in-IfElse.ensures.value fits.0, (rw c.deref-in-IfElse-2.ensures.value (fits.1, fits.2), (rw c.deref-in-IfElse-3.ensures.value (fits.1, fits.3), rw (c.deref-in-IfElse.ensures.value, c.deref-in-IfElse-2.ensures.value, c.deref-in-IfElse-3.ensures.value) fine)))))
 
 pub returns-in-If : goal.returns-in-If
 returns-in-If g c =

@@ -1,4 +1,3 @@
-use Rattle.std.proofs.Common.{rules}
 use Rattle.camac_run_machine.proofs.Trees.{single_is, crate_is, lam_is}
 use Rattle.camac_run_machine.proofs.machine.Machine.cycle_statement.Goals as goal
 
@@ -7,19 +6,19 @@ single-requires g c =
     let w = c.in-Single in
     let e = single_is w.line w.size w.function w.register w.data in
     let fits = rw (w.is, e) at c.requires.fits in
-    (search rules, (c.requires.room, (fits.0, (fits.1, rw (w.is, e) at c.requires.fine))))
+    (search, (c.requires.room, (fits.0, (fits.1, rw (w.is, e) at c.requires.fine))))
 
 pub call_crate-requires : goal.call_crate-requires
 call_crate-requires g c =
     let w = c.in-CrateCall in
     let e = crate_is w.line w.call w.crate_no in
-    (search rules, (c.requires.room, (rw (w.is, e) at c.requires.fits, rw (w.is, e) at c.requires.fine)))
+    (search, (c.requires.room, (rw (w.is, e) at c.requires.fits, rw (w.is, e) at c.requires.fine)))
 
 pub call_lam-requires : goal.call_lam-requires
 call_lam-requires g c =
     let w = c.in-LamCall in
     let e = lam_is w.line w.call w.lam in
-    (search rules, (rw (w.is, e) at c.requires.fits, rw (w.is, e) at c.requires.fine))
+    (search, (rw (w.is, e) at c.requires.fits, rw (w.is, e) at c.requires.fine))
 
 pub returns-in-Single : goal.returns-in-Single
 returns-in-Single g c = let w = c.in-Single in rw (w.is, single_is w.line w.size w.function w.register w.data) c.single.ensures

@@ -1,4 +1,4 @@
-use Rattle.std.proofs.Common.{rules, ℕ, sym, subst}
+use Rattle.std.proofs.Common.{ℕ, sym, subst}
 use Rattle.std.specs.Prelude.{None}
 use Rattle.camac_lang.specs.View.{condition_of, statements_of}
 use Rattle.camac_model.specs.Meaning.{turns, block_meaning}
@@ -15,7 +15,7 @@ begin_for-requires g c =
     let e = for_is w.line w.variable w.from w.to w.keeps w.body in
     let fits = rw (w.is, e) at c.requires.fits in
     let fine = rw (w.is, e) at c.requires.fine in
-    (search rules, (c.requires.room, (fits.0, (fits.1, (fits.2, (rw c.deref.ensures.value (fits.3, fits.4), rw c.deref.ensures.value fine))))))
+    (search, (c.requires.room, (fits.0, (fits.1, (fits.2, (rw c.deref.ensures.value (fits.3, fits.4), rw c.deref.ensures.value fine))))))
 
 pub test_while-requires : goal.test_while-requires
 test_while-requires g c =
@@ -24,7 +24,7 @@ test_while-requires g c =
     let fits = rw (w.is, e) at c.requires.fits in
     let fine = rw (w.is, e) at c.requires.fine in
     let few = while_begins c.args.self.now 65535 c.deref-in-While.result.now w.test.parts.items c.deref-in-While-2.result.now w.body.items turns_are c.deref-in-While.ensures.value c.deref-in-While-2.ensures.value fine in
-    (search rules, (c.requires.room, (rw c.deref-in-While.ensures.value fits.0, (rw c.deref-in-While-2.ensures.value (fits.1, fits.2), few))))
+    (search, (c.requires.room, (rw c.deref-in-While.ensures.value fits.0, (rw c.deref-in-While-2.ensures.value (fits.1, fits.2), few))))
 
 pub returns-in-For : goal.returns-in-For
 returns-in-For g c =

@@ -1,4 +1,3 @@
-use Rattle.std.proofs.Common.{rules}
 use Rattle.camac_run_machine.proofs.Trees.{assign_is, register_is, put_is}
 use Rattle.camac_run_machine.proofs.machine.Machine.plain_statement.Goals as goal
 
@@ -7,20 +6,20 @@ assign-requires g c =
     let w = c.in-Assign in
     let e = assign_is w.line w.variable w.value in
     let fits = rw (w.is, e) at c.requires.fits in
-    (search rules, (c.requires.room, (fits.0, (fits.1, rw (w.is, e) at c.requires.fine))))
+    (search, (c.requires.room, (fits.0, (fits.1, rw (w.is, e) at c.requires.fine))))
 
 pub set_register-requires : goal.set_register-requires
 set_register-requires g c =
     let w = c.in-SetRegister in
     let e = register_is w.line w.register w.crate_no w.station w.sub_address in
     let fits = rw (w.is, e) at c.requires.fits in
-    (search rules, (c.requires.room, (fits.0, (fits.1, (fits.2, (fits.3, rw (w.is, e) at c.requires.fine))))))
+    (search, (c.requires.room, (fits.0, (fits.1, (fits.2, (fits.3, rw (w.is, e) at c.requires.fine))))))
 
 pub put-requires : goal.put-requires
 put-requires g c =
     let w = c.in-Put in
     let e = put_is w.line w.value in
-    (search rules, (c.requires.room, (rw (w.is, e) at c.requires.fits, rw (w.is, e) at c.requires.fine)))
+    (search, (c.requires.room, (rw (w.is, e) at c.requires.fits, rw (w.is, e) at c.requires.fine)))
 
 pub returns-in-Assign : goal.returns-in-Assign
 returns-in-Assign g c = let w = c.in-Assign in rw (w.is, assign_is w.line w.variable w.value) c.assign.ensures
