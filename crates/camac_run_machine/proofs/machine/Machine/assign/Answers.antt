@@ -9,7 +9,7 @@ use Rattle.camac_run_machine.proofs.machine.Machine.assign.Goals as goal
 
 pub value_of-value-requires : goal.value_of-value-requires
 value_of-value-requires g c =
-    (search rules, (c.requires.room, (c.requires.declared, has_value c.args.self.now (expression_of c.args.value.now) _ (c.requires.fine []))))
+    (search, (c.requires.room, (c.requires.declared, has_value c.args.self.now (expression_of c.args.value.now) _ (c.requires.fine []))))
 
 pub returns : goal.returns
 returns g c =

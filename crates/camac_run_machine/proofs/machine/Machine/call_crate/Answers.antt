@@ -13,7 +13,7 @@ use Rattle.camac_run_machine.proofs.machine.Machine.call_crate.Goals as goal
 
 pub value_of-requires : goal.value_of-requires
 value_of-requires g c =
-    (search rules, (c.requires.room, (c.requires.declared, crate_has c.args.self.now c.args.call (expression_of c.args.crate_no.now) c.requires.fine)))
+    (search, (c.requires.room, (c.requires.declared, crate_has c.args.self.now c.args.call (expression_of c.args.crate_no.now) c.requires.fine)))
 
 pub unreachable-requires : goal.unreachable-requires
 unreachable-requires g c =

@@ -5,7 +5,7 @@ use Rattle.camac_run_machine.proofs.machine.Machine.chosen.Goals as goal
 
 pub holds-requires : goal.holds-requires
 holds-requires g c =
-    (search rules, (c.requires.room, (c.requires.declared, test_has c.args.self.now (map part_of c.args.test.now) (statements_of c.args.then.now) (statements_of c.args.otherwise.now) c.requires.fine)))
+    (search, (c.requires.room, (c.requires.declared, test_has c.args.self.now (map part_of c.args.test.now) (statements_of c.args.then.now) (statements_of c.args.otherwise.now) c.requires.fine)))
 
 pub returns-then-holds-clause-goes : goal.returns-then-holds-clause-goes
 returns-then-holds-clause-goes g c = λ answers.

@@ -8,7 +8,7 @@ pub proceed-requires : goal.proceed-requires
 proceed-requires g c =
     let w = c.in-Transfer in
     let follows' = rw w.is at c.requires.follows in
-    (search rules, (c.requires.room, (follows'.0, further_fine c.args.self.now w.command w.course c.after.result w.table w.tally c.after.ensures (rw w.is at c.requires.fine))))
+    (search, (c.requires.room, (follows'.0, further_fine c.args.self.now w.command w.course c.after.result w.table w.tally c.after.ensures (rw w.is at c.requires.fine))))
 
 pub settle-requires : goal.settle-requires
 settle-requires g c =
@@ -31,19 +31,19 @@ pub settle-requires-in-Cycle : goal.settle-requires-in-Cycle
 settle-requires-in-Cycle g c =
     let w = c.in-Cycle in
     let h = c.args.self.now in
-    (search rules, (c.requires.room, (c.requires.quiet, alone_fine h (Cycle w.field-0) (cycle_alone h w.field-0) (rw w.is at c.requires.fine))))
+    (search, (c.requires.room, (c.requires.quiet, alone_fine h (Cycle w.field-0) (cycle_alone h w.field-0) (rw w.is at c.requires.fine))))
 
 pub settle-requires-in-Read : goal.settle-requires-in-Read
 settle-requires-in-Read g c =
     let w = c.in-Read in
     let h = c.args.self.now in
-    (search rules, (c.requires.room, (c.requires.quiet, alone_fine h (Read w.command w.variable w.bits) (read_alone h w.command w.variable w.bits) (rw w.is at c.requires.fine))))
+    (search, (c.requires.room, (c.requires.quiet, alone_fine h (Read w.command w.variable w.bits) (read_alone h w.command w.variable w.bits) (rw w.is at c.requires.fine))))
 
 pub settle-requires-in-Lock : goal.settle-requires-in-Lock
 settle-requires-in-Lock g c =
     let w = c.in-Lock in
     let h = c.args.self.now in
-    (search rules, (c.requires.room, (c.requires.quiet, alone_fine h (Lock w.crate_no w.body) (lock_alone h w.crate_no w.body) (rw w.is at c.requires.fine))))
+    (search, (c.requires.room, (c.requires.quiet, alone_fine h (Lock w.crate_no w.body) (lock_alone h w.crate_no w.body) (rw w.is at c.requires.fine))))
 
 pub returns-in-Cycle : goal.returns-in-Cycle
 returns-in-Cycle g c =

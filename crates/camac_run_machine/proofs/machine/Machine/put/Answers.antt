@@ -8,7 +8,7 @@ use Rattle.camac_run_machine.proofs.machine.Machine.put.Goals as goal
 
 pub value_of-requires : goal.value_of-requires
 value_of-requires g c =
-    (search rules, (c.requires.room, (c.requires.declared, has_value c.args.self.now (expression_of c.args.value.now) _ (c.requires.fine []))))
+    (search, (c.requires.room, (c.requires.declared, has_value c.args.self.now (expression_of c.args.value.now) _ (c.requires.fine []))))
 
 pub push-requires : goal.push-requires
 push-requires g c =

@@ -14,13 +14,13 @@ sent-words-requires g c = (
 )
 
 pub address_in-at-requires : goal.address_in-at-requires
-address_in-at-requires g c = (search rules, (c.requires.room, (c.requires.register, q_repeat_set c.args.self.now c.args.function c.args.register c.args.table (expression_of c.args.max.now) (expression_of c.args.limit.now) c.args.tally c.requires.fine (words_sent c.sent-words.result) c.sent-words.ensures)))
+address_in-at-requires g c = (search, (c.requires.room, (c.requires.register, q_repeat_set c.args.self.now c.args.function c.args.register c.args.table (expression_of c.args.max.now) (expression_of c.args.limit.now) c.args.tally c.requires.fine (words_sent c.sent-words.result) c.sent-words.ensures)))
 
 pub value_of-max-requires : goal.value_of-max-requires
-value_of-max-requires g c = (search rules, (c.requires.room, (c.requires.max, q_repeat_max c.args.self.now c.args.function c.args.register c.args.table (expression_of c.args.max.now) (expression_of c.args.limit.now) c.args.tally c.requires.fine (words_sent c.sent-words.result) c.sent-words.ensures c.address_in-at.result c.address_in-at.ensures)))
+value_of-max-requires g c = (search, (c.requires.room, (c.requires.max, q_repeat_max c.args.self.now c.args.function c.args.register c.args.table (expression_of c.args.max.now) (expression_of c.args.limit.now) c.args.tally c.requires.fine (words_sent c.sent-words.result) c.sent-words.ensures c.address_in-at.result c.address_in-at.ensures)))
 
 pub value_of-limit-requires : goal.value_of-limit-requires
-value_of-limit-requires g c = (search rules, (c.requires.room, (c.requires.limit, q_repeat_limit c.args.self.now c.args.function c.args.register c.args.table (expression_of c.args.max.now) (expression_of c.args.limit.now) c.args.tally c.requires.fine (words_sent c.sent-words.result) c.sent-words.ensures c.address_in-at.result c.address_in-at.ensures c.value_of-max.result c.value_of-max.ensures)))
+value_of-limit-requires g c = (search, (c.requires.room, (c.requires.limit, q_repeat_limit c.args.self.now c.args.function c.args.register c.args.table (expression_of c.args.max.now) (expression_of c.args.limit.now) c.args.tally c.requires.fine (words_sent c.sent-words.result) c.sent-words.ensures c.address_in-at.result c.address_in-at.ensures c.value_of-max.result c.value_of-max.ensures)))
 
 pub proceed-requires : goal.proceed-requires
 proceed-requires g c =

@@ -12,10 +12,10 @@ sent-words-requires g c =
     (search rules, stop_sent c.args.self.now c.args.function c.args.register c.args.table (expression_of c.args.max.now) c.args.tally c.requires.fine)
 
 pub address_in-at-requires : goal.address_in-at-requires
-address_in-at-requires g c = (search rules, (c.requires.room, (c.requires.register, stop_set c.args.self.now c.args.function c.args.register c.args.table (expression_of c.args.max.now) c.args.tally c.requires.fine (words_sent c.sent-words.result) c.sent-words.ensures)))
+address_in-at-requires g c = (search, (c.requires.room, (c.requires.register, stop_set c.args.self.now c.args.function c.args.register c.args.table (expression_of c.args.max.now) c.args.tally c.requires.fine (words_sent c.sent-words.result) c.sent-words.ensures)))
 
 pub value_of-max-requires : goal.value_of-max-requires
-value_of-max-requires g c = (search rules, (c.requires.room, (c.requires.max, stop_max c.args.self.now c.args.function c.args.register c.args.table (expression_of c.args.max.now) c.args.tally c.requires.fine (words_sent c.sent-words.result) c.sent-words.ensures c.address_in-at.result c.address_in-at.ensures)))
+value_of-max-requires g c = (search, (c.requires.room, (c.requires.max, stop_max c.args.self.now c.args.function c.args.register c.args.table (expression_of c.args.max.now) c.args.tally c.requires.fine (words_sent c.sent-words.result) c.sent-words.ensures c.address_in-at.result c.address_in-at.ensures)))
 
 pub proceed-requires : goal.proceed-requires
 proceed-requires g c =

@@ -9,13 +9,13 @@ use Rattle.camac_run_machine.proofs.Courses.{scan_first, scan_last, scan_max, on
 use Rattle.camac_run_machine.proofs.machine.Machine.scan.Goals as goal
 
 pub address_in-first-requires : goal.address_in-first-requires
-address_in-first-requires g c = (search rules, (c.requires.room, (c.requires.first, scan_first c.args.self.now c.args.function c.args.first c.args.last (expression_of c.args.max.now) c.args.tally c.requires.fine)))
+address_in-first-requires g c = (search, (c.requires.room, (c.requires.first, scan_first c.args.self.now c.args.function c.args.first c.args.last (expression_of c.args.max.now) c.args.tally c.requires.fine)))
 
 pub address_in-last-requires : goal.address_in-last-requires
-address_in-last-requires g c = (search rules, (c.requires.room, (c.requires.last, scan_last c.args.self.now c.args.function c.args.first c.args.last (expression_of c.args.max.now) c.args.tally c.requires.fine c.address_in-first.result c.address_in-first.ensures)))
+address_in-last-requires g c = (search, (c.requires.room, (c.requires.last, scan_last c.args.self.now c.args.function c.args.first c.args.last (expression_of c.args.max.now) c.args.tally c.requires.fine c.address_in-first.result c.address_in-first.ensures)))
 
 pub value_of-max-requires : goal.value_of-max-requires
-value_of-max-requires g c = (search rules, (c.requires.room, (c.requires.max, scan_max c.args.self.now c.args.function c.args.first c.args.last (expression_of c.args.max.now) c.args.tally c.requires.fine c.address_in-first.result c.address_in-first.ensures c.address_in-last.result c.address_in-last.ensures)))
+value_of-max-requires g c = (search, (c.requires.room, (c.requires.max, scan_max c.args.self.now c.args.function c.args.first c.args.last (expression_of c.args.max.now) c.args.tally c.requires.fine c.address_in-first.result c.address_in-first.ensures c.address_in-last.result c.address_in-last.ensures)))
 
 pub new-requires : goal.new-requires
 new-requires g c = record {

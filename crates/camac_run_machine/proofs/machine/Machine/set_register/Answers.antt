@@ -12,14 +12,14 @@ use Rattle.camac_run_machine.proofs.machine.Machine.set_register.Goals as goal
 
 pub value_of-c-requires : goal.value_of-c-requires
 value_of-c-requires g c =
-    (search rules, (c.requires.room, (c.requires.crate_no, has_value c.args.self.now (expression_of c.args.crate_no.now) _ (c.requires.fine []))))
+    (search, (c.requires.room, (c.requires.crate_no, has_value c.args.self.now (expression_of c.args.crate_no.now) _ (c.requires.fine []))))
 
 pub value_of-n-requires : goal.value_of-n-requires
 value_of-n-requires g c =
     let h = c.args.self.now in
     let has = has_value h (expression_of c.args.station.now) _
     (known h (value (expression_of c.args.crate_no.now) (variables_here h)) c.value_of-c.result _ [] c.value_of-c.ensures (c.requires.fine [])) in
-    (search rules, (c.requires.room, (c.requires.station, has)))
+    (search, (c.requires.room, (c.requires.station, has)))
 
 pub value_of-a-requires : goal.value_of-a-requires
 value_of-a-requires g c =
@@ -27,7 +27,7 @@ value_of-a-requires g c =
     let has = has_value h (expression_of c.args.sub_address.now) _
     (known h (value (expression_of c.args.station.now) (variables_here h)) c.value_of-n.result _ [] c.value_of-n.ensures
     (known h (value (expression_of c.args.crate_no.now) (variables_here h)) c.value_of-c.result _ [] c.value_of-c.ensures (c.requires.fine []))) in
-    (search rules, (c.requires.room, (c.requires.sub_address, has)))
+    (search, (c.requires.room, (c.requires.sub_address, has)))
 
 pub returns : goal.returns
 returns g c =

@@ -14,7 +14,7 @@ use Rattle.camac_run_machine.proofs.machine.Machine.single.Goals as goal
 
 pub address_in-at-requires : goal.address_in-at-requires
 address_in-at-requires g c =
-    (search rules, (c.requires.room, (c.requires.register, address_set c.args.self.now c.args.size c.args.f c.args.register (move_of c.args.moved.now) c.requires.fine)))
+    (search, (c.requires.room, (c.requires.register, address_set c.args.self.now c.args.size c.args.f c.args.register (move_of c.args.moved.now) c.requires.fine)))
 
 pub command-requires : goal.command-requires
 command-requires g c =
@@ -33,7 +33,7 @@ command-command-requires g c =
 pub value_of-requires : goal.value_of-requires
 value_of-requires g c =
     let has = write_has c.args.self.now c.args.size c.args.f c.args.register (expression_of c.in-From.value) c.address_in-at.result c.address_in-at.ensures (rw c.in-From.is at c.requires.fine) in
-    (search rules, (c.requires.room, (rw c.in-From.is at c.requires.moved, has)))
+    (search, (c.requires.room, (rw c.in-From.is at c.requires.moved, has)))
 
 pub command-requires-in-Some : goal.command-requires-in-Some
 command-requires-in-Some g c =

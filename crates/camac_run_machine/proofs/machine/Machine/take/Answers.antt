@@ -4,19 +4,19 @@ use Rattle.camac_run_machine.proofs.Courses.{transfer_cost, transfer_overruns, p
 use Rattle.camac_run_machine.proofs.machine.Machine.take.Goals as goal
 
 pub take_cycle-requires : goal.take_cycle-requires
-take_cycle-requires g c = (search rules, (c.requires.room, (rw c.in-Cycle.is at c.requires.wanting, rw c.in-Cycle.is at c.requires.fine)))
+take_cycle-requires g c = (search, (c.requires.room, (rw c.in-Cycle.is at c.requires.wanting, rw c.in-Cycle.is at c.requires.fine)))
 
 pub take_read-requires : goal.take_read-requires
-take_read-requires g c = (search rules, (c.requires.room, (rw c.in-Read.is at c.requires.wanting, rw c.in-Read.is at c.requires.fine)))
+take_read-requires g c = (search, (c.requires.room, (rw c.in-Read.is at c.requires.wanting, rw c.in-Read.is at c.requires.fine)))
 
 pub take_lock-requires : goal.take_lock-requires
-take_lock-requires g c = (search rules, (c.requires.room, (c.requires.quiet, (rw c.in-Lock.is at c.requires.wanting, rw c.in-Lock.is at c.requires.fine))))
+take_lock-requires g c = (search, (c.requires.room, (c.requires.quiet, (rw c.in-Lock.is at c.requires.wanting, rw c.in-Lock.is at c.requires.fine))))
 
 pub make-requires : goal.make-requires
 make-requires g c =
     let w = c.in-Transfer in
     let p = rw w.is at c.requires.wanting in
-    (search rules, (c.requires.room, (p.0, transfer_cost c.args.self.now w.command w.course w.table w.tally c.args.answer p (rw w.is at c.requires.fine) c.requires.room)))
+    (search, (c.requires.room, (p.0, transfer_cost c.args.self.now w.command w.course w.table w.tally c.args.answer p (rw w.is at c.requires.fine) c.requires.room)))
 
 pub returns-in_err-done-in-Transfer-clause-overrun : goal.returns-in_err-done-in-Transfer-clause-overrun
 returns-in_err-done-in-Transfer-clause-overrun g c =

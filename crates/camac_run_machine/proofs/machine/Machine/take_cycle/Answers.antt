@@ -5,7 +5,7 @@ use Rattle.camac_run_machine.proofs.machine.Machine.take_cycle.Goals as goal
 
 pub make-requires : goal.make-requires
 make-requires g c =
-    (search rules, (c.requires.room, (c.requires.wanting.0, cycle_cost c.args.self.now c.args.command c.args.answer c.requires.wanting c.requires.fine c.requires.room.cycles)))
+    (search, (c.requires.room, (c.requires.wanting.0, cycle_cost c.args.self.now c.args.command c.args.answer c.requires.wanting c.requires.fine c.requires.room.cycles)))
 
 pub returns-clause-took : goal.returns-clause-took
 returns-clause-took g c =

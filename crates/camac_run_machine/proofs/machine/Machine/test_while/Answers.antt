@@ -5,7 +5,7 @@ use Rattle.camac_run_machine.proofs.machine.Machine.test_while.Goals as goal
 
 pub holds-requires : goal.holds-requires
 holds-requires g c =
-    (search rules, (c.requires.room, (c.requires.declared, while_test_has c.args.self.now (map part_of c.args.test.now) (statements_of c.args.body.now) c.args.turns c.requires.fine)))
+    (search, (c.requires.room, (c.requires.declared, while_test_has c.args.self.now (map part_of c.args.test.now) (statements_of c.args.body.now) c.args.turns c.requires.fine)))
 
 pub overflow_add-self : goal.overflow_add-self
 overflow_add-self g c =

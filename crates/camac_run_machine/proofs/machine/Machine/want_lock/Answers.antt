@@ -10,7 +10,7 @@ use Rattle.camac_run_machine.proofs.machine.Machine.want_lock.Goals as goal
 
 pub value_of-requires : goal.value_of-requires
 value_of-requires g c =
-    (search rules, (c.requires.room, (c.requires.declared, lock_has c.args.self.now (expression_of c.args.crate_no.now) (statements_of c.args.body.now) c.requires.fine)))
+    (search, (c.requires.room, (c.requires.declared, lock_has c.args.self.now (expression_of c.args.crate_no.now) (statements_of c.args.body.now) c.requires.fine)))
 
 pub unreachable-requires : goal.unreachable-requires
 unreachable-requires g c =
