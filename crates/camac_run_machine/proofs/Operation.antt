@@ -1,11 +1,10 @@
 -- What a machine wants its next answer for, whatever that is.
-use Rattle.std.proofs.Common.{◌≡◌, ℕ, zero, suc, ◌+◌, ◌<◌, List, [], ◌∷◌, ◌++◌, Bool, true, false, Option, Some, None, refl, sym, ap, subst, ◌∙◌, arith}
+use Rattle.std.proofs.Common.{◌≡◌, ℕ, zero, suc, ◌+◌, ◌<◌, List, [], ◌∷◌, Bool, true, false, Option, Some, None, refl, sym, subst, arith}
 use Rattle.std.proofs.lemmas.Bool.{false≢true}
 use Rattle.std.specs.Prelude.{IsSome, IfSome, is_some, unwrap_or}
 use Rattle.camac_lang.specs.View.{statements_of}
-use Rattle.camac_func.specs.declared.data.DataMove.{DataMove}
 use Rattle.camac_branch.specs.Branch.{Answer, Reply}
-use Rattle.camac_branch.specs.Crates.{branch_of, is_permitted}
+use Rattle.camac_branch.specs.Crates.{is_permitted}
 use Rattle.camac_branch.specs.Plan.{Layout, crate_waits}
 use Rattle.camac_branch.specs.Allowed.{width}
 use Rattle.camac_branch.specs.declared.answer.Command.{Command}
@@ -13,7 +12,7 @@ use Rattle.camac_branch.specs.declared.answer.Overrun.{Overrun}
 use Rattle.camac_crate.specs.Lock.{permitted}
 use Rattle.camac_esone.specs.Transfers.{tally}
 use Rattle.camac_model.specs.State.{State, stepped, with_variable}
-use Rattle.camac_model.specs.Behaviour.{Behaviour, does, ends, stops, Stop, Action, then_do, given}
+use Rattle.camac_model.specs.Behaviour.{Behaviour, does, ends, stops, Action, then_do, given}
 use Rattle.camac_model.specs.Cycle.{cycle, kept, take_lock, release}
 use Rattle.camac_model.specs.Fine.{most_turns}
 use Rattle.camac_model.specs.Meaning.{block_meaning}
@@ -23,7 +22,7 @@ use Rattle.camac_run_machine.specs.MachineState.{context_in, left_in, stands, st
 use Rattle.camac_run_machine.specs.Rest.{address_of, awaited, onward, served}
 use Rattle.camac_run_machine.specs.Runner.{bit_at, rest}
 use Rattle.camac_run_machine.specs.Sound.{runner_state}
-use Rattle.camac_run_machine.specs.Operation.{StopsAt, Begins, CanLock, operation}
+use Rattle.camac_run_machine.specs.Operation.{Begins, CanLock, operation}
 use Rattle.camac_run_machine.specs.declared.item.Wanted.{Wanted}
 use Rattle.camac_run_machine.specs.declared.item.Wanted.TheVariants as wanted
 use Rattle.camac_run_machine.specs.declared.machine.Machine.{Machine}

@@ -1,4 +1,4 @@
-use Rattle.std.proofs.Common.{[], ap, refl, sym, ◌∙◌, arith, rules}
+use Rattle.std.proofs.Common.{[], ap, refl, sym, ◌∙◌, arith}
 use Rattle.std.proofs.lemmas.List.{append-nil}
 use Rattle.camac_lang.specs.View.{expression_of}
 use Rattle.camac_run_machine.proofs.Actions.{has_value, assign_goes}

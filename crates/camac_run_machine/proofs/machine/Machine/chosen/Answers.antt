@@ -1,4 +1,4 @@
-use Rattle.std.proofs.Common.{map, Some, ap, ◌∙◌, rules}
+use Rattle.std.proofs.Common.{map, Some, ap, ◌∙◌}
 use Rattle.camac_lang.specs.View.{part_of, statements_of}
 use Rattle.camac_run_machine.proofs.Actions.{test_has, choose_goes, choose_other}
 use Rattle.camac_run_machine.proofs.machine.Machine.chosen.Goals as goal

@@ -1,32 +1,32 @@
-use Rattle.std.proofs.Common.{map, refl, rules}
+use Rattle.std.proofs.Common.{map, refl}
 use Rattle.camac_lang.specs.View.{part_of, statements_of}
 use Rattle.camac_run_machine.specs.Store.{held_at}
 use Rattle.camac_run_machine.proofs.Leaves.{plain_leaves, room_left, owner_left, next_fine, next_leaves, last_leaves, while_fine, while_leaves, return_leaves}
 use Rattle.camac_run_machine.proofs.machine.Machine.leave.Goals as goal
 
 pub release-requires : goal.release-requires
-release-requires g c = (search rules, (rw c.in-Locked.is at c.requires.room, rw c.in-Locked.is at c.requires.fine))
+release-requires g c = (search, (rw c.in-Locked.is at c.requires.room, rw c.in-Locked.is at c.requires.fine))
 
 pub turn-requires : goal.turn-requires
 turn-requires g c =
     let h = c.args.self.now in
     let r = rw c.in-For.is at c.requires.room in
     let o = owner_left h _ r in
-    (search rules, (room_left h _ refl (λ k. refl) r, (o.0, (o.1, next_fine h c.in-For.variable c.in-For.current c.in-For.last c.in-For.turns (statements_of c.in-For.body.now) c.if-current-last.true (rw c.in-For.is at c.requires.fine)))))
+    (search, (room_left h _ refl (λ k. refl) r, (o.0, (o.1, next_fine h c.in-For.variable c.in-For.current c.in-For.last c.in-For.turns (statements_of c.in-For.body.now) c.if-current-last.true (rw c.in-For.is at c.requires.fine)))))
 
 pub set_variable-requires : goal.set_variable-requires
 set_variable-requires g c =
     let h = c.args.self.now in
     let r = rw c.in-For.is at c.requires.room in
     let o = owner_left h _ r in
-    (search rules, (room_left h _ refl (λ k. refl) r, o.0))
+    (search, (room_left h _ refl (λ k. refl) r, o.0))
 
 pub test_while-requires : goal.test_while-requires
 test_while-requires g c =
     let h = c.args.self.now in
     let r = rw c.in-While.is at c.requires.room in
     let o = owner_left h _ r in
-    (search rules, (room_left h _ refl (λ k. refl) r, (o.0, (o.1, while_fine h (map part_of c.in-While.test.now) c.in-While.turns (statements_of c.in-While.body.now) (rw c.in-While.is at c.requires.fine)))))
+    (search, (room_left h _ refl (λ k. refl) r, (o.0, (o.1, while_fine h (map part_of c.in-While.test.now) c.in-While.turns (statements_of c.in-While.body.now) (rw c.in-While.is at c.requires.fine)))))
 
 pub returns-in-Plain : goal.returns-in-Plain
 returns-in-Plain g c = rw c.in-Plain.is (plain_leaves c.args.self.now (rw c.in-Plain.is at c.requires.room))

@@ -1,4 +1,4 @@
-use Rattle.std.proofs.Common.{refl, ap, rules}
+use Rattle.std.proofs.Common.{refl, ap}
 use Rattle.camac_esone.specs.InProgress.{q_repeat_left}
 use Rattle.camac_esone.specs.Transfers.{q_repeat_wanted}
 use Rattle.camac_lang.specs.Tree.{q_repeat}
@@ -9,7 +9,7 @@ use Rattle.camac_run_machine.proofs.machine.Machine.q_repeat.Goals as goal
 
 pub sent-words-requires : goal.sent-words-requires
 sent-words-requires g c = (
-  search rules,
+  search,
   q_repeat_sent c.args.self.now c.args.function c.args.register c.args.table (expression_of c.args.max.now) (expression_of c.args.limit.now) c.args.tally c.requires.fine,
 )
 
@@ -31,7 +31,7 @@ proceed-requires g c =
     let at = c.address_in-at.result in
     let m = c.value_of-max.result in
     let n = c.value_of-limit.result in (
-      search rules,
+      search,
       (
         c.requires.room,
         (

@@ -1,4 +1,4 @@
-use Rattle.std.proofs.Common.{refl, ap, rules}
+use Rattle.std.proofs.Common.{refl, ap}
 use Rattle.camac_esone.specs.InProgress.{q_stop_left}
 use Rattle.camac_esone.specs.Transfers.{q_stop_wanted}
 use Rattle.camac_lang.specs.Tree.{q_stop}
@@ -9,7 +9,7 @@ use Rattle.camac_run_machine.proofs.machine.Machine.q_stop.Goals as goal
 
 pub sent-words-requires : goal.sent-words-requires
 sent-words-requires g c =
-    (search rules, stop_sent c.args.self.now c.args.function c.args.register c.args.table (expression_of c.args.max.now) c.args.tally c.requires.fine)
+    (search, stop_sent c.args.self.now c.args.function c.args.register c.args.table (expression_of c.args.max.now) c.args.tally c.requires.fine)
 
 pub address_in-at-requires : goal.address_in-at-requires
 address_in-at-requires g c = (search, (c.requires.room, (c.requires.register, stop_set c.args.self.now c.args.function c.args.register c.args.table (expression_of c.args.max.now) c.args.tally c.requires.fine (words_sent c.sent-words.result) c.sent-words.ensures)))
@@ -24,7 +24,7 @@ proceed-requires g c =
     let table = words_sent c.sent-words.result in
     let at = c.address_in-at.result in
     let m = c.value_of-max.result in (
-      search rules,
+      search,
       (
         c.requires.room,
         (

@@ -1,4 +1,4 @@
-use Rattle.std.proofs.Common.{refl, ap, rules}
+use Rattle.std.proofs.Common.{refl, ap}
 use Rattle.std.specs.Prelude.{None}
 use Rattle.camac_esone.specs.InProgress.{scan_left}
 use Rattle.camac_esone.specs.Transfers.{scan_wanted}
@@ -29,7 +29,7 @@ proceed-requires g c =
     let first = c.address_in-first.result in
     let last = c.address_in-last.result in
     let m = c.value_of-max.result in (
-      search rules,
+      search,
       (
         c.requires.room,
         (

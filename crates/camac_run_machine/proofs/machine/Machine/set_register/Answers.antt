@@ -1,4 +1,4 @@
-use Rattle.std.proofs.Common.{[], Some, None, set, ap, sym, ◌∙◌, refl, arith, rules, ◌+◌}
+use Rattle.std.proofs.Common.{[], Some, None, set, ap, sym, ◌∙◌, refl, arith, ◌+◌}
 use Rattle.std.proofs.lemmas.List.{append-nil}
 use Rattle.camac_lang.specs.View.{expression_of}
 use Rattle.camac_branch.specs.Address.{address}

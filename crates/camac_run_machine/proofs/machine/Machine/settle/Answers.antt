@@ -1,4 +1,4 @@
-use Rattle.std.proofs.Common.{◌≡◌, [], ap, sym, subst, rules, refl, ◌∙◌}
+use Rattle.std.proofs.Common.{◌≡◌, [], ap, sym, subst, refl, ◌∙◌}
 use Rattle.std.specs.Prelude.{Some, None}
 use Rattle.std.proofs.lemmas.Bool.{false≢true}
 use Rattle.arrayvec.specs.ArrayVec.{ArrayVec}
@@ -18,7 +18,7 @@ go_on-requires g c =
     let h = c.loop-frame.self in
     let v = c.loop-frame.invariant in
     let us = h.unlocks.items in (
-      search rules,
+      search,
       (
         room_popped h c.in-Some.frame c.pop.new.self c.in-Some.ensures.items v.room,
         λ answers. fine_says h.checked.now.plan (bounds_of h) us _ (fine_along h c.args.self.now v.checked v.service _ _

@@ -1,4 +1,4 @@
-use Rattle.std.proofs.Common.{arith, rules}
+use Rattle.std.proofs.Common.{arith}
 use Rattle.std.proofs.lemmas.Result.{err_from_is_err_and}
 use Rattle.camac_run_machine.proofs.Courses.{transfer_cost, transfer_overruns, put_fits, step_fits, takes_transfer}
 use Rattle.camac_run_machine.proofs.machine.Machine.take.Goals as goal
@@ -27,7 +27,7 @@ returns-in_err-done-in-Transfer-clause-overrun g c =
 pub put_read-requires : goal.put_read-requires
 put_read-requires g c =
     let w = c.in-Transfer in
-    (search rules, put_fits c.args.self.now w.command w.course w.table w.tally c.args.answer (rw w.is at c.requires.wanting) (rw w.is at c.requires.fine) c.requires.room c.make.new.self c.in_ok-done-in-Transfer.done c.in_ok-done-in-Transfer.ensures.made)
+    (search, put_fits c.args.self.now w.command w.course w.table w.tally c.args.answer (rw w.is at c.requires.wanting) (rw w.is at c.requires.fine) c.requires.room c.make.new.self c.in_ok-done-in-Transfer.done c.in_ok-done-in-Transfer.ensures.made)
 
 pub overflow_add-self : goal.overflow_add-self
 overflow_add-self g c =

@@ -1,4 +1,3 @@
-use Rattle.std.proofs.Common.{rules}
 use Rattle.std.proofs.lemmas.Result.{err_from_is_err_and}
 use Rattle.camac_run_machine.proofs.Takes.{takes_cycle, cycle_cost, cycle_overruns}
 use Rattle.camac_run_machine.proofs.machine.Machine.take_cycle.Goals as goal

@@ -1,4 +1,4 @@
-use Rattle.std.proofs.Common.{ℕ, ◌+◌, ◌%◌, ◌^◌, List, set, rules, ap, ◌∙◌}
+use Rattle.std.proofs.Common.{ℕ, ◌+◌, ◌%◌, ◌^◌, List, set, ap, ◌∙◌}
 use Rattle.std.proofs.lemmas.Result.{err_from_is_err_and}
 use Rattle.camac_run_machine.proofs.Takes.{takes_read, read_cost, read_overruns}
 use Rattle.camac_run_machine.proofs.machine.Machine.take_read.Goals as goal

@@ -1,4 +1,4 @@
-use Rattle.std.proofs.Common.{Some, map, ap, ◌∙◌, arith, rules}
+use Rattle.std.proofs.Common.{Some, map, ap, ◌∙◌, arith}
 use Rattle.camac_lang.specs.View.{part_of, statements_of}
 use Rattle.camac_run_machine.proofs.Loops.{while_test_has, while_test_fine, while_test_stops, while_test_advances}
 use Rattle.camac_run_machine.proofs.machine.Machine.test_while.Goals as goal

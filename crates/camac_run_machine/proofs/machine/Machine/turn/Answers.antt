@@ -1,4 +1,4 @@
-use Rattle.std.proofs.Common.{◌+◌, ◌-◌, ◌<◌, ◌++◌, ◌∷◌, [], refl, sym, ap, subst, ◌∙◌, arith, rules}
+use Rattle.std.proofs.Common.{◌+◌, ◌-◌, ◌<◌, ◌++◌, ◌∷◌, [], refl, sym, ap, subst, ◌∙◌, arith}
 use Rattle.camac_lang.specs.View.{statements_of}
 use Rattle.camac_run_machine.specs.declared.machine.Machine.{Machine}
 use Rattle.camac_run_machine.specs.declared.machine.Owner.TheVariants.{For}
@@ -25,7 +25,7 @@ open-requires g c =
     let P : Machine g.row.V g.row.DEPTH g.row.CAP → Type 0 = λ m. (x < (reach m).variables) × Opens (reach m) (free m) (statements_of c.args.body.now) in
     let k = subst P (sym c.set_variable.ensures.same) (c.requires.variable, c.requires.body) in
     let room = room_stepped c.set_variable.new.self (c.set_variable.new.self.steps + 1) c.set_variable.ensures.room in
-    (search rules, (room, (k.1, (k, (refl, λ n. refl)))))
+    (search, (room, (k.1, (k, (refl, λ n. refl)))))
 
 pub returns : goal.returns
 returns g c =
