@@ -565,7 +565,9 @@ class Driver(Case):
         """A signal of the terminal, which each program of the foreground gets: the driver alone does, and ends the run."""
         path = self.write("script", LOCKOUT)
         words = [sys.executable, "-c", INTERRUPTED, TOP / "python", PROGRAM, path]
-        with subprocess.Popen(words, cwd=self.room, start_new_session=True, stdout=subprocess.PIPE, stderr=subprocess.PIPE) as driver:
+        # Who is started in the background of a script ignores this signal, and so do its children.
+        heeds = {"preexec_fn": lambda: signal.signal(signal.SIGINT, signal.SIG_DFL)}
+        with subprocess.Popen(words, cwd=self.room, start_new_session=True, stdout=subprocess.PIPE, stderr=subprocess.PIPE, **heeds) as driver:
             self.assertEqual([driver.stdout.readline() for _ in range(2)], [b"unlock 1\n", b"waiting\n"])
             os.killpg(driver.pid, signal.SIGINT)
             output, errors = driver.communicate(timeout=PATIENCE)
