@@ -11,7 +11,7 @@ use Rattle.camac_branch.specs.declared.answer.Overrun.{Overrun}
 use Rattle.camac_branch.specs.declared.answer.Command.{Command}
 use Rattle.camac_check_result.specs.Checked.{CheckedScript}
 use Rattle.camac_model.specs.State.{State, Variables, Registers, missed_with}
-use Rattle.camac_model.specs.Behaviour.{Behaviour, does, stops, Piece, demanded, cycled, lock_taken, lock_released, overrun, Action, then_do}
+use Rattle.camac_model.specs.Behaviour.{Behaviour, does, ends, stops, Piece, demanded, cycled, lock_taken, lock_released, overrun, Action, then_do}
 use Rattle.camac_model.specs.Fine.{Bounds, IsFine, most_turns}
 use Rattle.camac_model.specs.Meaning.{Context, context}
 use Rattle.camac_model.specs.Run.{service_meaning}
@@ -71,6 +71,15 @@ CanFollow v (Cycle k) = Unit {0}
 CanFollow v (Read k x bits) = Unit {0}
 CanFollow v (Lock k body) = Unit {0}
 CanFollow v (wanting.Transfer k t table x) = (x < v) × IsSome ((left_at t).wanted [])
+
+-- the next cycle of a transfer, with this command
+abbrev pub cycle_of : Transfer → Command → Wanting
+cycle_of t k = wanting.Transfer k t.course t.table t.tally
+
+-- what is left of a statement after the answer that it wanted, where it wanted one
+abbrev pub after_wanting : Context → Option Wanting → Action
+after_wanting c None = ends
+after_wanting c (Some w) = follows c (want_of w)
 
 -- the crate in which the answer is to be used
 abbrev pub crate_of : Wanting → ℕ

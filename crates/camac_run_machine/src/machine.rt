@@ -264,28 +264,29 @@ impl<'a, const V: usize, const DEPTH: usize, const CAP: usize> Machine<'a, V, DE
     }
 
     // Goes on until an answer is wanted, or the service is over.
-    pub fn settle(&mut self) -> Option<Wanting<'a>>
+    pub fn settle(&mut self, wanting: &mut Option<Wanting<'a>>)
         requires room { HasRoom self.old }
         requires quiet { self.old.unlocks.items ≡ [] }
         requires fine { (answers : List Answer) → IsFineHere self.old (stands None self.old answers) }
-        ensures { Settles self.old (λ c. ends) result self.new }
+        ensures { Settles self.old (λ c. ends) wanting.new self.new }
     {
         while let Some(frame) = self.frames.pop() {
-            if let Some(wanting) = self.go_on(frame) {
-                return Some(wanting);
+            if let Some(next) = self.go_on(frame) {
+                *wanting = Some(next);
+                return;
             }
         }
-        None
+        *wanting = None;
     }
 
     // Begins a service, and goes on.
-    pub fn serve(&mut self, number: usize) -> Option<Wanting<'a>>
+    pub fn serve(&mut self, number: usize, wanting: &mut Option<Wanting<'a>>)
         requires room { HasRoom self.old }
         requires quiet { self.old.unlocks.items ≡ [] }
         requires idle { self.old.frames.items ≡ [] }
         requires fits { fits self.old.checked.now.script V DEPTH CAP ≡ true }
         requires number { number < length self.old.checked.now.script.services }
-        ensures { (v : Service) → slice_get self.old.checked.now.script.services number ≡ Some v → Serves self.old number v result self.new }
+        ensures { (v : Service) → slice_get self.old.checked.now.script.services number ≡ Some v → Serves self.old number v wanting.new self.new }
     {
         let checked = self.checked;
         checked.is_checked();
@@ -308,7 +309,7 @@ impl<'a, const V: usize, const DEPTH: usize, const CAP: usize> Machine<'a, V, DE
             rest: service.body.as_slice(),
             owner: Owner::Plain,
         });
-        self.settle()
+        self.settle(wanting);
     }
 
     // The event of a service that is over, under this number.

@@ -117,12 +117,11 @@ impl<'a, const V: usize, const DEPTH: usize, const CAP: usize> Runner<'a, V, DEP
                 }
             }
             Some(called) => {
-                let next = self.machine.serve(called.number);
-                let over = is_over(&next);
+                self.machine.serve(called.number, &mut self.wanting);
+                let over = is_over(&self.wanting);
                 let events = events_after(over, self.events);
                 let event = self.machine.event(events);
                 let unlocks = self.machine.unlocks.take();
-                self.wanting = next;
                 self.has_event = over;
                 self.events = events;
                 Progress::Went {
@@ -141,33 +140,31 @@ impl<'a, const V: usize, const DEPTH: usize, const CAP: usize> Runner<'a, V, DEP
         requires wanting { IsSome self.old.wanting }
         ensures { Progresses self.old answer result self.new }
     {
-        let waited = self.wanting.take();
-        match waited {
+        let taken = match &self.wanting {
+            Some(wanting) => self.machine.take(wanting, answer),
             None => unreachable!(),
-            Some(wanting) => match self.machine.take(&wanting, answer) {
-                Ok(item) => {
-                    let next = self.machine.go_further(&wanting);
-                    let over = is_over(&next);
-                    let events = events_after(over, self.events);
-                    let event = self.machine.event(events);
-                    let unlocks = self.machine.unlocks.take();
-                    self.fed += 1;
-                    self.wanting = next;
-                    self.has_event = over;
-                    self.events = events;
-                    Progress::Went {
-                        item,
-                        unlocks,
-                        event: if_over(over, event),
-                    }
+        };
+        match taken {
+            Ok(item) => {
+                self.machine.go_further(&mut self.wanting);
+                let over = is_over(&self.wanting);
+                let events = events_after(over, self.events);
+                let event = self.machine.event(events);
+                let unlocks = self.machine.unlocks.take();
+                self.fed += 1;
+                self.has_event = over;
+                self.events = events;
+                Progress::Went {
+                    item,
+                    unlocks,
+                    event: if_over(over, event),
                 }
-                Err(overrun) => {
-                    let progress = stopped(&overrun);
-                    self.wanting = Some(wanting);
-                    self.overrun = Some(overrun);
-                    progress
-                }
-            },
+            }
+            Err(overrun) => {
+                let progress = stopped(&overrun);
+                self.overrun = Some(overrun);
+                progress
+            }
         }
     }
 

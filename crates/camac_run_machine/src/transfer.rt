@@ -35,27 +35,15 @@ impl Course {
         }
     }
 
-    /// After the cycle that `next` asked for, with this Q.
-    pub fn after(&self, q: bool) -> Self
-        requires { IsSome ((left_at self.now).wanted []) }
-        ensures { Continues (left_at self.now) q (left_at result) }
+    /// Takes the Q of the cycle that `next` asked for.
+    pub fn take(&mut self, q: bool)
+        requires { IsSome ((left_at self.old).wanted []) }
+        ensures { Continues (left_at self.old) q (left_at self.new) }
     {
         match self {
-            Course::Stop(stop) => {
-                let mut stop = *stop;
-                stop.take(q);
-                Course::Stop(stop)
-            }
-            Course::Repeat(repeat) => {
-                let mut repeat = *repeat;
-                repeat.take(q);
-                Course::Repeat(repeat)
-            }
-            Course::Scan(scan) => {
-                let mut scan = *scan;
-                scan.take(q);
-                Course::Scan(scan)
-            }
+            Course::Stop(stop) => stop.take(q),
+            Course::Repeat(repeat) => repeat.take(q),
+            Course::Scan(scan) => scan.take(q),
         }
     }
 

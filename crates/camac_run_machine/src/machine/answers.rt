@@ -1,13 +1,12 @@
 // What an answer does: the cycle or the lock that it is for.
 
-ghost use Rattle.std.specs.Prelude.{◌≡◌, ◌+◌, ◌*◌, ◌-◌, ◌<◌, ◌≤◌, [], List, length, true, false, None, Some, IsSome, IfOk, IfErr, OnErr, slice_set, ◌^◌, ◌%◌};
+ghost use Rattle.std.specs.Prelude.{◌≡◌, ◌+◌, ◌*◌, ◌-◌, ◌<◌, ◌≤◌, [], List, length, true, false, None, Some, IsSome, IfOk, IfErr, OnErr, OnSome, slice_set, ◌^◌, ◌%◌};
 ghost use Rattle.camac_branch.specs.Branch.{Answer};
 ghost use Rattle.camac_branch.specs.Crates.{branch_of, is_permitted};
 ghost use Rattle.camac_branch.specs.Plan.{crate_waits};
 ghost use Rattle.camac_lang.specs.Tree.{done};
 ghost use Rattle.camac_model.specs.State.{missed_with};
-ghost use Rattle.camac_run_machine.specs.MachineState.{reach, stands, IsFineHere, FineThen, HasRoom, IsWanting, want_of, CanFollow, Makes, TakesLock, IsRefused, Settles, Takes, Overruns};
-ghost use Rattle.camac_run_machine.specs.Rest.{follows};
+ghost use Rattle.camac_run_machine.specs.MachineState.{reach, stands, IsFineHere, FineThen, HasRoom, IsWanting, CanFollow, after_wanting, Makes, TakesLock, IsRefused, Proceeds, Settles, Takes, Overruns};
 
 use crate::command::command;
 use crate::item::Item;
@@ -157,34 +156,50 @@ impl<'a, const V: usize, const DEPTH: usize, const CAP: usize> Machine<'a, V, DE
     }
 
     // Goes on after the answer that was wanted: with the transfer that it was wanted for, or else with the open blocks.
-    pub fn go_further(&mut self, wanting: &Wanting<'a>) -> Option<Wanting<'a>>
+    pub fn go_further(&mut self, wanting: &mut Option<Wanting<'a>>)
         requires room { HasRoom self.old }
         requires quiet { self.old.unlocks.items ≡ [] }
-        requires follows { CanFollow (reach self.old).variables wanting.now }
-        requires fine { FineThen self.old (λ c. follows c (want_of wanting.now)) }
-        ensures { Settles self.old (λ c. follows c (want_of wanting.now)) result self.new }
+        requires follows { OnSome wanting.old (CanFollow (reach self.old).variables) }
+        requires fine { FineThen self.old (λ c. after_wanting c wanting.old) }
+        ensures { Settles self.old (λ c. after_wanting c wanting.old) wanting.new self.new }
+    {
+        if !self.follow_transfer(wanting) {
+            self.settle(wanting);
+        }
+    }
+
+    // Goes on with the transfer that an answer was wanted for, if one was: to its next cycle, or else to its tally. Answers whether a cycle
+    // is wanted next.
+    fn follow_transfer(&mut self, wanting: &mut Option<Wanting<'a>>) -> bool
+        requires room { HasRoom self.old }
+        requires follows { OnSome wanting.old (CanFollow (reach self.old).variables) }
+        requires fine { FineThen self.old (λ c. after_wanting c wanting.old) }
+        ensures cycle { result ≡ true → Proceeds self.old (λ c. after_wanting c wanting.old) wanting.new self.new }
+        ensures tally { result ≡ false → Proceeds self.old (λ c. after_wanting c wanting.old) None self.new }
     {
         match wanting {
-            Wanting::Transfer {
+            Some(Wanting::Transfer {
                 command,
                 course,
                 table,
                 tally,
-            } => {
+            }) => {
+                course.take(self.q);
                 let transfer = Transfer {
-                    course: course.after(self.q),
+                    course: *course,
                     function: command.f,
                     table: *table,
                     tally: *tally,
                 };
-                match self.proceed(&transfer) {
-                    Some(next) => Some(next),
-                    None => self.settle(),
+                match self.next_cycle(&transfer) {
+                    Some(next) => {
+                        *command = next;
+                        true
+                    }
+                    None => false,
                 }
             }
-            Wanting::Cycle(_) => self.settle(),
-            Wanting::Read { .. } => self.settle(),
-            Wanting::Lock { .. } => self.settle(),
+            _ => false,
         }
     }
 }

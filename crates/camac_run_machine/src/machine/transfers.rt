@@ -1,13 +1,13 @@
 // Block transfers, cycle by cycle.
 
-ghost use Rattle.std.specs.Prelude.{◌≡◌, IsTrue, ◌*◌, ◌-◌, ◌<◌, ◌≤◌, length, None, Some, IsSome, ◌^◌, ◌%◌};
+ghost use Rattle.std.specs.Prelude.{◌≡◌, IsTrue, ◌*◌, ◌-◌, ◌<◌, ◌≤◌, length, None, Some, IsSome, option_map, ◌^◌, ◌%◌};
 ghost use Rattle.camac_branch.specs.Allowed.{width};
 ghost use Rattle.camac_lang.specs.Kinds.{is_transfer};
 ghost use Rattle.camac_lang.specs.View.{expression_of, statement_of};
 ghost use Rattle.camac_lang.specs.Tree.{done, address_scan, q_stop, q_repeat};
 ghost use Rattle.camac_model.specs.Fine.{most_turns};
 ghost use Rattle.camac_model.specs.Meaning.{sent, effect};
-ghost use Rattle.camac_run_machine.specs.MachineState.{context_in, reach, free, FineThen, HasRoom, Proceeds, transferred};
+ghost use Rattle.camac_run_machine.specs.MachineState.{context_in, reach, free, FineThen, HasRoom, Proceeds, cycle_of, transferred};
 ghost use Rattle.camac_run_machine.specs.Course.{words_sent, words_after};
 ghost use Rattle.camac_run_machine.specs.Rest.{address_of};
 ghost use Rattle.camac_run_machine.specs.Within.{Refers, StatementFits};
@@ -17,7 +17,7 @@ use crate::machine::actions::bits_kept;
 use crate::machine::answers::word_of;
 use crate::machine::{Machine, Wanting};
 use crate::transfer::{Course, Transfer};
-use camac_branch::CycleDone;
+use camac_branch::{Command, CycleDone};
 use camac_esone::{QRepeat, QStop, Scan};
 use camac_lang::{Expr, Stmt, WordSize};
 use camac_word::{Function, Word24};
@@ -176,15 +176,28 @@ impl<'a, const V: usize, const DEPTH: usize, const CAP: usize> Machine<'a, V, DE
         requires fine { FineThen self.old (λ c. transferred c transfer.now) }
         ensures { Proceeds self.old (λ c. transferred c transfer.now) result self.new }
     {
-        let plan = self.checked.plan();
-        plan.allows_commands();
-        match transfer.next() {
+        match self.next_cycle(transfer) {
             Some(command) => Some(Wanting::Transfer {
                 command,
                 course: transfer.course,
                 table: transfer.table,
                 tally: transfer.tally,
             }),
+            None => None,
+        }
+    }
+
+    // The command of a transfer's next cycle, or none at the end, where the tally is set.
+    pub fn next_cycle(&mut self, transfer: &Transfer<'a>) -> Option<Command>
+        requires room { HasRoom self.old }
+        requires tally { transfer.now.tally < (reach self.old).variables }
+        requires fine { FineThen self.old (λ c. transferred c transfer.now) }
+        ensures { Proceeds self.old (λ c. transferred c transfer.now) (option_map (cycle_of transfer.now) result) self.new }
+    {
+        let plan = self.checked.plan();
+        plan.allows_commands();
+        match transfer.next() {
+            Some(command) => Some(command),
             None => {
                 self.set_variable(transfer.tally, transfer.course.tally());
                 None
