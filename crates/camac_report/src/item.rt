@@ -42,9 +42,19 @@ pub fn write_items<W: Write>(
     ensures failed { has_failed out.new ≡ (has_failed out.old || is_err result) }
 {
     let mut lines = Line::new();
-    push_item(&mut lines, checked, item);
-    push_unlocks(&mut lines, unlocks);
+    lay_out_items(&mut lines, checked, item, unlocks);
     out.write_text(lines.as_bytes())
+}
+
+/// Puts the line of an item and a line for each crate, at most seven, whose lockout was released after it, in the place of what `lines`
+/// holds.
+pub fn lay_out_items(lines: &mut Line, checked: &Checked, item: &Item, unlocks: &[CrateNo])
+    requires { length unlocks.now ≤ 7 }
+    ensures { lines.new ≡ item_text checked.now.script (piece_of item.now) ++ unlock_texts unlocks.now }
+{
+    lines.clear();
+    push_item(lines, checked, item);
+    push_unlocks(lines, unlocks);
 }
 
 fn push_item(line: &mut Line, checked: &Checked, item: &Item)

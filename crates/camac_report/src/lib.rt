@@ -12,5 +12,5 @@ pub use camac_report_text::{
 };
 pub use cycle::write_cycle;
 pub use end::write_end;
-pub use item::{write_item, write_items};
+pub use item::{lay_out_items, write_item, write_items};
 pub use request::{write_request, write_unlocks};

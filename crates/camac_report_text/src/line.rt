@@ -1,10 +1,9 @@
 // An output line while it is laid out.
 
-ghost use Rattle.std.specs.Prelude.{◌≡◌, ◌≤◌, ◌+◌, ◌++◌, [], length, decimal};
+ghost use Rattle.std.specs.Prelude.{◌≡◌, ◌≤◌, ◌+◌, ◌++◌, [], length, take, decimal};
 ghost use Rattle.camac_report_text.specs.Digits.{hex_word};
 
 use crate::digits::hex_word;
-use arrayvec::ArrayVec;
 use camac_word::Word24;
 use itoa::{Buffer, Integer};
 use std::marker::Model;
@@ -12,18 +11,32 @@ use std::marker::Model;
 /// The greatest length of a line, in bytes.
 pub const LONGEST_LINE: usize = 256;
 
-/// A line of at most `LONGEST_LINE` bytes.
+/// A line of at most `LONGEST_LINE` bytes. One is kept for many lines, since it is forgotten at no cost: an `ArrayVec` would write over all
+/// its bytes.
 #[derive(Drop)]
 pub struct Line {
-    bytes: ArrayVec<u8, LONGEST_LINE>,
+    bytes: [u8; LONGEST_LINE],
+    // how many of them stand in the line
+    len: usize,
 }
 
 impl Model for Line {
-    ghost use Rattle.std.specs.Prelude.{List, ℕ};
+    ghost use Rattle.std.specs.Prelude.{List, ℕ, ◌≤◌, take};
 
     ghost Value = { List ℕ };
 
-    ghost view = { λ l. l.bytes.items };
+    ghost view = { λ l. take l.len l.bytes };
+
+    ghost invariant = { λ l. l.len ≤ 256 };
+}
+
+// Writes the source over the bytes from a place on.
+fn copy_in(bytes: &mut [u8], start: usize, source: &[u8])
+    requires { start + length source.now ≤ length bytes.old }
+    ensures written { take (start + length source.now) bytes.new ≡ take start bytes.old ++ source.now }
+    ensures len { length bytes.new ≡ length bytes.old }
+{
+    bytes[start..start + source.len()].copy_from_slice(source);
 }
 
 impl Line {
@@ -32,7 +45,8 @@ impl Line {
         ensures { result ≡ [] }
     {
         Line {
-            bytes: ArrayVec::new(),
+            bytes: [0; LONGEST_LINE],
+            len: 0,
         }
     }
 
@@ -53,7 +67,8 @@ impl Line {
         ensures bytes { self.new ≡ self.old ++ bytes.now }
         ensures len { length self.new ≡ length self.old + length bytes.now }
     {
-        self.bytes.try_extend_from_slice(bytes).unwrap();
+        copy_in(&mut self.bytes, self.len, bytes);
+        self.len += bytes.len();
     }
 
     /// Puts the number at the end, in decimal.
@@ -96,19 +111,19 @@ impl Line {
         ensures value { result ≡ length self.now }
         ensures fits { result ≤ LONGEST_LINE }
     {
-        self.bytes.len()
+        self.len
     }
 
     /// Forgets what is in it.
     pub fn clear(&mut self)
         ensures { self.new ≡ [] }
     {
-        self.bytes.clear();
+        self.len = 0;
     }
 
     pub fn as_bytes(&self) -> &[u8]
         ensures { result.now ≡ self.now }
     {
-        &self.bytes
+        &self.bytes[..self.len]
     }
 }

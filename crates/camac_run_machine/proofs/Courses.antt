@@ -1,9 +1,9 @@
 -- A machine that makes a transfer: its begin, its cycles and its end.
 use Rattle.std.proofs.Common.{◌≡◌, ℕ, ◌+◌, ◌*◌, ◌^◌, ◌<◌, ◌≤◌, List, [], ◌∷◌, length, Option, Some, None, Bool, true, refl, sym, ap, subst, ◌∙◌, arith}
-use Rattle.std.proofs.lemmas.Bool.{eqb-true}
+use Rattle.std.proofs.lemmas.Bool.{eqb-true, false≢true}
 use Rattle.std.proofs.lemmas.List.{append-nil}
 use Rattle.std.specs.Borrow.{Bor}
-use Rattle.std.specs.Prelude.{IsSome, IfSome, nat_eq}
+use Rattle.std.specs.Prelude.{IsSome, IfSome, nat_eq, option_map}
 use Rattle.camac_func.specs.declared.data.DataMove.{DataMove}
 use Rattle.camac_lang.specs.declared.tree.Stmt.{Stmt}
 use Rattle.camac_lang.specs.Tree.{Expression, Statement, address_scan, q_stop, q_repeat}
@@ -22,18 +22,19 @@ use Rattle.camac_model.specs.State.{State, stepped, missed_with, with_variable}
 use Rattle.camac_model.specs.Behaviour.{does, ends, stops, overrun, Action, then_do, given, unless_wrong}
 use Rattle.camac_model.specs.Cycle.{cycle, after_cycle}
 use Rattle.camac_model.specs.Fine.{IsWithin, most_turns}
-use Rattle.camac_model.specs.Meaning.{sent, transfer_to, effect}
+use Rattle.camac_model.specs.Meaning.{Context, sent, transfer_to, effect}
 use Rattle.camac_model.specs.Safe.{IsSafe}
 use Rattle.camac_model.specs.Transfer.{keep_word, transfer}
 use Rattle.camac_model.specs.Value.{value}
 use Rattle.camac_run_machine.specs.declared.item.Item.TheVariants as item
 use Rattle.camac_run_machine.specs.declared.machine.Machine.{Machine}
+use Rattle.camac_run_machine.specs.declared.machine.TransferCycle.{TransferCycle}
 use Rattle.camac_run_machine.specs.declared.machine.Wanting.{Wanting}
 use Rattle.camac_run_machine.specs.declared.machine.Wanting.TheVariants.{Cycle, Read, Lock, Transfer}
 use Rattle.camac_run_machine.specs.declared.transfer.Course.{Course}
 use Rattle.camac_run_machine.specs.declared.transfer.Transfer as held
 use Rattle.camac_run_machine.specs.Course.{left_at, words_from, words_sent, data_of, words_after}
-use Rattle.camac_run_machine.specs.MachineState.{variables_here, registers_here, reach, with_value, context_in, state_of, bounds_of, left_in, stands, made, want_of, transferred, IsFineHere, FineThen, HasRoom, IsWanting, Advances, Proceeds, Settles, Makes, IsRefused, Takes, Overruns}
+use Rattle.camac_run_machine.specs.MachineState.{variables_here, registers_here, reach, with_value, context_in, state_of, bounds_of, left_in, stands, made, want_of, after_wanting, cycle_of, transferred, IsFineHere, FineThen, HasRoom, IsWanting, Advances, Proceeds, Settles, Makes, IsRefused, Takes, Overruns}
 use Rattle.camac_run_machine.specs.Rest.{address_of, transfers, awaited, follows, transfer_left, rest_in, says}
 use Rattle.camac_run_machine.proofs.Actions.{known}
 use Rattle.camac_run_machine.proofs.Commands.{on_branch}
@@ -43,6 +44,10 @@ use Rattle.camac_run_machine.proofs.Frames.{fine_along}
 use Rattle.camac_run_machine.proofs.Loops.{fine_as}
 use Rattle.camac_run_machine.proofs.Takes.{cost_fits, fine_taken, refused, goes_on, room_after}
 use Rattle.camac_run_machine.proofs.Transfers.{transfer_continues, transfer_starts, keep_is, transfer_over, transfer_goes, transfer_within, transfer_can}
+
+-- the next cycle of a transfer
+abbrev cycle_at : Command → Course → Option (Bor (List ℕ)) → ℕ → TransferCycle
+cycle_at k t table x = record { command = k; course = t; table = table; tally = x }
 
 module _ {V D C : ℕ} (h : Machine V D C) where
   abbrev plan : Layout
@@ -86,7 +91,7 @@ module _ {V D C : ℕ} (h : Machine V D C) where
 
   -- a transfer goes on to its next cycle
   pub proceeds_on : (t : held.Transfer) (k : Command) → FineThen h (λ c. transferred c t) → t.tally < (reach h).variables → (left_at t.course).wanted [] ≡ Some (address_of k) → data_of t.course (words_sent t.table) ≡ Some k.mv → k.f ≡ t.function → HasRoom h
-      → Proceeds h (λ c. transferred c t) (Some (Transfer k t.course t.table t.tally)) h
+      → Proceeds h (λ c. transferred c t) (option_map (cycle_of t) (Some k)) h
   proceeds_on t k fine lt e d same r =
       let can = next_can t (address_of k) e fine in
       record {
@@ -284,60 +289,53 @@ module _ {V D C : ℕ} (h : Machine V D C) where
     abbrev further : held.Transfer
     further = record { course = later; function = k.f; table = table; tally = x }
 
-    follows_on : (answers : List Answer) → follows (context_in h.checked.now) (want_of (Transfer k t table x)) (state_of h answers) ≡ transferred (context_in h.checked.now) further (state_of h answers)
+    follows_on : (answers : List Answer) → follows (context_in h.checked.now) (want_of (Transfer (cycle_at k t table x))) (state_of h answers) ≡ transferred (context_in h.checked.now) further (state_of h answers)
     unfolding awaited follows
     follows_on answers = transfer_continues plan k.f (words_sent table) (left_at t) (left_at later) x h.q (state_of h answers) c
 
-    pub further_fine : FineThen h (λ c. follows c (want_of (Transfer k t table x))) → FineThen h (λ c. transferred c further)
-    further_fine fine = fine_as h (λ c. follows c (want_of (Transfer k t table x))) (λ c. transferred c further) follows_on fine
+    pub further_fine : FineThen h (λ c. follows c (want_of (Transfer (cycle_at k t table x)))) → FineThen h (λ c. transferred c further)
+    further_fine fine = fine_as h (λ c. follows c (want_of (Transfer (cycle_at k t table x)))) (λ c. transferred c further) follows_on fine
 
-    module _ (mid : Machine V D C) (quiet : h.unlocks.items ≡ []) where
-      pub mid_quiet : (next' : Option Wanting) → Proceeds h (λ c. transferred c further) next' mid → mid.unlocks.items ≡ []
-      mid_quiet next' p = ap (λ (m : Machine V D C). m.unlocks.items) p.same ∙ quiet
+    pub further_proceeds : (next' : Option Wanting) (new : Machine V D C) → Proceeds h (λ c. transferred c further) next' new → Proceeds h (λ c. after_wanting c (Some (Transfer (cycle_at k t table x)))) next' new
+    further_proceeds next' new p =
+        record { room = p.room; same = p.same; wants = p.wants; goes = λ answers. p.goes answers ∙ ap (λ b. then_do b (left_in h)) (sym (follows_on answers)) }
 
-      -- it wants its next cycle
-      pub further_wants : (w : Wanting) → Proceeds h (λ c. transferred c further) (Some w) mid → Settles h (λ c. follows c (want_of (Transfer k t table x))) (Some w) mid
-      further_wants w p = record {
-        room = p.room;
-        checked = ap (λ (m : Machine V D C). m.checked) p.same;
-        service = ap (λ (m : Machine V D C). m.service) p.same;
-        wants = p.wants;
-        over = tt;
-        goes = λ answers.
-            ap (λ us. says us (stands (Some w) mid answers)) (mid_quiet (Some w) p)
-            ∙ p.goes answers
-            ∙ ap (λ b. then_do b (left_in h)) (sym (follows_on answers));
-      }
+  -- what goes on at once, whatever it is
+  module _ (go : Context → Action) (mid : Machine V D C) (quiet : h.unlocks.items ≡ []) where
+    pub mid_quiet : (next' : Option Wanting) → Proceeds h go next' mid → mid.unlocks.items ≡ []
+    mid_quiet next' p = ap (λ (m : Machine V D C). m.unlocks.items) p.same ∙ quiet
 
-      -- or is over, and the blocks go on
-      pub over_fine : FineThen h (λ c. follows c (want_of (Transfer k t table x))) → Proceeds h (λ c. transferred c further) None mid → (answers : List Answer) → IsFineHere mid (stands None mid answers)
-      over_fine fine p answers =
-          fine_along mid h (ap (λ (m : Machine V D C). m.checked) p.same) (ap (λ (m : Machine V D C). m.service) p.same) (stands None mid answers) _ (p.goes answers) (further_fine fine answers)
+    -- it wants an answer
+    pub wants_settles : (next' : Option Wanting) → IsSome next' → Proceeds h go next' mid → Settles h go next' mid
+    wants_settles None some p = absurd (false≢true some)
+    wants_settles (Some w) some p = record {
+      room = p.room;
+      checked = ap (λ (m : Machine V D C). m.checked) p.same;
+      service = ap (λ (m : Machine V D C). m.service) p.same;
+      wants = p.wants;
+      over = tt;
+      goes = λ answers. ap (λ us. says us (stands (Some w) mid answers)) (mid_quiet (Some w) p) ∙ p.goes answers;
+    }
 
-      pub over_settles : (next' : Option Wanting) (new : Machine V D C) → Proceeds h (λ c. transferred c further) None mid → Settles mid (λ c. ends) next' new → Settles h (λ c. follows c (want_of (Transfer k t table x))) next' new
-      over_settles next' new p s = record {
-        room = s.room;
-        checked = s.checked ∙ ap (λ (m : Machine V D C). m.checked) p.same;
-        service = s.service ∙ ap (λ (m : Machine V D C). m.service) p.same;
-        wants = s.wants;
-        over = s.over;
-        goes = λ answers. s.goes answers ∙ p.goes answers ∙ ap (λ b. then_do b (left_in h)) (sym (follows_on answers));
-      }
+    -- or is over, and the blocks go on
+    pub over_fine : FineThen h go → Proceeds h go None mid → (answers : List Answer) → IsFineHere mid (stands None mid answers)
+    over_fine fine p answers =
+        fine_along mid h (ap (λ (m : Machine V D C). m.checked) p.same) (ap (λ (m : Machine V D C). m.service) p.same) (stands None mid answers) _ (p.goes answers) (fine answers)
+
+    pub over_settles : (next' : Option Wanting) (new : Machine V D C) → Proceeds h go None mid → Settles mid (λ c. ends) next' new → Settles h go next' new
+    over_settles next' new p s = record {
+      room = s.room;
+      checked = s.checked ∙ ap (λ (m : Machine V D C). m.checked) p.same;
+      service = s.service ∙ ap (λ (m : Machine V D C). m.service) p.same;
+      wants = s.wants;
+      over = s.over;
+      goes = λ answers. s.goes answers ∙ p.goes answers;
+    }
 
   -- nothing of the statement is left
   module _ (w : Wanting) (nothing : (answers : List Answer) → follows (context_in h.checked.now) (want_of w) (state_of h answers) ≡ ends (state_of h answers)) where
-    pub alone_fine : FineThen h (λ c. follows c (want_of w)) → (answers : List Answer) → IsFineHere h (stands None h answers)
-    alone_fine fine answers = subst (λ b. IsFineHere h (then_do b (left_in h))) (nothing answers) (fine answers)
-
-    pub alone_settles : (next' : Option Wanting) (new : Machine V D C) → Settles h (λ c. ends) next' new → Settles h (λ c. follows c (want_of w)) next' new
-    alone_settles next' new s = record {
-      room = s.room;
-      checked = s.checked;
-      service = s.service;
-      wants = s.wants;
-      over = s.over;
-      goes = λ answers. s.goes answers ∙ ap (λ b. then_do b (left_in h)) (sym (nothing answers));
-    }
+    pub alone_proceeds : HasRoom h → Proceeds h (λ c. after_wanting c (Some w)) None h
+    alone_proceeds r = record { room = r; same = refl; wants = tt; goes = λ answers. ap (λ b. then_do b (left_in h)) (sym (nothing answers)) }
 
   pub cycle_alone : (k : Command) (answers : List Answer) → follows (context_in h.checked.now) (want_of (Cycle k)) (state_of h answers) ≡ ends (state_of h answers)
   unfolding follows
@@ -369,7 +367,7 @@ module _ {V D C : ℕ} (h : Machine V D C) where
   }
 
 -- a cycle of a transfer
-module _ {V D C : ℕ} (h : Machine V D C) (k : Command) (t : Course) (table : Option (Bor (List ℕ))) (x : ℕ) (a : Answer) (p : IsWanting h (Transfer k t table x)) where
+module _ {V D C : ℕ} (h : Machine V D C) (k : Command) (t : Course) (table : Option (Bor (List ℕ))) (x : ℕ) (a : Answer) (p : IsWanting h (Transfer (cycle_at k t table x))) where
   abbrev left : Left
   left = left_at t
 
@@ -385,7 +383,7 @@ module _ {V D C : ℕ} (h : Machine V D C) (k : Command) (t : Course) (table : O
   abbrev G : List Answer → Reply → Action
   G answers r u = transfer h.checked.now.plan k.f words_left left.wanted over (r.q ∷ []) answers (stepped (keep_word words_left bits r u))
 
-  goes_first : (answers : List Answer) → awaited (context_in h.checked.now) (want_of (Transfer k t table x)) (state_of h (a ∷ answers)) ≡ cycle h.checked.now.plan (address_of k) k.f k.mv (a ∷ answers) (G answers) (state_of h (a ∷ answers))
+  goes_first : (answers : List Answer) → awaited (context_in h.checked.now) (want_of (Transfer (cycle_at k t table x))) (state_of h (a ∷ answers)) ≡ cycle h.checked.now.plan (address_of k) k.f k.mv (a ∷ answers) (G answers) (state_of h (a ∷ answers))
   unfolding awaited
   goes_first answers = transfer_goes h.checked.now.plan k.f words_left left.wanted over [] (address_of k) k.mv p.1.1 p.1.2 a answers (state_of h (a ∷ answers))
 
@@ -394,13 +392,13 @@ module _ {V D C : ℕ} (h : Machine V D C) (k : Command) (t : Course) (table : O
       left_within h k.f (words_sent table) left x (r.q ∷ []) (stepped (record u { words = words_after (words_sent table) bits r u.words }))
       (subst (λ (v : State). IsFineHere h (then_do (transfer h.checked.now.plan k.f words_left left.wanted over (r.q ∷ []) [] (stepped v)) (left_in h))) (keep_is left.tally (words_sent table) bits r u) fine)
 
-  pub transfer_overruns : (o : Overrun) → IsRefused h k.c a o → Overruns h (Transfer k t table x) a o
+  pub transfer_overruns : (o : Overrun) → IsRefused h k.c a o → Overruns h (Transfer (cycle_at k t table x)) a o
   transfer_overruns o r = λ answers.
       ap (λ b. then_do b (left_in h)) (goes_first answers)
       ∙ refused h k a p.0 G answers r.refused
       ∙ ap (λ (y : Overrun). stops (overrun y.c y.wait) (state_of h (a ∷ answers))) (sym r.overrun)
 
-  module _ (fine : (answers : List Answer) → IsFineHere h (stands (Some (Transfer k t table x)) h answers)) (room : HasRoom h) where
+  module _ (fine : (answers : List Answer) → IsFineHere h (stands (Some (Transfer (cycle_at k t table x))) h answers)) (room : HasRoom h) where
     cycle_fine : (answers : List Answer) → IsFineHere h (then_do (cycle h.checked.now.plan (address_of k) k.f k.mv (a ∷ answers) (G answers) (state_of h (a ∷ answers))) (left_in h))
     cycle_fine answers = subst (λ b. IsFineHere h (then_do b (left_in h))) (goes_first answers) (fine (a ∷ answers))
 
@@ -440,12 +438,12 @@ module _ {V D C : ℕ} (h : Machine V D C) (k : Command) (t : Course) (table : O
             ap (λ (n : Machine V D C). record n { steps = n.steps + 1 }) same
             ∙ ap (λ (n : Machine V D C). record n { words = last.words; steps = n.steps + 1 }) m.same
 
-        pub takes_transfer : last.words ≡ kept_words mid d → Takes h (Transfer k t table x) a (item.Cycle d) (record last { steps = last.steps + 1 })
+        pub takes_transfer : last.words ≡ kept_words mid d → Takes h (Transfer (cycle_at k t table x)) a (item.Cycle d) (record last { steps = last.steps + 1 })
         unfolding follows
         takes_transfer e =
             let ws : last.words ≡ words_after (words_sent table) bits d.reply h.words =
             e ∙ same_words ∙ ap (λ (c : Command). words_after (words_sent table) (width h.checked.now.plan (address_of c) c.f) d.reply h.words) (ap (λ (n : CycleDone). n.command) m.done) in
-            subst (λ n. Takes h (Transfer k t table x) a (item.Cycle d) n) (sym same_final) (record {
+            subst (λ n. Takes h (Transfer (cycle_at k t table x)) a (item.Cycle d) n) (sym same_final) (record {
               room = room_kept after last.words (h.steps + 1) (room_after h k mid.branch d.reply.q d.reply.x d.wait m.branch room);
               checked = refl;
               service = refl;

@@ -71,7 +71,7 @@ pub can_lock : {V D C : ℕ} (h : Machine V D C) (w : Wanting) (wanting : Option
 can_lock h (Cycle k) wanting fed n has o e p = tt
 can_lock h (Read k x bits) wanting fed n has o e p = tt
 can_lock h (Lock c body) wanting fed n has o e p = let q : IsWanting h (Lock c body) = rw e at p in (q.0, q.1.0)
-can_lock h (Transfer k t table x) wanting fed n has o e p = tt
+can_lock h (Transfer w) wanting fed n has o e p = tt
 
 module _ {V D C : ℕ} (h : Machine V D C) (a : Answer) (answers : List Answer) where
   first_begins : (w : Wanting) → IsWanting h w → Begins (operation w) a (awaited (context_in h.checked.now) (want_of w) (state_of h (a ∷ answers)))
@@ -81,14 +81,14 @@ module _ {V D C : ℕ} (h : Machine V D C) (a : Answer) (answers : List Answer) 
       cycle_begins h.checked.now.plan k (λ r t. ends (with_variable x (kept bits r) t)) (state_of h (a ∷ answers)) a answers p.0
   first_begins (Lock c body) p =
       lock_begins h.checked.now.plan c (λ u. then_do (block_meaning (context_in h.checked.now) most_turns (statements_of body.now) u) (release c)) (state_of h (a ∷ answers)) a answers refl p.1.0 p.0
-  first_begins (Transfer k t table x) p =
-      let n : ℕ = (left_at t).tally in
+  first_begins (Transfer w) p =
+      let n : ℕ = (left_at w.course).tally in
       let plan : Layout = h.checked.now.plan in
-      let words : Option (List ℕ) = words_from n (words_sent table) in
-      let finish : List Bool → Action = λ rs u. ends (with_variable x (n + tally rs) u) in
-      subst (Begins (wanted.Cycle k) a)
-      (sym (transfer_goes plan k.f words (left_at t).wanted finish [] (address_of k) k.mv p.1.1 p.1.2 a answers (state_of h (a ∷ answers))))
-      (cycle_begins plan k (λ r t'. transfer plan k.f words (left_at t).wanted finish (r.q ∷ []) answers (stepped (keep_word words (width plan (address_of k) k.f) r t'))) (state_of h (a ∷ answers)) a answers p.0)
+      let words : Option (List ℕ) = words_from n (words_sent w.table) in
+      let finish : List Bool → Action = λ rs u. ends (with_variable w.tally (n + tally rs) u) in
+      subst (Begins (wanted.Cycle w.command) a)
+      (sym (transfer_goes plan w.command.f words (left_at w.course).wanted finish [] (address_of w.command) w.command.mv p.1.1 p.1.2 a answers (state_of h (a ∷ answers))))
+      (cycle_begins plan w.command (λ r t'. transfer plan w.command.f words (left_at w.course).wanted finish (r.q ∷ []) answers (stepped (keep_word words (width plan (address_of w.command) w.command.f) r t'))) (state_of h (a ∷ answers)) a answers p.0)
 
   rest_begins : (w : Wanting) → IsWanting h w → Begins (operation w) a (served (context_in h.checked.now) h.checked.now.script.services (bit_at h.checked.now h.service) (stands (Some w) h (a ∷ answers)))
   unfolding served

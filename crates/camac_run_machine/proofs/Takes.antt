@@ -180,10 +180,10 @@ waits_first h (Read k x bits) p =
     first_short h.checked.now.plan (address_of k) k.f k.mv (λ r t. ends (with_variable x (kept bits r) t)) (state_of h []) (crate_waits h.checked.now.plan k.c) p.0
 waits_first h (Lock k body) p =
     lock_short k (λ u. then_do (block_meaning (context_in h.checked.now) most_turns (statements_of body.now) u) (release k)) (state_of h []) (crate_waits h.checked.now.plan k) refl p.1.0 p.0
-waits_first h (Transfer k t table x) p =
-    let n : ℕ = (left_at t).tally in
-    transfer_waits h.checked.now.plan k.f (words_from n (words_sent table)) (left_at t).wanted (λ rs u. ends (with_variable x (n + tally rs) u)) [] (address_of k) k.mv p.1.1 p.1.2 (state_of h [])
-    ∙ first_short h.checked.now.plan (address_of k) k.f k.mv (λ r. stops short) (state_of h []) (crate_waits h.checked.now.plan k.c) p.0
+waits_first h (Transfer w) p =
+    let n : ℕ = (left_at w.course).tally in
+    transfer_waits h.checked.now.plan w.command.f (words_from n (words_sent w.table)) (left_at w.course).wanted (λ rs u. ends (with_variable w.tally (n + tally rs) u)) [] (address_of w.command) w.command.mv p.1.1 p.1.2 (state_of h [])
+    ∙ first_short h.checked.now.plan (address_of w.command) w.command.f w.command.mv (λ r. stops short) (state_of h []) (crate_waits h.checked.now.plan w.command.c) p.0
 
 module _ {V D C : ℕ} (h : Machine V D C) (k : Command) (a : Answer) where
   pub cycle_cost : IsWanting h (Cycle k) → ((answers : List Answer) → IsFineHere h (stands (Some (Cycle k)) h answers)) → (bounds_of h).cycles ≤ greatest → is_permitted h.checked.now.plan (branch_of h.branch) k.c a.wait ≡ true → h.cycles + (1 + a.wait) < 2 ^ 32

@@ -103,7 +103,7 @@ module _ {V D C : ℕ} where
       ready (Some (Cycle k)) f = f
       ready (Some (Read k x bits)) f = f
       ready (Some (Lock k body)) f = f
-      ready (Some (wanting.Transfer k t table x)) f = f
+      ready (Some (wanting.Transfer w)) f = f
 
       is_fine : (o : Option Wanting) → ((answers : List Answer) → IsFineHere new (stands o new answers)) → IfSome o (λ w. (answers : List Answer) → IsFineHere (record new { unlocks = none }) (stands (Some w) (record new { unlocks = none }) answers))
       is_fine None f = tt

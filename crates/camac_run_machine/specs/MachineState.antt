@@ -63,18 +63,18 @@ abbrev pub want_of : Wanting → Want
 want_of (Cycle k) = makes k
 want_of (Read k x bits) = reads k x bits
 want_of (Lock k body) = locks k (statements_of body.now)
-want_of (wanting.Transfer k t table x) = transfers t k.f (words_sent table) x
+want_of (wanting.Transfer w) = transfers w.course w.command.f (words_sent w.table) w.tally
 
 -- a transfer goes on after a cycle that it wanted, and sets one of so many variables
 abbrev pub CanFollow : ℕ → Wanting → Type 0
 CanFollow v (Cycle k) = Unit {0}
 CanFollow v (Read k x bits) = Unit {0}
 CanFollow v (Lock k body) = Unit {0}
-CanFollow v (wanting.Transfer k t table x) = (x < v) × IsSome ((left_at t).wanted [])
+CanFollow v (wanting.Transfer w) = (w.tally < v) × IsSome ((left_at w.course).wanted [])
 
 -- the next cycle of a transfer, with this command
 abbrev pub cycle_of : Transfer → Command → Wanting
-cycle_of t k = wanting.Transfer k t.course t.table t.tally
+cycle_of t k = wanting.Transfer (record { command = k; course = t.course; table = t.table; tally = t.tally })
 
 -- what is left of a statement after the answer that it wanted, where it wanted one
 abbrev pub after_wanting : Context → Option Wanting → Action
@@ -86,7 +86,7 @@ abbrev pub crate_of : Wanting → ℕ
 crate_of (Cycle k) = k.c
 crate_of (Read k x bits) = k.c
 crate_of (Lock k body) = k
-crate_of (wanting.Transfer k t table x) = k.c
+crate_of (wanting.Transfer w) = w.command.c
 
 -- the piece of a cycle that was made
 abbrev pub made : CycleDone → Piece
@@ -182,8 +182,8 @@ module _ {V D C : ℕ} where
   IsReady h (Read k x bits) = (x < (reach h).variables) × (bits ≤ 24)
   IsReady h (Lock k body) =
       ((branch_of h.branch k).locked ≡ false) × (1 ≤ k) × (k ≤ 7) × Opens (reach h) (free h) (statements_of body.now)
-  IsReady h (wanting.Transfer k t table x) =
-      (x < (reach h).variables) × ((left_at t).wanted [] ≡ Some (address_of k)) × (data_of t (words_sent table) ≡ Some k.mv)
+  IsReady h (wanting.Transfer w) =
+      (w.tally < (reach h).variables) × ((left_at w.course).wanted [] ≡ Some (address_of w.command)) × (data_of w.course (words_sent w.table) ≡ Some w.command.mv)
 
   abbrev pub IsWanting : Machine V D C → Wanting → Type 0
   IsWanting h w = IsSome (crate_waits h.checked.now.plan (crate_of w)) × IsReady h w

@@ -67,4 +67,4 @@ abbrev pub operation : Wanting → Wanted
 operation (waits_for.Cycle k) = Cycle k
 operation (waits_for.Read k x bits) = Cycle k
 operation (waits_for.Lock c body) = Lock c
-operation (waits_for.Transfer k t table x) = Cycle k
+operation (waits_for.Transfer w) = Cycle w.command

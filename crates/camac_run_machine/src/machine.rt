@@ -95,13 +95,17 @@ pub enum Wanting<'a> {
         crate_no: CrateNo,
         body: &'a [Stmt],
     },
-    /// The next cycle of a transfer, with the words of the table that it sends, where it sends any, and the variable of its tally.
-    Transfer {
-        command: Command,
-        course: Course,
-        table: Option<&'a [Word24]>,
-        tally: usize,
-    },
+    /// The next cycle of a transfer.
+    Transfer(TransferCycle<'a>),
+}
+
+/// A cycle of a transfer, with the words of the table that the transfer sends, where it sends any, and the variable of its tally.
+#[derive(Clone, Copy)]
+pub struct TransferCycle<'a> {
+    pub command: Command,
+    pub course: Course,
+    pub table: Option<&'a [Word24]>,
+    pub tally: usize,
 }
 
 #[derive(Drop)]

@@ -242,7 +242,7 @@ fn operation(wanting: &Wanting) -> Wanted
         Wanting::Cycle(command) => Wanted::Cycle(*command),
         Wanting::Read { command, .. } => Wanted::Cycle(*command),
         Wanting::Lock { crate_no, .. } => Wanted::Lock(*crate_no),
-        Wanting::Transfer { command, .. } => Wanted::Cycle(*command),
+        Wanting::Transfer(wanted) => Wanted::Cycle(wanted.command),
     }
 }
 

@@ -18,6 +18,7 @@ use crate::fault::PlayFault;
 use crate::step::{Step, take_step};
 use camac_answer::{AnswerFault, Answers};
 use camac_check_result::Checked;
+use camac_report::Line;
 use camac_run_machine::{End, FullRunner};
 use camac_word::Watched;
 use std::io::{Read, Write};
@@ -42,6 +43,7 @@ pub fn feed<R: Read, W: Write, E: Write>(
 {
     checked.fits_greatest();
     let mut runner = FullRunner::start(checked);
+    let mut lines = Line::new();
     let mut count = 0;
     'answers: loop {
         let answer = match answers.next() {
@@ -52,7 +54,7 @@ pub fn feed<R: Read, W: Write, E: Write>(
                 return at_fault(fault, count);
             }
         };
-        match take_step(checked, &mut runner, answer, count, out, events)? {
+        match take_step(checked, &mut runner, answer, count, &mut lines, out, events)? {
             Step::Went { events } => count = events,
             Step::Overrun(overrun) => return Ok((Ending::End(End::Overrun(overrun)), count)),
         }

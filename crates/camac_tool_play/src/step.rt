@@ -8,6 +8,7 @@ ghost use Rattle.camac_word.specs.Watched.{inner_of, has_failed};
 use crate::telling::{Left, tell};
 use camac_branch::{Answer, Overrun};
 use camac_check_result::Checked;
+use camac_report::{Line, lay_out_items};
 use camac_run_machine::{FullRunner, Progress};
 use camac_word::{Watched, WriteFault};
 use std::io::Write;
@@ -21,12 +22,13 @@ pub enum Step {
     Overrun(Overrun),
 }
 
-/// Feeds a run that has left so many events an answer, and writes what it did.
+/// Feeds a run that has left so many events an answer, and writes what it did, by way of `lines`.
 pub fn take_step<W: Write, E: Write>(
     checked: &Checked,
     runner: &mut FullRunner<'_>,
     answer: Answer,
     count: u32,
+    lines: &mut Line,
     out: &mut Watched<W>,
     events: &mut Watched<E>,
 ) -> Result<Step, WriteFault>
@@ -43,15 +45,8 @@ pub fn take_step<W: Write, E: Write>(
             unlocks,
             event,
         } => {
-            tell(
-                checked,
-                &item,
-                &unlocks,
-                &event,
-                runner.last_words(),
-                out,
-                events,
-            )?;
+            lay_out_items(lines, checked, &item, &unlocks);
+            tell(lines, &event, runner.last_words(), out, events)?;
             let events = count_after(&event, count);
             Ok(Step::Went { events })
         }

@@ -1,44 +1,36 @@
 // What an answer did, and the last line, as they are written.
 
 ghost use Rattle.std.specs.Prelude.{◌≡◌, ◌≤◌, ◌||◌, ◌++◌, length, is_err, IfSome};
-ghost use Rattle.camac_report.specs.Items.{item_text, unlock_texts};
 ghost use Rattle.camac_tool_play.specs.Played.{ending_text};
 ghost use Rattle.camac_tool_play.specs.Sent.{outputs, to_listing, to_events, SendsBy};
 ghost use Rattle.camac_tool_play.specs.Telling.{event_record};
-ghost use Rattle.camac_run_machine.specs.MachineState.{piece_of};
 ghost use Rattle.camac_word.specs.Watched.{inner_of, has_failed};
 ghost use Rattle.camac_word.specs.Writing.{Writes};
 
 use crate::ending::Ending;
-use camac_check_result::Checked;
 use camac_event::{Usage, write_record};
-use camac_report::{Refusal, write_end, write_items, write_refusal};
-use camac_run_machine::Item;
-use camac_word::{CrateNo, GlBit, Watched, Word24, WriteFault};
+use camac_report::{Line, Refusal, write_end, write_refusal};
+use camac_word::{GlBit, Watched, Word24, WriteFault};
 use std::io::Write;
 
 /// An event that a service left: its number, its bit and its usage.
 pub type Left = (u32, GlBit, Usage);
 
-/// Writes what an answer did: the lines of its item and of the crates that were let in again after it, and then the record of the event
-/// that a service left.
+/// Writes what an answer did: its lines, and then the record of the event that a service left.
 pub fn tell<W: Write, E: Write>(
-    checked: &Checked,
-    item: &Item,
-    unlocks: &[CrateNo],
+    lines: &Line,
     event: &Option<Left>,
     words: &[Word24],
     out: &mut Watched<W>,
     events: &mut Watched<E>,
 ) -> Result<(), WriteFault>
-    requires few { length unlocks.now ≤ 7 }
     requires words { length words.now ≤ 4096 }
     requires usage { IfSome event.now (λ e. e.2.missed ≤ e.2.cycles) }
     ensures sends { SendsBy (outputs (W.contents (inner_of out.old)) (E.contents (inner_of events.old))) (outputs (W.contents (inner_of out.new)) (E.contents (inner_of events.new))) result
-        (to_listing (item_text checked.now.script (piece_of item.now) ++ unlock_texts unlocks.now) ++ to_events (event_record event.now words.now)) }
+        (to_listing lines.now ++ to_events (event_record event.now words.now)) }
     ensures failed { (has_failed out.new || has_failed events.new) ≡ ((has_failed out.old || has_failed events.old) || is_err result) }
 {
-    write_items(out, checked, item, unlocks)?;
+    out.write_text(lines.as_bytes())?;
     write_event(events, event, words)
 }
 

@@ -1,6 +1,6 @@
 // What an answer does: the cycle or the lock that it is for.
 
-ghost use Rattle.std.specs.Prelude.{◌≡◌, ◌+◌, ◌*◌, ◌-◌, ◌<◌, ◌≤◌, [], List, length, true, false, None, Some, IsSome, IfOk, IfErr, OnErr, OnSome, slice_set, ◌^◌, ◌%◌};
+ghost use Rattle.std.specs.Prelude.{◌≡◌, ◌+◌, ◌*◌, ◌-◌, ◌<◌, ◌≤◌, [], List, length, true, false, None, Some, IsSome, IfOk, IfErr, OnErr, IfSome, slice_set, ◌^◌, ◌%◌};
 ghost use Rattle.camac_branch.specs.Branch.{Answer};
 ghost use Rattle.camac_branch.specs.Crates.{branch_of, is_permitted};
 ghost use Rattle.camac_branch.specs.Plan.{crate_waits};
@@ -146,9 +146,9 @@ impl<'a, const V: usize, const DEPTH: usize, const CAP: usize> Machine<'a, V, DE
                 bits,
             } => self.take_read(*command, *variable, *bits, answer),
             Wanting::Lock { crate_no, body } => self.take_lock(*crate_no, body, answer),
-            Wanting::Transfer { command, table, .. } => {
-                let done = self.make(*command, answer)?;
-                self.put_read(*table, &done);
+            Wanting::Transfer(wanted) => {
+                let done = self.make(wanted.command, answer)?;
+                self.put_read(wanted.table, &done);
                 self.steps += 1;
                 Ok(Item::Cycle(done))
             }
@@ -159,7 +159,7 @@ impl<'a, const V: usize, const DEPTH: usize, const CAP: usize> Machine<'a, V, DE
     pub fn go_further(&mut self, wanting: &mut Option<Wanting<'a>>)
         requires room { HasRoom self.old }
         requires quiet { self.old.unlocks.items ≡ [] }
-        requires follows { OnSome wanting.old (CanFollow (reach self.old).variables) }
+        requires follows { IfSome wanting.old (CanFollow (reach self.old).variables) }
         requires fine { FineThen self.old (λ c. after_wanting c wanting.old) }
         ensures { Settles self.old (λ c. after_wanting c wanting.old) wanting.new self.new }
     {
@@ -172,34 +172,32 @@ impl<'a, const V: usize, const DEPTH: usize, const CAP: usize> Machine<'a, V, DE
     // is wanted next.
     fn follow_transfer(&mut self, wanting: &mut Option<Wanting<'a>>) -> bool
         requires room { HasRoom self.old }
-        requires follows { OnSome wanting.old (CanFollow (reach self.old).variables) }
+        requires follows { IfSome wanting.old (CanFollow (reach self.old).variables) }
         requires fine { FineThen self.old (λ c. after_wanting c wanting.old) }
-        ensures cycle { result ≡ true → Proceeds self.old (λ c. after_wanting c wanting.old) wanting.new self.new }
+        ensures cycle { result ≡ true → IsSome wanting.new × Proceeds self.old (λ c. after_wanting c wanting.old) wanting.new self.new }
         ensures tally { result ≡ false → Proceeds self.old (λ c. after_wanting c wanting.old) None self.new }
     {
         match wanting {
-            Some(Wanting::Transfer {
-                command,
-                course,
-                table,
-                tally,
-            }) => {
-                course.take(self.q);
+            Some(Wanting::Transfer(wanted)) => {
+                wanted.course.take(self.q);
                 let transfer = Transfer {
-                    course: *course,
-                    function: command.f,
-                    table: *table,
-                    tally: *tally,
+                    course: wanted.course,
+                    function: wanted.command.f,
+                    table: wanted.table,
+                    tally: wanted.tally,
                 };
                 match self.next_cycle(&transfer) {
-                    Some(next) => {
-                        *command = next;
+                    Some(command) => {
+                        wanted.command = command;
                         true
                     }
                     None => false,
                 }
             }
-            _ => false,
+            Some(Wanting::Cycle(_)) => false,
+            Some(Wanting::Read { .. }) => false,
+            Some(Wanting::Lock { .. }) => false,
+            None => false,
         }
     }
 }

@@ -15,7 +15,7 @@ ghost use Rattle.camac_run_machine.specs.Within.{Refers, StatementFits};
 use crate::command::command;
 use crate::machine::actions::bits_kept;
 use crate::machine::answers::word_of;
-use crate::machine::{Machine, Wanting};
+use crate::machine::{Machine, TransferCycle, Wanting};
 use crate::transfer::{Course, Transfer};
 use camac_branch::{Command, CycleDone};
 use camac_esone::{QRepeat, QStop, Scan};
@@ -177,12 +177,12 @@ impl<'a, const V: usize, const DEPTH: usize, const CAP: usize> Machine<'a, V, DE
         ensures { Proceeds self.old (λ c. transferred c transfer.now) result self.new }
     {
         match self.next_cycle(transfer) {
-            Some(command) => Some(Wanting::Transfer {
+            Some(command) => Some(Wanting::Transfer(TransferCycle {
                 command,
                 course: transfer.course,
                 table: transfer.table,
                 tally: transfer.tally,
-            }),
+            })),
             None => None,
         }
     }

@@ -32,7 +32,7 @@ returns-in-Some-go_on g c =
     let v = c.loop-frame.invariant in
     let e = c.in-Some-go_on.ensures in
     let new = c.go_on.new.self in
-    let w = c.in-Some-go_on.wanting in
+    let w = c.in-Some-go_on.next in
     record {
       room = e.room;
       checked = e.checked ∙ v.checked;

@@ -18,8 +18,8 @@ use Rattle.camac_run_machine.proofs.Sizes.{machine_fits}
 use Rattle.camac_run_machine.proofs.Told.{told_along, numbered, quiet, sound_after, serve_fine, none_wanted, none_mapped, some_mapped, few_events, below_along}
 use Rattle.camac_run_machine.proofs.runner.Runner.demand.Goals as goal
 
-pub serve-next-requires : goal.serve-next-requires
-serve-next-requires g c =
+pub serve-requires : goal.serve-requires
+serve-requires g c =
     let inv = c.self.invariant in
     let wanting : c.self.inside.wanting ≡ None = none_wanted want_of c.self.inside.wanting (ap (λ h. h.wanting) c.self.view_is ∙ c.requires.idle) in
     let idle = rw wanting at inv.idle in
@@ -69,8 +69,8 @@ event-event-requires g c =
     let k = r.machine.checked.now in
     let i = c.in-Some.called.number in
     let p = place k.script.services i c.in-Some.ensures.known in
-    let s = c.serve-next.ensures p.0 p.1 in
-    (machine_fits _ c.requires-raw.1.1.1.0, below_along c.serve-next.new.self r.machine.checked i s.checked s.service c.in-Some.ensures.known)
+    let s = c.serve.ensures p.0 p.1 in
+    (machine_fits _ c.requires-raw.1.1.1.0, below_along c.serve.new.self r.machine.checked i s.checked s.service c.in-Some.ensures.known)
 
 pub invariant_of-self-in-Some : goal.invariant_of-self-in-Some
 invariant_of-self-in-Some g c =
@@ -79,11 +79,11 @@ invariant_of-self-in-Some g c =
     let k = r.machine.checked.now in
     let i = c.in-Some.called.number in
     let p = place k.script.services i c.in-Some.ensures.known in
-    let s = c.serve-next.ensures p.0 p.1 in
-    let few = few_events c.serve-next.result r.events c.events_after-events.result (none_mapped c.serve-next.result _ _ c.is_over-over.ensures.ended c.events_after-events.ensures.ended) (some_mapped c.serve-next.result _ _ c.is_over-over.ensures.goes_on c.events_after-events.ensures.goes_on) in
-    let new = c.serve-next.new.self in
-    sound_after r.machine new c.take-unlocks.new.self r.wanting c.serve-next.result r.fed r.events c.events_after-events.result i c.take-unlocks.ensures.after inv s.room s.checked s.service c.in-Some.ensures.known s.wants s.over
-    (serve_fine r.machine c.serve-next.new.self i p.0 c.serve-next.result inv.checked p.1 s)
+    let s = c.serve.ensures p.0 p.1 in
+    let few = few_events c.serve.new.wanting r.events c.events_after-events.result (none_mapped c.serve.new.wanting _ _ c.is_over-over.ensures.ended c.events_after-events.ensures.ended) (some_mapped c.serve.new.wanting _ _ c.is_over-over.ensures.goes_on c.events_after-events.ensures.goes_on) in
+    let new = c.serve.new.self in
+    sound_after r.machine new c.take-unlocks.new.self r.wanting c.serve.new.wanting r.fed r.events c.events_after-events.result i c.take-unlocks.ensures.after inv s.room s.checked s.service c.in-Some.ensures.known s.wants s.over
+    (serve_fine r.machine c.serve.new.self i p.0 c.serve.new.wanting inv.checked p.1 s)
     (let e = inv.events in omega (arith, few, e))
 
 pub returns-in-Some : goal.returns-in-Some
@@ -94,11 +94,11 @@ returns-in-Some g c =
     let b = branch_of r.machine.branch in
     let i = c.in-Some.called.number in
     let bit = c.in-Some.called.gl in
-    let new = c.serve-next.new.self in
-    let next' = c.serve-next.result in
+    let new = c.serve.new.self in
+    let next' = c.serve.new.wanting in
     let n' = c.events_after-events.result in
     let p = place k.script.services i c.in-Some.ensures.known in
-    let s = c.serve-next.ensures p.0 p.1 in
+    let s = c.serve.ensures p.0 p.1 in
     let v : Chosen = record { number = i; bit = bit; service = p.0 } in
     let wanting : r.wanting ≡ None = none_wanted want_of r.wanting (ap (λ h. h.wanting) c.self.view_is ∙ c.requires.idle) in
     let first : r.overrun ≡ None = ap (λ h. h.overrun) c.self.view_is ∙ c.requires.first in

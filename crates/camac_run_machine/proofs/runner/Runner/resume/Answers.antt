@@ -14,38 +14,46 @@ use Rattle.camac_run_machine.proofs.Sizes.{machine_fits}
 use Rattle.camac_run_machine.proofs.Told.{told_along, numbered, quiet, sound_after, take_fine, settle_fine, none_mapped, some_mapped, few_events, below_along}
 use Rattle.camac_run_machine.proofs.runner.Runner.resume.Goals as goal
 
-pub take-requires : goal.take-requires
-take-requires g c =
-    let wanting : c.self.inside.wanting ≡ Some c.in-Some.wanting = sym c.take-waited.ensures.value ∙ c.in-Some.is in
+pub take-taken-requires : goal.take-taken-requires
+take-taken-requires g c =
+    let wanting : c.self.inside.wanting ≡ Some c.in-Some.wanting = c.in-Some.is in
     let inv = c.self.invariant in
     (machine_fits _ c.requires-raw.1.1.1.0, (inv.room, (inv.quiet, (rw wanting at inv.wants, rw wanting at inv.fine))))
 
-pub go_further-next-requires : goal.go_further-next-requires
-go_further-next-requires g c =
-    let wanting : c.self.inside.wanting ≡ Some c.in-Some.wanting = sym c.take-waited.ensures.value ∙ c.in-Some.is in
+pub go_further-requires : goal.go_further-requires
+go_further-requires g c =
+    let wanting : c.self.inside.wanting ≡ Some c.in-Some.wanting = c.in-Some.is in
     let inv = c.self.invariant in
-    let t = c.in-Ok.ensures.took in
-    (machine_fits _ c.requires-raw.1.1.1.0, (t.room, (ap (λ (v : ArrayVec ℕ). v.items) t.unlocks ∙ inv.quiet, (t.can_follow, take_fine c.self.inside.machine c.take.new.self c.in-Some.wanting c.args.answer c.in-Ok.item (rw wanting at inv.fine) t))))
+    let t = c.in-Ok.ensures.took in (
+      machine_fits _ c.requires-raw.1.1.1.0,
+      (
+        t.room,
+        (
+          ap (λ (v : ArrayVec ℕ). v.items) t.unlocks ∙ inv.quiet,
+          rw wanting (t.can_follow, take_fine c.self.inside.machine c.take-taken.new.self c.in-Some.wanting c.args.answer c.in-Ok.item (rw wanting at inv.fine) t),
+        ),
+      ),
+    )
 
 pub event-event-requires : goal.event-event-requires
 event-event-requires g c =
-    let wanting : c.self.inside.wanting ≡ Some c.in-Some.wanting = sym c.take-waited.ensures.value ∙ c.in-Some.is in
+    let wanting : c.self.inside.wanting ≡ Some c.in-Some.wanting = c.in-Some.is in
     let inv = c.self.invariant in
     let r = c.self.inside in
     let t = c.in-Ok.ensures.took in
-    let s = c.go_further-next.ensures in
-    (machine_fits _ c.requires-raw.1.1.1.0, below_along c.go_further-next.new.self r.machine.checked r.machine.service (s.checked ∙ t.checked) (s.service ∙ t.service) (rw wanting at inv.service))
+    let s = rw wanting at c.go_further.ensures in
+    (machine_fits _ c.requires-raw.1.1.1.0, below_along c.go_further.new.self r.machine.checked r.machine.service (s.checked ∙ t.checked) (s.service ∙ t.service) (rw wanting at inv.service))
 
 pub invariant_of-self : goal.invariant_of-self
 invariant_of-self g c =
-    let wanting : c.self.inside.wanting ≡ Some c.in-Some.wanting = sym c.take-waited.ensures.value ∙ c.in-Some.is in
+    let wanting : c.self.inside.wanting ≡ Some c.in-Some.wanting = c.in-Some.is in
     let inv = c.self.invariant in
     let r = c.self.inside in
-    let mid = c.take.new.self in
-    let new = c.go_further-next.new.self in
-    let next' = c.go_further-next.result in
+    let mid = c.take-taken.new.self in
+    let new = c.go_further.new.self in
+    let next' = c.go_further.new.wanting in
     let t = c.in-Ok.ensures.took in
-    let s = c.go_further-next.ensures in
+    let s = rw wanting at c.go_further.ensures in
     let few = few_events next' r.events c.events_after-events.result (none_mapped next' _ _ c.is_over-over.ensures.ended c.events_after-events.ensures.ended) (some_mapped next' _ _ c.is_over-over.ensures.goes_on c.events_after-events.ensures.goes_on) in
     let fine = take_fine r.machine mid c.in-Some.wanting c.args.answer c.in-Ok.item (rw wanting at inv.fine) t in
     sound_after r.machine new c.take-unlocks.new.self r.wanting next' r.fed r.events c.events_after-events.result r.machine.service c.take-unlocks.ensures.after inv s.room (s.checked ∙ t.checked) (s.service ∙ t.service) (rw wanting at inv.service) s.wants s.over
@@ -53,20 +61,20 @@ invariant_of-self g c =
 
 pub returns-in-Ok : goal.returns-in-Ok
 returns-in-Ok g c =
-    let wanting : c.self.inside.wanting ≡ Some c.in-Some.wanting = sym c.take-waited.ensures.value ∙ c.in-Some.is in
+    let wanting : c.self.inside.wanting ≡ Some c.in-Some.wanting = c.in-Some.is in
     let r = c.self.inside in
     let k = r.machine.checked.now in
     let ctx = context_in k in
     let vs = k.script.services in
     let bit = bit_at k r.machine.service in
-    let mid = c.take.new.self in
-    let new = c.go_further-next.new.self in
-    let next' = c.go_further-next.result in
+    let mid = c.take-taken.new.self in
+    let new = c.go_further.new.self in
+    let next' = c.go_further.new.wanting in
     let n' = c.events_after-events.result in
     let d = c.in-Ok.item in
     let first : r.overrun ≡ None = ap (λ h. h.overrun) c.self.view_is ∙ c.requires.first in
     let t = c.in-Ok.ensures.took in
-    let s = c.go_further-next.ensures in
+    let s = rw wanting at c.go_further.ensures in
     let ended = none_mapped next' _ _ c.is_over-over.ensures.ended (λ u. c.if_over.ensures.ended u ∙ ap (λ x. Some x) c.event-event.ensures) in
     let silent = some_mapped next' _ _ c.is_over-over.ensures.goes_on c.if_over.ensures.goes_on in
     let counted = none_mapped next' _ _ c.is_over-over.ensures.ended c.events_after-events.ensures.ended in
@@ -91,7 +99,7 @@ returns-in-Ok g c =
 
 pub returns-in-Err : goal.returns-in-Err
 returns-in-Err g c =
-    let wanting : c.self.inside.wanting ≡ Some c.in-Some.wanting = sym c.take-waited.ensures.value ∙ c.in-Some.is in
+    let wanting : c.self.inside.wanting ≡ Some c.in-Some.wanting = c.in-Some.is in
     let r = c.self.inside in
     let k = r.machine.checked.now in
     let first : r.overrun ≡ None = ap (λ h. h.overrun) c.self.view_is ∙ c.requires.first in
@@ -101,6 +109,5 @@ returns-in-Err g c =
           ∙ served_stops (context_in k) k.script.services (bit_at k r.machine.service) _ _));
       again = rw first tt;
       same =
-          ap (λ (m : Machine g.row.V g.row.DEPTH g.row.CAP). runner_state m (Some c.in-Some.wanting) r.fed r.events r.has_event (Some c.in-Err.overrun)) c.in-Err.ensures.same
-          ∙ ap (λ o. runner_state r.machine o r.fed r.events r.has_event (Some c.in-Err.overrun)) (sym wanting);
+          ap (λ (m : Machine g.row.V g.row.DEPTH g.row.CAP). runner_state m r.wanting r.fed r.events r.has_event (Some c.in-Err.overrun)) c.in-Err.ensures.same;
     })

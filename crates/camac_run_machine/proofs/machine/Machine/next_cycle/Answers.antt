@@ -3,7 +3,7 @@ use Rattle.camac_branch.specs.Allowed.{AllowsCommands}
 use Rattle.camac_branch.specs.Plan.{Layout}
 use Rattle.camac_run_machine.specs.MachineState.{with_value}
 use Rattle.camac_run_machine.proofs.Courses.{next_at, next_data, proceeds_on, proceeds_over}
-use Rattle.camac_run_machine.proofs.machine.Machine.proceed.Goals as goal
+use Rattle.camac_run_machine.proofs.machine.Machine.next_cycle.Goals as goal
 
 pub next-requires-clause-at : goal.next-requires-clause-at
 next-requires-clause-at g c =
