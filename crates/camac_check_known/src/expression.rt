@@ -34,11 +34,11 @@ pub fn range_of(line: u32, e: &Expr, ranges: &[Range]) -> Result<Range, CheckFau
             let s = range_of(line, &operands.right, ranges)?;
             given(r.mul(s), CheckRule::ValueOutOfRange, line)
         }
-        Expr::Div(a, d) => {
+        Expr::Div(d, a) => {
             let r = range_of(line, a, ranges)?;
             given(r.div(d.get()), CheckRule::ValueOutOfRange, line)
         }
-        Expr::Rem(a, d) => {
+        Expr::Rem(d, a) => {
             let r = range_of(line, a, ranges)?;
             given(r.rem(d.get()), CheckRule::ValueOutOfRange, line)
         }

@@ -25,8 +25,8 @@ pub fn out_of_range(e: &Expr, ranges: &[Range]) -> Option<CheckCase> {
     match e {
         Expr::Num(_) | Expr::Var(_) => None,
         Expr::Group(inner) => out_of_range(inner, ranges),
-        Expr::Div(inner, _) => out_of_range(inner, ranges),
-        Expr::Rem(inner, _) => out_of_range(inner, ranges),
+        Expr::Div(_, inner) => out_of_range(inner, ranges),
+        Expr::Rem(_, inner) => out_of_range(inner, ranges),
         Expr::Add(operands) => out_of_range_at(operands, "+", ranges),
         Expr::Sub(operands) => out_of_range_at(operands, "-", ranges),
         Expr::Mul(operands) => out_of_range_at(operands, "*", ranges),

@@ -209,6 +209,6 @@ fn expression_depth(e: &Expr) -> u32
         Expr::Add(operands) | Expr::Sub(operands) | Expr::Mul(operands) => {
             expression_depth(&operands.left).max(expression_depth(&operands.right))
         }
-        Expr::Div(e, _) | Expr::Rem(e, _) => expression_depth(e),
+        Expr::Div(_, e) | Expr::Rem(_, e) => expression_depth(e),
     }
 }

@@ -65,9 +65,9 @@ pub enum Expr {
     /// `*`
     Mul(Box<Operands>),
     /// `/` by a literal, rounded down.
-    Div(Box<Expr>, Divisor),
+    Div(Divisor, Box<Expr>),
     /// `%` by a literal.
-    Rem(Box<Expr>, Divisor),
+    Rem(Divisor, Box<Expr>),
 }
 
 /// What an operator stands between, in one piece of memory.

@@ -27,7 +27,7 @@ pub fn value_of(e: &Expr, variables: &[u32]) -> u32
         Expr::Mul(operands) => {
             value_of(&operands.left, variables) * value_of(&operands.right, variables)
         }
-        Expr::Div(e, d) => value_of(e, variables) / d.get(),
-        Expr::Rem(e, d) => value_of(e, variables) % d.get(),
+        Expr::Div(d, e) => value_of(e, variables) / d.get(),
+        Expr::Rem(d, e) => value_of(e, variables) % d.get(),
     }
 }

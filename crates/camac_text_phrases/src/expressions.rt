@@ -103,13 +103,13 @@ fn product_turn(parser: &mut Parser<'_>, room: u32, left: Counted) -> Result<Cou
         Some(TokenKind::Sign(Sign::Over)) => {
             let operators = operator(parser, left.operators)?;
             let divisor = divisor(parser)?;
-            let value = Expr::Div(Box::new(parser.alloc, left.value)?, divisor);
+            let value = Expr::Div(divisor, Box::new(parser.alloc, left.value)?);
             Ok(Counted { value, operators })
         }
         Some(TokenKind::Sign(Sign::Modulo)) => {
             let operators = operator(parser, left.operators)?;
             let divisor = divisor(parser)?;
-            let value = Expr::Rem(Box::new(parser.alloc, left.value)?, divisor);
+            let value = Expr::Rem(divisor, Box::new(parser.alloc, left.value)?);
             Ok(Counted { value, operators })
         }
         _ => {
