@@ -148,9 +148,9 @@ pub fn sole_variable(e: &Expr) -> Option<usize>
         Expr::Var(x) => Some(*x),
         Expr::Group(e) => sole_variable(e),
         Expr::Num(_) => None,
-        Expr::Add(_, _) => None,
-        Expr::Sub(_, _) => None,
-        Expr::Mul(_, _) => None,
+        Expr::Add(_) => None,
+        Expr::Sub(_) => None,
+        Expr::Mul(_) => None,
         Expr::Div(_, _) => None,
         Expr::Rem(_, _) => None,
     }

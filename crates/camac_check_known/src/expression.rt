@@ -19,26 +19,26 @@ pub fn range_of(line: u32, e: &Expr, ranges: &[Range]) -> Result<Range, CheckFau
         Expr::Num(n) => Ok(Range::only(*n)),
         Expr::Var(x) => Ok(range_in(ranges, *x)),
         Expr::Group(e) => range_of(line, e, ranges),
-        Expr::Add(a, b) => {
-            let r = range_of(line, a, ranges)?;
-            let s = range_of(line, b, ranges)?;
+        Expr::Add(operands) => {
+            let r = range_of(line, &operands.left, ranges)?;
+            let s = range_of(line, &operands.right, ranges)?;
             given(r.add(s), CheckRule::ValueOutOfRange, line)
         }
-        Expr::Sub(a, b) => {
-            let r = range_of(line, a, ranges)?;
-            let s = range_of(line, b, ranges)?;
+        Expr::Sub(operands) => {
+            let r = range_of(line, &operands.left, ranges)?;
+            let s = range_of(line, &operands.right, ranges)?;
             given(r.sub(s), CheckRule::ValueOutOfRange, line)
         }
-        Expr::Mul(a, b) => {
-            let r = range_of(line, a, ranges)?;
-            let s = range_of(line, b, ranges)?;
+        Expr::Mul(operands) => {
+            let r = range_of(line, &operands.left, ranges)?;
+            let s = range_of(line, &operands.right, ranges)?;
             given(r.mul(s), CheckRule::ValueOutOfRange, line)
         }
-        Expr::Div(a, d) => {
+        Expr::Div(d, a) => {
             let r = range_of(line, a, ranges)?;
             given(r.div(d.get()), CheckRule::ValueOutOfRange, line)
         }
-        Expr::Rem(a, d) => {
+        Expr::Rem(d, a) => {
             let r = range_of(line, a, ranges)?;
             given(r.rem(d.get()), CheckRule::ValueOutOfRange, line)
         }

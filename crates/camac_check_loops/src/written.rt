@@ -109,16 +109,16 @@ fn fall_by(measure: usize, value: &Expr) -> Option<u32>
     ensures positive { IfSome result (λ k. 1 ≤ k) }
 {
     match value {
-        Expr::Sub(a, b) => {
-            if is_variable(measure, a) {
-                positive(b)
+        Expr::Sub(operands) => {
+            if is_variable(measure, &operands.left) {
+                positive(&operands.right)
             } else {
                 None
             }
         }
         Expr::Group(e) => fall_by(measure, e),
-        Expr::Num(_) | Expr::Var(_) | Expr::Add(_, _) => None,
-        Expr::Mul(_, _) | Expr::Div(_, _) | Expr::Rem(_, _) => None,
+        Expr::Num(_) | Expr::Var(_) | Expr::Add(_) => None,
+        Expr::Mul(_) | Expr::Div(_, _) | Expr::Rem(_, _) => None,
     }
 }
 
@@ -139,7 +139,7 @@ fn positive(e: &Expr) -> Option<u32>
     match e {
         Expr::Num(n) => { if *n == 0 { None } else { Some(*n) } }
         Expr::Group(e) => positive(e),
-        Expr::Var(_) | Expr::Add(_, _) | Expr::Sub(_, _) => None,
-        Expr::Mul(_, _) | Expr::Div(_, _) | Expr::Rem(_, _) => None,
+        Expr::Var(_) | Expr::Add(_) | Expr::Sub(_) => None,
+        Expr::Mul(_) | Expr::Div(_, _) | Expr::Rem(_, _) => None,
     }
 }

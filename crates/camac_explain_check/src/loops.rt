@@ -58,7 +58,7 @@ fn fall_in(body: &[Stmt], measure: usize) -> Option<u32> {
 fn number_taken(e: &Expr) -> Option<u32> {
     match e {
         Expr::Group(inner) => number_taken(inner),
-        Expr::Sub(_, taken) => number_in(taken),
+        Expr::Sub(operands) => number_in(&operands.right),
         _ => None,
     }
 }

@@ -2,7 +2,7 @@
 
 use crate::case::CheckCase;
 use camac_check_known::{CheckFault, range_of};
-use camac_lang::{Cond, Expr, Part, Test};
+use camac_lang::{Cond, Expr, Operands, Part, Test};
 use camac_range::Range;
 
 /// The numbers of an expression, where none can leave its range.
@@ -20,45 +20,43 @@ pub fn greatest_of(e: &Expr, ranges: &[Range]) -> Option<u32> {
 }
 
 /// The first operator of an expression whose result may leave the range of numbers.
+#[cycle(expression)]
 pub fn out_of_range(e: &Expr, ranges: &[Range]) -> Option<CheckCase> {
     match e {
         Expr::Num(_) | Expr::Var(_) => None,
         Expr::Group(inner) => out_of_range(inner, ranges),
-        Expr::Div(inner, _) => out_of_range(inner, ranges),
-        Expr::Rem(inner, _) => out_of_range(inner, ranges),
-        Expr::Add(a, b) => match out_of_range(a, ranges) {
-            Some(case) => Some(case),
-            None => match out_of_range(b, ranges) {
-                Some(case) => Some(case),
-                None => operator_case(a, b, "+", ranges),
-            },
-        },
-        Expr::Sub(a, b) => match out_of_range(a, ranges) {
-            Some(case) => Some(case),
-            None => match out_of_range(b, ranges) {
-                Some(case) => Some(case),
-                None => operator_case(a, b, "-", ranges),
-            },
-        },
-        Expr::Mul(a, b) => match out_of_range(a, ranges) {
-            Some(case) => Some(case),
-            None => match out_of_range(b, ranges) {
-                Some(case) => Some(case),
-                None => operator_case(a, b, "*", ranges),
-            },
-        },
+        Expr::Div(_, inner) => out_of_range(inner, ranges),
+        Expr::Rem(_, inner) => out_of_range(inner, ranges),
+        Expr::Add(operands) => out_of_range_at(operands, "+", ranges),
+        Expr::Sub(operands) => out_of_range_at(operands, "-", ranges),
+        Expr::Mul(operands) => out_of_range_at(operands, "*", ranges),
     }
+}
+
+// The same of an operator and its operands.
+#[cycle(expression)]
+fn out_of_range_at(
+    operands: &Operands,
+    operator: &'static str,
+    ranges: &[Range],
+) -> Option<CheckCase> {
+    if let Some(case) = out_of_range(&operands.left, ranges) {
+        return Some(case);
+    }
+    if let Some(case) = out_of_range(&operands.right, ranges) {
+        return Some(case);
+    }
+    operator_case(operands, operator, ranges)
 }
 
 // An operator between these, where its result may leave the range of numbers.
 fn operator_case(
-    a: &Expr,
-    b: &Expr,
+    operands: &Operands,
     operator: &'static str,
     ranges: &[Range],
 ) -> Option<CheckCase> {
-    let left = numbers_of(a, ranges)?;
-    let right = numbers_of(b, ranges)?;
+    let left = numbers_of(&operands.left, ranges)?;
+    let right = numbers_of(&operands.right, ranges)?;
     let result = match operator {
         "+" => left.add(right),
         "-" => left.sub(right),

@@ -206,9 +206,9 @@ fn expression_depth(e: &Expr) -> u32
     match e {
         Expr::Num(_) | Expr::Var(_) => 0,
         Expr::Group(e) => 1 + expression_depth(e),
-        Expr::Add(a, b) | Expr::Sub(a, b) | Expr::Mul(a, b) => {
-            expression_depth(a).max(expression_depth(b))
+        Expr::Add(operands) | Expr::Sub(operands) | Expr::Mul(operands) => {
+            expression_depth(&operands.left).max(expression_depth(&operands.right))
         }
-        Expr::Div(e, _) | Expr::Rem(e, _) => expression_depth(e),
+        Expr::Div(_, e) | Expr::Rem(_, e) => expression_depth(e),
     }
 }

@@ -17,5 +17,5 @@ pub use laws::{limits_hold, procedures_stand, registers_grow, services_stand};
 pub use name::Name;
 pub use room::fits;
 pub use script::{Item, Lam, Parameter, Procedure, Script, Service, Table};
-pub use tree::{Cond, Divisor, Expr, Keep, Move, Part, Stmt, Test};
+pub use tree::{Cond, Divisor, Expr, Keep, Move, Operands, Part, Stmt, Test};
 pub use word::{CrateCall, LamCall, WordSize};

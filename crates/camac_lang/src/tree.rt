@@ -50,6 +50,7 @@ impl Divisor {
 
 /// An expression over numbers from 0 to 4,294,967,295 (own). Operators group to the left, products before sums, and brackets are kept.
 #[derive(Drop)]
+#[cycle(expression)]
 pub enum Expr {
     /// A literal.
     Num(u32),
@@ -58,15 +59,23 @@ pub enum Expr {
     /// In brackets.
     Group(Box<Expr>),
     /// `+`
-    Add(Box<Expr>, Box<Expr>),
+    Add(Box<Operands>),
     /// `-`
-    Sub(Box<Expr>, Box<Expr>),
+    Sub(Box<Operands>),
     /// `*`
-    Mul(Box<Expr>, Box<Expr>),
+    Mul(Box<Operands>),
     /// `/` by a literal, rounded down.
-    Div(Box<Expr>, Divisor),
+    Div(Divisor, Box<Expr>),
     /// `%` by a literal.
-    Rem(Box<Expr>, Divisor),
+    Rem(Divisor, Box<Expr>),
+}
+
+/// What an operator stands between, in one piece of memory.
+#[derive(Drop)]
+#[cycle(expression)]
+pub struct Operands {
+    pub left: Expr,
+    pub right: Expr,
 }
 
 /// What one part of a condition tests.

@@ -18,10 +18,16 @@ pub fn value_of(e: &Expr, variables: &[u32]) -> u32
         Expr::Num(n) => *n,
         Expr::Var(x) => variables[*x],
         Expr::Group(e) => value_of(e, variables),
-        Expr::Add(a, b) => value_of(a, variables) + value_of(b, variables),
-        Expr::Sub(a, b) => value_of(a, variables) - value_of(b, variables),
-        Expr::Mul(a, b) => value_of(a, variables) * value_of(b, variables),
-        Expr::Div(e, d) => value_of(e, variables) / d.get(),
-        Expr::Rem(e, d) => value_of(e, variables) % d.get(),
+        Expr::Add(operands) => {
+            value_of(&operands.left, variables) + value_of(&operands.right, variables)
+        }
+        Expr::Sub(operands) => {
+            value_of(&operands.left, variables) - value_of(&operands.right, variables)
+        }
+        Expr::Mul(operands) => {
+            value_of(&operands.left, variables) * value_of(&operands.right, variables)
+        }
+        Expr::Div(d, e) => value_of(e, variables) / d.get(),
+        Expr::Rem(d, e) => value_of(e, variables) % d.get(),
     }
 }

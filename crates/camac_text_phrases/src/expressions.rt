@@ -7,7 +7,7 @@ ghost use Rattle.camac_text_phrases.specs.Expressions.{operator, divisor, factor
 ghost use Rattle.camac_text_cursor.specs.Parser.{state, Gives};
 ghost use Rattle.camac_text_phrases.specs.Views.{counted_of};
 
-use camac_lang::{Divisor, Expr, limits};
+use camac_lang::{Divisor, Expr, Operands, limits};
 use camac_text_cursor::Parser;
 use camac_text_tokens::{Sign, TextFault, TextRule, TokenKind};
 
@@ -58,11 +58,14 @@ fn sum_turn(parser: &mut Parser<'_>, room: u32, left: Counted) -> Result<Counted
     let so_far = operator(parser, left.operators)?;
     let right = product(parser, room, so_far)?;
     let operators = right.operators;
-    let left = Box::new(parser.alloc, left.value)?;
-    let right = Box::new(parser.alloc, right.value)?;
+    let operands = Operands {
+        left: left.value,
+        right: right.value,
+    };
+    let operands = Box::new(parser.alloc, operands)?;
     let value = match next {
-        Some(TokenKind::Sign(Sign::Minus)) => Expr::Sub(left, right),
-        _ => Expr::Add(left, right),
+        Some(TokenKind::Sign(Sign::Minus)) => Expr::Sub(operands),
+        _ => Expr::Add(operands),
     };
     Ok(Counted { value, operators })
 }
@@ -100,21 +103,24 @@ fn product_turn(parser: &mut Parser<'_>, room: u32, left: Counted) -> Result<Cou
         Some(TokenKind::Sign(Sign::Over)) => {
             let operators = operator(parser, left.operators)?;
             let divisor = divisor(parser)?;
-            let value = Expr::Div(Box::new(parser.alloc, left.value)?, divisor);
+            let value = Expr::Div(divisor, Box::new(parser.alloc, left.value)?);
             Ok(Counted { value, operators })
         }
         Some(TokenKind::Sign(Sign::Modulo)) => {
             let operators = operator(parser, left.operators)?;
             let divisor = divisor(parser)?;
-            let value = Expr::Rem(Box::new(parser.alloc, left.value)?, divisor);
+            let value = Expr::Rem(divisor, Box::new(parser.alloc, left.value)?);
             Ok(Counted { value, operators })
         }
         _ => {
             let so_far = operator(parser, left.operators)?;
             let right = factor(parser, room, so_far)?;
             let operators = right.operators;
-            let left = Box::new(parser.alloc, left.value)?;
-            let value = Expr::Mul(left, Box::new(parser.alloc, right.value)?);
+            let operands = Operands {
+                left: left.value,
+                right: right.value,
+            };
+            let value = Expr::Mul(Box::new(parser.alloc, operands)?);
             Ok(Counted { value, operators })
         }
     }
