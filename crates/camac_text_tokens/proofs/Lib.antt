@@ -1,3 +1,4 @@
+pub mod Spellings
 pub mod Scans
 pub mod Cuts
 pub mod Uncut
