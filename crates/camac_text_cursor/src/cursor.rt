@@ -1,6 +1,6 @@
 // The parser's state, and its steps over single tokens.
 
-ghost use Rattle.std.specs.Prelude.{◌≡◌};
+ghost use Rattle.std.specs.Prelude.{◌≡◌, option_copied};
 ghost use Rattle.camac_text_tokens.specs.Fault.{Fails};
 ghost use Rattle.camac_text_cursor.specs.Reading.{line_of, kind_of, after_first};
 ghost use Rattle.camac_text_cursor.specs.Readers.{begin, is_keyword, is_sign, is_name, expect, expect_sign, name_here, number_here, any_number, branch_number, function_number, sub_address_number};
@@ -50,6 +50,16 @@ impl Parser<'_> {
         }
     }
 
+    // The kind of the next token, where it stands.
+    pub(crate) fn next_kind(&self) -> Option<&TokenKind>
+        ensures { option_copied result ≡ kind_of self.now.rest.now }
+    {
+        match self.rest {
+            [] => None,
+            [next, ..] => Some(&next.kind),
+        }
+    }
+
     /// The line of the next token, or of the text's end.
     pub fn line_here(&self) -> u32
         ensures { result ≡ line_of self.now.rest.now self.now.end_line }
@@ -83,8 +93,8 @@ impl Parser<'_> {
     pub fn next_is(&self, keyword: Keyword) -> bool
         ensures { result ≡ is_keyword keyword (kind_of self.now.rest.now) }
     {
-        match self.peek() {
-            Some(TokenKind::Keyword(next)) => next == keyword,
+        match self.next_kind() {
+            Some(TokenKind::Keyword(next)) => *next == keyword,
             _ => false,
         }
     }
@@ -93,8 +103,8 @@ impl Parser<'_> {
     pub fn next_is_sign(&self, sign: Sign) -> bool
         ensures { result ≡ is_sign sign (kind_of self.now.rest.now) }
     {
-        match self.peek() {
-            Some(TokenKind::Sign(next)) => next == sign,
+        match self.next_kind() {
+            Some(TokenKind::Sign(next)) => *next == sign,
             _ => false,
         }
     }
@@ -103,7 +113,7 @@ impl Parser<'_> {
     pub fn next_is_name(&self) -> bool
         ensures { result ≡ is_name (kind_of self.now.rest.now) }
     {
-        matches!(self.peek(), Some(TokenKind::Name(_)))
+        matches!(self.next_kind(), Some(TokenKind::Name(_)))
     }
 
     /// Takes this keyword, else answers S2 at what stands there.
@@ -135,8 +145,8 @@ impl Parser<'_> {
     pub fn name_here(&mut self) -> Result<Name, TextFault>
         ensures { Gives (λ n. n) result self.new (name_here (state self.old)) }
     {
-        match self.peek() {
-            Some(TokenKind::Name(name)) => Ok(name),
+        match self.next_kind() {
+            Some(TokenKind::Name(name)) => Ok(name.duplicate()),
             _ => Err(self.fault(TextRule::UnexpectedToken)),
         }
     }
@@ -146,8 +156,8 @@ impl Parser<'_> {
     pub fn number_here(&mut self) -> Result<u32, TextFault>
         ensures { Gives (λ n. n) result self.new (number_here (state self.old)) }
     {
-        match self.peek() {
-            Some(TokenKind::Number(number)) => Ok(number),
+        match self.next_kind() {
+            Some(TokenKind::Number(number)) => Ok(*number),
             _ => Err(self.fault(TextRule::UnexpectedToken)),
         }
     }
