@@ -4,10 +4,10 @@ ghost use Rattle.std.specs.Prelude.{◌≡◌, option_copied};
 ghost use Rattle.camac_text_tokens.specs.Fault.{Fails};
 ghost use Rattle.camac_text_cursor.specs.Reading.{line_of, kind_of, after_first};
 ghost use Rattle.camac_text_cursor.specs.Readers.{begin, is_keyword, is_sign, is_name, expect, expect_sign, name_here, number_here, any_number, branch_number, function_number, sub_address_number};
-ghost use Rattle.camac_text_cursor.specs.Parser.{state, Gives};
+ghost use Rattle.camac_text_cursor.specs.Parser.{state, unread, Gives};
 
 use camac_lang::{Callable, Item, Lam, Name, Procedure, Service, Table, limits};
-use camac_text_tokens::{Keyword, Sign, TextFault, TextRule, Token, TokenKind};
+use camac_text_tokens::{Keyword, Sign, TextFault, TextRule, TokenKind, TokensLeft};
 use camac_word::{Function, SubAddress};
 use std::alloc::Global;
 
@@ -15,9 +15,9 @@ use std::alloc::Global;
 #[derive(Drop)]
 pub struct Parser<'a> {
     pub alloc: Global,
-    pub rest: &'a [Token],
-    /// The line of the text's end.
-    pub end_line: u32,
+    rest: TokensLeft<'a>,
+    // The line of the text's end.
+    end_line: u32,
     pub order: Vec<Item>,
     pub tables: Vec<Table>,
     pub lams: Vec<Lam>,
@@ -39,40 +39,65 @@ pub struct Parser<'a> {
     pub statements: u32,
 }
 
+impl<'a> Parser<'a> {
+    /// A parser of these tokens, with no declarations yet. The text ends on this line, from 1.
+    pub fn new(alloc: Global, rest: TokensLeft<'a>, end_line: u32) -> Self
+        ensures { state result ≡ unread rest.entry end_line }
+    {
+        Parser {
+            alloc,
+            rest,
+            end_line,
+            order: Vec::new(alloc),
+            tables: Vec::new(alloc),
+            lams: Vec::new(alloc),
+            variables: Vec::new(alloc),
+            procedures: Vec::new(alloc),
+            services: Vec::new(alloc),
+            callables: Vec::new(alloc),
+            in_procedure: false,
+            variable_count: 0,
+            declared: Vec::new(alloc),
+            registers: Vec::new(alloc),
+            statements: 0,
+        }
+    }
+}
+
 impl Parser<'_> {
     /// The kind of the next token.
     pub fn peek(&self) -> Option<TokenKind>
-        ensures { result ≡ kind_of self.now.rest.now }
+        ensures { result ≡ kind_of (state self.now).rest }
     {
-        match self.rest {
-            [] => None,
-            [token, ..] => Some(token.kind.duplicate()),
+        match self.rest.first() {
+            Some(token) => Some(token.kind.duplicate()),
+            None => None,
         }
     }
 
     // The kind of the next token, where it stands.
     pub(crate) fn next_kind(&self) -> Option<&TokenKind>
-        ensures { option_copied result ≡ kind_of self.now.rest.now }
+        ensures { option_copied result ≡ kind_of (state self.now).rest }
     {
-        match self.rest {
-            [] => None,
-            [next, ..] => Some(&next.kind),
+        match self.rest.first() {
+            Some(next) => Some(&next.kind),
+            None => None,
         }
     }
 
     /// The line of the next token, or of the text's end.
     pub fn line_here(&self) -> u32
-        ensures { result ≡ line_of self.now.rest.now self.now.end_line }
+        ensures { result ≡ line_of (state self.now).rest self.now.end_line }
     {
-        match self.rest {
-            [] => self.end_line,
-            [token, ..] => token.line,
+        match self.rest.first() {
+            Some(token) => token.line,
+            None => self.end_line,
         }
     }
 
     /// A fault at the next token.
     pub fn fault(&self, rule: TextRule) -> TextFault
-        ensures { result ≡ TextFault.Broken rule (line_of self.now.rest.now self.now.end_line) }
+        ensures { result ≡ TextFault.Broken rule (line_of (state self.now).rest self.now.end_line) }
     {
         TextFault::Broken {
             rule,
@@ -82,16 +107,14 @@ impl Parser<'_> {
 
     /// Takes the next token, if there is one.
     pub fn advance(&mut self)
-        ensures { state self.new ≡ record (state self.old) { rest = after_first self.old.rest.now } }
+        ensures { state self.new ≡ record (state self.old) { rest = after_first (state self.old).rest } }
     {
-        if let [_, rest @ ..] = self.rest {
-            self.rest = rest;
-        }
+        self.rest.advance();
     }
 
     /// Whether this keyword stands next.
     pub fn next_is(&self, keyword: Keyword) -> bool
-        ensures { result ≡ is_keyword keyword (kind_of self.now.rest.now) }
+        ensures { result ≡ is_keyword keyword (kind_of (state self.now).rest) }
     {
         match self.next_kind() {
             Some(TokenKind::Keyword(next)) => *next == keyword,
@@ -101,7 +124,7 @@ impl Parser<'_> {
 
     /// Whether this sign stands next.
     pub fn next_is_sign(&self, sign: Sign) -> bool
-        ensures { result ≡ is_sign sign (kind_of self.now.rest.now) }
+        ensures { result ≡ is_sign sign (kind_of (state self.now).rest) }
     {
         match self.next_kind() {
             Some(TokenKind::Sign(next)) => *next == sign,
@@ -111,7 +134,7 @@ impl Parser<'_> {
 
     /// Whether a name stands next.
     pub fn next_is_name(&self) -> bool
-        ensures { result ≡ is_name (kind_of self.now.rest.now) }
+        ensures { result ≡ is_name (kind_of (state self.now).rest) }
     {
         matches!(self.next_kind(), Some(TokenKind::Name(_)))
     }
