@@ -23,7 +23,7 @@ loop-parser-smaller c =
 pub loop-parser-preserved : goal.loop-parser-preserved
 loop-parser-preserved c =
     let d = new_variable_ok (state c.loop-parser.parser) (tt, state c.new_variable.new.self) c.in_ok-new_variable.ensures in
-    let less : length c.new_variable.new.self.rest.now < length c.loop-parser.parser.rest.now = one_variable_less (state c.loop-parser.parser) d.0 (state c.new_variable.new.self) d.1 in (
+    let less : length c.new_variable.new.self.rest < length c.loop-parser.parser.rest = one_variable_less (state c.loop-parser.parser) d.0 (state c.new_variable.new.self) d.1 in (
       goes is_name one_more_variable variables_progress c.loop-parser.count (state c.loop-parser.parser) (while_next is_name one_more_variable 1 (state c.args.parser.now)) (c.loop-parser.count + 1) (state c.new_variable.new.self) (sym c.next_is_name.ensures ∙ c.loop-parser-test.true)
           (ap (λ (r : Result (Unit {0} × State) Fault). then_read r (λ _. give (c.loop-parser.count + 1))) c.in_ok-new_variable.ensures) c.loop-parser.invariant.0,
       omega (arith, c.loop-parser.invariant.1),
