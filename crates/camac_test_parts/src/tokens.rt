@@ -1,6 +1,6 @@
 // A text that is cut into tokens.
 
-use camac_text::tokens;
+use camac_text::{TokensLeft, tokens};
 use std::test::Fail;
 
 #[test]
@@ -9,5 +9,24 @@ fn tokens_of_a_text(rt: HostRuntime) -> Result<(), Fail> {
         .ok()
         .ok_or("the text has tokens")?;
     assert_eq!(rt; made.len(), 5);
+    Ok(())
+}
+
+#[test]
+fn tokens_one_by_one(rt: HostRuntime) -> Result<(), Fail> {
+    let Ok(mut left) = TokensLeft::new(b"# a\nv <= 1 # b\n\t..x ") else {
+        return Err(Fail::from("the text has tokens"));
+    };
+    for line in [2, 2, 2, 3, 3] {
+        let found = match left.first() {
+            Some(token) => token.line,
+            None => 0,
+        };
+        assert_eq!(rt; found, line);
+        left.advance();
+    }
+    assert!(rt; left.first().is_none());
+    left.advance();
+    assert!(rt; left.first().is_none());
     Ok(())
 }

@@ -1,30 +1,16 @@
 -- From the tokens of a text to its tree.
-use Rattle.std.specs.Prelude.{ℕ, false, List, [], Result, Ok, Err}
+use Rattle.std.specs.Prelude.{ℕ, List, Result, Ok, Err}
 use Rattle.camac_lang.specs.Tree.{Script}
 use Rattle.camac_text_tokens.specs.declared.token.Token.{Token}
 use Rattle.camac_text_tokens.specs.Fault.{Fault}
 use Rattle.camac_text_tokens.specs.Scanning.{tokens_of, last_line}
 use Rattle.camac_text_cursor.specs.Reading.{State}
+use Rattle.camac_text_cursor.specs.Parser.{unread}
 use Rattle.camac_text.specs.Declarations.{declarations_at}
 
 -- the state in which a script begins
 abbrev pub start : List Token → ℕ → State
-start tokens end_line = record {
-  rest = tokens;
-  end_line = end_line;
-  order = [];
-  tables = [];
-  lams = [];
-  variables = [];
-  procedures = [];
-  services = [];
-  callables = [];
-  in_procedure = false;
-  variable_count = 0;
-  declared = [];
-  registers = [];
-  statements = 0;
-}
+start tokens end_line = unread tokens end_line
 
 -- the tree of the declarations so far
 abbrev pub tree_so_far : State → Script

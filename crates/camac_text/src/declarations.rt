@@ -26,7 +26,7 @@ pub fn declarations(parser: &mut Parser<'_>) -> Result<(), TextFault>
 }
 
 fn has_token(parser: &Parser<'_>) -> bool
-    ensures { result ≡ is_token (kind_of parser.now.rest.now) }
+    ensures { result ≡ is_token (kind_of (state parser.now).rest) }
 {
     parser.peek().is_some()
 }

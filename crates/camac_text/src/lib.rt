@@ -6,5 +6,7 @@ mod procedures;
 mod reading;
 mod tables;
 
-pub use camac_text_tokens::{Keyword, Sign, TextFault, TextRule, Token, TokenKind, tokens};
+pub use camac_text_tokens::{
+    Keyword, Sign, TextFault, TextRule, Token, TokenKind, TokensLeft, tokens,
+};
 pub use reading::parse;

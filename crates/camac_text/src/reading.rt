@@ -5,12 +5,12 @@ ghost use Rattle.camac_lang.specs.Scope.{is_well_formed};
 ghost use Rattle.camac_text_tokens.specs.Fault.{Answers};
 ghost use Rattle.camac_text.specs.Places.{HasFault, FaultIs};
 ghost use Rattle.camac_text_cursor.specs.Parser.{state};
-ghost use Rattle.camac_text.specs.Parser.{start, tree_so_far, script_of};
+ghost use Rattle.camac_text.specs.Parser.{tree_so_far, script_of};
 
 use crate::declarations::declarations;
 use camac_lang::Script;
 use camac_text_cursor::Parser;
-use camac_text_tokens::{TextFault, Token, last_line, tokens};
+use camac_text_tokens::{TextFault, TokensLeft, last_line};
 use std::alloc::Global;
 
 /// The script that a text spells.
@@ -32,32 +32,10 @@ pub fn parse(alloc: Global, text: &[u8]) -> Result<Script, TextFault>
 fn read(alloc: Global, text: &[u8]) -> Result<Script, TextFault>
     ensures { Answers result (script_of text.now) }
 {
-    let tokens = tokens(alloc, text)?;
-    let mut parser = parser_of(alloc, &tokens, last_line(text));
+    let tokens = TokensLeft::new(text)?;
+    let mut parser = Parser::new(alloc, tokens, last_line(text));
     declarations(&mut parser)?;
     Ok(script_in(parser))
-}
-
-fn parser_of(alloc: Global, tokens: &[Token], end_line: u32) -> Parser<'_>
-    ensures { state result ≡ start tokens.now end_line }
-{
-    Parser {
-        alloc,
-        rest: tokens,
-        end_line,
-        order: Vec::new(alloc),
-        tables: Vec::new(alloc),
-        lams: Vec::new(alloc),
-        variables: Vec::new(alloc),
-        procedures: Vec::new(alloc),
-        services: Vec::new(alloc),
-        callables: Vec::new(alloc),
-        in_procedure: false,
-        variable_count: 0,
-        declared: Vec::new(alloc),
-        registers: Vec::new(alloc),
-        statements: 0,
-    }
 }
 
 fn script_in(parser: Parser<'_>) -> Script

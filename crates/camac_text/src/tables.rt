@@ -44,7 +44,7 @@ fn table_words(parser: &mut Parser<'_>) -> Result<Vec<Word24>, TextFault>
 }
 
 fn next_is_number(parser: &Parser<'_>) -> bool
-    ensures { result ≡ is_number (kind_of parser.now.rest.now) }
+    ensures { result ≡ is_number (kind_of (state parser.now).rest) }
 {
     matches!(parser.peek(), Some(TokenKind::Number(_)))
 }

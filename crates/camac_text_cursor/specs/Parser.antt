@@ -1,14 +1,15 @@
 -- What the parser's functions return, beside the readers.
-use Rattle.std.specs.Prelude.{◌≡◌, map, Result, Ok, Err}
+use Rattle.std.specs.Prelude.{◌≡◌, ℕ, false, List, [], map, Result, Ok, Err}
 use Rattle.camac_lang.specs.View.{item_of, table_of, lam_of, procedure_of, service_of, callable_of}
 use Rattle.camac_text_tokens.specs.declared.fault.TextFault.{TextFault}
+use Rattle.camac_text_tokens.specs.declared.token.Token.{Token}
 use Rattle.camac_text_cursor.specs.declared.cursor.Parser.{Parser}
 use Rattle.camac_text_tokens.specs.Fault.{Fault, Fails}
 use Rattle.camac_text_cursor.specs.Reading.{State}
 
 abbrev pub state : Parser → State
 state p = record {
-  rest = p.rest.now;
+  rest = p.rest;
   end_line = p.end_line;
   order = map item_of p.order.items;
   tables = map table_of p.tables.items;
@@ -22,6 +23,25 @@ state p = record {
   declared = p.declared.items;
   registers = p.registers.items;
   statements = p.statements;
+}
+
+-- the state before the first token, where nothing is declared
+abbrev pub unread : List Token → ℕ → State
+unread tokens end_line = record {
+  rest = tokens;
+  end_line = end_line;
+  order = [];
+  tables = [];
+  lams = [];
+  variables = [];
+  procedures = [];
+  services = [];
+  callables = [];
+  in_procedure = false;
+  variable_count = 0;
+  declared = [];
+  registers = [];
+  statements = 0;
 }
 
 -- What a function returned, seen by view, and what it left are what is read, unless memory was refused.

@@ -1,13 +1,13 @@
 // The parser's state, and its steps over single tokens.
 
-ghost use Rattle.std.specs.Prelude.{◌≡◌};
+ghost use Rattle.std.specs.Prelude.{◌≡◌, option_copied};
 ghost use Rattle.camac_text_tokens.specs.Fault.{Fails};
 ghost use Rattle.camac_text_cursor.specs.Reading.{line_of, kind_of, after_first};
 ghost use Rattle.camac_text_cursor.specs.Readers.{begin, is_keyword, is_sign, is_name, expect, expect_sign, name_here, number_here, any_number, branch_number, function_number, sub_address_number};
-ghost use Rattle.camac_text_cursor.specs.Parser.{state, Gives};
+ghost use Rattle.camac_text_cursor.specs.Parser.{state, unread, Gives};
 
 use camac_lang::{Callable, Item, Lam, Name, Procedure, Service, Table, limits};
-use camac_text_tokens::{Keyword, Sign, TextFault, TextRule, Token, TokenKind};
+use camac_text_tokens::{Keyword, Sign, TextFault, TextRule, TokenKind, TokensLeft};
 use camac_word::{Function, SubAddress};
 use std::alloc::Global;
 
@@ -15,9 +15,9 @@ use std::alloc::Global;
 #[derive(Drop)]
 pub struct Parser<'a> {
     pub alloc: Global,
-    pub rest: &'a [Token],
-    /// The line of the text's end.
-    pub end_line: u32,
+    rest: TokensLeft<'a>,
+    // The line of the text's end.
+    end_line: u32,
     pub order: Vec<Item>,
     pub tables: Vec<Table>,
     pub lams: Vec<Lam>,
@@ -39,30 +39,65 @@ pub struct Parser<'a> {
     pub statements: u32,
 }
 
+impl<'a> Parser<'a> {
+    /// A parser of these tokens, with no declarations yet. The text ends on this line, from 1.
+    pub fn new(alloc: Global, rest: TokensLeft<'a>, end_line: u32) -> Self
+        ensures { state result ≡ unread rest.entry end_line }
+    {
+        Parser {
+            alloc,
+            rest,
+            end_line,
+            order: Vec::new(alloc),
+            tables: Vec::new(alloc),
+            lams: Vec::new(alloc),
+            variables: Vec::new(alloc),
+            procedures: Vec::new(alloc),
+            services: Vec::new(alloc),
+            callables: Vec::new(alloc),
+            in_procedure: false,
+            variable_count: 0,
+            declared: Vec::new(alloc),
+            registers: Vec::new(alloc),
+            statements: 0,
+        }
+    }
+}
+
 impl Parser<'_> {
     /// The kind of the next token.
     pub fn peek(&self) -> Option<TokenKind>
-        ensures { result ≡ kind_of self.now.rest.now }
+        ensures { result ≡ kind_of (state self.now).rest }
     {
-        match self.rest {
-            [] => None,
-            [token, ..] => Some(token.kind.duplicate()),
+        match self.rest.first() {
+            Some(token) => Some(token.kind.duplicate()),
+            None => None,
+        }
+    }
+
+    // The kind of the next token, where it stands.
+    pub(crate) fn next_kind(&self) -> Option<&TokenKind>
+        ensures { option_copied result ≡ kind_of (state self.now).rest }
+    {
+        match self.rest.first() {
+            Some(next) => Some(&next.kind),
+            None => None,
         }
     }
 
     /// The line of the next token, or of the text's end.
     pub fn line_here(&self) -> u32
-        ensures { result ≡ line_of self.now.rest.now self.now.end_line }
+        ensures { result ≡ line_of (state self.now).rest self.now.end_line }
     {
-        match self.rest {
-            [] => self.end_line,
-            [token, ..] => token.line,
+        match self.rest.first() {
+            Some(token) => token.line,
+            None => self.end_line,
         }
     }
 
     /// A fault at the next token.
     pub fn fault(&self, rule: TextRule) -> TextFault
-        ensures { result ≡ TextFault.Broken rule (line_of self.now.rest.now self.now.end_line) }
+        ensures { result ≡ TextFault.Broken rule (line_of (state self.now).rest self.now.end_line) }
     {
         TextFault::Broken {
             rule,
@@ -72,38 +107,36 @@ impl Parser<'_> {
 
     /// Takes the next token, if there is one.
     pub fn advance(&mut self)
-        ensures { state self.new ≡ record (state self.old) { rest = after_first self.old.rest.now } }
+        ensures { state self.new ≡ record (state self.old) { rest = after_first (state self.old).rest } }
     {
-        if let [_, rest @ ..] = self.rest {
-            self.rest = rest;
-        }
+        self.rest.advance();
     }
 
     /// Whether this keyword stands next.
     pub fn next_is(&self, keyword: Keyword) -> bool
-        ensures { result ≡ is_keyword keyword (kind_of self.now.rest.now) }
+        ensures { result ≡ is_keyword keyword (kind_of (state self.now).rest) }
     {
-        match self.peek() {
-            Some(TokenKind::Keyword(next)) => next == keyword,
+        match self.next_kind() {
+            Some(TokenKind::Keyword(next)) => *next == keyword,
             _ => false,
         }
     }
 
     /// Whether this sign stands next.
     pub fn next_is_sign(&self, sign: Sign) -> bool
-        ensures { result ≡ is_sign sign (kind_of self.now.rest.now) }
+        ensures { result ≡ is_sign sign (kind_of (state self.now).rest) }
     {
-        match self.peek() {
-            Some(TokenKind::Sign(next)) => next == sign,
+        match self.next_kind() {
+            Some(TokenKind::Sign(next)) => *next == sign,
             _ => false,
         }
     }
 
     /// Whether a name stands next.
     pub fn next_is_name(&self) -> bool
-        ensures { result ≡ is_name (kind_of self.now.rest.now) }
+        ensures { result ≡ is_name (kind_of (state self.now).rest) }
     {
-        matches!(self.peek(), Some(TokenKind::Name(_)))
+        matches!(self.next_kind(), Some(TokenKind::Name(_)))
     }
 
     /// Takes this keyword, else answers S2 at what stands there.
@@ -135,8 +168,8 @@ impl Parser<'_> {
     pub fn name_here(&mut self) -> Result<Name, TextFault>
         ensures { Gives (λ n. n) result self.new (name_here (state self.old)) }
     {
-        match self.peek() {
-            Some(TokenKind::Name(name)) => Ok(name),
+        match self.next_kind() {
+            Some(TokenKind::Name(name)) => Ok(name.duplicate()),
             _ => Err(self.fault(TextRule::UnexpectedToken)),
         }
     }
@@ -146,8 +179,8 @@ impl Parser<'_> {
     pub fn number_here(&mut self) -> Result<u32, TextFault>
         ensures { Gives (λ n. n) result self.new (number_here (state self.old)) }
     {
-        match self.peek() {
-            Some(TokenKind::Number(number)) => Ok(number),
+        match self.next_kind() {
+            Some(TokenKind::Number(number)) => Ok(*number),
             _ => Err(self.fault(TextRule::UnexpectedToken)),
         }
     }

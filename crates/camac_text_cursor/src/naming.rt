@@ -1,25 +1,36 @@
 // Names that are declared, and names that are used.
 
-ghost use Rattle.std.specs.Prelude.{◌≡◌};
+ghost use Rattle.std.specs.Prelude.{◌≡◌, None};
+ghost use Rattle.camac_lang.specs.Tests.{is_new};
 ghost use Rattle.camac_text_cursor.specs.Readers.{new_name, added, new_variable, new_parameter, register_at, set_name, used_at, used_register, used_variable, used_lam, used_table, variable_here, procedure_here, called};
 ghost use Rattle.camac_text_cursor.specs.Parser.{state, Gives};
 
 use crate::cursor::Parser;
 use crate::names::{is_new, lam_place, place_of, procedure_place, table_place};
 use camac_lang::{Name, limits};
-use camac_text_tokens::{TextFault, TextRule};
+use camac_text_tokens::{TextFault, TextRule, TokenKind};
 
 impl Parser<'_> {
+    // Whether no table, LAM, variable or procedure before it has this name.
+    fn is_free(&self, name: &Name) -> bool
+        ensures { result ≡ is_new name.now self.now.declared.items }
+    {
+        is_new(&self.declared, name)
+    }
+
     /// A name that no table, LAM, variable or procedure before it has. It stays where it is.
-    #[tactic(auto, unfolding(crate::specs::Readers::new_name))]
+    #[tactic(auto, unfolding(crate::specs::Readers::new_name, crate::specs::Readers::name_here))]
     pub fn new_name(&mut self) -> Result<Name, TextFault>
         ensures { Gives (λ n. n) result self.new (new_name (state self.old)) }
     {
-        let name = self.name_here()?;
-        if !is_new(&self.declared, &name) {
-            return Err(self.fault(TextRule::DeclaredTwice));
+        let here: &Self = self;
+        let Some(TokenKind::Name(name)) = here.next_kind() else {
+            return Err(here.fault(TextRule::UnexpectedToken));
+        };
+        if !here.is_free(name) {
+            return Err(here.fault(TextRule::DeclaredTwice));
         }
-        Ok(name)
+        Ok(name.duplicate())
     }
 
     /// The name that stands next, as one more variable or parameter.
@@ -60,36 +71,42 @@ impl Parser<'_> {
         Ok(name)
     }
 
-    /// The number of a register: that of its first `cdreg`.
+    /// Takes the name of a register that has no number yet, and answers its number: S6 at a register too many.
     #[tactic(auto, using(crate::proofs::Searches::room_for_one))]
-    fn register_at(&mut self, name: Name, place: Option<usize>) -> Result<usize, TextFault>
-        ensures { Gives (λ n. n) result self.new (register_at name place (state self.old)) }
+    fn new_register(&mut self, name: Name) -> Result<usize, TextFault>
+        ensures { Gives (λ n. n) result self.new (register_at name None (state self.old)) }
     {
-        match place {
+        let register = self.registers.len();
+        if self.other_registers() + register >= limits::REGISTERS {
+            return Err(self.fault(TextRule::LimitPassed));
+        }
+        self.advance();
+        self.registers.push(name)?;
+        Ok(register)
+    }
+
+    /// Takes the name of the register that a `cdreg` sets, and answers its number: S4 at a name that is declared otherwise, S6 at a register too many.
+    #[tactic(auto, unfolding(crate::specs::Readers::set_name, crate::specs::Readers::new_name, crate::specs::Readers::name_here))]
+    pub fn set_name(&mut self) -> Result<usize, TextFault>
+        ensures { Gives (λ n. n) result self.new (set_name (state self.old)) }
+    {
+        let here: &Self = self;
+        let Some(TokenKind::Name(name)) = here.next_kind() else {
+            return Err(here.fault(TextRule::UnexpectedToken));
+        };
+        if !here.is_free(name) {
+            return Err(here.fault(TextRule::DeclaredTwice));
+        }
+        match place_of(&here.registers, name) {
             Some(place) => {
                 self.advance();
                 Ok(place)
             }
             None => {
-                let register = self.registers.len();
-                if self.other_registers() + register >= limits::REGISTERS {
-                    return Err(self.fault(TextRule::LimitPassed));
-                }
-                self.advance();
-                self.registers.push(name)?;
-                Ok(register)
+                let name = name.duplicate();
+                self.new_register(name)
             }
         }
-    }
-
-    /// Takes the name of the register that a `cdreg` sets, and answers its number: S4 at a name that is declared otherwise, S6 at a register too many.
-    #[tactic(auto, unfolding(crate::specs::Readers::set_name))]
-    pub fn set_name(&mut self) -> Result<usize, TextFault>
-        ensures { Gives (λ n. n) result self.new (set_name (state self.old)) }
-    {
-        let name = self.new_name()?;
-        let place = place_of(&self.registers, &name);
-        self.register_at(name, place)
     }
 
     /// The number of a name that is declared as the kind needed.
@@ -106,66 +123,84 @@ impl Parser<'_> {
     }
 
     /// Takes the name of a register, and answers its number; S5 where there is none.
-    #[tactic(auto, unfolding(crate::specs::Readers::used_register))]
+    #[tactic(auto, unfolding(crate::specs::Readers::used_register, crate::specs::Readers::name_here))]
     pub fn used_register(&mut self) -> Result<usize, TextFault>
         ensures { Gives (λ n. n) result self.new (used_register (state self.old)) }
     {
-        let name = self.name_here()?;
-        let place = place_of(&self.registers, &name);
+        let here: &Self = self;
+        let Some(TokenKind::Name(name)) = here.next_kind() else {
+            return Err(here.fault(TextRule::UnexpectedToken));
+        };
+        let place = place_of(&here.registers, name);
         self.used_at(place)
     }
 
     /// Takes the name of a variable, and answers its number; S5 where there is none.
-    #[tactic(auto, unfolding(crate::specs::Readers::used_variable))]
+    #[tactic(auto, unfolding(crate::specs::Readers::used_variable, crate::specs::Readers::name_here))]
     pub fn used_variable(&mut self) -> Result<usize, TextFault>
         ensures { Gives (λ n. n) result self.new (used_variable (state self.old)) }
     {
-        let name = self.name_here()?;
-        let place = place_of(&self.variables, &name);
+        let here: &Self = self;
+        let Some(TokenKind::Name(name)) = here.next_kind() else {
+            return Err(here.fault(TextRule::UnexpectedToken));
+        };
+        let place = place_of(&here.variables, name);
         self.used_at(place)
     }
 
     /// Takes the name of a LAM, and answers its number; S5 where there is none.
-    #[tactic(auto, unfolding(crate::specs::Readers::used_lam))]
+    #[tactic(auto, unfolding(crate::specs::Readers::used_lam, crate::specs::Readers::name_here))]
     pub fn used_lam(&mut self) -> Result<usize, TextFault>
         ensures { Gives (λ n. n) result self.new (used_lam (state self.old)) }
     {
-        let name = self.name_here()?;
-        let place = lam_place(&self.lams, &name);
+        let here: &Self = self;
+        let Some(TokenKind::Name(name)) = here.next_kind() else {
+            return Err(here.fault(TextRule::UnexpectedToken));
+        };
+        let place = lam_place(&here.lams, name);
         self.used_at(place)
     }
 
     /// The number of a variable whose name stays where it is.
-    #[tactic(auto, unfolding(crate::specs::Readers::variable_here))]
+    #[tactic(auto, unfolding(crate::specs::Readers::variable_here, crate::specs::Readers::name_here))]
     pub fn variable_here(&mut self) -> Result<usize, TextFault>
         ensures { Gives (λ n. n) result self.new (variable_here (state self.old)) }
     {
-        let name = self.name_here()?;
-        match place_of(&self.variables, &name) {
+        let here: &Self = self;
+        let Some(TokenKind::Name(name)) = here.next_kind() else {
+            return Err(here.fault(TextRule::UnexpectedToken));
+        };
+        match place_of(&here.variables, name) {
             Some(place) => Ok(place),
-            None => Err(self.fault(TextRule::NotDeclared)),
+            None => Err(here.fault(TextRule::NotDeclared)),
         }
     }
 
     /// Takes the name of a table, and answers its number; S5 where there is none.
-    #[tactic(auto, unfolding(crate::specs::Readers::used_table))]
+    #[tactic(auto, unfolding(crate::specs::Readers::used_table, crate::specs::Readers::name_here))]
     pub fn used_table(&mut self) -> Result<usize, TextFault>
         ensures { Gives (λ n. n) result self.new (used_table (state self.old)) }
     {
-        let name = self.name_here()?;
-        let place = table_place(&self.tables, &name);
+        let here: &Self = self;
+        let Some(TokenKind::Name(name)) = here.next_kind() else {
+            return Err(here.fault(TextRule::UnexpectedToken));
+        };
+        let place = table_place(&here.tables, name);
         self.used_at(place)
     }
 
     /// The number of a procedure whose name stays where it is; S5 where there is none.
-    #[tactic(auto, unfolding(crate::specs::Readers::procedure_here))]
+    #[tactic(auto, unfolding(crate::specs::Readers::procedure_here, crate::specs::Readers::name_here))]
     pub fn procedure_here(&mut self) -> Result<usize, TextFault>
         ensures { Gives (λ n. n) result self.new (procedure_here (state self.old)) }
     {
-        let name = self.name_here()?;
-        match procedure_place(&self.procedures, &name) {
+        let here: &Self = self;
+        let Some(TokenKind::Name(name)) = here.next_kind() else {
+            return Err(here.fault(TextRule::UnexpectedToken));
+        };
+        match procedure_place(&here.procedures, name) {
             Some(place) => Ok(place),
-            None => Err(self.fault(TextRule::NotDeclared)),
+            None => Err(here.fault(TextRule::NotDeclared)),
         }
     }
 

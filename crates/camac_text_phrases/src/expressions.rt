@@ -40,7 +40,7 @@ fn sum(parser: &mut Parser<'_>, room: u32, so_far: u32) -> Result<Counted, TextF
 }
 
 fn is_sum_sign(parser: &Parser<'_>) -> bool
-    ensures { result ≡ is_sum_sign (kind_of parser.now.rest.now) }
+    ensures { result ≡ is_sum_sign (kind_of (state parser.now).rest) }
 {
     matches!(
         parser.peek(),
@@ -83,7 +83,7 @@ fn product(parser: &mut Parser<'_>, room: u32, so_far: u32) -> Result<Counted, T
 }
 
 fn is_product_sign(parser: &Parser<'_>) -> bool
-    ensures { result ≡ is_product_sign (kind_of parser.now.rest.now) }
+    ensures { result ≡ is_product_sign (kind_of (state parser.now).rest) }
 {
     matches!(
         parser.peek(),

@@ -13,7 +13,7 @@ use camac_text_tokens::{Keyword, TextFault, TextRule, TokenKind};
 
 /// A crate call or a LAM call, whichever keyword stands next.
 pub fn crate_call(parser: &mut Parser<'_>, room: u32, line: u32) -> Result<Stmt, TextFault>
-    ensures { Gives statement_of result parser.new (crate_call_by room line (kind_of parser.old.rest.now) (state parser.old)) }
+    ensures { Gives statement_of result parser.new (crate_call_by room line (kind_of (state parser.old).rest) (state parser.old)) }
 {
     let Some(TokenKind::Keyword(word)) = parser.peek() else {
         return lam_call(parser, line);
@@ -43,7 +43,7 @@ pub fn crate_call(parser: &mut Parser<'_>, room: u32, line: u32) -> Result<Stmt,
 }
 
 fn lam_call(parser: &mut Parser<'_>, line: u32) -> Result<Stmt, TextFault>
-    ensures { Gives statement_of result parser.new (lam_call_by line (kind_of parser.old.rest.now) (state parser.old)) }
+    ensures { Gives statement_of result parser.new (lam_call_by line (kind_of (state parser.old).rest) (state parser.old)) }
 {
     match parser.peek() {
         Some(TokenKind::Keyword(Keyword::Cclm)) => lam_switch(parser, line),

@@ -16,7 +16,7 @@ use camac_text_tokens::{Keyword, Sign, TextFault, TextRule, TokenKind};
 /// A statement that holds blocks, or a call, whichever keyword stands next.
 #[cycle(statement)]
 pub fn nested(parser: &mut Parser<'_>, room: u32, line: u32) -> Result<Stmt, TextFault>
-    ensures { Gives statement_of result parser.new (nested_by room (block_at room) line (kind_of parser.old.rest.now) (state parser.old)) }
+    ensures { Gives statement_of result parser.new (nested_by room (block_at room) line (kind_of (state parser.old).rest) (state parser.old)) }
 {
     match parser.peek() {
         Some(TokenKind::Keyword(Keyword::If)) => if_statement(parser, room, line),

@@ -53,7 +53,7 @@ fn statements(parser: &mut Parser<'_>, room: u32) -> Result<Vec<Stmt>, TextFault
 
 /// Whether no closing brace stands next.
 fn is_in_block(parser: &Parser<'_>) -> bool
-    ensures { result ≡ is_no_end (kind_of parser.now.rest.now) }
+    ensures { result ≡ is_no_end (kind_of (state parser.now).rest) }
 {
     !parser.next_is_sign(Sign::RightBrace)
 }

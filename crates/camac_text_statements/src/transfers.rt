@@ -15,7 +15,7 @@ use camac_text_tokens::{Keyword, TextFault, TokenKind};
 
 /// A transfer or a call, whichever keyword stands next.
 pub fn transfer(parser: &mut Parser<'_>, room: u32, line: u32) -> Result<Stmt, TextFault>
-    ensures { Gives statement_of result parser.new (transfer_by room line (kind_of parser.old.rest.now) (state parser.old)) }
+    ensures { Gives statement_of result parser.new (transfer_by room line (kind_of (state parser.old).rest) (state parser.old)) }
 {
     match parser.peek() {
         Some(TokenKind::Keyword(Keyword::Cfmad)) => scan(parser, room, line),

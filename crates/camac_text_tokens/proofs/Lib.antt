@@ -1,4 +1,6 @@
+pub mod Spellings
 pub mod Scans
+pub mod Steps
 pub mod Cuts
 pub mod Uncut
 pub mod Broken

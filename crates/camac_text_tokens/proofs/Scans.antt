@@ -29,7 +29,7 @@ run_short : (b : Bool) (x : ℕ) (n : ℕ) (ys : List ℕ) → length ys ≤ n �
 run_short true x n ys e = omega arith
 run_short false x n ys e = omega arith
 
-run_le : (p : ℕ → Bool) (xs : List ℕ) → length (take_while p xs) ≤ length xs
+pub run_le : (p : ℕ → Bool) (xs : List ℕ) → length (take_while p xs) ≤ length xs
 run_le p [] = omega arith
 run_le p (x ∷ xs) = subst (λ (w : List ℕ). length w ≤ suc (length xs)) (sym (take_while-cons p x xs)) (run_short (p x) x (length xs) (take_while p xs) (run_le p xs))
 

@@ -2,4 +2,5 @@ pub mod Words
 pub mod Fault
 pub mod Scanning
 pub mod Cut
+pub mod Left
 pub mod Broken

@@ -2,8 +2,10 @@
 #![tactic(auto)]
 
 mod bytes;
+mod extent;
 mod fault;
 pub mod laws;
+mod left;
 mod scanner;
 mod signs;
 mod token;
@@ -11,5 +13,6 @@ mod words;
 
 pub use bytes::are_same;
 pub use fault::{TextFault, TextRule};
+pub use left::TokensLeft;
 pub use scanner::{last_line, tokens};
 pub use token::{Keyword, Sign, Token, TokenKind};

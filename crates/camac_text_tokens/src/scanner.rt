@@ -76,7 +76,7 @@ fn is_name_byte(b: u8) -> bool
     b.is_ascii_alphabetic() || b.is_ascii_digit() || b == b'_'
 }
 
-fn is_blank(b: u8) -> bool
+pub fn is_blank(b: u8) -> bool
     ensures { result ≡ is_blank b }
 {
     b == b' ' || b == b'\t' || b == b'\r' || b == b'\n'
@@ -94,40 +94,40 @@ fn digits_len(text: &[u8]) -> usize
     text.iter().take_while(|b| b.is_ascii_digit()).count()
 }
 
-fn comment_len(text: &[u8]) -> usize
+pub fn comment_len(text: &[u8]) -> usize
     ensures { result ≡ length (take_while is_no_line_feed text.now) }
 {
     text.iter().take_while(|b| **b != b'\n').count()
 }
 
-fn line_feeds(text: &[u8]) -> usize
+pub fn line_feeds(text: &[u8]) -> usize
     ensures { result ≡ count_by (λ b. b == 10) text.now }
 {
     text.iter().filter(|b| **b == b'\n').count()
 }
 
-fn line_number(line: usize) -> u32
+pub fn line_number(line: usize) -> u32
     ensures { result ≡ line_number line }
 {
     line.min(4_294_967_295) as u32
 }
 
 #[tactic(auto, using(crate::proofs::Scans::take_run))]
-fn name_text(text: &[u8]) -> &[u8]
+pub fn name_text(text: &[u8]) -> &[u8]
     ensures { result.now ≡ take_while is_name_byte text.now }
 {
     &text[..name_len(text)]
 }
 
 #[tactic(auto, using(crate::proofs::Scans::take_run))]
-fn digits_text(text: &[u8]) -> &[u8]
+pub fn digits_text(text: &[u8]) -> &[u8]
     ensures { result.now ≡ take_while is_ascii_digit text.now }
 {
     &text[..digits_len(text)]
 }
 
 /// The number of decimal digits, where it is below 2 to the power of 32.
-fn number(digits: &[u8]) -> Option<u32>
+pub fn number(digits: &[u8]) -> Option<u32>
     ensures { result ≡ (if nat_lt (decimal_value digits.now) 4294967296 then Some (decimal_value digits.now) else None) }
 {
     let mut value: u64 = 0;
@@ -162,7 +162,7 @@ fn number_start(digits: &[u8]) -> Start
     }
 }
 
-fn pair_at(text: &[u8]) -> Option<Sign>
+pub fn pair_at(text: &[u8]) -> Option<Sign>
     ensures { result ≡ pair_at text.now }
 {
     match text {
@@ -171,7 +171,7 @@ fn pair_at(text: &[u8]) -> Option<Sign>
     }
 }
 
-fn single_at(text: &[u8]) -> Option<Sign>
+pub fn single_at(text: &[u8]) -> Option<Sign>
     ensures { result ≡ single_at text.now }
 {
     match text {
@@ -194,7 +194,7 @@ fn sign_start(text: &[u8]) -> Start
 
 /// What stands at the start: the longest.
 #[tactic(auto, unfolding(crate::specs::Scanning::start_of))]
-fn start_of(text: &[u8]) -> Start
+pub fn start_of(text: &[u8]) -> Start
     requires { 0 < length text.now }
     ensures { result ≡ start_of (slice_index text.now 0) text.now }
 {

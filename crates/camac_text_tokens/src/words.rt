@@ -6,6 +6,9 @@ ghost use Rattle.camac_text_tokens.specs.Words.{spelled_in, declaration_words, a
 use crate::bytes::are_same;
 use crate::token::Keyword;
 
+// The length of the longest, `service`.
+const LONGEST: usize = 7;
+
 // The first word that is spelled so.
 macro_rules! spelled {
     ($text:expr; $($letters:literal => $word:ident),*) => {{
@@ -19,10 +22,13 @@ macro_rules! spelled {
 }
 
 /// The keyword that is spelled so.
-#[tactic(auto, unfolding(crate::specs::Words::keyword))]
+#[tactic(auto, unfolding(crate::specs::Words::keyword), using(crate::proofs::Spellings::no_long_keyword))]
 pub fn keyword(text: &[u8]) -> Option<Keyword>
     ensures { result ≡ keyword text.now }
 {
+    if text.len() > LONGEST {
+        return None;
+    }
     if let Some(word) = declaration_word(text) {
         return Some(word);
     }

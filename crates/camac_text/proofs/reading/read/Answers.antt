@@ -8,5 +8,5 @@ use Rattle.camac_text.proofs.reading.read.Goals as goal
 
 pub script_in-requires : goal.script_in-requires
 script_in-requires c =
-    let begins : state c.parser_of-parser.result ≡ start c.in_ok-tokens.tokens.items c.last_line.result = c.parser_of-parser.ensures ∙ ap (λ (ts : List Token). start ts c.last_line.result) c.deref.ensures.value in
-    read_well_formed c.args.text.now c.in_ok-tokens.tokens.items c.last_line.result (tt, state c.declarations.new.parser) c.in_ok-tokens.ensures.exact (ap declarations_at (sym begins) ∙ c.in_ok-declarations.ensures)
+    let begins : state c.new-parser.result ≡ start c.in_ok-tokens.tokens c.last_line.result = c.new-parser.ensures in
+    read_well_formed c.args.text.now c.in_ok-tokens.tokens c.last_line.result (tt, state c.declarations.new.parser) c.in_ok-tokens.ensures (ap declarations_at (sym begins) ∙ c.in_ok-declarations.ensures)

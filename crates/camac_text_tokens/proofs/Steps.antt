@@ -1,0 +1,184 @@
+-- What is left of the tokens of a text, step by step.
+use Rattle.std.proofs.Common.{◌≡◌, ℕ, suc, ◌+◌, ◌≤◌, ◌<◌, Bool, true, false, not, cond, ltb, eqb, List, [], ◌∷◌, length, take, drop, Option, Some, None, Result, Ok, Err, refl, sym, ap, subst, ◌∙◌, length-drop, arith}
+use Rattle.std.specs.Prelude.{take_while, slice_index}
+use Rattle.std.specs.Char.{is_ascii_digit, is_ascii_alphabetic}
+use Rattle.std.proofs.lemmas.Bool.{lt-ltb, le-ltb, eqb-true}
+use Rattle.std.proofs.lemmas.List.Sums.{take_while-cons}
+use Rattle.camac_text_tokens.specs.declared.token.Keyword.{Keyword}
+use Rattle.camac_text_tokens.specs.declared.token.Sign.{Sign}
+use Rattle.camac_text_tokens.specs.declared.token.Token.{Token}
+use Rattle.camac_text_tokens.specs.declared.token.TokenKind.{TokenKind}
+use Rattle.camac_text_tokens.specs.declared.scanner.Start.{Start}
+use Rattle.camac_text_tokens.specs.declared.scanner.Start.TheVariants as start
+use Rattle.camac_text_tokens.specs.declared.fault.TextRule.{TextRule}
+use Rattle.camac_text_tokens.specs.declared.fault.TextRule.TheVariants.{LimitPassed}
+use Rattle.camac_text_tokens.specs.Fault.{Fault}
+use Rattle.camac_text_tokens.specs.Words.{keyword}
+use Rattle.camac_text_tokens.specs.Scanning.{is_name_byte, is_blank, is_no_line_feed, decimal_value, keyword_or, pair_at, single_at, pair_or_single, start_of, size, wrong, tokens_by, tokens_from, line_after, line_number}
+use Rattle.camac_text_tokens.specs.Left.{list_of, BeginsNoGap, IsExtent}
+use Rattle.camac_text_tokens.proofs.Spellings.{no_long_keyword}
+use Rattle.camac_text_tokens.proofs.Scans.{line_feeds, feeds-cons, take_run, run_some, with_all, none_all, start_step, sized_start}
+
+on : {A : Type 0} (t : Bool) (x y : A) → t ≡ true → cond t x y ≡ x
+on true x y e = refl
+on false x y e = absurd cc
+
+off : {A : Type 0} (t : Bool) (x y : A) → t ≡ false → cond t x y ≡ y
+off true x y e = absurd cc
+off false x y e = refl
+
+-- ---- gaps
+
+blank_is : (b : ℕ) (bs : List ℕ) → is_blank b ≡ true → start_of b (b ∷ bs) ≡ start.Gap 1
+unfolding start_of
+blank_is b bs is = on (is_blank b) _ _ is
+
+pub blank_past : (b line : ℕ) (bs : List ℕ) → is_blank b ≡ true → tokens_from 0 (line_after line b) bs ≡ tokens_from 0 line (b ∷ bs)
+unfolding tokens_from
+blank_past b line bs is = sym (ap (λ (f : Start). tokens_by f line (λ skip. tokens_from skip (line_after line b) bs)) (blank_is b bs is))
+
+feed_step : (t : Bool) (x : ℕ) (ys : List ℕ) → eqb x 10 ≡ t → line_feeds ys ≡ 0 → line_feeds (cond (not t) (x ∷ ys) []) ≡ 0
+feed_step true x ys e h = refl
+feed_step false x ys e h = feeds-cons x ys ∙ ap (λ (t : Bool). cond t 1 0 + line_feeds ys) e ∙ (let none : cond false 1 0 + line_feeds ys ≡ 0 = omega (arith, h) in none)
+
+no_feeds : (xs : List ℕ) → line_feeds (take_while is_no_line_feed xs) ≡ 0
+no_feeds [] = refl
+no_feeds (x ∷ xs) = subst (λ (w : List ℕ). line_feeds w ≡ 0) (sym (take_while-cons is_no_line_feed x xs)) (feed_step (eqb x 10) x (take_while is_no_line_feed xs) refl (no_feeds xs))
+
+comment_is : (b : ℕ) (bs : List ℕ) → eqb b 35 ≡ true → start_of b (b ∷ bs) ≡ start.Gap (length (take_while is_no_line_feed (b ∷ bs)))
+unfolding start_of
+comment_is b bs is = off (is_blank b) _ _ (subst (λ (c : ℕ). is_blank c ≡ false) (sym (eqb-true b 35 is)) refl) ∙ on (eqb b 35) _ _ is
+
+pub comment_some : (b : ℕ) (bs : List ℕ) → eqb b 35 ≡ true → 0 < length (take_while is_no_line_feed (b ∷ bs))
+comment_some b bs is = run_some is_no_line_feed b bs (subst (λ (c : ℕ). is_no_line_feed c ≡ true) (sym (eqb-true b 35 is)) refl)
+
+pub comment_past : (b line : ℕ) (bs : List ℕ) → eqb b 35 ≡ true → tokens_from 0 line (drop (length (take_while is_no_line_feed (b ∷ bs))) (b ∷ bs)) ≡ tokens_from 0 line (b ∷ bs)
+unfolding tokens_from
+comment_past b line bs is =
+    let n : ℕ = length (take_while is_no_line_feed (b ∷ bs)) in
+    let feeds : line_feeds (take (length (take_while is_no_line_feed (b ∷ bs))) (b ∷ bs)) ≡ 0 = ap line_feeds (take_run is_no_line_feed (b ∷ bs)) ∙ no_feeds (b ∷ bs) in
+    let same : line + line_feeds (take (length (take_while is_no_line_feed (b ∷ bs))) (b ∷ bs)) ≡ line = omega (arith, feeds) in
+    sym (
+    ap (λ (f : Start). tokens_by f line (λ skip. tokens_from skip (line_after line b) bs)) (comment_is b bs is)
+    ∙ start_step (start.Gap n) b line bs refl (comment_some b bs is)
+    ∙ sym (none_all _)
+    ∙ ap (λ (l : ℕ). tokens_from 0 l (drop (length (take_while is_no_line_feed (b ∷ bs))) (b ∷ bs))) same
+    )
+
+-- the rest after a comment, and after a blank
+pub record Skips (line : ℕ) (rest : List ℕ) (after : ℕ) (n : ℕ) : Type 0 where
+  pub same : tokens_from 0 after (drop n rest) ≡ tokens_from 0 line rest
+  pub lines : after + length (drop n rest) ≤ line + length rest
+  pub shorter : length (drop n rest) < length rest
+
+pub comment_skips : (line : ℕ) (rest : List ℕ) → 0 < length rest → slice_index rest 0 ≡ 35 → Skips line rest line (length (take_while is_no_line_feed rest))
+comment_skips line [] some is = absurd (omega arith)
+comment_skips line (b ∷ bs) some is =
+    let hash : eqb b 35 ≡ true = subst (λ (c : ℕ). eqb c 35 ≡ true) (sym is) refl in
+    let n : ℕ = length (take_while is_no_line_feed (b ∷ bs)) in
+    let left = length-drop n (b ∷ bs) in
+    let some_bytes = comment_some b bs hash in
+    record { same = comment_past b line bs hash; lines = omega (arith, left); shorter = omega (arith, left, some_bytes) }
+
+line_step : (t : Bool) (line n : ℕ) → cond t (line + 1) line + n ≤ line + suc n
+line_step true line n = omega arith
+line_step false line n = omega arith
+
+pub blank_skips : (line : ℕ) (rest : List ℕ) → 0 < length rest → is_blank (slice_index rest 0) ≡ true → Skips line rest (line_after line (slice_index rest 0)) 1
+blank_skips line [] some is = absurd (omega arith)
+blank_skips line (b ∷ bs) some is = record { same = blank_past b line bs is; lines = line_step (eqb b 10) line (length bs); shorter = omega arith }
+
+-- ---- what begins with no gap
+
+abbrev NoGap : Start → Type 0
+NoGap (start.Gap n) = ⊥
+NoGap (start.Found k n) = Unit {0}
+NoGap (start.Wrong rule) = Unit {0}
+
+no_gap_if : (t : Bool) (f g : Start) → (t ≡ true → NoGap f) → (t ≡ false → NoGap g) → NoGap (cond t f g)
+no_gap_if true f g on off = on refl
+no_gap_if false f g on off = off refl
+
+no_gap_word : (k : Option Keyword) (text : List ℕ) → NoGap (keyword_or k text)
+no_gap_word (Some w) text = tt
+no_gap_word None text = no_gap_if (ltb 32 (length text)) _ _ (λ _. tt) (λ _. tt)
+
+no_gap_sign : (p q : Option Sign) → NoGap (pair_or_single p q)
+no_gap_sign (Some s) q = tt
+no_gap_sign None (Some s) = tt
+no_gap_sign None None = tt
+
+no_gap_start : (b : ℕ) (bs : List ℕ) → is_blank b ≡ false → eqb b 35 ≡ false → NoGap (start_of b (b ∷ bs))
+unfolding start_of
+no_gap_start b bs no_blank no_hash =
+    no_gap_if (is_blank b) _ _ (λ is. absurd (let both : true ≡ false = sym is ∙ no_blank in cc)) (λ _.
+    no_gap_if (eqb b 35) _ _ (λ is. absurd (let both : true ≡ false = sym is ∙ no_hash in cc)) (λ _.
+    no_gap_if (is_ascii_alphabetic b) _ _ (λ _. no_gap_word (keyword (take_while is_name_byte (b ∷ bs))) (take_while is_name_byte (b ∷ bs))) (λ _.
+    no_gap_if (is_ascii_digit b) _ _ (λ _. no_gap_if (ltb (decimal_value (take_while is_ascii_digit (b ∷ bs))) 4294967296) _ _ (λ _. tt) (λ _. tt)) (λ _.
+    no_gap_sign (pair_at (b ∷ bs)) (single_at (b ∷ bs))))))
+
+-- ---- one token
+
+token_step : (b line : ℕ) (bs : List ℕ) (f : Start) → start_of b (b ∷ bs) ≡ f → tokens_from 0 line (b ∷ bs) ≡ tokens_by f line (λ skip. tokens_from skip (line_after line b) bs)
+unfolding tokens_from
+token_step b line bs f is = ap (λ (g : Start). tokens_by g line (λ skip. tokens_from skip (line_after line b) bs)) is
+
+no_fault : (line : ℕ) (rest : List ℕ) (rule : TextRule) → 0 < length rest → tokens_from 0 line rest ≡ Ok (list_of (tokens_from 0 line rest)) → start_of (slice_index rest 0) rest ≡ start.Wrong rule → ⊥
+no_fault line [] rule some cut is = absurd (omega arith)
+no_fault line (b ∷ bs) rule some cut is = let bad = token_step b line bs (start.Wrong rule) is in let both = sym bad ∙ cut in absurd cc
+
+-- nothing else stands where there is neither a gap nor a fault
+pub is_found : (line : ℕ) (rest : List ℕ) (f : Start) → 0 < length rest → BeginsNoGap rest → tokens_from 0 line rest ≡ Ok (list_of (tokens_from 0 line rest)) → f ≡ start_of (slice_index rest 0) rest
+    → ((k : TokenKind) (n : ℕ) → f ≡ start.Found k n → ⊥) → ⊥
+is_found line [] f some begins cut is none = omega arith
+is_found line (b ∷ bs) (start.Gap n) some begins cut is none = subst NoGap (sym is) (no_gap_start b bs begins.0 begins.1)
+is_found line (b ∷ bs) (start.Found k n) some begins cut is none = none k n refl
+is_found line (b ∷ bs) (start.Wrong rule) some begins cut is none = no_fault line (b ∷ bs) rule some cut (sym is)
+
+found_some : (b : ℕ) (bs : List ℕ) (k : TokenKind) (n : ℕ) → start_of b (b ∷ bs) ≡ start.Found k n → (0 < n) × (n ≤ length (b ∷ bs))
+found_some b bs k n is =
+    let sized = sized_start b bs (ap wrong is) in
+    subst (λ (m : ℕ). (0 < m) × (m ≤ length (b ∷ bs))) (ap size is) sized
+
+pub found_size : (rest : List ℕ) (k : TokenKind) (n : ℕ) → 0 < length rest → start_of (slice_index rest 0) rest ≡ start.Found k n → (0 < n) × (n ≤ length rest)
+found_size [] k n some is = absurd (omega arith)
+found_size (b ∷ bs) k n some is = found_some b bs k n is
+
+token_goes : (line : ℕ) (rest : List ℕ) (k : TokenKind) (n : ℕ) → 0 < length rest → start_of (slice_index rest 0) rest ≡ start.Found k n
+    → tokens_from 0 line rest ≡ with_all (record { kind = k; line = line_number line } ∷ []) (tokens_from 0 (line + line_feeds (take n rest)) (drop n rest))
+token_goes line [] k n some is = absurd (omega arith)
+token_goes line (b ∷ bs) k n some is = token_step b line bs (start.Found k n) is ∙ start_step (start.Found k n) b line bs refl (found_some b bs k n is).0
+
+-- what is read after one token
+pub record Behind (t : Token) (whole rest : Result (List Token) Fault) : Type 0 where
+  pub next : t ∷ list_of rest ≡ list_of whole
+  pub cut : rest ≡ Ok (list_of rest)
+
+behind : (t : Token) (rest whole : Result (List Token) Fault) → whole ≡ with_all (t ∷ []) rest → whole ≡ Ok (list_of whole) → Behind t whole rest
+behind t (Ok ts) whole is cut = record { next = sym (ap list_of is); cut = refl }
+behind t (Err e) whole is cut = let both = sym is ∙ cut in absurd cc
+
+pub token_left : (line : ℕ) (rest : List ℕ) (k : TokenKind) (n : ℕ) → 0 < length rest → start_of (slice_index rest 0) rest ≡ start.Found k n → tokens_from 0 line rest ≡ Ok (list_of (tokens_from 0 line rest))
+    → Behind (record { kind = k; line = line_number line }) (tokens_from 0 line rest) (tokens_from 0 (line + line_feeds (take n rest)) (drop n rest))
+token_left line rest k n some is cut = behind (record { kind = k; line = line_number line }) _ (tokens_from 0 line rest) (token_goes line rest k n some is) cut
+
+pub none_left : (line : ℕ) (rest : List ℕ) → length rest ≡ 0 → list_of (tokens_from 0 line rest) ≡ []
+unfolding tokens_from
+none_left line [] e = refl
+none_left line (b ∷ bs) e = absurd (omega arith)
+
+-- ---- what is wrong at the start, without its token
+
+long_word : (k : Option Keyword) (text : List ℕ) → k ≡ None → 32 < length text → wrong (keyword_or k text) ≡ Some LimitPassed
+long_word k text none long = rw (none, lt-ltb 32 (length text) long) refl
+
+-- a word that is too long is no keyword
+pub word_too_long : (text : List ℕ) → 32 < length text → wrong (keyword_or (keyword text) text) ≡ Some LimitPassed
+word_too_long text long = long_word (keyword text) text (no_long_keyword text (omega arith)) long
+
+short_word : (k : Option Keyword) (text : List ℕ) → length text ≤ 32 → IsExtent (Ok (length text)) (keyword_or k text)
+short_word (Some w) text short = (refl, refl)
+short_word None text short = rw (le-ltb 32 (length text) short) (refl, refl)
+
+pub word_fits : (text : List ℕ) → length text ≤ 32 → IsExtent (Ok (length text)) (keyword_or (keyword text) text)
+word_fits text short = short_word (keyword text) text short

@@ -1,0 +1,56 @@
+use Rattle.std.proofs.Common.{◌≡◌, ℕ, ◌+◌, ◌<◌, List, [], ◌++◌, length, take, drop, Result, Ok, refl, sym, ap, subst, ◌∙◌, arith}
+use Rattle.std.specs.Prelude.{slice_index}
+use Rattle.std.proofs.lemmas.Bool.{eqb-true}
+use Rattle.camac_text_tokens.specs.declared.token.Token.{Token}
+use Rattle.camac_text_tokens.specs.declared.scanner.Start.{Start}
+use Rattle.camac_text_tokens.specs.Fault.{Fault}
+use Rattle.camac_text_tokens.specs.Left.{list_of}
+use Rattle.camac_text_tokens.specs.Scanning.{start_of, size, added, line_number, tokens_from, tokens_of}
+use Rattle.camac_text_tokens.proofs.Scans.{line_feeds, with_all, none_all, sizes, goes, fails, ends, feeds_le, some_left}
+use Rattle.camac_text_tokens.proofs.left.first_fault.Goals as goal
+
+pub loop-rest-init : goal.loop-rest-init
+unfolding tokens_of
+loop-rest-init c = (([], sym (none_all _) ∙ c.past_gaps-line.ensures.same), omega (arith, c.past_gaps-line.ensures.lines))
+
+pub returns-in-Err : goal.returns-in-Err
+returns-in-Err c =
+    let rest = c.loop-rest.rest.now in
+    let some : 0 < length rest = some_left (length rest) (sym c.is_empty.ensures ∙ c.loop-rest-test.true) in
+    rw c.line_number-line.ensures (fails c.loop-rest.invariant.0.0 c.loop-rest.line rest (tokens_of c.args.text.now) c.in-Err.rule some c.in-Err.ensures c.loop-rest.invariant.0.1)
+
+pub split_at-requires : goal.split_at-requires
+split_at-requires c =
+    let rest = c.loop-rest.rest.now in
+    let some : 0 < length rest = some_left (length rest) (sym c.is_empty.ensures ∙ c.loop-rest-test.true) in
+    let sized = c.in-Ok.ensures in
+    omega (arith, (sizes rest some sized.0).1, sized.1)
+
+pub loop-rest-smaller : goal.loop-rest-smaller
+loop-rest-smaller c =
+    let rest = c.loop-rest.rest.now in
+    let some : 0 < length rest = some_left (length rest) (sym c.is_empty.ensures ∙ c.loop-rest-test.true) in
+    let sized = c.in-Ok.ensures in
+    omega (arith, (sizes rest some sized.0).0, sized.1, c.split_at.ensures.back_len, c.past_gaps.ensures.shorter)
+
+pub loop-rest-preserved : goal.loop-rest-preserved
+loop-rest-preserved c =
+    let rest = c.loop-rest.rest.now in
+    let some : 0 < length rest = some_left (length rest) (sym c.is_empty.ensures ∙ c.loop-rest-test.true) in
+    let f : Start = start_of (slice_index rest 0) rest in
+    let sized = c.in-Ok.ensures in
+    let front : c.split_at.result.0.now ≡ take (size f) rest = c.split_at.ensures.front ∙ ap (λ (n : ℕ). take n rest) (sym sized.1) in
+    let back : c.split_at.result.1.now ≡ drop (size f) rest = c.split_at.ensures.back ∙ ap (λ (n : ℕ). drop n rest) (sym sized.1) in
+    let feeds : c.line_feeds.result ≡ line_feeds (take (size f) rest) = c.line_feeds.ensures ∙ ap line_feeds front in
+    let further : tokens_from 0 c.past_gaps.result.1 c.past_gaps.result.0.now ≡ tokens_from 0 (c.loop-rest.line + line_feeds (take (size f) rest)) (drop (size f) rest) =
+    c.past_gaps.ensures.same ∙ ap (λ (w : List ℕ). tokens_from 0 (c.loop-rest.line + c.line_feeds.result) w) back ∙ ap (λ (n : ℕ). tokens_from 0 (c.loop-rest.line + n) (drop (size f) rest)) feeds in
+    let ts : List Token = c.loop-rest.invariant.0.0 ++ added f (line_number c.loop-rest.line) in (
+      (ts, ap (with_all ts) further ∙ goes c.loop-rest.invariant.0.0 c.loop-rest.line rest (tokens_of c.args.text.now) some sized.0 c.loop-rest.invariant.0.1),
+      omega (arith, feeds_le (size f) rest, feeds, ap length back, c.past_gaps.ensures.lines, c.loop-rest.invariant.1),
+    )
+
+pub returns : goal.returns
+returns c =
+    let m = c.loop-rest.invariant.0 in
+    let all = ends m.0 c.loop-rest.line c.loop-rest.rest.now (tokens_of c.args.text.now) (eqb-true (length c.loop-rest.rest.now) 0 (sym c.is_empty.ensures ∙ c.loop-rest-test.false)) m.1 in
+    subst (λ (r : Result (List Token) Fault). r ≡ Ok (list_of r)) (sym all) refl

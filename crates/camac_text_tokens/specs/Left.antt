@@ -1,0 +1,53 @@
+-- What is left of the tokens of a text.
+use Rattle.std.specs.Prelude.{◌≡◌, ℕ, ◌+◌, ◌≤◌, false, ◌==◌, List, [], ◌∷◌, length, Option, Some, None, Result, Ok, Err}
+use Rattle.camac_text_tokens.specs.declared.token.Token.{Token}
+use Rattle.camac_text_tokens.specs.declared.scanner.Start.{Start}
+use Rattle.camac_text_tokens.specs.declared.fault.TextRule.{TextRule}
+use Rattle.camac_text_tokens.specs.declared.fault.TextFault.{TextFault}
+use Rattle.camac_text_tokens.specs.declared.fault.TextFault.TheVariants as fault
+use Rattle.camac_text_tokens.specs.Fault.{Fault}
+use Rattle.camac_text_tokens.specs.Scanning.{is_blank, size, wrong, tokens_from}
+
+-- the tokens of a text that has no token fault
+abbrev pub list_of : Result (List Token) Fault → List Token
+list_of (Ok ts) = ts
+list_of (Err e) = []
+
+-- the next token, and those of the bytes behind it, which begin on a line
+abbrev pub next_and : Option Token → ℕ → List ℕ → List Token
+next_and None line bytes = []
+next_and (Some t) line bytes = t ∷ list_of (tokens_from 0 line bytes)
+
+-- No token fault is left. Each line has a number of 64 bits.
+pub record IsLeft (line : ℕ) (bytes : List ℕ) : Type 0 where
+  pub cut : tokens_from 0 line bytes ≡ Ok (list_of (tokens_from 0 line bytes))
+  pub lines : line + length bytes ≤ 9223372036854775808
+
+-- The program answered the tokens, or their fault. It needs no memory.
+abbrev pub AnswersTokens : Result (List Token) TextFault → Result (List Token) Fault → Type 0
+AnswersTokens (Ok ts) read = read ≡ Ok ts
+AnswersTokens (Err fault.OutOfMemory) read = ⊥
+AnswersTokens (Err (fault.Broken rule line)) read = read ≡ Err (record { rule = rule; line = line })
+
+-- bytes that begin with neither a blank nor a comment
+abbrev pub BeginsNoGap : List ℕ → Type 0
+BeginsNoGap [] = Unit {0}
+BeginsNoGap (b ∷ bs) = (is_blank b ≡ false) × ((b == 35) ≡ false)
+
+-- the bytes after the gaps at the start of others have the same tokens
+pub record IsPastGaps (line : ℕ) (text : List ℕ) (after : ℕ) (rest : List ℕ) : Type 0 where
+  pub same : tokens_from 0 after rest ≡ tokens_from 0 line text
+  pub lines : after + length rest ≤ line + length text
+  pub shorter : length rest ≤ length text
+  pub begins : BeginsNoGap rest
+
+-- the first token fault, if there is one
+abbrev pub SameFault : Option TextFault → Result (List Token) Fault → Type 0
+SameFault None read = read ≡ Ok (list_of read)
+SameFault (Some fault.OutOfMemory) read = ⊥
+SameFault (Some (fault.Broken rule line)) read = read ≡ Err (record { rule = rule; line = line })
+
+-- the bytes that are taken at the start, or what is wrong there
+abbrev pub IsExtent : Result ℕ TextRule → Start → Type 0
+IsExtent (Ok n) f = (wrong f ≡ None) × (size f ≡ n)
+IsExtent (Err rule) f = wrong f ≡ Some rule

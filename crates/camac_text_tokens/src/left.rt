@@ -1,0 +1,142 @@
+// What is left of the tokens of a text: they are cut one by one, where they are wanted.
+
+ghost use Rattle.std.specs.Prelude.{◌≡◌, ◌+◌, ◌≤◌, drop, length, slice_get, option_copied};
+ghost use Rattle.camac_text_tokens.specs.Scanning.{line_after, tokens_from, tokens_of};
+ghost use Rattle.camac_text_tokens.specs.Left.{list_of, IsLeft, AnswersTokens, IsPastGaps, SameFault};
+
+use crate::extent::extent_of;
+use crate::fault::TextFault;
+use crate::scanner::{Start, comment_len, is_blank, line_feeds, line_number, start_of};
+use crate::token::Token;
+use std::marker::Model;
+
+/// What is left of the tokens of a text without a token fault (own), which contracts see as their list. It takes no memory.
+#[derive(Drop)]
+pub struct TokensLeft<'a> {
+    next: Option<Token>,
+    // The bytes behind the next token, and the line of the first of them.
+    rest: &'a [u8],
+    line: usize,
+}
+
+impl<'a> Model for TokensLeft<'a> {
+    ghost use Rattle.std.specs.Prelude.{List};
+    ghost use Rattle.camac_text_tokens.specs.declared.token.Token.{Token};
+    ghost use Rattle.camac_text_tokens.specs.Left.{next_and, IsLeft};
+
+    ghost Value = { List Token };
+
+    ghost view = { λ t. next_and t.next t.line t.rest.now };
+
+    ghost invariant = { λ t. IsLeft t.line t.rest.now };
+}
+
+impl<'a> TokensLeft<'a> {
+    /// All tokens of a text, or its first token fault: S1, S3 or S6. The text is read once for its faults, and none of its tokens is kept.
+    /// A token's line is 1 plus the line feeds before it, from 4294967295 on that number.
+    pub fn new(text: &'a [u8]) -> Result<Self, TextFault>
+        ensures { AnswersTokens result (tokens_of text.now) }
+    {
+        match first_fault(text) {
+            Some(fault) => Err(fault),
+            None => Ok(left_from(text, 1)),
+        }
+    }
+
+    /// The next token, unless none is left. It stays the next one.
+    pub fn first(&self) -> Option<&Token>
+        ensures { option_copied result ≡ slice_get self.now 0 }
+    {
+        self.next.as_ref()
+    }
+
+    /// Leaves the next token behind, if there is one.
+    pub fn advance(&mut self)
+        ensures { self.new ≡ drop 1 self.old }
+    {
+        if self.next.is_some() {
+            *self = left_from(self.rest, self.line);
+        }
+    }
+}
+
+// The tokens of bytes that begin on a line.
+fn left_from(text: &[u8], line: usize) -> TokensLeft<'_>
+    requires { IsLeft line text.now }
+    ensures { result ≡ list_of (tokens_from 0 line text.now) }
+{
+    let (rest, line) = past_gaps(text, line);
+    if rest.is_empty() {
+        return TokensLeft {
+            next: None,
+            rest,
+            line,
+        };
+    }
+    match start_of(rest) {
+        Start::Found(kind, size) => {
+            let next = Token {
+                kind,
+                line: line_number(line),
+            };
+            let (taken, rest) = rest.split_at(size);
+            TokensLeft {
+                next: Some(next),
+                rest,
+                line: line + line_feeds(taken),
+            }
+        }
+        _ => unreachable!(),
+    }
+}
+
+// The first token fault of a text.
+fn first_fault(text: &[u8]) -> Option<TextFault>
+    ensures { SameFault result (tokens_of text.now) }
+{
+    let (mut rest, mut line) = past_gaps(text, 1);
+    while !rest.is_empty() {
+        match extent_of(rest) {
+            Ok(size) => {
+                let (taken, after) = rest.split_at(size);
+                (rest, line) = past_gaps(after, line + line_feeds(taken));
+            }
+            Err(rule) => {
+                let line = line_number(line);
+                return Some(TextFault::Broken { rule, line });
+            }
+        }
+    }
+    None
+}
+
+// The bytes after blanks and comments, and their line.
+fn past_gaps(text: &[u8], line: usize) -> (&[u8], usize)
+    requires { line + length text.now ≤ 9223372036854775808 }
+    ensures { IsPastGaps line text.now result.1 result.0.now }
+{
+    let mut rest = text;
+    let mut at = line;
+    while !rest.is_empty() {
+        let byte = rest[0];
+        if byte == b'#' {
+            let (_, after) = rest.split_at(comment_len(rest));
+            rest = after;
+        } else if is_blank(byte) {
+            let (_, after) = rest.split_at(1);
+            rest = after;
+            at = line_after(at, byte);
+        } else {
+            return (rest, at);
+        }
+    }
+    (rest, at)
+}
+
+// The line of what follows a byte.
+fn line_after(line: usize, byte: u8) -> usize
+    requires { line ≤ 9223372036854775808 }
+    ensures { result ≡ line_after line byte }
+{
+    if byte == b'\n' { line + 1 } else { line }
+}
