@@ -1,13 +1,12 @@
 -- What spells an answer has no LF in it.
-use Rattle.std.proofs.Common.{◌≡◌, ℕ, zero, suc, ◌+◌, ◌*◌, ◌^◌, ◌<◌, ◌≤◌, Bool, true, false, not, ◌==◌, ◌&&◌, cond, List, [], ◌∷◌, ◌++◌, length, take, drop, slice_index, slice_range, get_or, subst, Option, Some, None, Result, Ok, Err, unwrap_or, refl, sym, ap, ◌∙◌, arith, ◌⊎◌, inl, inr, length-take-le}
-use Rattle.std.proofs.lemmas.Bool.{ne_eqb, eqb-true, and_parts, cases_eq}
+use Rattle.std.proofs.Common.{◌≡◌, ℕ, zero, suc, ◌^◌, ◌<◌, Bool, true, false, not, ◌==◌, cond, List, [], ◌∷◌, ◌++◌, length, take, slice_index, subst, Result, Ok, Err, refl, sym, ap, ◌∙◌, arith, inl, inr, length-take-le}
+use Rattle.std.proofs.lemmas.Bool.{ne_eqb, eqb-true, and_parts}
 use Rattle.std.proofs.lemmas.List.Sums.{take_while-cons}
-use Rattle.hex.specs.Hex.{hex_digit_value}
 use Rattle.camac_branch.specs.Branch.{Answer}
 use Rattle.camac_answer.specs.declared.fault.AnswerRule.{AnswerRule}
-use Rattle.camac_answer.specs.declared.fault.AnswerRule.TheVariants.{LineShape, BadDigit}
-use Rattle.camac_answer.specs.Lines.{is_inside, first_line, bit_at, word_at, wait_at, digit_in, digit_number, has_shape, fields_answer, line_answer, ◌>>=◌}
-use Rattle.camac_answer.proofs.Digits.{listed, six, word_small}
+use Rattle.camac_answer.specs.declared.fault.AnswerRule.TheVariants.{LineShape}
+use Rattle.camac_answer.specs.Lines.{is_inside, first_line, IsJudged, bit_at, word_at, wait_at, digit_number, fields_answer, line_answer, ◌>>=◌}
+use Rattle.camac_answer.proofs.Digits.{listed, word_small}
 
 abbrev AreInside : List ℕ → Type 0
 AreInside [] = Unit {0}
@@ -95,7 +94,24 @@ ends_with (suc n) (x ∷ xs) e =
     ap (λ (l : List ℕ). x ∷ l) (ends_with n xs less)
 
 -- the same of the first nineteen of twenty bytes
-pub nineteen_spelled : (bytes : List ℕ) (a : Answer) → length bytes ≡ 20 → slice_index bytes 19 ≡ 10 → line_answer (take 19 bytes) ≡ Ok a → line_answer (first_line bytes) ≡ Ok a
+nineteen_spelled : (bytes : List ℕ) (a : Answer) → length bytes ≡ 20 → slice_index bytes 19 ≡ 10 → line_answer (take 19 bytes) ≡ Ok a → line_answer (first_line bytes) ≡ Ok a
 nineteen_spelled bytes a long lf h =
     let parts : bytes ≡ take 19 bytes ++ 10 ∷ [] = ends_with 19 bytes (omega (arith, long)) ∙ ap (λ (b : ℕ). take 19 bytes ++ b ∷ []) lf in
     first_spelled bytes (take 19 bytes) a parts (length-take-le 19 bytes (omega (arith, long))) h
+
+-- the first line, by its length
+first_taken : (bytes : List ℕ) → take (length (first_line bytes)) bytes ≡ first_line bytes
+first_taken [] = refl
+first_taken (b ∷ bs) = subst P (sym (take_while-cons is_inside b bs)) (by (is_inside b) (first_taken bs))
+  where
+    P : List ℕ → Type 0
+    P line = take (length line) (b ∷ bs) ≡ line
+
+    by : (c : Bool) → take (length (first_line bs)) bs ≡ first_line bs → P (cond c (b ∷ first_line bs) [])
+    by true e = ap (λ (l : List ℕ). b ∷ l) e
+    by false e = refl
+
+-- the answer that the judged bytes spell is the first line's
+pub spells_first : (bytes : List ℕ) (n : ℕ) (a : Answer) → IsJudged bytes n → Ok a ≡ line_answer (take n bytes) → Ok a ≡ line_answer (first_line bytes)
+spells_first bytes n a (inl e) h = h ∙ ap line_answer (ap (λ (k : ℕ). take k bytes) e ∙ first_taken bytes)
+spells_first bytes n a (inr e) h = sym (nineteen_spelled bytes a e.1 e.2 (ap (λ (k : ℕ). line_answer (take k bytes)) (sym e.0) ∙ sym h))

@@ -1,5 +1,5 @@
 -- The lines of an answer text, and the answer that a line spells.
-use Rattle.std.specs.Prelude.{ℕ, ◌+◌, ◌*◌, ◌^◌, unwrap_or, Bool, true, false, ◌==◌, ◌&&◌, not, List, [], ◌∷◌, length, take_while, slice_index, slice_range, Option, Some, None, Result, Ok, Err, if◌then◌else◌}
+use Rattle.std.specs.Prelude.{◌≡◌, ◌⊎◌, ℕ, ◌+◌, ◌*◌, ◌^◌, unwrap_or, Bool, true, false, ◌==◌, ◌&&◌, not, List, [], ◌∷◌, length, take_while, slice_index, slice_range, Option, Some, None, Result, Ok, Err, if◌then◌else◌}
 use Rattle.byteorder.specs.Endian.{big_number}
 use Rattle.hex.specs.Hex.{decode_sized, hex_digit_value}
 use Rattle.hex.specs.declared.error.FromHexError.{FromHexError}
@@ -23,6 +23,10 @@ is_inside b = not (b == 10)
 -- the bytes before the first LF
 abbrev pub first_line : List ℕ → List ℕ
 first_line text = take_while is_inside text
+
+-- as many bytes as the first line has, or those before an LF that ends a whole line
+abbrev pub IsJudged : List ℕ → ℕ → Type 0
+IsJudged bytes n = (n ≡ length (first_line bytes)) ⊎ ((n ≡ 19) × (length bytes ≡ 20) × (slice_index bytes 19 ≡ 10))
 
 infixl 10 ◌>>=◌
 abbrev pub ◌>>=◌ : {A B : Type 0} → Result A AnswerRule → (A → Result B AnswerRule) → Result B AnswerRule

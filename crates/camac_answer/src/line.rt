@@ -1,7 +1,7 @@
 // The answer that a line spells.
 
 ghost use Rattle.std.specs.Prelude.{◌≡◌, ◌≤◌, ◌<◌, ◌^◌, ◌*◌, length, IfOk};
-ghost use Rattle.camac_answer.specs.Lines.{first_line, bit_at, word_at, digit_number, pair_number, wait_at, has_shape as is_shaped, fields_answer, line_answer};
+ghost use Rattle.camac_answer.specs.Lines.{first_line, IsJudged, bit_at, word_at, digit_number, pair_number, wait_at, has_shape as is_shaped, fields_answer, line_answer};
 
 use crate::fault::AnswerRule;
 use crate::filling::LINE;
@@ -123,14 +123,29 @@ fn fields_of(line: &[u8]) -> Result<Answer, AnswerRule>
 pub(crate) fn first_answer(bytes: &[u8]) -> Result<Answer, AnswerRule>
     ensures { result ≡ line_answer (first_line bytes.now) }
 {
-    // What spells an answer has no LF in it.
-    if bytes.len() == LINE
-        && bytes[LINE - 1] == b'\n'
-        && let Ok(answer) = answer_of(&bytes[..LINE - 1])
-    {
-        return Ok(answer);
+    let len = judged_length(bytes);
+    match answer_of(&bytes[..len]) {
+        Ok(answer) => Ok(answer),
+        Err(rule) => {
+            if line_length(bytes) == len {
+                Err(rule)
+            } else {
+                Err(AnswerRule::LineShape)
+            }
+        }
     }
-    answer_of(&bytes[..line_length(bytes)])
+}
+
+// How many bytes are judged as the first line. Of a whole line it is all but its LF: what spells an answer has no LF in it, so an earlier one
+// is looked for only where these bytes spell none.
+fn judged_length(bytes: &[u8]) -> usize
+    ensures { IsJudged bytes.now result }
+{
+    if bytes.len() == LINE && bytes[LINE - 1] == b'\n' {
+        LINE - 1
+    } else {
+        line_length(bytes)
+    }
 }
 
 // The answer of a line without its LF.

@@ -1,4 +1,4 @@
-use Rattle.std.proofs.Common.{◌≡◌, ℕ, zero, suc, ◌-◌, ◌<◌, ◌≤◌, Bool, true, ◌&&◌, T, eqb, get_or, inl, inr, eq-zero-or-pos, eqb→eq, sym, ◌∙◌, subst, arith}
+use Rattle.std.proofs.Common.{◌≡◌, ℕ, zero, suc, ◌-◌, ◌<◌, Bool, true, ◌&&◌, T, eqb, get_or, inl, inr, eq-zero-or-pos, eqb→eq, arith}
 use lib.Ieee.Fits.{and_l, and_r}
 use Rattle.camac_answer.specs.Lines.{digit_number}
 use Rattle.camac_answer.specs.declared.line.TheConstants.{VALUES}
