@@ -6,7 +6,7 @@ ghost use Rattle.camac_text_tokens.specs.Left.{list_of, IsLeft, AnswersTokens, I
 
 use crate::extent::extent_of;
 use crate::fault::TextFault;
-use crate::scanner::{Start, comment_len, is_blank, line_feeds, line_number, start_of};
+use crate::scanner::{Start, comment_len, is_blank, line_number, start_of};
 use crate::token::Token;
 use std::marker::Model;
 
@@ -79,11 +79,11 @@ fn left_from(text: &[u8], line: usize) -> TokensLeft<'_>
                 kind,
                 line: line_number(line),
             };
-            let (taken, rest) = rest.split_at(size);
+            let (_, rest) = rest.split_at(size);
             TokensLeft {
                 next: Some(next),
                 rest,
-                line: line + line_feeds(taken),
+                line,
             }
         }
         _ => unreachable!(),
@@ -98,8 +98,8 @@ fn first_fault(text: &[u8]) -> Option<TextFault>
     while !rest.is_empty() {
         match extent_of(rest) {
             Ok(size) => {
-                let (taken, after) = rest.split_at(size);
-                (rest, line) = past_gaps(after, line + line_feeds(taken));
+                let (_, after) = rest.split_at(size);
+                (rest, line) = past_gaps(after, line);
             }
             Err(rule) => {
                 let line = line_number(line);
