@@ -1,5 +1,5 @@
 -- No token has a line feed, so what is behind it is on its line.
-use Rattle.std.proofs.Common.{◌≡◌, ℕ, ◌+◌, Bool, true, false, cond, ltb, eqb, List, [], ◌∷◌, length, take, Option, Some, None, refl, sym, ap, subst, ◌∙◌, arith}
+use Rattle.std.proofs.Common.{◌≡◌, ℕ, zero, suc, ◌+◌, Bool, true, false, cond, ltb, eqb, List, [], ◌∷◌, length, take, drop, Option, Some, None, refl, sym, ap, subst, ◌∙◌, arith}
 use Rattle.std.specs.Prelude.{take_while}
 use Rattle.std.specs.Char.{is_ascii_digit, is_ascii_alphabetic}
 use Rattle.std.proofs.lemmas.Bool.Decides.{nat_tests}
@@ -71,3 +71,21 @@ start_on_one_line b bs =
     one_line_if (is_ascii_alphabetic b) _ _ text (word_on_one_line (keyword (take_while is_name_byte (b ∷ bs))) (b ∷ bs)) (
     one_line_if (is_ascii_digit b) _ _ text (one_line_if (ltb (decimal_value (take_while is_ascii_digit (b ∷ bs))) 4294967296) _ _ text (taken_run is_ascii_digit digit (b ∷ bs)) tt) (
     sign_on_one_line (pair_at (b ∷ bs)) (single_at (b ∷ bs)) b bs refl refl))))
+
+-- ---- the line feeds of what is behind
+
+pub feeds_split : (n : ℕ) (xs : List ℕ) → line_feeds (take n xs) + line_feeds (drop n xs) ≡ line_feeds xs
+feeds_split zero xs = omega arith
+feeds_split (suc n) [] = omega arith
+feeds_split (suc n) (x ∷ xs) =
+    let whole = feeds-cons x xs in
+    let front = feeds-cons x (take n xs) in
+    let rest = feeds_split n xs in
+    omega (arith, whole, front, rest)
+
+pub feeds_behind : (n : ℕ) (xs : List ℕ) → line_feeds (take n xs) ≡ 0 → line_feeds (drop n xs) ≡ line_feeds xs
+feeds_behind n xs none = omega (arith, none, feeds_split n xs)
+
+pub no_bytes : (xs : List ℕ) → length xs ≡ 0 → line_feeds xs ≡ 0
+no_bytes [] e = refl
+no_bytes (x ∷ xs) e = absurd (omega arith)

@@ -16,8 +16,8 @@ use Rattle.camac_text_tokens.specs.Words.{keyword}
 use Rattle.camac_text_tokens.specs.Scanning.{is_name_byte, is_blank, is_no_line_feed, decimal_value, keyword_or, pair_at, single_at, pair_or_single, start_of, size, added, wrong, tokens_by, tokens_from, line_after, line_number}
 use Rattle.camac_text_tokens.specs.Left.{list_of, BeginsNoGap, IsExtent}
 use Rattle.camac_text_tokens.proofs.Spellings.{no_long_keyword}
-use Rattle.camac_text_tokens.proofs.Scans.{line_feeds, take_run, run_some, with_all, none_all, start_step, sized_start, goes}
-use Rattle.camac_text_tokens.proofs.OneLine.{run_feeds, OnOneLine, start_on_one_line}
+use Rattle.camac_text_tokens.proofs.Scans.{line_feeds, feeds-cons, lines_step, take_run, run_some, with_all, none_all, start_step, sized_start, goes}
+use Rattle.camac_text_tokens.proofs.OneLine.{run_feeds, OnOneLine, start_on_one_line, feeds_behind}
 
 on : {A : Type 0} (t : Bool) (x y : A) → t ≡ true → cond t x y ≡ x
 on true x y e = refl
@@ -50,11 +50,14 @@ comment_is b bs is = off (is_blank b) _ _ (subst (λ (c : ℕ). is_blank c ≡ f
 pub comment_some : (b : ℕ) (bs : List ℕ) → eqb b 35 ≡ true → 0 < length (take_while is_no_line_feed (b ∷ bs))
 comment_some b bs is = run_some is_no_line_feed b bs (subst (λ (c : ℕ). is_no_line_feed c ≡ true) (sym (eqb-true b 35 is)) refl)
 
+comment_feeds : (b : ℕ) (bs : List ℕ) → line_feeds (take (length (take_while is_no_line_feed (b ∷ bs))) (b ∷ bs)) ≡ 0
+comment_feeds b bs = ap line_feeds (take_run is_no_line_feed (b ∷ bs)) ∙ run_feeds is_no_line_feed no_feed (b ∷ bs)
+
 pub comment_past : (b line : ℕ) (bs : List ℕ) → eqb b 35 ≡ true → tokens_from 0 line (drop (length (take_while is_no_line_feed (b ∷ bs))) (b ∷ bs)) ≡ tokens_from 0 line (b ∷ bs)
 unfolding tokens_from
 comment_past b line bs is =
     let n : ℕ = length (take_while is_no_line_feed (b ∷ bs)) in
-    let feeds : line_feeds (take (length (take_while is_no_line_feed (b ∷ bs))) (b ∷ bs)) ≡ 0 = ap line_feeds (take_run is_no_line_feed (b ∷ bs)) ∙ run_feeds is_no_line_feed no_feed (b ∷ bs) in
+    let feeds : line_feeds (take (length (take_while is_no_line_feed (b ∷ bs))) (b ∷ bs)) ≡ 0 = comment_feeds b bs in
     let same : line + line_feeds (take (length (take_while is_no_line_feed (b ∷ bs))) (b ∷ bs)) ≡ line = omega (arith, feeds) in
     sym (
     ap (λ (f : Start). tokens_by f line (λ skip. tokens_from skip (line_after line b) bs)) (comment_is b bs is)
@@ -68,6 +71,7 @@ pub record Skips (line : ℕ) (rest : List ℕ) (after : ℕ) (n : ℕ) : Type 0
   pub same : tokens_from 0 after (drop n rest) ≡ tokens_from 0 line rest
   pub lines : after + length (drop n rest) ≤ line + length rest
   pub shorter : length (drop n rest) < length rest
+  pub feeds : after + line_feeds (drop n rest) ≡ line + line_feeds rest
 
 pub comment_skips : (line : ℕ) (rest : List ℕ) → 0 < length rest → slice_index rest 0 ≡ 35 → Skips line rest line (length (take_while is_no_line_feed rest))
 comment_skips line [] some is = absurd (omega arith)
@@ -76,7 +80,7 @@ comment_skips line (b ∷ bs) some is =
     let n : ℕ = length (take_while is_no_line_feed (b ∷ bs)) in
     let left = length-drop n (b ∷ bs) in
     let some_bytes = comment_some b bs hash in
-    record { same = comment_past b line bs hash; lines = omega (arith, left); shorter = omega (arith, left, some_bytes) }
+    record { same = comment_past b line bs hash; lines = omega (arith, left); shorter = omega (arith, left, some_bytes); feeds = ap (λ (m : ℕ). line + m) (feeds_behind n (b ∷ bs) (comment_feeds b bs)) }
 
 line_step : (t : Bool) (line n : ℕ) → cond t (line + 1) line + n ≤ line + suc n
 line_step true line n = omega arith
@@ -84,7 +88,7 @@ line_step false line n = omega arith
 
 pub blank_skips : (line : ℕ) (rest : List ℕ) → 0 < length rest → is_blank (slice_index rest 0) ≡ true → Skips line rest (line_after line (slice_index rest 0)) 1
 blank_skips line [] some is = absurd (omega arith)
-blank_skips line (b ∷ bs) some is = record { same = blank_past b line bs is; lines = line_step (eqb b 10) line (length bs); shorter = omega arith }
+blank_skips line (b ∷ bs) some is = record { same = blank_past b line bs is; lines = line_step (eqb b 10) line (length bs); shorter = omega arith; feeds = lines_step (eqb b 10) line (line_feeds bs) ∙ ap (λ (m : ℕ). line + m) (sym (feeds-cons b bs)) }
 
 -- ---- what begins with no gap
 
@@ -179,6 +183,12 @@ goes_on xs line (b ∷ bs) total some begins good so_far =
     let f : Start = start_of b (b ∷ bs) in
     ap (λ (l : ℕ). with_all (xs ++ added f (line_number line)) (tokens_from 0 l (drop (size f) (b ∷ bs)))) (sym (same_line line _ (taken_feeds f (b ∷ bs) (no_gap_start b bs begins.0 begins.1) (start_on_one_line b bs))))
     ∙ goes xs line (b ∷ bs) total some good so_far
+
+pub feeds_on : (rest : List ℕ) → 0 < length rest → BeginsNoGap rest → line_feeds (drop (size (start_of (slice_index rest 0) rest)) rest) ≡ line_feeds rest
+feeds_on [] some begins = absurd (omega arith)
+feeds_on (b ∷ bs) some begins =
+    let f : Start = start_of b (b ∷ bs) in
+    feeds_behind (size f) (b ∷ bs) (taken_feeds f (b ∷ bs) (no_gap_start b bs begins.0 begins.1) (start_on_one_line b bs))
 
 pub none_left : (line : ℕ) (rest : List ℕ) → length rest ≡ 0 → list_of (tokens_from 0 line rest) ≡ []
 unfolding tokens_from
