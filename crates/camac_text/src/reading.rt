@@ -10,7 +10,7 @@ ghost use Rattle.camac_text.specs.Parser.{tree_so_far, script_of};
 use crate::declarations::declarations;
 use camac_lang::Script;
 use camac_text_cursor::Parser;
-use camac_text_tokens::{TextFault, TokensLeft, last_line};
+use camac_text_tokens::{TextFault, TokensLeft};
 use std::alloc::Global;
 
 /// The script that a text spells.
@@ -32,8 +32,8 @@ pub fn parse(alloc: Global, text: &[u8]) -> Result<Script, TextFault>
 fn read(alloc: Global, text: &[u8]) -> Result<Script, TextFault>
     ensures { Answers result (script_of text.now) }
 {
-    let tokens = TokensLeft::new(text)?;
-    let mut parser = Parser::new(alloc, tokens, last_line(text));
+    let (tokens, end) = TokensLeft::with_end(text)?;
+    let mut parser = Parser::new(alloc, tokens, end);
     declarations(&mut parser)?;
     Ok(script_in(parser))
 }

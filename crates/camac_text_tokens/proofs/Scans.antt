@@ -101,7 +101,7 @@ line_feeds bytes = count_by (λ b. eqb b 10) bytes
 pub feeds-cons : (b : ℕ) (bs : List ℕ) → line_feeds (b ∷ bs) ≡ cond (eqb b 10) 1 0 + line_feeds bs
 feeds-cons b bs = sum_by-cons (λ y. cond (eqb y 10) 1 0) b bs
 
-lines_step : (t : Bool) (line c : ℕ) → cond t (line + 1) line + c ≡ line + (cond t 1 0 + c)
+pub lines_step : (t : Bool) (line c : ℕ) → cond t (line + 1) line + c ≡ line + (cond t 1 0 + c)
 lines_step true line c = omega arith
 lines_step false line c = omega arith
 

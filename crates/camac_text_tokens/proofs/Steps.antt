@@ -1,9 +1,8 @@
 -- What is left of the tokens of a text, step by step.
-use Rattle.std.proofs.Common.{◌≡◌, ℕ, suc, ◌+◌, ◌≤◌, ◌<◌, Bool, true, false, not, cond, ltb, eqb, List, [], ◌∷◌, length, take, drop, Option, Some, None, Result, Ok, Err, refl, sym, ap, subst, ◌∙◌, length-drop, arith}
+use Rattle.std.proofs.Common.{◌≡◌, ℕ, suc, ◌+◌, ◌≤◌, ◌<◌, Bool, true, false, not, cond, ltb, eqb, List, [], ◌∷◌, ◌++◌, length, take, drop, Option, Some, None, Result, Ok, Err, refl, sym, ap, subst, ◌∙◌, length-drop, arith}
 use Rattle.std.specs.Prelude.{take_while, slice_index}
 use Rattle.std.specs.Char.{is_ascii_digit, is_ascii_alphabetic}
 use Rattle.std.proofs.lemmas.Bool.{lt-ltb, le-ltb, eqb-true}
-use Rattle.std.proofs.lemmas.List.Sums.{take_while-cons}
 use Rattle.camac_text_tokens.specs.declared.token.Keyword.{Keyword}
 use Rattle.camac_text_tokens.specs.declared.token.Sign.{Sign}
 use Rattle.camac_text_tokens.specs.declared.token.Token.{Token}
@@ -14,10 +13,11 @@ use Rattle.camac_text_tokens.specs.declared.fault.TextRule.{TextRule}
 use Rattle.camac_text_tokens.specs.declared.fault.TextRule.TheVariants.{LimitPassed}
 use Rattle.camac_text_tokens.specs.Fault.{Fault}
 use Rattle.camac_text_tokens.specs.Words.{keyword}
-use Rattle.camac_text_tokens.specs.Scanning.{is_name_byte, is_blank, is_no_line_feed, decimal_value, keyword_or, pair_at, single_at, pair_or_single, start_of, size, wrong, tokens_by, tokens_from, line_after, line_number}
+use Rattle.camac_text_tokens.specs.Scanning.{is_name_byte, is_blank, is_no_line_feed, decimal_value, keyword_or, pair_at, single_at, pair_or_single, start_of, size, added, wrong, tokens_by, tokens_from, line_after, line_number}
 use Rattle.camac_text_tokens.specs.Left.{list_of, BeginsNoGap, IsExtent}
 use Rattle.camac_text_tokens.proofs.Spellings.{no_long_keyword}
-use Rattle.camac_text_tokens.proofs.Scans.{line_feeds, feeds-cons, take_run, run_some, with_all, none_all, start_step, sized_start}
+use Rattle.camac_text_tokens.proofs.Scans.{line_feeds, feeds-cons, lines_step, take_run, run_some, with_all, none_all, start_step, sized_start, goes}
+use Rattle.camac_text_tokens.proofs.OneLine.{run_feeds, OnOneLine, start_on_one_line, feeds_behind}
 
 on : {A : Type 0} (t : Bool) (x y : A) → t ≡ true → cond t x y ≡ x
 on true x y e = refl
@@ -37,13 +37,11 @@ pub blank_past : (b line : ℕ) (bs : List ℕ) → is_blank b ≡ true → toke
 unfolding tokens_from
 blank_past b line bs is = sym (ap (λ (f : Start). tokens_by f line (λ skip. tokens_from skip (line_after line b) bs)) (blank_is b bs is))
 
-feed_step : (t : Bool) (x : ℕ) (ys : List ℕ) → eqb x 10 ≡ t → line_feeds ys ≡ 0 → line_feeds (cond (not t) (x ∷ ys) []) ≡ 0
-feed_step true x ys e h = refl
-feed_step false x ys e h = feeds-cons x ys ∙ ap (λ (t : Bool). cond t 1 0 + line_feeds ys) e ∙ (let none : cond false 1 0 + line_feeds ys ≡ 0 = omega (arith, h) in none)
-
-no_feeds : (xs : List ℕ) → line_feeds (take_while is_no_line_feed xs) ≡ 0
-no_feeds [] = refl
-no_feeds (x ∷ xs) = subst (λ (w : List ℕ). line_feeds w ≡ 0) (sym (take_while-cons is_no_line_feed x xs)) (feed_step (eqb x 10) x (take_while is_no_line_feed xs) refl (no_feeds xs))
+no_feed : (b : ℕ) → is_no_line_feed b ≡ true → eqb b 10 ≡ false
+no_feed b e = off_not (eqb b 10) e where
+  off_not : (t : Bool) → not t ≡ true → t ≡ false
+  off_not true e = absurd cc
+  off_not false e = refl
 
 comment_is : (b : ℕ) (bs : List ℕ) → eqb b 35 ≡ true → start_of b (b ∷ bs) ≡ start.Gap (length (take_while is_no_line_feed (b ∷ bs)))
 unfolding start_of
@@ -52,11 +50,14 @@ comment_is b bs is = off (is_blank b) _ _ (subst (λ (c : ℕ). is_blank c ≡ f
 pub comment_some : (b : ℕ) (bs : List ℕ) → eqb b 35 ≡ true → 0 < length (take_while is_no_line_feed (b ∷ bs))
 comment_some b bs is = run_some is_no_line_feed b bs (subst (λ (c : ℕ). is_no_line_feed c ≡ true) (sym (eqb-true b 35 is)) refl)
 
+comment_feeds : (b : ℕ) (bs : List ℕ) → line_feeds (take (length (take_while is_no_line_feed (b ∷ bs))) (b ∷ bs)) ≡ 0
+comment_feeds b bs = ap line_feeds (take_run is_no_line_feed (b ∷ bs)) ∙ run_feeds is_no_line_feed no_feed (b ∷ bs)
+
 pub comment_past : (b line : ℕ) (bs : List ℕ) → eqb b 35 ≡ true → tokens_from 0 line (drop (length (take_while is_no_line_feed (b ∷ bs))) (b ∷ bs)) ≡ tokens_from 0 line (b ∷ bs)
 unfolding tokens_from
 comment_past b line bs is =
     let n : ℕ = length (take_while is_no_line_feed (b ∷ bs)) in
-    let feeds : line_feeds (take (length (take_while is_no_line_feed (b ∷ bs))) (b ∷ bs)) ≡ 0 = ap line_feeds (take_run is_no_line_feed (b ∷ bs)) ∙ no_feeds (b ∷ bs) in
+    let feeds : line_feeds (take (length (take_while is_no_line_feed (b ∷ bs))) (b ∷ bs)) ≡ 0 = comment_feeds b bs in
     let same : line + line_feeds (take (length (take_while is_no_line_feed (b ∷ bs))) (b ∷ bs)) ≡ line = omega (arith, feeds) in
     sym (
     ap (λ (f : Start). tokens_by f line (λ skip. tokens_from skip (line_after line b) bs)) (comment_is b bs is)
@@ -70,6 +71,7 @@ pub record Skips (line : ℕ) (rest : List ℕ) (after : ℕ) (n : ℕ) : Type 0
   pub same : tokens_from 0 after (drop n rest) ≡ tokens_from 0 line rest
   pub lines : after + length (drop n rest) ≤ line + length rest
   pub shorter : length (drop n rest) < length rest
+  pub feeds : after + line_feeds (drop n rest) ≡ line + line_feeds rest
 
 pub comment_skips : (line : ℕ) (rest : List ℕ) → 0 < length rest → slice_index rest 0 ≡ 35 → Skips line rest line (length (take_while is_no_line_feed rest))
 comment_skips line [] some is = absurd (omega arith)
@@ -78,7 +80,7 @@ comment_skips line (b ∷ bs) some is =
     let n : ℕ = length (take_while is_no_line_feed (b ∷ bs)) in
     let left = length-drop n (b ∷ bs) in
     let some_bytes = comment_some b bs hash in
-    record { same = comment_past b line bs hash; lines = omega (arith, left); shorter = omega (arith, left, some_bytes) }
+    record { same = comment_past b line bs hash; lines = omega (arith, left); shorter = omega (arith, left, some_bytes); feeds = ap (λ (m : ℕ). line + m) (feeds_behind n (b ∷ bs) (comment_feeds b bs)) }
 
 line_step : (t : Bool) (line n : ℕ) → cond t (line + 1) line + n ≤ line + suc n
 line_step true line n = omega arith
@@ -86,7 +88,7 @@ line_step false line n = omega arith
 
 pub blank_skips : (line : ℕ) (rest : List ℕ) → 0 < length rest → is_blank (slice_index rest 0) ≡ true → Skips line rest (line_after line (slice_index rest 0)) 1
 blank_skips line [] some is = absurd (omega arith)
-blank_skips line (b ∷ bs) some is = record { same = blank_past b line bs is; lines = line_step (eqb b 10) line (length bs); shorter = omega arith }
+blank_skips line (b ∷ bs) some is = record { same = blank_past b line bs is; lines = line_step (eqb b 10) line (length bs); shorter = omega arith; feeds = lines_step (eqb b 10) line (line_feeds bs) ∙ ap (λ (m : ℕ). line + m) (sym (feeds-cons b bs)) }
 
 -- ---- what begins with no gap
 
@@ -119,6 +121,9 @@ no_gap_start b bs no_blank no_hash =
 
 -- ---- one token
 
+same_line : (line n : ℕ) → n ≡ 0 → line + n ≡ line
+same_line line n e = omega (arith, e)
+
 token_step : (b line : ℕ) (bs : List ℕ) (f : Start) → start_of b (b ∷ bs) ≡ f → tokens_from 0 line (b ∷ bs) ≡ tokens_by f line (λ skip. tokens_from skip (line_after line b) bs)
 unfolding tokens_from
 token_step b line bs f is = ap (λ (g : Start). tokens_by g line (λ skip. tokens_from skip (line_after line b) bs)) is
@@ -144,10 +149,12 @@ pub found_size : (rest : List ℕ) (k : TokenKind) (n : ℕ) → 0 < length rest
 found_size [] k n some is = absurd (omega arith)
 found_size (b ∷ bs) k n some is = found_some b bs k n is
 
-token_goes : (line : ℕ) (rest : List ℕ) (k : TokenKind) (n : ℕ) → 0 < length rest → start_of (slice_index rest 0) rest ≡ start.Found k n
-    → tokens_from 0 line rest ≡ with_all (record { kind = k; line = line_number line } ∷ []) (tokens_from 0 (line + line_feeds (take n rest)) (drop n rest))
+token_goes : (line : ℕ) (rest : List ℕ) (k : TokenKind) (n : ℕ) → 0 < length rest → start_of (slice_index rest 0) rest ≡ start.Found k n → tokens_from 0 line rest ≡ with_all (record { kind = k; line = line_number line } ∷ []) (tokens_from 0 line (drop n rest))
 token_goes line [] k n some is = absurd (omega arith)
-token_goes line (b ∷ bs) k n some is = token_step b line bs (start.Found k n) is ∙ start_step (start.Found k n) b line bs refl (found_some b bs k n is).0
+token_goes line (b ∷ bs) k n some is =
+    token_step b line bs (start.Found k n) is
+    ∙ start_step (start.Found k n) b line bs refl (found_some b bs k n is).0
+    ∙ ap (λ (l : ℕ). with_all (record { kind = k; line = line_number line } ∷ []) (tokens_from 0 l (drop n (b ∷ bs)))) (same_line line _ (subst (λ (f : Start). OnOneLine f (b ∷ bs)) is (start_on_one_line b bs)))
 
 -- what is read after one token
 pub record Behind (t : Token) (whole rest : Result (List Token) Fault) : Type 0 where
@@ -159,8 +166,29 @@ behind t (Ok ts) whole is cut = record { next = sym (ap list_of is); cut = refl 
 behind t (Err e) whole is cut = let both = sym is ∙ cut in absurd cc
 
 pub token_left : (line : ℕ) (rest : List ℕ) (k : TokenKind) (n : ℕ) → 0 < length rest → start_of (slice_index rest 0) rest ≡ start.Found k n → tokens_from 0 line rest ≡ Ok (list_of (tokens_from 0 line rest))
-    → Behind (record { kind = k; line = line_number line }) (tokens_from 0 line rest) (tokens_from 0 (line + line_feeds (take n rest)) (drop n rest))
+    → Behind (record { kind = k; line = line_number line }) (tokens_from 0 line rest) (tokens_from 0 line (drop n rest))
 token_left line rest k n some is cut = behind (record { kind = k; line = line_number line }) _ (tokens_from 0 line rest) (token_goes line rest k n some is) cut
+
+-- the bytes of what is no gap have no line feed
+taken_feeds : (f : Start) (text : List ℕ) → NoGap f → OnOneLine f text → line_feeds (take (size f) text) ≡ 0
+taken_feeds (start.Gap n) text no_gap one = absurd no_gap
+taken_feeds (start.Found k n) text no_gap one = one
+taken_feeds (start.Wrong rule) text no_gap one = refl
+
+-- so the bytes behind it are on the same line
+pub goes_on : (xs : List Token) (line : ℕ) (rest : List ℕ) (total : Result (List Token) Fault) → 0 < length rest → BeginsNoGap rest → wrong (start_of (slice_index rest 0) rest) ≡ None → with_all xs (tokens_from 0 line rest) ≡ total
+    → with_all (xs ++ added (start_of (slice_index rest 0) rest) (line_number line)) (tokens_from 0 line (drop (size (start_of (slice_index rest 0) rest)) rest)) ≡ total
+goes_on xs line [] total some begins good so_far = absurd (omega arith)
+goes_on xs line (b ∷ bs) total some begins good so_far =
+    let f : Start = start_of b (b ∷ bs) in
+    ap (λ (l : ℕ). with_all (xs ++ added f (line_number line)) (tokens_from 0 l (drop (size f) (b ∷ bs)))) (sym (same_line line _ (taken_feeds f (b ∷ bs) (no_gap_start b bs begins.0 begins.1) (start_on_one_line b bs))))
+    ∙ goes xs line (b ∷ bs) total some good so_far
+
+pub feeds_on : (rest : List ℕ) → 0 < length rest → BeginsNoGap rest → line_feeds (drop (size (start_of (slice_index rest 0) rest)) rest) ≡ line_feeds rest
+feeds_on [] some begins = absurd (omega arith)
+feeds_on (b ∷ bs) some begins =
+    let f : Start = start_of b (b ∷ bs) in
+    feeds_behind (size f) (b ∷ bs) (taken_feeds f (b ∷ bs) (no_gap_start b bs begins.0 begins.1) (start_on_one_line b bs))
 
 pub none_left : (line : ℕ) (rest : List ℕ) → length rest ≡ 0 → list_of (tokens_from 0 line rest) ≡ []
 unfolding tokens_from

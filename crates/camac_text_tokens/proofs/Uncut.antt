@@ -111,7 +111,7 @@ unfolding start_of
 blank_start b rest e = on (is_blank b) _ _ e
 
 -- a fact that holds of each entry of a table holds of what is spelled in it
-abbrev Each : {W : Type 0} → (List ℕ → W → Type 0) → List (Spelling W) → Type 0
+abbrev pub Each : {W : Type 0} → (List ℕ → W → Type 0) → List (Spelling W) → Type 0
 Each P [] = Unit {0}
 Each P (s ∷ ss) = P s.bytes s.spelled × Each P ss
 
@@ -121,7 +121,7 @@ entry_step P true entry text w rest is holds more e = subst (λ (x : _). P text 
   same x y e = cc
 entry_step P false entry text w rest is holds more e = more e
 
-entry_of : {W : Type 0} (P : List ℕ → W → Type 0) (table : List (Spelling W)) (text : List ℕ) (w : W) → Each P table → spelled_in table text ≡ Some w → P text w
+pub entry_of : {W : Type 0} (P : List ℕ → W → Type 0) (table : List (Spelling W)) (text : List ℕ) (w : W) → Each P table → spelled_in table text ≡ Some w → P text w
 entry_of P [] text w each e = absurd cc
 entry_of P (s ∷ ss) text w each e = entry_step P (bytes_eq text s.bytes) s text w (spelled_in ss text) (λ h. (bytes_eq-Decides text s.bytes).0 h) each.0 (λ h. entry_of P ss text w each.1 h) e
 

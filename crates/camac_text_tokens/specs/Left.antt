@@ -1,5 +1,5 @@
 -- What is left of the tokens of a text.
-use Rattle.std.specs.Prelude.{◌≡◌, ℕ, ◌+◌, ◌≤◌, false, ◌==◌, List, [], ◌∷◌, length, Option, Some, None, Result, Ok, Err}
+use Rattle.std.specs.Prelude.{◌≡◌, ℕ, ◌+◌, ◌≤◌, false, ◌==◌, List, [], ◌∷◌, length, count_by, Option, Some, None, Result, Ok, Err}
 use Rattle.camac_text_tokens.specs.declared.token.Token.{Token}
 use Rattle.camac_text_tokens.specs.declared.scanner.Start.{Start}
 use Rattle.camac_text_tokens.specs.declared.fault.TextRule.{TextRule}
@@ -29,23 +29,30 @@ AnswersTokens (Ok ts) read = read ≡ Ok ts
 AnswersTokens (Err fault.OutOfMemory) read = ⊥
 AnswersTokens (Err (fault.Broken rule line)) read = read ≡ Err (record { rule = rule; line = line })
 
+-- the same, with the line of the text's end
+abbrev pub AnswersWithEnd : Result (List Token × ℕ) TextFault → Result (List Token) Fault → ℕ → Type 0
+AnswersWithEnd (Ok p) read end = (read ≡ Ok p.0) × (p.1 ≡ end)
+AnswersWithEnd (Err fault.OutOfMemory) read end = ⊥
+AnswersWithEnd (Err (fault.Broken rule line)) read end = read ≡ Err (record { rule = rule; line = line })
+
 -- bytes that begin with neither a blank nor a comment
 abbrev pub BeginsNoGap : List ℕ → Type 0
 BeginsNoGap [] = Unit {0}
 BeginsNoGap (b ∷ bs) = (is_blank b ≡ false) × ((b == 35) ≡ false)
 
--- the bytes after the gaps at the start of others have the same tokens
+-- the bytes after the gaps at the start of others have the same tokens, and end on the same line
 pub record IsPastGaps (line : ℕ) (text : List ℕ) (after : ℕ) (rest : List ℕ) : Type 0 where
   pub same : tokens_from 0 after rest ≡ tokens_from 0 line text
   pub lines : after + length rest ≤ line + length text
   pub shorter : length rest ≤ length text
   pub begins : BeginsNoGap rest
+  pub feeds : after + count_by (λ b. b == 10) rest ≡ line + count_by (λ b. b == 10) text
 
--- the first token fault, if there is one
-abbrev pub SameFault : Option TextFault → Result (List Token) Fault → Type 0
-SameFault None read = read ≡ Ok (list_of read)
-SameFault (Some fault.OutOfMemory) read = ⊥
-SameFault (Some (fault.Broken rule line)) read = read ≡ Err (record { rule = rule; line = line })
+-- the line of the text's end, or the first token fault
+abbrev pub EndOrFault : Result ℕ TextFault → Result (List Token) Fault → ℕ → Type 0
+EndOrFault (Ok line) read end = (read ≡ Ok (list_of read)) × (line ≡ end)
+EndOrFault (Err fault.OutOfMemory) read end = ⊥
+EndOrFault (Err (fault.Broken rule line)) read end = read ≡ Err (record { rule = rule; line = line })
 
 -- the bytes that are taken at the start, or what is wrong there
 abbrev pub IsExtent : Result ℕ TextRule → Start → Type 0

@@ -1,12 +1,12 @@
 // What is left of the tokens of a text: they are cut one by one, where they are wanted.
 
 ghost use Rattle.std.specs.Prelude.{◌≡◌, ◌+◌, ◌≤◌, drop, length, slice_get, option_copied};
-ghost use Rattle.camac_text_tokens.specs.Scanning.{line_after, tokens_from, tokens_of};
-ghost use Rattle.camac_text_tokens.specs.Left.{list_of, IsLeft, AnswersTokens, IsPastGaps, SameFault};
+ghost use Rattle.camac_text_tokens.specs.Scanning.{last_line, line_after, tokens_from, tokens_of};
+ghost use Rattle.camac_text_tokens.specs.Left.{list_of, IsLeft, AnswersTokens, AnswersWithEnd, IsPastGaps, EndOrFault};
 
 use crate::extent::extent_of;
 use crate::fault::TextFault;
-use crate::scanner::{Start, comment_len, is_blank, line_feeds, line_number, start_of};
+use crate::scanner::{Start, comment_len, is_blank, line_number, start_of};
 use crate::token::Token;
 use std::marker::Model;
 
@@ -37,10 +37,16 @@ impl<'a> TokensLeft<'a> {
     pub fn new(text: &'a [u8]) -> Result<Self, TextFault>
         ensures { AnswersTokens result (tokens_of text.now) }
     {
-        match first_fault(text) {
-            Some(fault) => Err(fault),
-            None => Ok(left_from(text, 1)),
-        }
+        let (left, _) = TokensLeft::with_end(text)?;
+        Ok(left)
+    }
+
+    /// What `new` answers, and the line of the text's end, so that the text need not be read for it once more.
+    pub fn with_end(text: &'a [u8]) -> Result<(Self, u32), TextFault>
+        ensures { AnswersWithEnd result (tokens_of text.now) (last_line text.now) }
+    {
+        let end = end_line(text)?;
+        Ok((left_from(text, 1), end))
     }
 
     /// The next token, unless none is left. It stays the next one.
@@ -79,35 +85,35 @@ fn left_from(text: &[u8], line: usize) -> TokensLeft<'_>
                 kind,
                 line: line_number(line),
             };
-            let (taken, rest) = rest.split_at(size);
+            let (_, rest) = rest.split_at(size);
             TokensLeft {
                 next: Some(next),
                 rest,
-                line: line + line_feeds(taken),
+                line,
             }
         }
         _ => unreachable!(),
     }
 }
 
-// The first token fault of a text.
-fn first_fault(text: &[u8]) -> Option<TextFault>
-    ensures { SameFault result (tokens_of text.now) }
+// The line of a text's end, or the first token fault.
+fn end_line(text: &[u8]) -> Result<u32, TextFault>
+    ensures { EndOrFault result (tokens_of text.now) (last_line text.now) }
 {
     let (mut rest, mut line) = past_gaps(text, 1);
     while !rest.is_empty() {
         match extent_of(rest) {
             Ok(size) => {
-                let (taken, after) = rest.split_at(size);
-                (rest, line) = past_gaps(after, line + line_feeds(taken));
+                let (_, after) = rest.split_at(size);
+                (rest, line) = past_gaps(after, line);
             }
             Err(rule) => {
                 let line = line_number(line);
-                return Some(TextFault::Broken { rule, line });
+                return Err(TextFault::Broken { rule, line });
             }
         }
     }
-    None
+    Ok(line_number(line))
 }
 
 // The bytes after blanks and comments, and their line.

@@ -8,5 +8,5 @@ use Rattle.camac_text.proofs.reading.read.Goals as goal
 
 pub script_in-requires : goal.script_in-requires
 script_in-requires c =
-    let begins : state c.new-parser.result ≡ start c.in_ok-tokens.tokens c.last_line.result = c.new-parser.ensures in
-    read_well_formed c.args.text.now c.in_ok-tokens.tokens c.last_line.result (tt, state c.declarations.new.parser) c.in_ok-tokens.ensures (ap declarations_at (sym begins) ∙ c.in_ok-declarations.ensures)
+    let begins : state c.new-parser.result ≡ start c.in_ok-tokens.tokens c.in_ok-tokens.end = c.new-parser.ensures in
+    read_well_formed c.args.text.now c.in_ok-tokens.tokens c.in_ok-tokens.end (tt, state c.declarations.new.parser) c.in_ok-tokens.ensures.0 (ap declarations_at (sym begins) ∙ c.in_ok-declarations.ensures)

@@ -1,10 +1,10 @@
-use Rattle.std.proofs.Common.{◌≡◌, ◌<◌, List, length, take, Result, Ok, sym, ap, subst, ◌∙◌, arith}
+use Rattle.std.proofs.Common.{◌≡◌, ◌<◌, List, length, Result, Ok, sym, ap, subst, ◌∙◌, length-drop, arith}
 use Rattle.std.proofs.lemmas.Bool.{eqb-true}
 use Rattle.camac_text_tokens.specs.declared.token.Token.{Token}
 use Rattle.camac_text_tokens.specs.Fault.{Fault}
 use Rattle.camac_text_tokens.specs.Scanning.{tokens_from}
 use Rattle.camac_text_tokens.specs.Left.{list_of}
-use Rattle.camac_text_tokens.proofs.Scans.{line_feeds, feeds_le, some_left}
+use Rattle.camac_text_tokens.proofs.Scans.{some_left}
 use Rattle.camac_text_tokens.proofs.Steps.{is_found, found_size, token_left, none_left}
 use Rattle.camac_text_tokens.proofs.left.left_from.Goals as goal
 
@@ -37,8 +37,7 @@ invariant_of-result-2 c =
     let some : 0 < length rest = some_left (length rest) (sym c.is_empty.ensures ∙ c.if-is_empty.false) in
     let cut = is_cut (tokens_from 0 at rest) (tokens_from 0 c.args.line c.args.text.now) c.past_gaps-line.ensures.same c.requires.cut in
     let left = token_left at rest c.in-Found.kind size some (sym c.start_of.ensures ∙ c.in-Found.is) cut in
-    let feeds : c.line_feeds.result ≡ line_feeds (take size rest) = c.line_feeds.ensures ∙ ap line_feeds c.split_at.ensures.front in
-    rw (feeds, c.split_at.ensures.back) (record { cut = left.cut; lines = omega (arith, feeds_le size rest, c.past_gaps-line.ensures.lines, c.requires.lines) })
+    rw c.split_at.ensures.back (record { cut = left.cut; lines = omega (arith, length-drop size rest, c.past_gaps-line.ensures.lines, c.requires.lines) })
 
 pub returns : goal.returns
 returns c =
@@ -48,5 +47,4 @@ returns c =
     let some : 0 < length rest = some_left (length rest) (sym c.is_empty.ensures ∙ c.if-is_empty.false) in
     let cut = is_cut (tokens_from 0 at rest) (tokens_from 0 c.args.line c.args.text.now) c.past_gaps-line.ensures.same c.requires.cut in
     let left = token_left at rest c.in-Found.kind size some (sym c.start_of.ensures ∙ c.in-Found.is) cut in
-    let feeds : c.line_feeds.result ≡ line_feeds (take size rest) = c.line_feeds.ensures ∙ ap line_feeds c.split_at.ensures.front in
-    rw (feeds, c.split_at.ensures.back, c.line_number.ensures) (left.next ∙ ap list_of c.past_gaps-line.ensures.same)
+    rw (c.split_at.ensures.back, c.line_number.ensures) (left.next ∙ ap list_of c.past_gaps-line.ensures.same)

@@ -1,4 +1,4 @@
-use Rattle.std.proofs.Common.{◌≡◌, ℕ, ◌+◌, ◌<◌, List, [], ◌++◌, length, take, drop, Result, Ok, refl, sym, ap, subst, ◌∙◌, arith}
+use Rattle.std.proofs.Common.{◌≡◌, ℕ, ◌+◌, ◌<◌, List, [], ◌++◌, length, drop, Result, Ok, refl, sym, ap, subst, ◌∙◌, arith}
 use Rattle.std.specs.Prelude.{slice_index}
 use Rattle.std.proofs.lemmas.Bool.{eqb-true}
 use Rattle.camac_text_tokens.specs.declared.token.Token.{Token}
@@ -6,12 +6,14 @@ use Rattle.camac_text_tokens.specs.declared.scanner.Start.{Start}
 use Rattle.camac_text_tokens.specs.Fault.{Fault}
 use Rattle.camac_text_tokens.specs.Left.{list_of}
 use Rattle.camac_text_tokens.specs.Scanning.{start_of, size, added, line_number, tokens_from, tokens_of}
-use Rattle.camac_text_tokens.proofs.Scans.{line_feeds, with_all, none_all, sizes, goes, fails, ends, feeds_le, some_left}
-use Rattle.camac_text_tokens.proofs.left.first_fault.Goals as goal
+use Rattle.camac_text_tokens.proofs.Scans.{line_feeds, with_all, none_all, sizes, fails, ends, some_left}
+use Rattle.camac_text_tokens.proofs.OneLine.{no_bytes}
+use Rattle.camac_text_tokens.proofs.Steps.{goes_on, feeds_on}
+use Rattle.camac_text_tokens.proofs.left.end_line.Goals as goal
 
 pub loop-rest-init : goal.loop-rest-init
 unfolding tokens_of
-loop-rest-init c = (([], sym (none_all _) ∙ c.past_gaps-line.ensures.same), omega (arith, c.past_gaps-line.ensures.lines))
+loop-rest-init c = (([], sym (none_all _) ∙ c.past_gaps-line.ensures.same), omega (arith, c.past_gaps-line.ensures.lines), c.past_gaps-line.ensures.begins, c.past_gaps-line.ensures.feeds)
 
 pub returns-in-Err : goal.returns-in-Err
 returns-in-Err c =
@@ -39,18 +41,19 @@ loop-rest-preserved c =
     let some : 0 < length rest = some_left (length rest) (sym c.is_empty.ensures ∙ c.loop-rest-test.true) in
     let f : Start = start_of (slice_index rest 0) rest in
     let sized = c.in-Ok.ensures in
-    let front : c.split_at.result.0.now ≡ take (size f) rest = c.split_at.ensures.front ∙ ap (λ (n : ℕ). take n rest) (sym sized.1) in
     let back : c.split_at.result.1.now ≡ drop (size f) rest = c.split_at.ensures.back ∙ ap (λ (n : ℕ). drop n rest) (sym sized.1) in
-    let feeds : c.line_feeds.result ≡ line_feeds (take (size f) rest) = c.line_feeds.ensures ∙ ap line_feeds front in
-    let further : tokens_from 0 c.past_gaps.result.1 c.past_gaps.result.0.now ≡ tokens_from 0 (c.loop-rest.line + line_feeds (take (size f) rest)) (drop (size f) rest) =
-    c.past_gaps.ensures.same ∙ ap (λ (w : List ℕ). tokens_from 0 (c.loop-rest.line + c.line_feeds.result) w) back ∙ ap (λ (n : ℕ). tokens_from 0 (c.loop-rest.line + n) (drop (size f) rest)) feeds in
+    let further : tokens_from 0 c.past_gaps.result.1 c.past_gaps.result.0.now ≡ tokens_from 0 c.loop-rest.line (drop (size f) rest) = c.past_gaps.ensures.same ∙ ap (tokens_from 0 c.loop-rest.line) back in
     let ts : List Token = c.loop-rest.invariant.0.0 ++ added f (line_number c.loop-rest.line) in (
-      (ts, ap (with_all ts) further ∙ goes c.loop-rest.invariant.0.0 c.loop-rest.line rest (tokens_of c.args.text.now) some sized.0 c.loop-rest.invariant.0.1),
-      omega (arith, feeds_le (size f) rest, feeds, ap length back, c.past_gaps.ensures.lines, c.loop-rest.invariant.1),
+      (ts, ap (with_all ts) further ∙ goes_on c.loop-rest.invariant.0.0 c.loop-rest.line rest (tokens_of c.args.text.now) some c.loop-rest.invariant.2 sized.0 c.loop-rest.invariant.0.1),
+      omega (arith, c.split_at.ensures.back_len, c.past_gaps.ensures.lines, c.loop-rest.invariant.1),
+      c.past_gaps.ensures.begins,
+      omega (arith, c.past_gaps.ensures.feeds, ap line_feeds back, feeds_on rest some c.loop-rest.invariant.2, c.loop-rest.invariant.3),
     )
 
 pub returns : goal.returns
 returns c =
     let m = c.loop-rest.invariant.0 in
-    let all = ends m.0 c.loop-rest.line c.loop-rest.rest.now (tokens_of c.args.text.now) (eqb-true (length c.loop-rest.rest.now) 0 (sym c.is_empty.ensures ∙ c.loop-rest-test.false)) m.1 in
-    subst (λ (r : Result (List Token) Fault). r ≡ Ok (list_of r)) (sym all) refl
+    let none : length c.loop-rest.rest.now ≡ 0 = eqb-true (length c.loop-rest.rest.now) 0 (sym c.is_empty.ensures ∙ c.loop-rest-test.false) in
+    let all = ends m.0 c.loop-rest.line c.loop-rest.rest.now (tokens_of c.args.text.now) none m.1 in
+    let end : c.loop-rest.line ≡ line_feeds c.args.text.now + 1 = omega (arith, no_bytes c.loop-rest.rest.now none, c.loop-rest.invariant.3) in
+    (subst (λ (r : Result (List Token) Fault). r ≡ Ok (list_of r)) (sym all) refl, c.line_number.ensures ∙ ap line_number end)
