@@ -1,6 +1,8 @@
 -- What a machine holds, as the definitions see it.
 use Rattle.std.specs.Prelude.{◌≡◌, ℕ, zero, suc, ◌+◌, ◌*◌, ◌-◌, ◌<◌, ◌≤◌, List, [], ◌∷◌, ◌++◌, length, map, Option, Some, None, IsSome, IfSome, IfNone, true, false, nat_eq, if◌then◌else◌, slice_index_or, slice_set}
+use Rattle.std.specs.Borrow.{Bor}
 use Rattle.camac_lang.specs.Tree.{Service}
+use Rattle.camac_lang.specs.declared.tree.Stmt.{Stmt}
 use Rattle.camac_branch.specs.Address.{Address}
 use Rattle.camac_lang.specs.View.{part_of, statements_of}
 use Rattle.camac_branch.specs.Branch.{Branch, Answer, reply_to, branch_after, with_lock}
@@ -19,7 +21,7 @@ use Rattle.camac_model.specs.Value.{greatest}
 use Rattle.camac_run_machine.specs.Store.{variables_in, registers_in, held_at}
 use Rattle.camac_lang.specs.Fits.{fits}
 use Rattle.camac_run_machine.specs.Course.{left_at, words_sent, data_of}
-use Rattle.camac_run_machine.specs.Rest.{address_of, Want, makes, reads, locks, transfers, awaited, follows, Owner, nothing, releases, for_loop, while_loop, returns, Open, rest_in, says}
+use Rattle.camac_run_machine.specs.Rest.{address_of, Want, makes, reads, locks, transfers, awaited, follows, Owner, nothing, releases, for_loop, while_loop, returns, Open, left_of, rest_in, says}
 use Rattle.camac_run_machine.specs.Within.{Reach, reach_of, ScopeFits, Opens, OpenFit}
 use Rattle.camac_run_machine.specs.declared.item.Item.{Item}
 use Rattle.camac_run_machine.specs.declared.item.Item.TheVariants as item
@@ -71,6 +73,19 @@ CanFollow v (Cycle k) = Unit {0}
 CanFollow v (Read k x bits) = Unit {0}
 CanFollow v (Lock k body) = Unit {0}
 CanFollow v (wanting.Transfer w) = (w.tally < v) × IsSome ((left_at w.course).wanted [])
+
+-- the first statement of the innermost of open blocks is taken off it
+pub record TakesFirst (old : List Frame) (first : Stmt) (new : List Frame) : Type 0 where
+  pub before : List Frame
+  pub last : Frame
+  pub rest : Bor (List Stmt)
+  pub was : old ≡ before ++ last ∷ []
+  pub first_is : last.rest.now ≡ first ∷ rest.now
+  pub is : new ≡ before ++ record last { rest = rest } ∷ []
+
+-- the innermost of open blocks has no statement left
+abbrev pub LastIsOver : List Frame → Type 0
+LastIsOver fs = (before : List Frame) (last : Frame) → fs ≡ before ++ last ∷ [] → last.rest.now ≡ []
 
 -- the next cycle of a transfer, with this command
 abbrev pub cycle_of : Transfer → Command → Wanting
@@ -229,6 +244,13 @@ module _ {V D C : ℕ} where
     pub goes :
         (answers : List Answer)
         → says released (stands wanting new answers) ≡ then_do (go (context_in old.checked.now) (state_of old answers)) (left_in old)
+
+  -- what the new machine has left is what was left of the innermost block, and then what the blocks around it had left
+  pub record GoesOn (old : Machine V D C) (wanting : Option Wanting) (new : Machine V D C) : Type 0 where
+    pub before : List Frame
+    pub last : Frame
+    pub was : old.frames.items ≡ before ++ last ∷ []
+    pub advances : Advances (record old { frames = record { items = before } }) (λ c. left_of c (open_in old last)) wanting new
 
   -- this goes on at once, and sets a variable at most
   pub record Proceeds (old : Machine V D C) (go : Context → Action) (next : Option Wanting) (new : Machine V D C) : Type 0 where

@@ -274,8 +274,8 @@ impl<'a, const V: usize, const DEPTH: usize, const CAP: usize> Machine<'a, V, DE
         requires fine { (answers : List Answer) → IsFineHere self.old (stands None self.old answers) }
         ensures { Settles self.old (λ c. ends) wanting.new self.new }
     {
-        while let Some(frame) = self.frames.pop() {
-            if let Some(next) = self.go_on(frame) {
+        while !self.frames.is_empty() {
+            if let Some(next) = self.go_on() {
                 *wanting = Some(next);
                 return;
             }

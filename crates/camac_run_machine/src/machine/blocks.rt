@@ -1,6 +1,6 @@
 // Blocks: how one is opened, what goes on after it, and calls of procedures.
 
-ghost use Rattle.std.specs.Prelude.{◌≡◌, IsTrue, ◌||◌, ℕ, suc, ◌+◌, ◌*◌, ◌-◌, ◌<◌, ◌∷◌, ◌++◌, [], List, map, None, Some};
+ghost use Rattle.std.specs.Prelude.{◌≡◌, IsTrue, ◌||◌, ℕ, suc, ◌+◌, ◌*◌, ◌-◌, ◌<◌, ◌≤◌, length, ◌∷◌, ◌++◌, [], List, map, None, Some, IfSome, IfNone};
 ghost use Rattle.camac_branch.specs.Branch.{Answer};
 ghost use Rattle.camac_lang.specs.Kinds.{is_choice, is_for, is_while};
 ghost use Rattle.camac_lang.specs.View.{expression_of, part_of, statement_of, statements_of};
@@ -8,7 +8,7 @@ ghost use Rattle.camac_lang.specs.Tree.{done, choose_else, for_, locked, call};
 ghost use Rattle.camac_model.specs.Fine.{most_turns};
 ghost use Rattle.camac_model.specs.Meaning.{effect, block_meaning, for_turns, turns as while_turns};
 ghost use Rattle.camac_model.specs.Value.{value};
-ghost use Rattle.camac_run_machine.specs.MachineState.{context_in, reach, state_of, owner_in, open_in, opens_in, holds, free, FineThen, HasRoomFor, HasRoom, Advances, Enters, Wants};
+ghost use Rattle.camac_run_machine.specs.MachineState.{context_in, reach, state_of, owner_in, open_in, opens_in, holds, free, FineThen, HasRoomFor, HasRoom, IsFineHere, stands, TakesFirst, LastIsOver, GoesOn, Advances, Enters, Wants};
 ghost use Rattle.camac_run_machine.specs.Rest.{releases, owed, left_of};
 ghost use Rattle.camac_run_machine.specs.Within.{Refers, CallFits, PartsRefer, StatementFits, Opens, OwnerFits, outer};
 
@@ -241,24 +241,41 @@ impl<'a, const V: usize, const DEPTH: usize, const CAP: usize> Machine<'a, V, DE
         }
     }
 
-    // Begins the next statement of a block that was the innermost, or leaves it.
-    pub fn go_on(&mut self, frame: Frame<'a>) -> Option<Wanting<'a>>
-        requires room { HasRoomFor self.old (opens_in self.old ++ open_in self.old frame ∷ []) }
-        requires fine { FineThen self.old (λ c. left_of c (open_in self.old frame)) }
-        ensures { Advances self.old (λ c. left_of c (open_in self.old frame.entry)) result self.new }
+    // Begins the next statement of the innermost block, or leaves that block.
+    pub fn go_on(&mut self) -> Option<Wanting<'a>>
+        requires room { HasRoom self.old }
+        requires open { 1 ≤ length self.old.frames.items }
+        requires fine { (answers : List Answer) → IsFineHere self.old (stands None self.old answers) }
+        ensures { GoesOn self.old result self.new }
     {
-        match frame.rest {
-            [] => {
-                self.leave(&frame.owner);
-                None
-            }
-            [first, rest @ ..] => {
-                self.frames.push(Frame {
-                    rest,
-                    owner: frame.owner,
-                });
-                self.begin(first)
-            }
+        match next_statement(self.frames.as_mut_slice()) {
+            Some(first) => self.begin(first),
+            None => match self.frames.pop() {
+                Some(frame) => {
+                    self.leave(&frame.owner);
+                    None
+                }
+                None => unreachable!(),
+            },
+        }
+    }
+}
+
+// Takes the first statement off the innermost block, unless that block is over or none is open.
+fn next_statement<'a>(frames: &mut [Frame<'a>]) -> Option<&'a Stmt>
+    ensures begun { IfSome result (λ first. TakesFirst frames.old first.now frames.new) }
+    ensures over { IfNone result (LastIsOver frames.old × (frames.new ≡ frames.old)) }
+{
+    let count = frames.len();
+    if count == 0 {
+        return None;
+    }
+    let last = &mut frames[count - 1];
+    match last.rest {
+        [] => None,
+        [first, rest @ ..] => {
+            last.rest = rest;
+            Some(first)
         }
     }
 }

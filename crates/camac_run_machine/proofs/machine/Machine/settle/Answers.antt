@@ -1,85 +1,79 @@
-use Rattle.std.proofs.Common.{◌≡◌, [], ap, sym, subst, refl, ◌∙◌}
+use Rattle.std.proofs.Common.{[], refl, ◌∙◌, rules}
 use Rattle.std.specs.Prelude.{Some, None}
-use Rattle.std.proofs.lemmas.Bool.{false≢true}
 use Rattle.arrayvec.specs.ArrayVec.{ArrayVec}
 use Rattle.camac_run_machine.specs.declared.machine.Frame.{Frame}
-use Rattle.camac_run_machine.specs.MachineState.{bounds_of, state_of, stands, HasRoom}
-use Rattle.camac_run_machine.specs.Rest.{says}
+use Rattle.camac_run_machine.specs.MachineState.{bounds_of, state_of}
 use Rattle.camac_run_machine.proofs.Fine.{keeps_rest, fine_says}
-use Rattle.camac_run_machine.proofs.Frames.{room_popped, goes_popped, goes_further, fine_along, smaller}
-use Rattle.camac_run_machine.proofs.Lists.{empty_of}
+use Rattle.camac_run_machine.proofs.Frames.{goes_further, fine_along, smaller}
+use Rattle.camac_run_machine.proofs.Lists.{some_of, none_of}
 use Rattle.camac_run_machine.proofs.machine.Machine.settle.Goals as goal
 
-pub loop-frame-init : goal.loop-frame-init
-loop-frame-init g c = record { room = c.requires.room; checked = refl; service = refl; goes = λ answers. rw c.requires.quiet refl }
+pub loop-self-init : goal.loop-self-init
+loop-self-init g c = record { room = c.requires.room; checked = refl; service = refl; goes = λ answers. rw c.requires.quiet refl }
 
 pub go_on-requires : goal.go_on-requires
 go_on-requires g c =
-    let h = c.loop-frame.self in
-    let v = c.loop-frame.invariant in
+    let h = c.loop-self.self in
+    let v = c.loop-self.invariant in
     let us = h.unlocks.items in (
-      search,
+      search rules,
       (
-        room_popped h c.in-Some.frame c.pop.new.self c.in-Some.ensures.items v.room,
-        λ answers. fine_says h.checked.now.plan (bounds_of h) us _ (fine_along h c.args.self.now v.checked v.service _ _
-            (ap (says us) (sym (goes_popped h c.in-Some.frame c.pop.new.self c.in-Some.ensures.items (state_of h answers))) ∙ v.goes answers) (c.requires.fine answers)),
+        v.room,
+        (
+          some_of h.frames.items c.loop-self-test.ensures,
+          λ answers. fine_says h.checked.now.plan (bounds_of h) us _ (fine_along h c.args.self.now v.checked v.service _ _ (v.goes answers) (c.requires.fine answers)),
+        ),
       ),
     )
 
-pub returns-in-Some-go_on : goal.returns-in-Some-go_on
-returns-in-Some-go_on g c =
-    let h = c.loop-frame.self in
-    let v = c.loop-frame.invariant in
-    let e = c.in-Some-go_on.ensures in
+pub returns-in-Some : goal.returns-in-Some
+returns-in-Some g c =
+    let h = c.loop-self.self in
+    let v = c.loop-self.invariant in
+    let e = c.go_on.ensures in
+    let a = rw c.in-Some.is at e.advances in
     let new = c.go_on.new.self in
-    let w = c.in-Some-go_on.next in
+    let w = c.in-Some.next in
+    let before : ArrayVec Frame = record { items = e.before } in
     record {
-      room = e.room;
-      checked = e.checked ∙ v.checked;
-      service = e.service ∙ v.service;
-      wants = e.wants;
+      room = a.room;
+      checked = a.checked ∙ v.checked;
+      service = a.service ∙ v.service;
+      wants = a.wants;
       over = tt;
-      goes = λ answers.
-          goes_further h new c.in-Some.frame c.pop.new.self c.in-Some.ensures.items e.released e.unlocks (Some w) answers (e.goes answers) ∙ v.goes answers;
+      goes = λ answers. goes_further h new e.last before e.was a.released a.unlocks (Some w) answers (a.goes answers) ∙ v.goes answers;
     }
 
-pub loop-frame-smaller : goal.loop-frame-smaller
-loop-frame-smaller g c =
-    let h = c.loop-frame.self in
-    let v = c.loop-frame.invariant in
-    let e = c.in_default-go_on.ensures in
+pub loop-self-smaller : goal.loop-self-smaller
+loop-self-smaller g c =
+    let h = c.loop-self.self in
+    let v = c.loop-self.invariant in
+    let e = c.go_on.ensures in
+    let a = rw c.in_default.is at e.advances in
     let new = c.go_on.new.self in
-    let same = goes_further h new c.in-Some.frame c.pop.new.self c.in-Some.ensures.items e.released e.unlocks None [] (e.goes []) ∙ v.goes [] in
-    let fine = fine_says new.checked.now.plan (bounds_of new) new.unlocks.items _ (fine_along new c.args.self.now (e.checked ∙ v.checked) (e.service ∙ v.service) _ _ same (c.requires.fine [])) in
+    let before : ArrayVec Frame = record { items = e.before } in
+    let same = goes_further h new e.last before e.was a.released a.unlocks None [] (a.goes []) ∙ v.goes [] in
+    let fine = fine_says new.checked.now.plan (bounds_of new) new.unlocks.items _ (fine_along new c.args.self.now (a.checked ∙ v.checked) (a.service ∙ v.service) _ _ same (c.requires.fine [])) in
     let within = keeps_rest new.checked.now.plan (bounds_of new) new.checked.now.script _ (state_of new []) fine in
-    smaller new h c.pop.new.self c.in-Some.frame e.checked e.service within.steps e.pace c.in-Some.ensures.items
+    smaller new h before e.last a.checked a.service within.steps a.pace e.was
 
-pub loop-frame-preserved : goal.loop-frame-preserved
-loop-frame-preserved g c =
-    let h = c.loop-frame.self in
-    let v = c.loop-frame.invariant in
-    let e = c.in_default-go_on.ensures in
+pub loop-self-preserved : goal.loop-self-preserved
+loop-self-preserved g c =
+    let h = c.loop-self.self in
+    let v = c.loop-self.invariant in
+    let e = c.go_on.ensures in
+    let a = rw c.in_default.is at e.advances in
     let new = c.go_on.new.self in
+    let before : ArrayVec Frame = record { items = e.before } in
     record {
-      room = e.room;
-      checked = e.checked ∙ v.checked;
-      service = e.service ∙ v.service;
-      goes = λ answers.
-          goes_further h new c.in-Some.frame c.pop.new.self c.in-Some.ensures.items e.released e.unlocks None answers (e.goes answers) ∙ v.goes answers;
+      room = a.room;
+      checked = a.checked ∙ v.checked;
+      service = a.service ∙ v.service;
+      goes = λ answers. goes_further h new e.last before e.was a.released a.unlocks None answers (a.goes answers) ∙ v.goes answers;
     }
 
 pub returns : goal.returns
 returns g c =
-    let h = c.loop-frame.self in
-    let v = c.loop-frame.invariant in
-    let w = c.in_default.ensures in
-    let none : h.frames.items ≡ [] = empty_of h.frames.items (λ lt. false≢true (w.variant.1 lt)) in
-    let same : c.pop.new.self ≡ h.frames = w.empty in
-    record {
-      room = subst (λ (fs : ArrayVec Frame). HasRoom (record h { frames = fs })) (sym same) v.room;
-      checked = v.checked;
-      service = v.service;
-      wants = tt;
-      over = ap (λ (fs : ArrayVec Frame). fs.items) same ∙ none;
-      goes = λ answers. ap (λ (fs : ArrayVec Frame). says h.unlocks.items (stands None (record h { frames = fs }) answers)) same ∙ v.goes answers;
-    }
+    let h = c.loop-self.self in
+    let v = c.loop-self.invariant in
+    record { room = v.room; checked = v.checked; service = v.service; wants = tt; over = none_of h.frames.items c.loop-self-test.ensures; goes = v.goes }
