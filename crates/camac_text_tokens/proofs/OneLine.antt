@@ -6,8 +6,8 @@ use Rattle.std.proofs.lemmas.Bool.Decides.{nat_tests}
 use Rattle.std.proofs.lemmas.List.Sums.{take_while-cons}
 use Rattle.camac_text_tokens.specs.declared.token.Keyword.{Keyword}
 use Rattle.camac_text_tokens.specs.declared.token.Sign.{Sign}
-use Rattle.camac_text_tokens.specs.declared.scanner.Start.{Start}
-use Rattle.camac_text_tokens.specs.declared.scanner.Start.TheVariants as start
+use Rattle.camac_text_tokens.specs.Start.{Start}
+use Rattle.camac_text_tokens.specs.Start as start
 use Rattle.camac_text_tokens.specs.Words.{keyword, pair_signs, single_signs}
 use Rattle.camac_text_tokens.specs.Scanning.{is_name_byte, is_blank, decimal_value, keyword_or, pair_at, single_at, pair_or_single, start_of}
 use Rattle.camac_text_tokens.proofs.Scans.{line_feeds, feeds-cons, take_run}

@@ -1,15 +1,15 @@
 -- Laws of the scanner's definitions.
-use Rattle.std.proofs.Common.{◌≡◌, ℕ, zero, suc, ◌+◌, ◌-◌, ◌*◌, ◌≤◌, ◌<◌, Bool, true, false, cond, ltb, eqb, count_by, fold, List, [], ◌∷◌, ◌++◌, length, take, drop, Option, Some, None, IsSome, Result, Ok, Err, refl, sym, ap, subst, ◌∙◌, append_assoc, arith}
+use Rattle.std.proofs.Common.{◌≡◌, ℕ, zero, suc, ◌+◌, ◌-◌, ◌*◌, ◌≤◌, ◌<◌, Bool, true, false, ◌&&◌, cond, ltb, eqb, count_by, fold, List, [], ◌∷◌, ◌++◌, length, take, drop, Option, Some, None, IsSome, Result, Ok, Err, refl, sym, ap, subst, ◌∙◌, append_assoc, length-drop, arith}
 use Rattle.std.specs.Prelude.{take_while, slice_index}
 use Rattle.std.specs.Char.{is_ascii_digit, is_ascii_alphabetic}
 use Rattle.std.proofs.lemmas.List.{append-nil}
-use Rattle.std.proofs.lemmas.Bool.{eqb-true, le-ltb}
+use Rattle.std.proofs.lemmas.Bool.{and_parts, eqb-true, le-ltb}
 use Rattle.std.proofs.lemmas.List.Sums.{take_while-cons, sum_by-cons}
 use Rattle.camac_text_tokens.specs.declared.token.Token.{Token}
 use Rattle.camac_text_tokens.specs.declared.token.Keyword.{Keyword}
 use Rattle.camac_text_tokens.specs.declared.token.Sign.{Sign}
-use Rattle.camac_text_tokens.specs.declared.scanner.Start.{Start}
-use Rattle.camac_text_tokens.specs.declared.scanner.Start.TheVariants as start
+use Rattle.camac_text_tokens.specs.Start.{Start}
+use Rattle.camac_text_tokens.specs.Start as start
 use Rattle.camac_text_tokens.specs.declared.fault.TextRule.{TextRule}
 use Rattle.camac_text_tokens.specs.Fault.{Fault}
 use Rattle.camac_text_tokens.specs.Scanning.{is_name_byte, is_blank, is_no_line_feed, keyword_or, pair_at, single_at, pair_or_single, start_of, size, added, wrong, decimal_value, tokens_from, tokens_by, with_first, line_after, line_number}
@@ -35,6 +35,34 @@ run_le p (x ∷ xs) = subst (λ (w : List ℕ). length w ≤ suc (length xs)) (s
 
 pub run_some : (p : ℕ → Bool) (x : ℕ) (xs : List ℕ) → p x ≡ true → 0 < length (take_while p (x ∷ xs))
 run_some p x xs e = subst (λ (w : List ℕ). 0 < length w) (sym (take_while-cons p x xs ∙ ap (λ (b : Bool). cond b (x ∷ take_while p xs) []) e)) (let some : 0 < length (x ∷ take_while p xs) = omega arith in some)
+
+take_whole : (n : ℕ) (xs : List ℕ) → length xs ≤ n → take n xs ≡ xs
+take_whole zero [] e = refl
+take_whole zero (x ∷ xs) e = absurd (omega arith)
+take_whole (suc n) [] e = refl
+take_whole (suc n) (x ∷ xs) e = ap (λ (w : List ℕ). x ∷ w) (take_whole n xs (omega arith))
+
+-- the bytes that a pattern of four leaves
+pub behind_four : (xs : List ℕ) → 4 ≤ length xs → take (length xs - 4) (drop 4 xs) ≡ drop 4 xs
+behind_four xs four = take_whole (length xs - 4) (drop 4 xs) (omega (arith, length-drop 4 xs, four))
+
+run_one : (p : ℕ → Bool) (x : ℕ) (xs : List ℕ) → p x ≡ true → take_while p (x ∷ xs) ≡ x ∷ take_while p xs
+run_one p x xs e = take_while-cons p x xs ∙ ap (λ (b : Bool). cond b (x ∷ take_while p xs) []) e
+
+-- four bytes that pass stand before the run of what follows them
+pub run_of_four : (p : ℕ → Bool) (xs : List ℕ) → 4 ≤ length xs → (p (slice_index xs 0) && p (slice_index xs 1) && p (slice_index xs 2) && p (slice_index xs 3)) ≡ true
+    → length (take_while p xs) ≡ 4 + length (take_while p (drop 4 xs))
+run_of_four p (a ∷ b ∷ c ∷ d ∷ xs) four e =
+    let fourth = and_parts (p a && p b && p c) (p d) e in
+    let third = and_parts (p a && p b) (p c) fourth.0 in
+    let second = and_parts (p a) (p b) third.0 in
+    let runs : take_while p (a ∷ b ∷ c ∷ d ∷ xs) ≡ a ∷ b ∷ c ∷ d ∷ take_while p xs = rw (run_one p a (b ∷ c ∷ d ∷ xs) second.0, run_one p b (c ∷ d ∷ xs) second.1, run_one p c (d ∷ xs) third.1, run_one p d xs fourth.1) refl in
+    let longer : length (a ∷ b ∷ c ∷ d ∷ take_while p xs) ≡ 4 + length (take_while p xs) = omega arith in
+    ap length runs ∙ longer
+run_of_four p [] four e = absurd (omega arith)
+run_of_four p (a ∷ []) four e = absurd (omega arith)
+run_of_four p (a ∷ b ∷ []) four e = absurd (omega arith)
+run_of_four p (a ∷ b ∷ c ∷ []) four e = absurd (omega arith)
 
 -- ---- numbers
 

@@ -7,14 +7,14 @@ use Rattle.camac_text_tokens.specs.declared.token.Keyword.{Keyword}
 use Rattle.camac_text_tokens.specs.declared.token.Sign.{Sign}
 use Rattle.camac_text_tokens.specs.declared.token.Token.{Token}
 use Rattle.camac_text_tokens.specs.declared.token.TokenKind.{TokenKind}
-use Rattle.camac_text_tokens.specs.declared.scanner.Start.{Start}
-use Rattle.camac_text_tokens.specs.declared.scanner.Start.TheVariants as start
+use Rattle.camac_text_tokens.specs.Start.{Start}
+use Rattle.camac_text_tokens.specs.Start as start
 use Rattle.camac_text_tokens.specs.declared.fault.TextRule.{TextRule}
 use Rattle.camac_text_tokens.specs.declared.fault.TextRule.TheVariants.{LimitPassed}
 use Rattle.camac_text_tokens.specs.Fault.{Fault}
 use Rattle.camac_text_tokens.specs.Words.{keyword}
 use Rattle.camac_text_tokens.specs.Scanning.{is_name_byte, is_blank, is_no_line_feed, decimal_value, keyword_or, pair_at, single_at, pair_or_single, start_of, size, added, wrong, tokens_by, tokens_from, line_after, line_number}
-use Rattle.camac_text_tokens.specs.Left.{list_of, BeginsNoGap, IsExtent}
+use Rattle.camac_text_tokens.specs.Left.{list_of, next_and, BeginsNoGap, IsPut, IsExtent}
 use Rattle.camac_text_tokens.proofs.Spellings.{no_long_keyword}
 use Rattle.camac_text_tokens.proofs.Scans.{line_feeds, feeds-cons, lines_step, take_run, run_some, with_all, none_all, start_step, sized_start, goes}
 use Rattle.camac_text_tokens.proofs.OneLine.{run_feeds, OnOneLine, start_on_one_line, feeds_behind}
@@ -128,17 +128,14 @@ token_step : (b line : ℕ) (bs : List ℕ) (f : Start) → start_of b (b ∷ bs
 unfolding tokens_from
 token_step b line bs f is = ap (λ (g : Start). tokens_by g line (λ skip. tokens_from skip (line_after line b) bs)) is
 
+wrong_is_wrong : (f : Start) (rule : TextRule) → wrong f ≡ Some rule → f ≡ start.Wrong rule
+wrong_is_wrong (start.Gap n) rule e = absurd cc
+wrong_is_wrong (start.Found k n) rule e = absurd cc
+wrong_is_wrong (start.Wrong r) rule e = cc
+
 no_fault : (line : ℕ) (rest : List ℕ) (rule : TextRule) → 0 < length rest → tokens_from 0 line rest ≡ Ok (list_of (tokens_from 0 line rest)) → start_of (slice_index rest 0) rest ≡ start.Wrong rule → ⊥
 no_fault line [] rule some cut is = absurd (omega arith)
 no_fault line (b ∷ bs) rule some cut is = let bad = token_step b line bs (start.Wrong rule) is in let both = sym bad ∙ cut in absurd cc
-
--- nothing else stands where there is neither a gap nor a fault
-pub is_found : (line : ℕ) (rest : List ℕ) (f : Start) → 0 < length rest → BeginsNoGap rest → tokens_from 0 line rest ≡ Ok (list_of (tokens_from 0 line rest)) → f ≡ start_of (slice_index rest 0) rest
-    → ((k : TokenKind) (n : ℕ) → f ≡ start.Found k n → ⊥) → ⊥
-is_found line [] f some begins cut is none = omega arith
-is_found line (b ∷ bs) (start.Gap n) some begins cut is none = subst NoGap (sym is) (no_gap_start b bs begins.0 begins.1)
-is_found line (b ∷ bs) (start.Found k n) some begins cut is none = none k n refl
-is_found line (b ∷ bs) (start.Wrong rule) some begins cut is none = no_fault line (b ∷ bs) rule some cut (sym is)
 
 found_some : (b : ℕ) (bs : List ℕ) (k : TokenKind) (n : ℕ) → start_of b (b ∷ bs) ≡ start.Found k n → (0 < n) × (n ≤ length (b ∷ bs))
 found_some b bs k n is =
@@ -168,6 +165,23 @@ behind t (Err e) whole is cut = let both = sym is ∙ cut in absurd cc
 pub token_left : (line : ℕ) (rest : List ℕ) (k : TokenKind) (n : ℕ) → 0 < length rest → start_of (slice_index rest 0) rest ≡ start.Found k n → tokens_from 0 line rest ≡ Ok (list_of (tokens_from 0 line rest))
     → Behind (record { kind = k; line = line_number line }) (tokens_from 0 line rest) (tokens_from 0 line (drop n rest))
 token_left line rest k n some is cut = behind (record { kind = k; line = line_number line }) _ (tokens_from 0 line rest) (token_goes line rest k n some is) cut
+
+-- what is left once a token is put in its place
+pub record PutLeft (at : ℕ) (rest : List ℕ) (next : Option Token) (n : ℕ) : Type 0 where
+  pub fits : n ≤ length rest
+  pub cut : tokens_from 0 at (drop n rest) ≡ Ok (list_of (tokens_from 0 at (drop n rest)))
+  pub tokens : next_and next at (drop n rest) ≡ list_of (tokens_from 0 at rest)
+
+pub put_left : (at : ℕ) (rest : List ℕ) (next : Option Token) (n : ℕ) → 0 < length rest → IsPut (Ok n) next (line_number at) (start_of (slice_index rest 0) rest) → tokens_from 0 at rest ≡ Ok (list_of (tokens_from 0 at rest))
+    → PutLeft at rest next n
+put_left at rest None n some put cut = absurd put
+put_left at rest (Some t) n some put cut =
+    let left = token_left at rest t.kind n some put.0 cut in
+    record { fits = (found_size rest t.kind n some put.0).1; cut = left.cut; tokens = ap (λ (l : ℕ). record { kind = t.kind; line = l } ∷ list_of (tokens_from 0 at (drop n rest))) put.1 ∙ left.next }
+
+-- a text without a fault has a token at its start
+pub put_no_fault : (at : ℕ) (rest : List ℕ) (rule : TextRule) (next : Option Token) → 0 < length rest → IsPut (Err rule) next (line_number at) (start_of (slice_index rest 0) rest) → tokens_from 0 at rest ≡ Ok (list_of (tokens_from 0 at rest)) → ⊥
+put_no_fault at rest rule next some put cut = no_fault at rest rule some cut (wrong_is_wrong (start_of (slice_index rest 0) rest) rule put)
 
 -- the bytes of what is no gap have no line feed
 taken_feeds : (f : Start) (text : List ℕ) → NoGap f → OnOneLine f text → line_feeds (take (size f) text) ≡ 0

@@ -15,8 +15,8 @@ use Rattle.camac_text_tokens.specs.declared.token.Sign.TheVariants as sign
 use Rattle.camac_text_tokens.specs.declared.token.Token.{Token}
 use Rattle.camac_text_tokens.specs.declared.token.TokenKind.{TokenKind}
 use Rattle.camac_text_tokens.specs.declared.token.TokenKind.TheVariants as kind
-use Rattle.camac_text_tokens.specs.declared.scanner.Start.{Start}
-use Rattle.camac_text_tokens.specs.declared.scanner.Start.TheVariants as start
+use Rattle.camac_text_tokens.specs.Start.{Start}
+use Rattle.camac_text_tokens.specs.Start as start
 use Rattle.camac_text_tokens.specs.declared.fault.TextFault.{TextFault}
 use Rattle.camac_text_tokens.specs.declared.fault.TextFault.TheVariants as fault
 use Rattle.camac_text_tokens.specs.Fault.{Fault, AnswersList}

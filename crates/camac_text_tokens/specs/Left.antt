@@ -1,7 +1,8 @@
 -- What is left of the tokens of a text.
 use Rattle.std.specs.Prelude.{◌≡◌, ℕ, ◌+◌, ◌≤◌, false, ◌==◌, List, [], ◌∷◌, length, count_by, Option, Some, None, Result, Ok, Err}
 use Rattle.camac_text_tokens.specs.declared.token.Token.{Token}
-use Rattle.camac_text_tokens.specs.declared.scanner.Start.{Start}
+use Rattle.camac_text_tokens.specs.Start.{Start}
+use Rattle.camac_text_tokens.specs.Start as start
 use Rattle.camac_text_tokens.specs.declared.fault.TextRule.{TextRule}
 use Rattle.camac_text_tokens.specs.declared.fault.TextFault.{TextFault}
 use Rattle.camac_text_tokens.specs.declared.fault.TextFault.TheVariants as fault
@@ -53,6 +54,12 @@ abbrev pub EndOrFault : Result ℕ TextFault → Result (List Token) Fault → �
 EndOrFault (Ok line) read end = (read ≡ Ok (list_of read)) × (line ≡ end)
 EndOrFault (Err fault.OutOfMemory) read end = ⊥
 EndOrFault (Err (fault.Broken rule line)) read end = read ≡ Err (record { rule = rule; line = line })
+
+-- the token at the start is put in its place, with the line of its bytes; or what is wrong there
+abbrev pub IsPut : Result ℕ TextRule → Option Token → ℕ → Start → Type 0
+IsPut (Ok n) (Some t) line f = (f ≡ start.Found t.kind n) × (t.line ≡ line)
+IsPut (Ok n) None line f = ⊥
+IsPut (Err rule) next line f = wrong f ≡ Some rule
 
 -- the bytes that are taken at the start, or what is wrong there
 abbrev pub IsExtent : Result ℕ TextRule → Start → Type 0

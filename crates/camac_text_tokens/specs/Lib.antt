@@ -1,5 +1,6 @@
 pub mod Words
 pub mod Fault
+pub mod Start
 pub mod Scanning
 pub mod Cut
 pub mod Left

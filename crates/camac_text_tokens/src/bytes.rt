@@ -1,10 +1,11 @@
 // Texts that are compared eight bytes at a time.
 
-ghost use Rattle.std.specs.Prelude.{◌≡◌, ◌≤◌, length, take};
+ghost use Rattle.std.specs.Prelude.{◌≡◌, ◌-◌, ◌≤◌, drop, length, take};
 ghost use Rattle.std.specs.Int.{from_le_bytes, to_le_bytes, w64};
 ghost use Rattle.std.specs.Str.{bytes_eq};
 
-/// Whether these are the same bytes. Lengths are looked at first, since most words differ there.
+/// Whether these are the same bytes. Lengths are looked at first, since most words differ there. Where fewer than eight bytes are left,
+/// they are looked at together with some of those before them.
 #[inline]
 pub fn are_same(one: &[u8], other: &[u8]) -> bool
     ensures { result ≡ bytes_eq one.now other.now }
@@ -12,18 +13,21 @@ pub fn are_same(one: &[u8], other: &[u8]) -> bool
     if one.len() != other.len() {
         return false;
     }
-    let mut one = one;
-    let mut other = other;
-    while one.len() >= 8 {
-        if first_eight(one) != first_eight(other) {
+    if one.len() < 8 {
+        return are_same_from_first(one, other);
+    }
+    let mut rest = one;
+    let mut other_rest = other;
+    while rest.len() > 8 {
+        if first_eight(rest) != first_eight(other_rest) {
             return false;
         }
-        let (_, after) = one.split_at(8);
-        let (_, other_after) = other.split_at(8);
-        one = after;
-        other = other_after;
+        let (_, after) = rest.split_at(8);
+        let (_, other_after) = other_rest.split_at(8);
+        rest = after;
+        other_rest = other_after;
     }
-    are_same_from_first(one, other)
+    last_eight(one) == last_eight(other)
 }
 
 // The first eight bytes as one number, which no other bytes give. It takes one load, where each byte on its own takes a load and a branch.
@@ -36,6 +40,15 @@ fn first_eight(bytes: &[u8]) -> u64
         Some(eight) => u64::from_le_bytes(*eight),
         None => unreachable!(),
     }
+}
+
+// The last eight bytes as one number, which no other bytes give.
+fn last_eight(bytes: &[u8]) -> u64
+    requires { 8 ≤ length bytes.now }
+    ensures number { result ≡ from_le_bytes w64 (drop (length bytes.now - 8) bytes.now) }
+    ensures only { to_le_bytes w64 result ≡ drop (length bytes.now - 8) bytes.now }
+{
+    first_eight(&bytes[bytes.len() - 8..])
 }
 
 // It ends at the first bytes that differ.

@@ -2,11 +2,12 @@
 
 ghost use Rattle.std.specs.Prelude.{◌≡◌, ◌+◌, ◌≤◌, drop, length, slice_get, option_copied};
 ghost use Rattle.camac_text_tokens.specs.Scanning.{last_line, line_after, tokens_from, tokens_of};
-ghost use Rattle.camac_text_tokens.specs.Left.{list_of, IsLeft, AnswersTokens, AnswersWithEnd, IsPastGaps, EndOrFault};
+ghost use Rattle.camac_text_tokens.specs.Left.{list_of, next_and, IsLeft, AnswersTokens, AnswersWithEnd, IsPastGaps, EndOrFault};
 
 use crate::extent::extent_of;
 use crate::fault::TextFault;
-use crate::scanner::{Start, comment_len, is_blank, line_number, start_of};
+use crate::first::put_token;
+use crate::scanner::{comment_len, is_blank, line_number};
 use crate::token::Token;
 use std::marker::Model;
 
@@ -61,7 +62,9 @@ impl<'a> TokensLeft<'a> {
         ensures { self.new ≡ drop 1 self.old }
     {
         if self.next.is_some() {
-            *self = left_from(self.rest, self.line);
+            let (rest, line) = cut(&mut self.next, self.rest, self.line);
+            self.rest = rest;
+            self.line = line;
         }
     }
 }
@@ -71,28 +74,28 @@ fn left_from(text: &[u8], line: usize) -> TokensLeft<'_>
     requires { IsLeft line text.now }
     ensures { result ≡ list_of (tokens_from 0 line text.now) }
 {
+    let mut next = None;
+    let (rest, line) = cut(&mut next, text, line);
+    TokensLeft { next, rest, line }
+}
+
+// Cuts the next token off bytes that begin on a line, and answers the bytes behind it, and the line of the first of them.
+fn cut<'a>(next: &mut Option<Token>, text: &'a [u8], line: usize) -> (&'a [u8], usize)
+    requires { IsLeft line text.now }
+    ensures left { IsLeft result.1 result.0.now }
+    ensures tokens { next_and next.new result.1 result.0.now ≡ list_of (tokens_from 0 line text.now) }
+{
     let (rest, line) = past_gaps(text, line);
     if rest.is_empty() {
-        return TokensLeft {
-            next: None,
-            rest,
-            line,
-        };
+        *next = None;
+        return (rest, line);
     }
-    match start_of(rest) {
-        Start::Found(kind, size) => {
-            let next = Token {
-                kind,
-                line: line_number(line),
-            };
-            let (_, rest) = rest.split_at(size);
-            TokensLeft {
-                next: Some(next),
-                rest,
-                line,
-            }
+    match put_token(next, rest, line_number(line)) {
+        Ok(size) => {
+            let (_, behind) = rest.split_at(size);
+            (behind, line)
         }
-        _ => unreachable!(),
+        Err(_) => unreachable!(),
     }
 }
 

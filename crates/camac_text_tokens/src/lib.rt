@@ -4,6 +4,7 @@
 mod bytes;
 mod extent;
 mod fault;
+mod first;
 pub mod laws;
 mod left;
 mod scanner;

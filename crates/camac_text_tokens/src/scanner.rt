@@ -1,6 +1,6 @@
 // Cuts a text into tokens.
 
-ghost use Rattle.std.specs.Prelude.{◌≡◌, ◌<◌, List, length, take_while, count_by, nat_lt, ◌==◌, Some, None, if◌then◌else◌, slice_index, ◌++◌, IfOk, OnOk, IfErr};
+ghost use Rattle.std.specs.Prelude.{◌≡◌, ◌<◌, ◌&&◌, List, length, take_while, count_by, nat_lt, ◌==◌, Some, None, if◌then◌else◌, slice_index, ◌++◌, IfOk, OnOk, IfErr};
 ghost use Rattle.std.specs.Char.{is_ascii_digit};
 ghost use Rattle.camac_text_tokens.specs.declared.token.Token.{Token};
 ghost use Rattle.camac_text_tokens.specs.Words.{keyword};
@@ -8,11 +8,10 @@ ghost use Rattle.camac_text_tokens.specs.Scanning.{is_name_byte, is_blank, is_no
 ghost use Rattle.camac_text_tokens.specs.Cut.{IsCut, HasTokens};
 ghost use Rattle.camac_text_tokens.specs.Fault.{AnswersList};
 
-use crate::fault::{TextFault, TextRule};
+use crate::fault::TextFault;
+use crate::left::TokensLeft;
 use crate::signs::{pair_sign, single_sign};
-use crate::token::{Sign, Token, TokenKind};
-use crate::words::keyword;
-use camac_lang::Name;
+use crate::token::{Sign, Token};
 use std::alloc::Global;
 
 /// The tokens of a text (own), or its first token fault: S1, S3 or S6. Memory may be refused (S8).
@@ -32,22 +31,13 @@ pub fn tokens(alloc: Global, text: &[u8]) -> Result<Vec<Token>, TextFault>
 fn scan(alloc: Global, text: &[u8]) -> Result<Vec<Token>, TextFault>
     ensures { AnswersList result (tokens_of text.now) }
 {
+    let mut left = TokensLeft::new(text)?;
     let mut tokens = Vec::new(alloc);
-    let mut rest = text;
-    let mut line: usize = 1;
-    while !rest.is_empty() {
-        let start = start_of(rest);
-        match wrong(&start) {
-            Some(rule) => {
-                let line = line_number(line);
-                return Err(TextFault::Broken { rule, line });
-            }
-            None => {}
-        }
-        let (taken, after) = rest.split_at(size(&start));
-        add(&mut tokens, start, line_number(line))?;
-        line += line_feeds(taken);
-        rest = after;
+    while let Some(token) = left.first() {
+        let kind = token.kind.duplicate();
+        let line = token.line;
+        tokens.push(Token { kind, line })?;
+        left.advance();
     }
     Ok(tokens)
 }
@@ -57,17 +47,6 @@ pub fn last_line(text: &[u8]) -> u32
     ensures { result ≡ last_line text.now }
 {
     line_number(line_feeds(text) + 1)
-}
-
-/// What stands at the start of a text, with its number of bytes.
-#[derive(Drop)]
-pub enum Start {
-    /// Blanks, or a comment.
-    Gap(usize),
-    /// A token.
-    Found(TokenKind, usize),
-    /// What is no token, and why.
-    Wrong(TextRule),
 }
 
 fn is_name_byte(b: u8) -> bool
@@ -82,10 +61,33 @@ pub fn is_blank(b: u8) -> bool
     b == b' ' || b == b'\t' || b == b'\r' || b == b'\n'
 }
 
+// Four bytes are looked at in a turn, since most words of a script have that many.
 fn name_len(text: &[u8]) -> usize
     ensures { result ≡ length (take_while is_name_byte text.now) }
 {
+    let mut rest = text;
+    let mut count = 0;
+    while let [first, second, third, fourth, after @ ..] = rest {
+        if !are_name_bytes(*first, *second, *third, *fourth) {
+            break;
+        }
+        count += 4;
+        rest = after;
+    }
+    count + short_name_len(rest)
+}
+
+// The same, byte by byte.
+fn short_name_len(text: &[u8]) -> usize
+    ensures { result ≡ length (take_while is_name_byte text.now) }
+{
     text.iter().take_while(|b| is_name_byte(**b)).count()
+}
+
+fn are_name_bytes(first: u8, second: u8, third: u8, fourth: u8) -> bool
+    ensures { result ≡ (is_name_byte first && is_name_byte second && is_name_byte third && is_name_byte fourth) }
+{
+    is_name_byte(first) && is_name_byte(second) && is_name_byte(third) && is_name_byte(fourth)
 }
 
 fn digits_len(text: &[u8]) -> usize
@@ -140,28 +142,6 @@ pub fn number(digits: &[u8]) -> Option<u32>
     Some(value as u32)
 }
 
-fn name_start(text: &[u8]) -> Start
-    requires { 0 < length text.now }
-    ensures { result ≡ keyword_or (keyword text.now) text.now }
-{
-    match keyword(text) {
-        Some(word) => Start::Found(TokenKind::Keyword(word), text.len()),
-        None => match Name::new(text) {
-            Some(name) => Start::Found(TokenKind::Name(name), text.len()),
-            None => Start::Wrong(TextRule::LimitPassed),
-        },
-    }
-}
-
-fn number_start(digits: &[u8]) -> Start
-    ensures { result ≡ number_or_fault digits.now }
-{
-    match number(digits) {
-        Some(number) => Start::Found(TokenKind::Number(number), digits.len()),
-        None => Start::Wrong(TextRule::NumberTooLarge),
-    }
-}
-
 pub fn pair_at(text: &[u8]) -> Option<Sign>
     ensures { result ≡ pair_at text.now }
 {
@@ -178,69 +158,6 @@ pub fn single_at(text: &[u8]) -> Option<Sign>
         [first, ..] => single_sign(*first),
         _ => None,
     }
-}
-
-fn sign_start(text: &[u8]) -> Start
-    ensures { result ≡ pair_or_single (pair_at text.now) (single_at text.now) }
-{
-    match pair_at(text) {
-        Some(sign) => Start::Found(TokenKind::Sign(sign), 2),
-        None => match single_at(text) {
-            Some(sign) => Start::Found(TokenKind::Sign(sign), 1),
-            None => Start::Wrong(TextRule::BadByte),
-        },
-    }
-}
-
-/// What stands at the start: the longest.
-#[tactic(auto, unfolding(crate::specs::Scanning::start_of))]
-pub fn start_of(text: &[u8]) -> Start
-    requires { 0 < length text.now }
-    ensures { result ≡ start_of (slice_index text.now 0) text.now }
-{
-    let b = text[0];
-    if is_blank(b) {
-        return Start::Gap(1);
-    }
-    if b == b'#' {
-        return Start::Gap(comment_len(text));
-    }
-    if b.is_ascii_alphabetic() {
-        return name_start(name_text(text));
-    }
-    if b.is_ascii_digit() {
-        return number_start(digits_text(text));
-    }
-    sign_start(text)
-}
-
-fn size(start: &Start) -> usize
-    ensures { result ≡ size start.now }
-{
-    match start {
-        Start::Gap(size) => *size,
-        Start::Found(_, size) => *size,
-        Start::Wrong(_) => 0,
-    }
-}
-
-fn wrong(start: &Start) -> Option<TextRule>
-    ensures { result ≡ wrong start.now }
-{
-    match start {
-        Start::Wrong(rule) => Some(*rule),
-        _ => None,
-    }
-}
-
-fn add(tokens: &mut Vec<Token>, start: Start, line: u32) -> Result<(), TextFault>
-    ensures ok { OnOk result (tokens.new.items ≡ tokens.old.items ++ added start line) }
-    ensures memory { IfErr result (λ e. e ≡ TextFault.OutOfMemory) }
-{
-    if let Start::Found(kind, _) = start {
-        tokens.push(Token { kind, line })?;
-    }
-    Ok(())
 }
 
 // The bytes of names. Most bytes of a script are asked for it, and one look costs less than several comparisons.

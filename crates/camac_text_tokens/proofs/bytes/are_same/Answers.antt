@@ -1,7 +1,9 @@
-use Rattle.std.proofs.Common.{◌≡◌, ℕ, zero, suc, ◌≤◌, Bool, ◌&&◌, List, [], ◌∷◌, length, take, drop, refl, sym, ap, ◌∙◌, length-drop, arith}
+use Rattle.std.proofs.Common.{◌≡◌, ℕ, zero, suc, ◌+◌, ◌-◌, ◌≤◌, Bool, true, false, ◌&&◌, eqb, List, [], ◌∷◌, length, take, drop, refl, sym, ap, ◌∙◌, length-drop, arith}
 use Rattle.std.specs.Str.{bytes_eq}
-use Rattle.std.specs.Int.{to_le_bytes, w64}
-use Rattle.std.proofs.lemmas.Bool.{eq-eqb}
+use Rattle.std.specs.Int.{from_le_bytes, to_le_bytes, w64}
+use Rattle.std.proofs.lemmas.Bool.{eq-eqb, eqb-true}
+use Rattle.std.proofs.lemmas.List.{drop-drop}
+use Rattle.std.proofs.lemmas.Slice.Eq.{bytes_eq-Decides}
 use Rattle.camac_text_tokens.proofs.bytes.are_same.Goals as goal
 
 -- behind bytes that are the same the others decide
@@ -14,10 +16,67 @@ same_front (suc n) (x ∷ xs) (y ∷ ys) h k e =
     let others : take n xs ≡ take n ys = cc in
     same_front n xs ys (omega arith) (omega arith) others ∙ sym (ap (λ (t : Bool). t && bytes_eq xs ys) (eq-eqb x y head))
 
-pub loop-one-preserved : goal.loop-one-preserved
-loop-one-preserved c =
-    let xs = c.loop-one.one.now in
-    let ys = c.loop-one.other.now in
-    let both = c.loop-one.invariant.1 in
-    let fronts : take 8 xs ≡ take 8 ys = sym c.first_eight.ensures.only ∙ ap (to_le_bytes w64) c.if-first_eight.false ∙ c.first_eight-in-loop-one.ensures.only in
-    rw (c.split_at.ensures.back, c.split_at-in-loop-one.ensures.back) ((same_front 8 xs ys c.loop-one-test.true (omega (arith, both, c.loop-one-test.true)) fronts ∙ c.loop-one.invariant.0, omega (arith, both, length-drop 8 xs, length-drop 8 ys)))
+-- what is left behind eight more of n bytes, of which r are left
+behind_eight : (n r : ℕ) (whole rest : List ℕ) → rest ≡ drop (n - r) whole → 8 ≤ r → r ≤ n → drop 8 rest ≡ drop (n - (r - 8)) whole
+behind_eight n r whole rest is some few =
+    let on : n - r + 8 ≡ n - (r - 8) = omega arith in
+    ap (λ (xs : List ℕ). drop 8 xs) is ∙ drop-drop 8 (n - r) whole ∙ ap (λ (m : ℕ). drop m whole) on
+
+-- the last r bytes are among the last eight
+last_of : (n r : ℕ) (whole : List ℕ) → r ≤ 8 → 8 ≤ n → drop (n - r) whole ≡ drop (8 - r) (drop (n - 8) whole)
+last_of n r whole few some =
+    let on : n - 8 + (8 - r) ≡ n - r = omega arith in
+    sym (drop-drop (8 - r) (n - 8) whole ∙ ap (λ (m : ℕ). drop m whole) on)
+
+-- where all before the last eight bytes are the same, those eight decide, by their numbers
+eights_decide : (one other rest other_rest : List ℕ) (a b : ℕ) → length one ≡ length other → 8 ≤ length one → length rest ≤ 8
+    → rest ≡ drop (length one - length rest) one → other_rest ≡ drop (length one - length rest) other → bytes_eq rest other_rest ≡ bytes_eq one other
+    → a ≡ from_le_bytes w64 (drop (length one - 8) one) → to_le_bytes w64 a ≡ drop (length one - 8) one
+    → b ≡ from_le_bytes w64 (drop (length other - 8) other) → to_le_bytes w64 b ≡ drop (length other - 8) other
+    → eqb a b ≡ bytes_eq one other
+eights_decide one other rest other_rest a b lengths some few rest_is other_is decides a_is a_only b_is b_only = by (eqb a b) refl where
+  n : ℕ
+  n = length one
+  r : ℕ
+  r = length rest
+  same : a ≡ b → bytes_eq one other ≡ true
+  same ab =
+      let lasts : drop (n - 8) one ≡ drop (n - 8) other = sym a_only ∙ ap (to_le_bytes w64) ab ∙ b_only ∙ ap (λ (m : ℕ). drop (m - 8) other) (sym lengths) in
+      let rests : rest ≡ other_rest = rest_is ∙ last_of n r one few some ∙ ap (λ (xs : List ℕ). drop (8 - r) xs) lasts ∙ sym (last_of n r other few some) ∙ sym other_is in
+      sym decides ∙ (bytes_eq-Decides rest other_rest).1 rests
+  differ : (u : Bool) → eqb a b ≡ false → bytes_eq one other ≡ u → bytes_eq one other ≡ false
+  differ false e is = is
+  differ true e is =
+      let all : one ≡ other = (bytes_eq-Decides one other).0 is in
+      let ab : a ≡ b = a_is ∙ ap (λ (xs : List ℕ). from_le_bytes w64 (drop (length xs - 8) xs)) all ∙ sym b_is in
+      let both : true ≡ false = sym (eq-eqb a b ab) ∙ e in
+      absurd cc
+  by : (t : Bool) → eqb a b ≡ t → eqb a b ≡ bytes_eq one other
+  by true e = e ∙ sym (same (eqb-true a b e))
+  by false e = e ∙ sym (differ (bytes_eq one other) e refl)
+
+pub loop-rest-preserved : goal.loop-rest-preserved
+loop-rest-preserved c =
+    let xs = c.loop-rest.rest.now in
+    let ys = c.loop-rest.other_rest.now in
+    let one = c.args.one.now in
+    let other = c.args.other.now in
+    let few : length xs ≤ length one = c.loop-rest.invariant.1 in
+    let more : 8 ≤ length xs = omega (arith, c.loop-rest-test.true) in
+    let xs_is : xs ≡ drop (length one - length xs) one = c.loop-rest.invariant.2 in
+    let ys_is : ys ≡ drop (length one - length xs) other = c.loop-rest.invariant.3 in
+    let both : length ys ≡ length xs = omega (arith, ap (λ (zs : List ℕ). length zs) ys_is, length-drop (length one - length xs) other, c.if-one-other.false, few) in
+    let fronts : take 8 xs ≡ take 8 ys = sym c.first_eight.ensures.only ∙ ap (to_le_bytes w64) c.if-first_eight.false ∙ c.first_eight-in-loop-rest.ensures.only in
+    let left : length xs - 8 ≡ length (drop 8 xs) = sym (length-drop 8 xs) in
+    rw (c.split_at.ensures.back, c.split_at-in-loop-rest.ensures.back) (
+      same_front 8 xs ys more (omega (arith, both, more)) fronts ∙ c.loop-rest.invariant.0,
+      omega (arith, left, few),
+      behind_eight (length one) (length xs) one xs xs_is more few ∙ ap (λ (m : ℕ). drop (length one - m) one) left,
+      behind_eight (length one) (length xs) other ys ys_is more few ∙ ap (λ (m : ℕ). drop (length one - m) other) left,
+    )
+
+pub returns : goal.returns
+returns c =
+    eights_decide c.args.one.now c.args.other.now c.loop-rest.rest.now c.loop-rest.other_rest.now c.last_eight.result c.last_eight-2.result
+      c.if-one-other.false c.if-one-lt8.false c.loop-rest-test.false c.loop-rest.invariant.2 c.loop-rest.invariant.3 c.loop-rest.invariant.0
+      c.last_eight.ensures.number c.last_eight.ensures.only c.last_eight-2.ensures.number c.last_eight-2.ensures.only

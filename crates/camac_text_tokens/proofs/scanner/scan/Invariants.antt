@@ -1,10 +1,9 @@
-use Rattle.std.proofs.Common.{◌≡◌, ◌+◌, ◌≤◌, length}
-use Rattle.camac_text_tokens.specs.Scanning.{tokens_from, tokens_of}
-use Rattle.camac_text_tokens.proofs.Scans.{with_all}
+use Rattle.std.proofs.Common.{◌≡◌, ◌++◌, length, Ok}
+use Rattle.camac_text_tokens.specs.Scanning.{tokens_of}
 use Rattle.camac_text_tokens.proofs.scanner.scan.Given as goal
 
-abbrev pub invariant-loop-rest : goal.invariant-loop-rest
-invariant-loop-rest l = (with_all l.tokens.items (tokens_from 0 l.line l.rest) ≡ tokens_of l.text) × (l.line + length l.rest ≤ length l.text + 1)
+abbrev pub invariant-loop-token : goal.invariant-loop-token
+invariant-loop-token l = tokens_of l.fn.text ≡ Ok (l.tokens.items ++ l.left)
 
-abbrev pub decreases-loop-rest : goal.decreases-loop-rest
-decreases-loop-rest l = length l.rest
+abbrev pub decreases-loop-token : goal.decreases-loop-token
+decreases-loop-token l = length l.left

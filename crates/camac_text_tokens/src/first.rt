@@ -1,0 +1,82 @@
+// The token at the start of a text, put where it stays: a token is larger than all else that cutting it handles.
+
+ghost use Rattle.std.specs.Prelude.{◌<◌, length, slice_index};
+ghost use Rattle.camac_text_tokens.specs.Words.{keyword};
+ghost use Rattle.camac_text_tokens.specs.Scanning.{keyword_or, number_or_fault, pair_at, single_at, pair_or_single, start_of};
+ghost use Rattle.camac_text_tokens.specs.Left.{BeginsNoGap, IsPut};
+
+use crate::fault::TextRule;
+use crate::scanner::{digits_text, name_text, number, pair_at, single_at};
+use crate::token::{Token, TokenKind};
+use crate::words::keyword;
+use camac_lang::Name;
+
+/// Puts the token at the start, the longest, in its place, and answers its number of bytes.
+#[tactic(auto, unfolding(crate::specs::Scanning::start_of))]
+pub fn put_token(next: &mut Option<Token>, text: &[u8], line: u32) -> Result<usize, TextRule>
+    requires some { 0 < length text.now }
+    requires begins { BeginsNoGap text.now }
+    ensures { IsPut result next.new line (start_of (slice_index text.now 0) text.now) }
+{
+    let b = text[0];
+    if b.is_ascii_alphabetic() {
+        return put_word(next, name_text(text), line);
+    }
+    if b.is_ascii_digit() {
+        return put_number(next, digits_text(text), line);
+    }
+    put_sign(next, text, line)
+}
+
+fn put_word(next: &mut Option<Token>, text: &[u8], line: u32) -> Result<usize, TextRule>
+    requires { 0 < length text.now }
+    ensures { IsPut result next.new line (keyword_or (keyword text.now) text.now) }
+{
+    match keyword(text) {
+        Some(word) => {
+            let kind = TokenKind::Keyword(word);
+            *next = Some(Token { kind, line });
+        }
+        None => match Name::new(text) {
+            Some(name) => {
+                let kind = TokenKind::Name(name);
+                *next = Some(Token { kind, line });
+            }
+            None => return Err(TextRule::LimitPassed),
+        },
+    }
+    Ok(text.len())
+}
+
+fn put_number(next: &mut Option<Token>, digits: &[u8], line: u32) -> Result<usize, TextRule>
+    ensures { IsPut result next.new line (number_or_fault digits.now) }
+{
+    match number(digits) {
+        Some(number) => {
+            let kind = TokenKind::Number(number);
+            *next = Some(Token { kind, line });
+            Ok(digits.len())
+        }
+        None => Err(TextRule::NumberTooLarge),
+    }
+}
+
+fn put_sign(next: &mut Option<Token>, text: &[u8], line: u32) -> Result<usize, TextRule>
+    ensures { IsPut result next.new line (pair_or_single (pair_at text.now) (single_at text.now)) }
+{
+    match pair_at(text) {
+        Some(sign) => {
+            let kind = TokenKind::Sign(sign);
+            *next = Some(Token { kind, line });
+            Ok(2)
+        }
+        None => match single_at(text) {
+            Some(sign) => {
+                let kind = TokenKind::Sign(sign);
+                *next = Some(Token { kind, line });
+                Ok(1)
+            }
+            None => Err(TextRule::BadByte),
+        },
+    }
+}
