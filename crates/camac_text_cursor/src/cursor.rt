@@ -65,18 +65,8 @@ impl<'a> Parser<'a> {
 }
 
 impl Parser<'_> {
-    /// The kind of the next token.
-    pub fn peek(&self) -> Option<TokenKind>
-        ensures { result ≡ kind_of (state self.now).rest }
-    {
-        match self.rest.first() {
-            Some(token) => Some(token.kind.duplicate()),
-            None => None,
-        }
-    }
-
-    // The kind of the next token, where it stands.
-    pub(crate) fn next_kind(&self) -> Option<&TokenKind>
+    /// The kind of the next token. It stays the next one.
+    pub fn peek(&self) -> Option<&TokenKind>
         ensures { option_copied result ≡ kind_of (state self.now).rest }
     {
         match self.rest.first() {
@@ -116,7 +106,7 @@ impl Parser<'_> {
     pub fn next_is(&self, keyword: Keyword) -> bool
         ensures { result ≡ is_keyword keyword (kind_of (state self.now).rest) }
     {
-        match self.next_kind() {
+        match self.peek() {
             Some(TokenKind::Keyword(next)) => *next == keyword,
             _ => false,
         }
@@ -126,7 +116,7 @@ impl Parser<'_> {
     pub fn next_is_sign(&self, sign: Sign) -> bool
         ensures { result ≡ is_sign sign (kind_of (state self.now).rest) }
     {
-        match self.next_kind() {
+        match self.peek() {
             Some(TokenKind::Sign(next)) => *next == sign,
             _ => false,
         }
@@ -136,7 +126,7 @@ impl Parser<'_> {
     pub fn next_is_name(&self) -> bool
         ensures { result ≡ is_name (kind_of (state self.now).rest) }
     {
-        matches!(self.next_kind(), Some(TokenKind::Name(_)))
+        matches!(self.peek(), Some(TokenKind::Name(_)))
     }
 
     /// Takes this keyword, else answers S2 at what stands there.
@@ -168,7 +158,7 @@ impl Parser<'_> {
     pub fn name_here(&mut self) -> Result<Name, TextFault>
         ensures { Gives (λ n. n) result self.new (name_here (state self.old)) }
     {
-        match self.next_kind() {
+        match self.peek() {
             Some(TokenKind::Name(name)) => Ok(name.duplicate()),
             _ => Err(self.fault(TextRule::UnexpectedToken)),
         }
@@ -179,7 +169,7 @@ impl Parser<'_> {
     pub fn number_here(&mut self) -> Result<u32, TextFault>
         ensures { Gives (λ n. n) result self.new (number_here (state self.old)) }
     {
-        match self.next_kind() {
+        match self.peek() {
             Some(TokenKind::Number(number)) => Ok(*number),
             _ => Err(self.fault(TextRule::UnexpectedToken)),
         }

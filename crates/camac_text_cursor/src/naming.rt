@@ -24,7 +24,7 @@ impl Parser<'_> {
         ensures { Gives (λ n. n) result self.new (new_name (state self.old)) }
     {
         let here: &Self = self;
-        let Some(TokenKind::Name(name)) = here.next_kind() else {
+        let Some(TokenKind::Name(name)) = here.peek() else {
             return Err(here.fault(TextRule::UnexpectedToken));
         };
         if !here.is_free(name) {
@@ -91,7 +91,7 @@ impl Parser<'_> {
         ensures { Gives (λ n. n) result self.new (set_name (state self.old)) }
     {
         let here: &Self = self;
-        let Some(TokenKind::Name(name)) = here.next_kind() else {
+        let Some(TokenKind::Name(name)) = here.peek() else {
             return Err(here.fault(TextRule::UnexpectedToken));
         };
         if !here.is_free(name) {
@@ -128,7 +128,7 @@ impl Parser<'_> {
         ensures { Gives (λ n. n) result self.new (used_register (state self.old)) }
     {
         let here: &Self = self;
-        let Some(TokenKind::Name(name)) = here.next_kind() else {
+        let Some(TokenKind::Name(name)) = here.peek() else {
             return Err(here.fault(TextRule::UnexpectedToken));
         };
         let place = place_of(&here.registers, name);
@@ -141,7 +141,7 @@ impl Parser<'_> {
         ensures { Gives (λ n. n) result self.new (used_variable (state self.old)) }
     {
         let here: &Self = self;
-        let Some(TokenKind::Name(name)) = here.next_kind() else {
+        let Some(TokenKind::Name(name)) = here.peek() else {
             return Err(here.fault(TextRule::UnexpectedToken));
         };
         let place = place_of(&here.variables, name);
@@ -154,7 +154,7 @@ impl Parser<'_> {
         ensures { Gives (λ n. n) result self.new (used_lam (state self.old)) }
     {
         let here: &Self = self;
-        let Some(TokenKind::Name(name)) = here.next_kind() else {
+        let Some(TokenKind::Name(name)) = here.peek() else {
             return Err(here.fault(TextRule::UnexpectedToken));
         };
         let place = lam_place(&here.lams, name);
@@ -167,7 +167,7 @@ impl Parser<'_> {
         ensures { Gives (λ n. n) result self.new (variable_here (state self.old)) }
     {
         let here: &Self = self;
-        let Some(TokenKind::Name(name)) = here.next_kind() else {
+        let Some(TokenKind::Name(name)) = here.peek() else {
             return Err(here.fault(TextRule::UnexpectedToken));
         };
         match place_of(&here.variables, name) {
@@ -182,7 +182,7 @@ impl Parser<'_> {
         ensures { Gives (λ n. n) result self.new (used_table (state self.old)) }
     {
         let here: &Self = self;
-        let Some(TokenKind::Name(name)) = here.next_kind() else {
+        let Some(TokenKind::Name(name)) = here.peek() else {
             return Err(here.fault(TextRule::UnexpectedToken));
         };
         let place = table_place(&here.tables, name);
@@ -195,7 +195,7 @@ impl Parser<'_> {
         ensures { Gives (λ n. n) result self.new (procedure_here (state self.old)) }
     {
         let here: &Self = self;
-        let Some(TokenKind::Name(name)) = here.next_kind() else {
+        let Some(TokenKind::Name(name)) = here.peek() else {
             return Err(here.fault(TextRule::UnexpectedToken));
         };
         match procedure_place(&here.procedures, name) {

@@ -54,7 +54,7 @@ fn is_sum_sign(parser: &Parser<'_>) -> bool
 fn sum_turn(parser: &mut Parser<'_>, room: u32, left: Counted) -> Result<Counted, TextFault>
     ensures { Gives counted_of result parser.new (sum_turn (bracketed room) (counted_of left) (state parser.old)) }
 {
-    let next = parser.peek();
+    let is_difference = parser.next_is_sign(Sign::Minus);
     let so_far = operator(parser, left.operators)?;
     let right = product(parser, room, so_far)?;
     let operators = right.operators;
@@ -63,9 +63,10 @@ fn sum_turn(parser: &mut Parser<'_>, room: u32, left: Counted) -> Result<Counted
         right: right.value,
     };
     let operands = Box::new(parser.alloc, operands)?;
-    let value = match next {
-        Some(TokenKind::Sign(Sign::Minus)) => Expr::Sub(operands),
-        _ => Expr::Add(operands),
+    let value = if is_difference {
+        Expr::Sub(operands)
+    } else {
+        Expr::Add(operands)
     };
     Ok(Counted { value, operators })
 }
