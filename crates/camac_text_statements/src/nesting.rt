@@ -2,35 +2,19 @@
 
 ghost use Rattle.std.specs.Prelude.{◌≡◌};
 ghost use Rattle.camac_lang.specs.View.{statement_of};
-ghost use Rattle.camac_text_cursor.specs.Reading.{kind_of};
-ghost use Rattle.camac_text_statements.specs.Statements.{if_statement, for_statement, while_statement, lock_statement, nested_by, block_at};
+ghost use Rattle.camac_text_statements.specs.Statements.{if_statement, for_statement, while_statement, lock_statement, block_at};
 ghost use Rattle.camac_text_cursor.specs.Parser.{state, Gives};
 
 use crate::statements::block;
-use crate::transfers::transfer;
 use camac_lang::Stmt;
 use camac_text_cursor::Parser;
 use camac_text_phrases::{condition, expression, keeps};
 use camac_text_tokens::{Keyword, Sign, TextFault, TextRule, TokenKind};
 
-/// A statement that holds blocks, or a call, whichever keyword stands next.
-#[cycle(statement)]
-pub fn nested(parser: &mut Parser<'_>, room: u32, line: u32) -> Result<Stmt, TextFault>
-    ensures { Gives statement_of result parser.new (nested_by room (block_at room) line (kind_of (state parser.old).rest) (state parser.old)) }
-{
-    match parser.peek() {
-        Some(TokenKind::Keyword(Keyword::If)) => if_statement(parser, room, line),
-        Some(TokenKind::Keyword(Keyword::For)) => for_statement(parser, room, line),
-        Some(TokenKind::Keyword(Keyword::While)) => while_statement(parser, room, line),
-        Some(TokenKind::Keyword(Keyword::Lock)) => lock_statement(parser, room, line),
-        _ => transfer(parser, room, line),
-    }
-}
-
 /// `if`
 #[cycle(statement)]
 #[tactic(auto, unfolding(crate::specs::Statements::if_statement))]
-fn if_statement(parser: &mut Parser<'_>, room: u32, line: u32) -> Result<Stmt, TextFault>
+pub fn if_statement(parser: &mut Parser<'_>, room: u32, line: u32) -> Result<Stmt, TextFault>
     ensures { Gives statement_of result parser.new (if_statement room (block_at room) line (state parser.old)) }
 {
     parser.begin()?;
@@ -54,7 +38,7 @@ fn if_statement(parser: &mut Parser<'_>, room: u32, line: u32) -> Result<Stmt, T
 /// `for`
 #[cycle(statement)]
 #[tactic(auto, unfolding(crate::specs::Statements::for_statement))]
-fn for_statement(parser: &mut Parser<'_>, room: u32, line: u32) -> Result<Stmt, TextFault>
+pub fn for_statement(parser: &mut Parser<'_>, room: u32, line: u32) -> Result<Stmt, TextFault>
     ensures { Gives statement_of result parser.new (for_statement room (block_at room) line (state parser.old)) }
 {
     parser.begin()?;
@@ -78,7 +62,7 @@ fn for_statement(parser: &mut Parser<'_>, room: u32, line: u32) -> Result<Stmt, 
 /// `while`
 #[cycle(statement)]
 #[tactic(auto, unfolding(crate::specs::Statements::while_statement))]
-fn while_statement(parser: &mut Parser<'_>, room: u32, line: u32) -> Result<Stmt, TextFault>
+pub fn while_statement(parser: &mut Parser<'_>, room: u32, line: u32) -> Result<Stmt, TextFault>
     ensures { Gives statement_of result parser.new (while_statement room (block_at room) line (state parser.old)) }
 {
     parser.begin()?;
@@ -102,7 +86,7 @@ fn while_statement(parser: &mut Parser<'_>, room: u32, line: u32) -> Result<Stmt
 /// `lock`, which stands in no procedure
 #[cycle(statement)]
 #[tactic(auto, unfolding(crate::specs::Statements::lock_statement))]
-fn lock_statement(parser: &mut Parser<'_>, room: u32, line: u32) -> Result<Stmt, TextFault>
+pub fn lock_statement(parser: &mut Parser<'_>, room: u32, line: u32) -> Result<Stmt, TextFault>
     ensures { Gives statement_of result parser.new (lock_statement room (block_at room) line (state parser.old)) }
 {
     if parser.in_procedure {

@@ -1,14 +1,17 @@
 // Blocks and statements.
 
-ghost use Rattle.std.specs.Prelude.{◌≡◌, map, suc};
+ghost use Rattle.std.specs.Prelude.{◌≡◌, Some, map, suc};
 ghost use Rattle.camac_lang.specs.View.{statement_of};
 ghost use Rattle.camac_text_cursor.specs.Reading.{kind_of, many};
-ghost use Rattle.camac_text_statements.specs.Statements.{statement_with, is_no_end, block_at};
+ghost use Rattle.camac_text_tokens.specs.declared.token.TokenKind.TheVariants as kind;
+ghost use Rattle.camac_text_statements.specs.Statements.{statement_by, statement_with, is_no_end, block_at};
 ghost use Rattle.camac_text_cursor.specs.Parser.{state, Gives};
 
 use crate::actions::{assignment, put_action, register_setting, single_action};
-use crate::nesting::nested;
-use camac_lang::{Stmt, WordSize};
+use crate::calls::{crate_action, crate_switch, lam_action, lam_switch};
+use crate::nesting::{for_statement, if_statement, lock_statement, while_statement};
+use crate::transfers::{call, q_repeat, q_stop, scan};
+use camac_lang::{CrateCall, LamCall, Stmt, WordSize};
 use camac_text_cursor::Parser;
 use camac_text_tokens::{Keyword, Sign, TextFault, TextRule, TokenKind};
 
@@ -66,20 +69,59 @@ fn statement(parser: &mut Parser<'_>, room: u32) -> Result<Stmt, TextFault>
     let line = parser.line_here();
     match parser.peek() {
         Some(TokenKind::Name(_)) => assignment(parser, room, line),
-        Some(TokenKind::Keyword(Keyword::Cdreg)) => register_setting(parser, room, line),
-        Some(TokenKind::Keyword(Keyword::Cfsa)) => single_action(
+        Some(TokenKind::Keyword(word)) => {
+            let word = *word;
+            keyword_statement(parser, word, room, line)
+        }
+        _ => Err(parser.fault(TextRule::UnexpectedToken)),
+    }
+}
+
+/// The statement that begins with this keyword, which stands next.
+#[cycle(statement)]
+fn keyword_statement(
+    parser: &mut Parser<'_>,
+    word: Keyword,
+    room: u32,
+    line: u32,
+) -> Result<Stmt, TextFault>
+    ensures { Gives statement_of result parser.new (statement_by room (block_at room) line (Some (kind.Keyword word)) (state parser.old)) }
+{
+    match word {
+        Keyword::Cdreg => register_setting(parser, room, line),
+        Keyword::Cfsa => single_action(parser, WordSize::Full, room, line),
+        Keyword::Cssa => single_action(parser, WordSize::Short, room, line),
+        Keyword::Put => put_action(parser, room, line),
+        Keyword::If => if_statement(parser, room, line),
+        Keyword::For => for_statement(parser, room, line),
+        Keyword::While => while_statement(parser, room, line),
+        Keyword::Lock => lock_statement(parser, room, line),
+        Keyword::Cfmad => scan(parser, room, line),
+        Keyword::Cfubc => q_stop(parser, room, line),
+        Keyword::Cfubr => q_repeat(parser, room, line),
+        Keyword::Call => call(parser, room, line),
+        Keyword::Cccz => crate_action(parser, CrateCall::Initialise, room, line),
+        Keyword::Cccc => crate_action(parser, CrateCall::Clear, room, line),
+        Keyword::Ctci => crate_action(parser, CrateCall::TestInhibit, room, line),
+        Keyword::Ctcd => crate_action(parser, CrateCall::TestDemandOutput, room, line),
+        Keyword::Ctgl => crate_action(parser, CrateCall::TestDemand, room, line),
+        Keyword::Ccci => crate_switch(
             parser,
-            WordSize::Full,
+            CrateCall::InhibitOn,
+            CrateCall::InhibitOff,
             room,
             line,
         ),
-        Some(TokenKind::Keyword(Keyword::Cssa)) => single_action(
+        Keyword::Cccd => crate_switch(
             parser,
-            WordSize::Short,
+            CrateCall::DemandOn,
+            CrateCall::DemandOff,
             room,
             line,
         ),
-        Some(TokenKind::Keyword(Keyword::Put)) => put_action(parser, room, line),
-        _ => nested(parser, room, line),
+        Keyword::Cclm => lam_switch(parser, line),
+        Keyword::Cclc => lam_action(parser, LamCall::Clear, line),
+        Keyword::Ctlm => lam_action(parser, LamCall::Test, line),
+        _ => Err(parser.fault(TextRule::UnexpectedToken)),
     }
 }

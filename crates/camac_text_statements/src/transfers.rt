@@ -2,33 +2,17 @@
 
 ghost use Rattle.std.specs.Prelude.{◌≡◌};
 ghost use Rattle.camac_lang.specs.View.{expression_of, statement_of};
-ghost use Rattle.camac_text_cursor.specs.Reading.{kind_of};
 ghost use Rattle.camac_text_cursor.specs.Parser.{state, Gives};
 ghost use Rattle.camac_text_statements.specs.Transfers.{last_bound, table_at, scan_statement, q_stop_statement, q_repeat_statement, call_statement};
-ghost use Rattle.camac_text_statements.specs.Statements.{transfer_by};
 
-use crate::calls::crate_call;
 use camac_lang::{Expr, Stmt};
 use camac_text_cursor::Parser;
 use camac_text_phrases::{arguments, expression};
 use camac_text_tokens::{Keyword, TextFault, TokenKind};
 
-/// A transfer or a call, whichever keyword stands next.
-pub fn transfer(parser: &mut Parser<'_>, room: u32, line: u32) -> Result<Stmt, TextFault>
-    ensures { Gives statement_of result parser.new (transfer_by room line (kind_of (state parser.old).rest) (state parser.old)) }
-{
-    match parser.peek() {
-        Some(TokenKind::Keyword(Keyword::Cfmad)) => scan(parser, room, line),
-        Some(TokenKind::Keyword(Keyword::Cfubc)) => q_stop(parser, room, line),
-        Some(TokenKind::Keyword(Keyword::Cfubr)) => q_repeat(parser, room, line),
-        Some(TokenKind::Keyword(Keyword::Call)) => call(parser, room, line),
-        _ => crate_call(parser, room, line),
-    }
-}
-
 /// `cfmad`
 #[tactic(auto, unfolding(crate::specs::Transfers::scan_statement))]
-fn scan(parser: &mut Parser<'_>, room: u32, line: u32) -> Result<Stmt, TextFault>
+pub fn scan(parser: &mut Parser<'_>, room: u32, line: u32) -> Result<Stmt, TextFault>
     ensures { Gives statement_of result parser.new (scan_statement room line (state parser.old)) }
 {
     parser.begin()?;
@@ -48,7 +32,7 @@ fn scan(parser: &mut Parser<'_>, room: u32, line: u32) -> Result<Stmt, TextFault
 
 /// `cfubc`
 #[tactic(auto, unfolding(crate::specs::Transfers::q_stop_statement))]
-fn q_stop(parser: &mut Parser<'_>, room: u32, line: u32) -> Result<Stmt, TextFault>
+pub fn q_stop(parser: &mut Parser<'_>, room: u32, line: u32) -> Result<Stmt, TextFault>
     ensures { Gives statement_of result parser.new (q_stop_statement room line (state parser.old)) }
 {
     parser.begin()?;
@@ -68,7 +52,7 @@ fn q_stop(parser: &mut Parser<'_>, room: u32, line: u32) -> Result<Stmt, TextFau
 
 /// `cfubr`
 #[tactic(auto, unfolding(crate::specs::Transfers::q_repeat_statement))]
-fn q_repeat(parser: &mut Parser<'_>, room: u32, line: u32) -> Result<Stmt, TextFault>
+pub fn q_repeat(parser: &mut Parser<'_>, room: u32, line: u32) -> Result<Stmt, TextFault>
     ensures { Gives statement_of result parser.new (q_repeat_statement room line (state parser.old)) }
 {
     parser.begin()?;
@@ -122,7 +106,7 @@ fn last_bound(
 
 /// `call`
 #[tactic(auto, unfolding(crate::specs::Transfers::call_statement))]
-fn call(parser: &mut Parser<'_>, room: u32, line: u32) -> Result<Stmt, TextFault>
+pub fn call(parser: &mut Parser<'_>, room: u32, line: u32) -> Result<Stmt, TextFault>
     ensures { Gives statement_of result parser.new (call_statement room line (state parser.old)) }
 {
     parser.begin()?;

@@ -20,8 +20,8 @@ decreases-nesting::while_statement l = 9 * l.room + 3
 abbrev pub decreases-nesting::lock_statement : goal.decreases-nesting::lock_statement
 decreases-nesting::lock_statement l = 9 * l.room + 4
 
-abbrev pub decreases-nesting::nested : goal.decreases-nesting::nested
-decreases-nesting::nested l = 9 * l.room + 5
+abbrev pub decreases-statements::keyword_statement : goal.decreases-statements::keyword_statement
+decreases-statements::keyword_statement l = 9 * l.room + 5
 
 abbrev pub decreases-statements::statement : goal.decreases-statements::statement
 decreases-statements::statement l = 9 * l.room + 6
