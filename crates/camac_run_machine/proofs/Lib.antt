@@ -22,7 +22,6 @@ pub mod Bounds
 pub mod Serving
 pub mod Told
 pub mod Trees
-pub mod Forms
 pub mod Lists
 pub mod Starts
 pub mod Sizes

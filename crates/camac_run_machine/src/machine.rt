@@ -237,23 +237,88 @@ impl<'a, const V: usize, const DEPTH: usize, const CAP: usize> Machine<'a, V, DE
     {
         self.steps += 1;
         match statement {
-            Stmt::Assign { .. } | Stmt::SetRegister { .. } | Stmt::Put { .. } => {
-                self.plain_statement(statement);
+            Stmt::Assign {
+                variable,
+                value,
+                ..
+            } => {
+                self.assign(*variable, value);
                 None
             }
-            Stmt::Single { .. } | Stmt::CrateCall { .. } | Stmt::LamCall { .. } => {
-                Some(self.cycle_statement(statement))
+            Stmt::SetRegister {
+                register,
+                crate_no,
+                station,
+                sub_address,
+                ..
+            } => {
+                self.set_register(*register, crate_no, station, sub_address);
+                None
             }
-            Stmt::Scan { .. } | Stmt::QStop { .. } | Stmt::QRepeat { .. } => {
-                self.transfer_statement(statement)
+            Stmt::Put { value, .. } => {
+                self.put(value);
+                None
             }
-            Stmt::If { .. } | Stmt::IfElse { .. } => {
-                self.choice(statement);
+            Stmt::Single {
+                size,
+                function,
+                register,
+                data,
+                ..
+            } => Some(self.single(*size, *function, *register, data)),
+            Stmt::CrateCall { call, crate_no, .. } => Some(self.call_crate(*call, crate_no)),
+            Stmt::LamCall { call, lam, .. } => Some(self.call_lam(*call, *lam)),
+            Stmt::Scan {
+                function,
+                first,
+                last,
+                max,
+                tally,
+                ..
+            } => self.scan(*function, *first, *last, max, *tally),
+            Stmt::QStop {
+                function,
+                register,
+                table,
+                max,
+                tally,
+                ..
+            } => self.q_stop(*function, *register, *table, max, *tally),
+            Stmt::QRepeat {
+                function,
+                register,
+                table,
+                max,
+                limit,
+                tally,
+                ..
+            } => self.q_repeat(*function, *register, *table, max, limit, *tally),
+            Stmt::If { test, then, .. } => {
+                self.choose(&test.parts, then, &[]);
+                None
+            }
+            Stmt::IfElse {
+                test,
+                then,
+                otherwise,
+                ..
+            } => {
+                self.choose(&test.parts, then, otherwise);
                 None
             }
             Stmt::Lock { crate_no, body, .. } => Some(self.want_lock(crate_no, body)),
-            Stmt::For { .. } | Stmt::While { .. } => {
-                self.loop_statement(statement);
+            Stmt::For {
+                variable,
+                from,
+                to,
+                body,
+                ..
+            } => {
+                self.begin_for(*variable, from, to, body);
+                None
+            }
+            Stmt::While { test, body, .. } => {
+                self.test_while(&test.parts, MOST_TURNS, body);
                 None
             }
             Stmt::Call {

@@ -1,25 +1,24 @@
 // Statements that set or write something, and those that make one cycle.
 
-ghost use Rattle.std.specs.Prelude.{◌≡◌, IsTrue, ◌+◌, ◌*◌, ◌-◌, ◌<◌, ◌≤◌, length, None, Some, slice_set};
+ghost use Rattle.std.specs.Prelude.{◌≡◌, ◌+◌, ◌*◌, ◌-◌, ◌<◌, ◌≤◌, length, None, Some, slice_set};
 ghost use Rattle.camac_branch.specs.Address.{Address};
 ghost use Rattle.camac_branch.specs.Allowed.{width};
-ghost use Rattle.camac_lang.specs.Kinds.{is_plain, is_cycle};
-ghost use Rattle.camac_lang.specs.View.{expression_of, move_of, statement_of};
+ghost use Rattle.camac_lang.specs.View.{expression_of, move_of};
 ghost use Rattle.camac_lang.specs.Tree.{assign, set_register, single, put, crate_call, lam_call, call};
 ghost use Rattle.camac_model.specs.Cycle.{sized};
 ghost use Rattle.camac_model.specs.Fine.{most_turns};
 ghost use Rattle.camac_model.specs.Meaning.{effect};
 ghost use Rattle.camac_model.specs.Value.{value};
-ghost use Rattle.camac_run_machine.specs.MachineState.{reach, with_value, free, FineThen, HasRoom, Advances, Wants};
+ghost use Rattle.camac_run_machine.specs.MachineState.{reach, with_value, FineThen, HasRoom, Advances, Wants};
 ghost use Rattle.camac_run_machine.specs.Rest.{address_of};
-ghost use Rattle.camac_run_machine.specs.Within.{Refers, MoveFits, StatementFits};
+ghost use Rattle.camac_run_machine.specs.Within.{Refers, MoveFits};
 
 use crate::command::command;
 use crate::machine::{Machine, Wanting};
 use camac_branch::{Command, Plan};
 use camac_esone::{Address, crate_call, lam_call};
 use camac_func::DataMove;
-use camac_lang::{CrateCall, Expr, LamCall, Move, Stmt, WordSize};
+use camac_lang::{CrateCall, Expr, LamCall, Move, WordSize};
 use camac_word::{CrateNo, Function, Word24};
 
 // How many bits a read of this size keeps.
@@ -163,53 +162,5 @@ impl<'a, const V: usize, const DEPTH: usize, const CAP: usize> Machine<'a, V, DE
             a: lam.sub_address.get(),
         };
         Wanting::Cycle(lam_call(call, at))
-    }
-
-    // A statement without a dataway cycle, and without statements in it.
-    pub fn plain_statement(&mut self, statement: &Stmt)
-        requires room { HasRoom self.old }
-        requires kind { IsTrue (is_plain (statement_of statement.now)) }
-        requires fits { StatementFits (reach self.old) (free self.old) (statement_of statement.now) }
-        requires fine { FineThen self.old (λ c. effect c most_turns (statement_of statement.now)) }
-        ensures { Advances self.old (λ c. effect c most_turns (statement_of statement.now)) None self.new }
-    {
-        match statement {
-            Stmt::Assign {
-                variable,
-                value,
-                ..
-            } => self.assign(*variable, value),
-            Stmt::SetRegister {
-                register,
-                crate_no,
-                station,
-                sub_address,
-                ..
-            } => self.set_register(*register, crate_no, station, sub_address),
-            Stmt::Put { value, .. } => self.put(value),
-            _ => unreachable!(),
-        }
-    }
-
-    // A statement of one dataway cycle.
-    pub fn cycle_statement(&self, statement: &Stmt) -> Wanting<'a>
-        requires room { HasRoom self.now }
-        requires kind { IsTrue (is_cycle (statement_of statement.now)) }
-        requires fits { StatementFits (reach self.now) (free self.now) (statement_of statement.now) }
-        requires fine { FineThen self.now (λ c. effect c most_turns (statement_of statement.now)) }
-        ensures { Wants self.now (λ c. effect c most_turns (statement_of statement.now)) result }
-    {
-        match statement {
-            Stmt::Single {
-                size,
-                function,
-                register,
-                data,
-                ..
-            } => self.single(*size, *function, *register, data),
-            Stmt::CrateCall { call, crate_no, .. } => self.call_crate(*call, crate_no),
-            Stmt::LamCall { call, lam, .. } => self.call_lam(*call, *lam),
-            _ => unreachable!(),
-        }
     }
 }

@@ -1,16 +1,15 @@
 // Blocks: how one is opened, what goes on after it, and calls of procedures.
 
-ghost use Rattle.std.specs.Prelude.{◌≡◌, IsTrue, ◌||◌, ℕ, suc, ◌+◌, ◌*◌, ◌-◌, ◌<◌, ◌≤◌, length, ◌∷◌, ◌++◌, [], List, map, None, Some, IfSome, IfNone};
+ghost use Rattle.std.specs.Prelude.{◌≡◌, ℕ, suc, ◌+◌, ◌*◌, ◌-◌, ◌<◌, ◌≤◌, length, ◌∷◌, ◌++◌, [], List, map, None, Some, IfSome, IfNone};
 ghost use Rattle.camac_branch.specs.Branch.{Answer};
-ghost use Rattle.camac_lang.specs.Kinds.{is_choice, is_for, is_while};
-ghost use Rattle.camac_lang.specs.View.{expression_of, part_of, statement_of, statements_of};
+ghost use Rattle.camac_lang.specs.View.{expression_of, part_of, statements_of};
 ghost use Rattle.camac_lang.specs.Tree.{done, choose_else, for_, locked, call};
 ghost use Rattle.camac_model.specs.Fine.{most_turns};
 ghost use Rattle.camac_model.specs.Meaning.{effect, block_meaning, for_turns, turns as while_turns};
 ghost use Rattle.camac_model.specs.Value.{value};
 ghost use Rattle.camac_run_machine.specs.MachineState.{context_in, reach, state_of, owner_in, open_in, opens_in, holds, free, FineThen, HasRoomFor, HasRoom, IsFineHere, stands, TakesFirst, LastIsOver, GoesOn, Advances, Enters, Wants};
 ghost use Rattle.camac_run_machine.specs.Rest.{releases, owed, left_of};
-ghost use Rattle.camac_run_machine.specs.Within.{Refers, CallFits, PartsRefer, StatementFits, Opens, OwnerFits, outer};
+ghost use Rattle.camac_run_machine.specs.Within.{Refers, CallFits, PartsRefer, Opens, OwnerFits, outer};
 
 use crate::arguments::{pass, unset};
 use crate::condition::holds;
@@ -45,6 +44,19 @@ impl<'a, const V: usize, const DEPTH: usize, const CAP: usize> Machine<'a, V, DE
         ensures same { self.new ≡ record self.old { frames = self.new.frames } }
     {
         self.frames.push(Frame { rest: body, owner });
+    }
+
+    // `if`: opens the block that is to be done.
+    pub fn choose(&mut self, test: &[Part], then: &'a [Stmt], otherwise: &'a [Stmt])
+        requires room { HasRoom self.old }
+        requires declared { PartsRefer (reach self.old).variables (map part_of test.now) }
+        requires then { Opens (reach self.old) (free self.old) (statements_of then.now) }
+        requires otherwise { Opens (reach self.old) (free self.old) (statements_of otherwise.now) }
+        requires fine { FineThen self.old (λ c. effect c most_turns (choose_else 0 (map part_of test.now) (statements_of then.now) (statements_of otherwise.now))) }
+        ensures { Enters self.old (λ c. effect c most_turns (choose_else 0 (map part_of test.now) (statements_of then.now) (statements_of otherwise.now))) self.new }
+    {
+        let body = self.chosen(test, then, otherwise);
+        self.open(body, Owner::Plain);
     }
 
     // Begins a turn of a `for`.
@@ -147,53 +159,6 @@ impl<'a, const V: usize, const DEPTH: usize, const CAP: usize> Machine<'a, V, DE
             rest: callee.body.as_slice(),
             owner: Owner::Return(caller),
         });
-    }
-
-    // `if`, with or without `else`: opens the block that is to be done.
-    pub fn choice(&mut self, statement: &'a Stmt)
-        requires room { HasRoom self.old }
-        requires kind { IsTrue (is_choice (statement_of statement.now)) }
-        requires fits { StatementFits (reach self.old) (free self.old) (statement_of statement.now) }
-        requires fine { FineThen self.old (λ c. effect c most_turns (statement_of statement.now)) }
-        ensures { Enters self.old (λ c. effect c most_turns (statement_of statement.now)) self.new }
-    {
-        match statement {
-            Stmt::If { test, then, .. } => {
-                let body = self.chosen(&test.parts, then, &[]);
-                self.open(body, Owner::Plain);
-            }
-            Stmt::IfElse {
-                test,
-                then,
-                otherwise,
-                ..
-            } => {
-                let body = self.chosen(&test.parts, then, otherwise);
-                self.open(body, Owner::Plain);
-            }
-            _ => unreachable!(),
-        }
-    }
-
-    // A loop: its first turn, if it has one.
-    pub fn loop_statement(&mut self, statement: &'a Stmt)
-        requires room { HasRoom self.old }
-        requires kind { IsTrue (is_for (statement_of statement.now) || is_while (statement_of statement.now)) }
-        requires fits { StatementFits (reach self.old) (free self.old) (statement_of statement.now) }
-        requires fine { FineThen self.old (λ c. effect c most_turns (statement_of statement.now)) }
-        ensures { Advances self.old (λ c. effect c most_turns (statement_of statement.now)) None self.new }
-    {
-        match statement {
-            Stmt::For {
-                variable,
-                from,
-                to,
-                body,
-                ..
-            } => self.begin_for(*variable, from, to, body),
-            Stmt::While { test, body, .. } => self.test_while(&test.parts, MOST_TURNS, body),
-            _ => unreachable!(),
-        }
     }
 
     // Releases the lock of a crate.

@@ -1,16 +1,15 @@
 // Block transfers, cycle by cycle.
 
-ghost use Rattle.std.specs.Prelude.{◌≡◌, IsTrue, ◌*◌, ◌-◌, ◌<◌, ◌≤◌, length, None, Some, IsSome, option_map, ◌^◌, ◌%◌};
+ghost use Rattle.std.specs.Prelude.{◌≡◌, ◌*◌, ◌-◌, ◌<◌, ◌≤◌, length, None, Some, IsSome, option_map, ◌^◌, ◌%◌};
 ghost use Rattle.camac_branch.specs.Allowed.{width};
-ghost use Rattle.camac_lang.specs.Kinds.{is_transfer};
-ghost use Rattle.camac_lang.specs.View.{expression_of, statement_of};
+ghost use Rattle.camac_lang.specs.View.{expression_of};
 ghost use Rattle.camac_lang.specs.Tree.{done, address_scan, q_stop, q_repeat};
 ghost use Rattle.camac_model.specs.Fine.{most_turns};
 ghost use Rattle.camac_model.specs.Meaning.{sent, effect};
-ghost use Rattle.camac_run_machine.specs.MachineState.{context_in, reach, free, FineThen, HasRoom, Proceeds, cycle_of, transferred};
+ghost use Rattle.camac_run_machine.specs.MachineState.{context_in, reach, FineThen, HasRoom, Proceeds, cycle_of, transferred};
 ghost use Rattle.camac_run_machine.specs.Course.{words_sent, words_after};
 ghost use Rattle.camac_run_machine.specs.Rest.{address_of};
-ghost use Rattle.camac_run_machine.specs.Within.{Refers, StatementFits};
+ghost use Rattle.camac_run_machine.specs.Within.{Refers};
 
 use crate::command::command;
 use crate::machine::actions::bits_kept;
@@ -19,7 +18,7 @@ use crate::machine::{Machine, TransferCycle, Wanting};
 use crate::transfer::{Course, Transfer};
 use camac_branch::{Command, CycleDone};
 use camac_esone::{QRepeat, QStop, Scan};
-use camac_lang::{Expr, Stmt, WordSize};
+use camac_lang::{Expr, WordSize};
 use camac_word::{Function, Word24};
 
 // The low bits of a word.
@@ -129,44 +128,6 @@ impl<'a, const V: usize, const DEPTH: usize, const CAP: usize> Machine<'a, V, DE
             table: words,
             tally,
         })
-    }
-
-    // A transfer: to its first cycle, or else to its tally.
-    pub fn transfer_statement(&mut self, statement: &Stmt) -> Option<Wanting<'a>>
-        requires room { HasRoom self.old }
-        requires kind { IsTrue (is_transfer (statement_of statement.now)) }
-        requires fits { StatementFits (reach self.old) (free self.old) (statement_of statement.now) }
-        requires fine { FineThen self.old (λ c. effect c most_turns (statement_of statement.now)) }
-        ensures { Proceeds self.old (λ c. effect c most_turns (statement_of statement.now)) result self.new }
-    {
-        match statement {
-            Stmt::Scan {
-                function,
-                first,
-                last,
-                max,
-                tally,
-                ..
-            } => self.scan(*function, *first, *last, max, *tally),
-            Stmt::QStop {
-                function,
-                register,
-                table,
-                max,
-                tally,
-                ..
-            } => self.q_stop(*function, *register, *table, max, *tally),
-            Stmt::QRepeat {
-                function,
-                register,
-                table,
-                max,
-                limit,
-                tally,
-                ..
-            } => self.q_repeat(*function, *register, *table, max, limit, *tally),
-            _ => unreachable!(),
-        }
     }
 
     // Goes on with a transfer: to its next cycle, or else to its tally.
