@@ -6,8 +6,9 @@ use Rattle.camac_text_tokens.specs.declared.token.Keyword.TheVariants as word
 use Rattle.camac_text_tokens.specs.declared.token.Sign.TheVariants as sign
 use Rattle.camac_text_cursor.specs.Reading.{State, Reader, ◌>>=◌, ◌>>◌, give, ask, change, advance, check, kind_of, while_next, one_more}
 use Rattle.camac_text_cursor.specs.Readers.{is_sign, expect, expect_sign, any_number, new_name, new_parameter}
+use Rattle.camac_text_cursor.specs.Declaring.{in_heading, with_procedure}
 use Rattle.camac_text_statements.specs.Statements.{block_at}
-use Rattle.camac_text.specs.Procedures.{parameter_at, next_parameter, parameter_list, parameters_at, Heading, heading_at, in_heading, procedure_made, with_procedure, procedure_declaration}
+use Rattle.camac_text.specs.Procedures.{parameter_at, next_parameter, parameter_list, parameters_at, Heading, heading_at, procedure_made, procedure_declaration}
 use Rattle.camac_text_cursor.proofs.Places.{IsLocal, local_then, local_peek, local_ask, local_change, local_give, local_advance, local_if, local_check, local_while}
 use Rattle.camac_text_cursor.proofs.Local.{local_expect, local_expect_sign, local_any_number, local_new_name, local_new_parameter}
 use Rattle.camac_text_statements.proofs.LocalStatements.{local_block}

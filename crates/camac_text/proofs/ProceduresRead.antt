@@ -8,8 +8,9 @@ use Rattle.camac_text_tokens.specs.declared.token.TokenKind.{TokenKind}
 use Rattle.camac_text_tokens.specs.declared.token.TokenKind.TheVariants as kind
 use Rattle.camac_text_cursor.specs.Reading.{State, Reader, ◌>>=◌, ◌>>◌, ask, change, advance, kind_of, after_first}
 use Rattle.camac_text_cursor.specs.Readers.{new_name}
+use Rattle.camac_text_cursor.specs.Declaring.{in_heading, with_procedure}
 use Rattle.camac_text_statements.specs.Statements.{block_at}
-use Rattle.camac_text.specs.Procedures.{Heading, heading_at, in_heading, procedure_made, with_procedure, procedure_declaration}
+use Rattle.camac_text.specs.Procedures.{Heading, heading_at, procedure_made, procedure_declaration}
 use Rattle.camac_text_cursor.proofs.Steps.{then_ok, ok_is}
 use Rattle.camac_text_cursor.proofs.Moves.{AllFit, kind_fit, after_less, moved, check_ok, new_name_ok}
 use Rattle.camac_text_statements.proofs.Blocks.{Body}

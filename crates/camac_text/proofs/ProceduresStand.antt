@@ -11,7 +11,8 @@ use Rattle.camac_lang.specs.Tree.{Text, Parameter, Procedure, Service, next_proc
 use Rattle.camac_lang.specs.View.{block_of}
 use Rattle.camac_text_cursor.specs.Reading.{State}
 use Rattle.camac_text_cursor.specs.Readers.{other_registers}
-use Rattle.camac_text.specs.Procedures.{procedure_made, with_procedure as procedure_added}
+use Rattle.camac_text_cursor.specs.Declaring.{with_procedure as procedure_added}
+use Rattle.camac_text.specs.Procedures.{procedure_made}
 use Rattle.camac_text_cursor.proofs.Moves.{AllFit}
 use Rattle.camac_text_cursor.proofs.Registers.{both, below_le, limits_of, RegistersFit}
 use Rattle.camac_text_cursor.proofs.Uses.{scope_of}

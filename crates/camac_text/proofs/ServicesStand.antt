@@ -10,7 +10,7 @@ use Rattle.camac_lang.specs.Tree.{Text, Statement, Procedure, Service, next_serv
 use Rattle.camac_lang.specs.View.{block_of}
 use Rattle.camac_text_cursor.specs.Reading.{State}
 use Rattle.camac_text_cursor.specs.Readers.{other_registers}
-use Rattle.camac_text.specs.Declarations.{with_service as service_added}
+use Rattle.camac_text_cursor.specs.Declaring.{with_service as service_added}
 use Rattle.camac_text_cursor.proofs.Registers.{both, below_le, Limits, limits_of, RegistersFit}
 use Rattle.camac_text_cursor.proofs.Uses.{scope_of}
 use Rattle.camac_text_phrases.proofs.ConditionsRead.{most_push}

@@ -6,8 +6,7 @@ use Rattle.camac_lang.specs.Statements.{statements}
 use Rattle.camac_lang.specs.Tests.{unless_broken, total, most, is_new, is_number, is_sub_address}
 use Rattle.camac_lang.specs.Tree.{Text, Table, Lam, Procedure, Service, next_table, next_lam, next_variables, Script}
 use Rattle.camac_text_cursor.specs.Reading.{State}
-use Rattle.camac_text.specs.Tables.{with_table as table_added}
-use Rattle.camac_text.specs.Declarations.{with_lam as lam_added, with_variables_of}
+use Rattle.camac_text_cursor.specs.Declaring.{with_table as table_added, with_lam as lam_added, with_variables_of}
 use Rattle.camac_text_cursor.proofs.Moves.{AllFit}
 use Rattle.camac_text_cursor.proofs.Registers.{both, below_le}
 use Rattle.camac_text.proofs.Declares.{VariableDeclaration, LamDeclaration}

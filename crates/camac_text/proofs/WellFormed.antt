@@ -9,8 +9,9 @@ use Rattle.camac_lang.specs.Tree.{Text, Procedure, Service}
 use Rattle.camac_text_tokens.specs.declared.token.Token.{Token}
 use Rattle.camac_text_tokens.specs.Scanning.{tokens_of}
 use Rattle.camac_text_cursor.specs.Reading.{State}
+use Rattle.camac_text_cursor.specs.Declaring.{tree_so_far}
 use Rattle.camac_text.specs.Declarations.{declaration_at, is_token, declarations_at}
-use Rattle.camac_text.specs.Parser.{start, tree_so_far}
+use Rattle.camac_text.specs.Parser.{start}
 use Rattle.camac_text_cursor.proofs.Steps.{while_keeps}
 use Rattle.camac_text_cursor.proofs.Moves.{AllFit}
 use Rattle.camac_text_cursor.proofs.Registers.{both, below_le}

@@ -1,19 +1,15 @@
 -- What is read at each place of a declaration.
-use Rattle.std.specs.Prelude.{ℕ, ◌+◌, Bool, true, false, List, [], ◌∷◌, ◌++◌, length, Option, Some, None, nat_lt}
-use Rattle.camac_lang.specs.Tree.{Statement, Lam, next_lam, next_variables, next_service}
-use Rattle.camac_lang.specs.View.{block_of}
+use Rattle.std.specs.Prelude.{ℕ, ◌+◌, Bool, true, false, length, Option, Some, None, nat_lt}
 use Rattle.camac_text_tokens.specs.declared.token.Keyword.TheVariants as word
 use Rattle.camac_text_tokens.specs.declared.token.TokenKind.{TokenKind}
 use Rattle.camac_text_tokens.specs.declared.token.TokenKind.TheVariants as kind
 use Rattle.camac_text_tokens.specs.declared.fault.TextRule.TheVariants.{UnexpectedToken, LimitPassed}
-use Rattle.camac_text_cursor.specs.Reading.{State, Reader, ◌>>=◌, ◌>>◌, give, ask, change, peek, advance, line_here, fail, check, while_next}
+use Rattle.camac_text_cursor.specs.Reading.{Reader, ◌>>=◌, ◌>>◌, give, ask, change, peek, advance, line_here, fail, check, while_next}
 use Rattle.camac_text_cursor.specs.Readers.{is_name, expect, any_number, branch_number, sub_address_number, new_name, new_variable, used_lam}
+use Rattle.camac_text_cursor.specs.Declaring.{with_lam, with_variables_of, with_service}
 use Rattle.camac_text_statements.specs.Statements.{block_at}
 use Rattle.camac_text.specs.Tables.{table_declaration}
 use Rattle.camac_text.specs.Procedures.{procedure_declaration}
-
-abbrev pub with_lam : Lam → State → State
-with_lam l s = record s { lams = s.lams ++ l ∷ []; declared = s.declared ++ l.name ∷ []; order = s.order ++ next_lam ∷ [] }
 
 unfoldable pub lam_declaration : ℕ → Reader (Unit {0})
 lam_declaration line = do
@@ -32,23 +28,12 @@ lam_declaration line = do
 abbrev pub one_more_variable : ℕ → Reader ℕ
 one_more_variable count = new_variable >> give (count + 1)
 
-abbrev pub with_variables_of : ℕ → ℕ → State → State
-with_variables_of line count s = record s { order = s.order ++ next_variables line count ∷ [] }
-
 unfoldable pub variable_declaration : ℕ → Reader (Unit {0})
 variable_declaration line = do
   advance
   new_variable
   count ← while_next is_name one_more_variable 1
   change (with_variables_of line count)
-
--- the registers of the body belong to the service, and the next body has none yet
-abbrev pub with_service : ℕ → ℕ → ℕ → ℕ → List Statement → State → State
-with_service line lam cycles words body s = record s {
-  services = s.services ++ record { line = line; lam = lam; cycles = cycles; words = words; registers = s.registers; body = block_of body } ∷ [];
-  registers = [];
-  order = s.order ++ next_service ∷ [];
-}
 
 unfoldable pub service_declaration : ℕ → Reader (Unit {0})
 service_declaration line = do

@@ -5,23 +5,13 @@ use Rattle.camac_text_tokens.specs.declared.token.Token.{Token}
 use Rattle.camac_text_tokens.specs.Fault.{Fault}
 use Rattle.camac_text_tokens.specs.Scanning.{tokens_of, last_line}
 use Rattle.camac_text_cursor.specs.Reading.{State}
+use Rattle.camac_text_cursor.specs.Declaring.{tree_so_far}
 use Rattle.camac_text_cursor.specs.Parser.{unread}
 use Rattle.camac_text.specs.Declarations.{declarations_at}
 
 -- the state in which a script begins
 abbrev pub start : List Token → ℕ → State
 start tokens end_line = unread tokens end_line
-
--- the tree of the declarations so far
-abbrev pub tree_so_far : State → Script
-tree_so_far s = record {
-  order = s.order;
-  tables = s.tables;
-  lams = s.lams;
-  variables = s.variables;
-  procedures = s.procedures;
-  services = s.services;
-}
 
 abbrev pub tree_in : Result (Unit {0} × State) Fault → Result Script Fault
 tree_in (Ok read) = Ok (tree_so_far read.1)

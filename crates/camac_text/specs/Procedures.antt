@@ -1,13 +1,13 @@
 -- What is read at each place of a procedure.
-use Rattle.std.specs.Prelude.{ℕ, true, false, List, [], ◌∷◌, ◌++◌, length, take, nat_lt, if◌then◌else◌}
-use Rattle.camac_lang.specs.Depth.{callable}
-use Rattle.camac_lang.specs.Tree.{Text, Statement, Parameter, Procedure, next_procedure}
+use Rattle.std.specs.Prelude.{ℕ, List, [], ◌∷◌, length, nat_lt, if◌then◌else◌}
+use Rattle.camac_lang.specs.Tree.{Text, Statement, Parameter, Procedure}
 use Rattle.camac_lang.specs.View.{block_of}
 use Rattle.camac_text_tokens.specs.declared.token.Keyword.TheVariants as word
 use Rattle.camac_text_tokens.specs.declared.token.Sign.TheVariants as sign
 use Rattle.camac_text_tokens.specs.declared.fault.TextRule.TheVariants.{LimitPassed}
-use Rattle.camac_text_cursor.specs.Reading.{State, Reader, ◌>>=◌, ◌>>◌, give, ask, change, peek, advance, check, while_next, one_more}
+use Rattle.camac_text_cursor.specs.Reading.{Reader, ◌>>=◌, ◌>>◌, give, ask, change, peek, advance, check, while_next, one_more}
 use Rattle.camac_text_cursor.specs.Readers.{is_sign, expect, expect_sign, any_number, new_name, new_parameter}
+use Rattle.camac_text_cursor.specs.Declaring.{in_heading, with_procedure}
 use Rattle.camac_text_statements.specs.Statements.{block_at}
 
 -- ---- the heading
@@ -56,10 +56,6 @@ heading_at = do
 
 -- ---- the whole procedure
 
--- a procedure sees no variables but its parameters, and its own name is declared
-abbrev pub in_heading : Text → State → State
-in_heading name s = record s { variables = []; in_procedure = true; declared = s.declared ++ name ∷ [] }
-
 abbrev pub procedure_made : ℕ → Text → Heading → List Text → List Statement → Procedure
 procedure_made line name h registers body = record {
   line = line;
@@ -70,18 +66,6 @@ procedure_made line name h registers body = record {
   steps = h.steps;
   registers = registers;
   body = block_of body;
-}
-
--- a procedure can be called from its end on; what it declared for itself ends with it
-abbrev pub with_procedure : Procedure → List Text → ℕ → State → State
-with_procedure p variables names s = record s {
-  variables = variables;
-  declared = take names s.declared;
-  registers = [];
-  in_procedure = false;
-  procedures = s.procedures ++ p ∷ [];
-  callables = s.callables ++ callable s.callables p ∷ [];
-  order = s.order ++ next_procedure ∷ [];
 }
 
 unfoldable pub procedure_declaration : ℕ → Reader (Unit {0})

@@ -1,12 +1,12 @@
 -- What is read at each place of a table.
 use Rattle.std.specs.Prelude.{ℕ, Bool, true, false, List, [], ◌∷◌, ◌++◌, length, Option, Some, nat_lt}
-use Rattle.camac_lang.specs.Tree.{Table, next_table}
 use Rattle.camac_text_tokens.specs.declared.token.Sign.TheVariants as sign
 use Rattle.camac_text_tokens.specs.declared.token.TokenKind.{TokenKind}
 use Rattle.camac_text_tokens.specs.declared.token.TokenKind.TheVariants as kind
 use Rattle.camac_text_tokens.specs.declared.fault.TextRule.TheVariants.{NumberTooLarge, LimitPassed}
-use Rattle.camac_text_cursor.specs.Reading.{State, Reader, ◌>>=◌, ◌>>◌, give, ask, change, advance, check, while_next}
+use Rattle.camac_text_cursor.specs.Reading.{Reader, ◌>>=◌, ◌>>◌, give, ask, change, advance, check, while_next}
 use Rattle.camac_text_cursor.specs.Readers.{expect_sign, number_here, new_name}
+use Rattle.camac_text_cursor.specs.Declaring.{with_table}
 
 -- a word after so many words
 unfoldable pub word_after : ℕ → Reader ℕ
@@ -28,9 +28,6 @@ unfoldable pub table_words : Reader (List ℕ)
 table_words = do
   first ← word_after 0
   while_next is_number one_more_word (first ∷ [])
-
-abbrev pub with_table : Table → State → State
-with_table t s = record s { tables = s.tables ++ t ∷ []; declared = s.declared ++ t.name ∷ []; order = s.order ++ next_table ∷ [] }
 
 unfoldable pub table_declaration : ℕ → Reader (Unit {0})
 table_declaration line = do

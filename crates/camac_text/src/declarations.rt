@@ -8,11 +8,10 @@ ghost use Rattle.camac_text_cursor.specs.Parser.{state, Gives};
 
 use crate::procedures::procedure_declaration;
 use crate::tables::table_declaration;
-use camac_lang::{Item, Lam, Service, limits};
+use camac_lang::{Lam, limits};
 use camac_text_cursor::Parser;
 use camac_text_statements::block;
 use camac_text_tokens::{Keyword, TextFault, TextRule, TokenKind};
-use std::mem;
 
 /// All declarations to the text's end.
 #[tactic(auto, unfolding(crate::specs::Declarations::declarations_at))]
@@ -50,7 +49,7 @@ fn declaration(parser: &mut Parser<'_>) -> Result<(), TextFault>
 fn lam_declaration(parser: &mut Parser<'_>, line: u32) -> Result<(), TextFault>
     ensures { Gives (λ _. tt) result parser.new (lam_declaration line (state parser.old)) }
 {
-    if parser.lams.len() >= limits::LAMS {
+    if parser.lam_count() >= limits::LAMS {
         return Err(parser.fault(TextRule::LimitPassed));
     }
     parser.advance();
@@ -60,16 +59,13 @@ fn lam_declaration(parser: &mut Parser<'_>, line: u32) -> Result<(), TextFault>
     let crate_no = parser.any_number()?;
     let station = parser.any_number()?;
     let sub_address = parser.sub_address_number()?;
-    parser.declared.push(name.duplicate())?;
-    parser.lams.push(Lam {
+    parser.add_lam(Lam {
         line,
         name,
         crate_no,
         station,
         sub_address,
-    })?;
-    parser.order.push(Item::Lam)?;
-    Ok(())
+    })
 }
 
 #[tactic(auto, unfolding(crate::specs::Declarations::variable_declaration))]
@@ -79,8 +75,7 @@ fn variable_declaration(parser: &mut Parser<'_>, line: u32) -> Result<(), TextFa
     parser.advance();
     parser.new_variable()?;
     let count = more_variables(parser)?;
-    parser.order.push(Item::Variables { line, count })?;
-    Ok(())
+    parser.add_variables(line, count)
 }
 
 /// The number of variables of a declaration, of which one is read.
@@ -99,7 +94,7 @@ fn more_variables(parser: &mut Parser<'_>) -> Result<usize, TextFault>
 fn service_declaration(parser: &mut Parser<'_>, line: u32) -> Result<(), TextFault>
     ensures { Gives (λ _. tt) result parser.new (service_declaration line (state parser.old)) }
 {
-    if parser.services.len() >= limits::SERVICES {
+    if parser.service_count() >= limits::SERVICES {
         return Err(parser.fault(TextRule::LimitPassed));
     }
     parser.advance();
@@ -111,15 +106,5 @@ fn service_declaration(parser: &mut Parser<'_>, line: u32) -> Result<(), TextFau
     let words = parser.any_number()?;
     parser.expect(Keyword::Words)?;
     let body = block(parser, limits::DEPTH as u32)?;
-    let registers = mem::replace(&mut parser.registers, Vec::new(parser.alloc));
-    parser.services.push(Service {
-        line,
-        lam,
-        cycles,
-        words,
-        registers,
-        body,
-    })?;
-    parser.order.push(Item::Service)?;
-    Ok(())
+    parser.add_service(line, lam, cycles, words, body)
 }

@@ -1,18 +1,15 @@
 // Procedures.
 
-ghost use Rattle.std.specs.Prelude.{◌≡◌, ◌≤◌, map};
-ghost use Rattle.camac_lang.specs.Depth.{inner_depth};
-ghost use Rattle.camac_lang.specs.View.{parameter_of, procedure_of};
-ghost use Rattle.camac_text_cursor.specs.Reading.{change};
+ghost use Rattle.std.specs.Prelude.{◌≡◌, map};
+ghost use Rattle.camac_lang.specs.View.{parameter_of};
 ghost use Rattle.camac_text_cursor.specs.Parser.{state, Gives};
 ghost use Rattle.camac_text.specs.Headings.{heading_of};
-ghost use Rattle.camac_text.specs.Procedures.{parameter_at, next_parameter, parameter_list, parameters_at, heading_at, with_procedure, procedure_declaration};
+ghost use Rattle.camac_text.specs.Procedures.{parameter_at, next_parameter, parameter_list, parameters_at, heading_at, procedure_declaration};
 
-use camac_lang::{Callable, Item, Name, Parameter, Procedure, limits};
+use camac_lang::{Parameter, Procedure, limits};
 use camac_text_cursor::Parser;
 use camac_text_statements::block;
 use camac_text_tokens::{Keyword, Sign, TextFault, TextRule};
-use std::mem;
 
 /// What stands in a procedure's heading after its name.
 #[derive(Drop)]
@@ -28,19 +25,16 @@ pub struct Heading {
 pub fn procedure_declaration(parser: &mut Parser<'_>, line: u32) -> Result<(), TextFault>
     ensures { Gives (λ _. tt) result parser.new (procedure_declaration line (state parser.old)) }
 {
-    if parser.procedures.len() >= limits::PROCEDURES {
+    if parser.procedure_count() >= limits::PROCEDURES {
         return Err(parser.fault(TextRule::LimitPassed));
     }
     parser.advance();
     let name = parser.new_name()?;
     parser.advance();
-    let variables = mem::replace(&mut parser.variables, Vec::new(parser.alloc));
-    parser.in_procedure = true;
-    parser.declared.push(name.duplicate())?;
-    let names = parser.declared.len();
+    let outside = parser.open_procedure(&name)?;
     let heading = read_heading(parser)?;
     let body = block(parser, limits::DEPTH as u32)?;
-    let registers = mem::replace(&mut parser.registers, Vec::new(parser.alloc));
+    let registers = parser.take_registers();
     let procedure = Procedure {
         line,
         name,
@@ -51,28 +45,7 @@ pub fn procedure_declaration(parser: &mut Parser<'_>, line: u32) -> Result<(), T
         registers,
         body,
     };
-    close_procedure(parser, procedure, variables, names)
-}
-
-/// The end of a procedure, after which the script has these variables and so many names again.
-fn close_procedure(
-    parser: &mut Parser<'_>,
-    procedure: Procedure,
-    variables: Vec<Name>,
-    names: usize,
-) -> Result<(), TextFault>
-    requires { inner_depth (state parser.old).callables (procedure_of procedure).body ≤ 15 }
-    ensures { Gives (λ _. tt) result parser.new (change (with_procedure (procedure_of procedure) variables.items names) (state parser.old)) }
-{
-    let callable = Callable::new(&procedure, &parser.callables);
-    parser.variables = variables;
-    parser.declared.truncate(names);
-    parser.registers = Vec::new(parser.alloc);
-    parser.in_procedure = false;
-    parser.callables.push(callable)?;
-    parser.procedures.push(procedure)?;
-    parser.order.push(Item::Procedure)?;
-    Ok(())
+    parser.close_procedure(procedure, outside)
 }
 
 #[tactic(auto, unfolding(crate::specs::Procedures::heading_at))]
@@ -103,7 +76,7 @@ fn parameters(parser: &mut Parser<'_>) -> Result<Vec<Parameter>, TextFault>
     ensures { Gives (λ ps. map parameter_of ps.items) result parser.new (parameters_at (state parser.old)) }
 {
     if parser.next_is_sign(Sign::RightBracket) {
-        return Ok(Vec::new(parser.alloc));
+        return Ok(Vec::new(parser.alloc()));
     }
     parameter_list(parser)
 }
@@ -113,7 +86,7 @@ fn parameter_list(parser: &mut Parser<'_>) -> Result<Vec<Parameter>, TextFault>
     ensures { Gives (λ ps. map parameter_of ps.items) result parser.new (parameter_list (state parser.old)) }
 {
     let first = parameter(parser)?;
-    let mut parameters = Vec::new(parser.alloc);
+    let mut parameters = Vec::new(parser.alloc());
     parameters.push(first)?;
     while parser.next_is_sign(Sign::Comma) {
         let parameter = next_parameter(parser)?;

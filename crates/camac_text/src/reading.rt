@@ -1,11 +1,8 @@
 // From the text of a script to its tree.
 
-ghost use Rattle.std.specs.Prelude.{◌≡◌, IsTrue};
-ghost use Rattle.camac_lang.specs.Scope.{is_well_formed};
 ghost use Rattle.camac_text_tokens.specs.Fault.{Answers};
 ghost use Rattle.camac_text.specs.Places.{HasFault, FaultIs};
-ghost use Rattle.camac_text_cursor.specs.Parser.{state};
-ghost use Rattle.camac_text.specs.Parser.{tree_so_far, script_of};
+ghost use Rattle.camac_text.specs.Parser.{script_of};
 
 use crate::declarations::declarations;
 use camac_lang::Script;
@@ -35,19 +32,5 @@ fn read(alloc: Global, text: &[u8]) -> Result<Script, TextFault>
     let (tokens, end) = TokensLeft::with_end(text)?;
     let mut parser = Parser::new(alloc, tokens, end);
     declarations(&mut parser)?;
-    Ok(script_in(parser))
-}
-
-fn script_in(parser: Parser<'_>) -> Script
-    requires { IsTrue (is_well_formed (tree_so_far (state parser))) }
-    ensures { result ≡ tree_so_far (state parser.entry) }
-{
-    Script::new(
-        parser.order,
-        parser.tables,
-        parser.lams,
-        parser.variables,
-        parser.procedures,
-        parser.services,
-    )
+    Ok(parser.into_script())
 }

@@ -5,7 +5,7 @@ ghost use Rattle.camac_text_cursor.specs.Reading.{kind_of};
 ghost use Rattle.camac_text_cursor.specs.Parser.{state, Gives};
 ghost use Rattle.camac_text.specs.Tables.{is_number, word_after, table_words, table_declaration};
 
-use camac_lang::{Item, Table, limits};
+use camac_lang::{Table, limits};
 use camac_text_cursor::Parser;
 use camac_text_tokens::{Sign, TextFault, TextRule, TokenKind};
 use camac_word::Word24;
@@ -15,7 +15,7 @@ use camac_word::Word24;
 pub fn table_declaration(parser: &mut Parser<'_>, line: u32) -> Result<(), TextFault>
     ensures { Gives (λ _. tt) result parser.new (table_declaration line (state parser.old)) }
 {
-    if parser.tables.len() >= limits::TABLES {
+    if parser.table_count() >= limits::TABLES {
         return Err(parser.fault(TextRule::LimitPassed));
     }
     parser.advance();
@@ -23,10 +23,7 @@ pub fn table_declaration(parser: &mut Parser<'_>, line: u32) -> Result<(), TextF
     parser.advance();
     parser.expect_sign(Sign::Equals)?;
     let words = table_words(parser)?;
-    parser.declared.push(name.duplicate())?;
-    parser.tables.push(Table { line, name, words })?;
-    parser.order.push(Item::Table)?;
-    Ok(())
+    parser.add_table(Table { line, name, words })
 }
 
 #[tactic(auto, unfolding(crate::specs::Tables::table_words))]
@@ -34,7 +31,7 @@ fn table_words(parser: &mut Parser<'_>) -> Result<Vec<Word24>, TextFault>
     ensures { Gives (λ ws. ws.items) result parser.new (table_words (state parser.old)) }
 {
     let first = word_after(parser, 0)?;
-    let mut words = Vec::new(parser.alloc);
+    let mut words = Vec::new(parser.alloc());
     words.push(first)?;
     while next_is_number(parser) {
         let word = word_after(parser, words.len())?;

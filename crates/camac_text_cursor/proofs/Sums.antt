@@ -1,5 +1,5 @@
 -- Sums over the prefix of a list.
-use Rattle.std.proofs.Common.{◌≡◌, ℕ, zero, suc, ◌+◌, List, [], ◌∷◌, map, take, Option, Some, None, ap, ◌∙◌, sym, length, get_or, ◌<◌, arith, add-one}
+use Rattle.std.proofs.Common.{◌≡◌, ℕ, zero, suc, ◌+◌, List, [], ◌∷◌, map, take, Some, ap, ◌∙◌, sym, length, get_or, ◌<◌, arith, add-one}
 use Rattle.std.specs.Prelude.{slice_get}
 use Rattle.std.proofs.lemmas.Option.{slice_get-get_or}
 use Rattle.camac_lang.specs.Tests.{total}

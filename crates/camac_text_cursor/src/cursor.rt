@@ -14,29 +14,29 @@ use std::alloc::Global;
 /// What is left of the tokens, and what is declared so far.
 #[derive(Drop)]
 pub struct Parser<'a> {
-    pub alloc: Global,
+    pub(crate) alloc: Global,
     rest: TokensLeft<'a>,
     // The line of the text's end.
     end_line: u32,
-    pub order: Vec<Item>,
-    pub tables: Vec<Table>,
-    pub lams: Vec<Lam>,
-    /// Those that the body in hand sees: the script's, and in a procedure its parameters.
-    pub variables: Vec<Name>,
-    pub procedures: Vec<Procedure>,
-    pub services: Vec<Service>,
-    /// What can be called, one for each procedure.
-    pub callables: Vec<Callable>,
-    /// Whether the body in hand is a procedure's.
-    pub in_procedure: bool,
-    /// The variables of the script and the parameters of all procedures.
-    pub variable_count: usize,
-    /// The names of tables, LAMs, variables and procedures and, in a procedure, of its parameters.
-    pub declared: Vec<Name>,
-    /// The registers of the body in hand.
-    pub registers: Vec<Name>,
-    /// The statements of all bodies.
-    pub statements: u32,
+    pub(crate) order: Vec<Item>,
+    pub(crate) tables: Vec<Table>,
+    pub(crate) lams: Vec<Lam>,
+    // Those that the body in hand sees: the script's, and in a procedure its parameters.
+    pub(crate) variables: Vec<Name>,
+    pub(crate) procedures: Vec<Procedure>,
+    pub(crate) services: Vec<Service>,
+    // What can be called, one for each procedure.
+    pub(crate) callables: Vec<Callable>,
+    // Whether the body in hand is a procedure's.
+    pub(crate) in_procedure: bool,
+    // The variables of the script and the parameters of all procedures.
+    pub(crate) variable_count: usize,
+    // The names of tables, LAMs, variables and procedures and, in a procedure, of its parameters.
+    pub(crate) declared: Vec<Name>,
+    // The registers of the body in hand.
+    pub(crate) registers: Vec<Name>,
+    // The statements of all bodies.
+    statements: u32,
 }
 
 impl<'a> Parser<'a> {
@@ -61,6 +61,20 @@ impl<'a> Parser<'a> {
             registers: Vec::new(alloc),
             statements: 0,
         }
+    }
+
+    /// Where all that is read is allocated.
+    pub fn alloc(&self) -> Global
+        ensures { result ≡ self.now.alloc }
+    {
+        self.alloc
+    }
+
+    /// Whether the body in hand is a procedure's.
+    pub fn in_procedure(&self) -> bool
+        ensures { result ≡ (state self.now).in_procedure }
+    {
+        self.in_procedure
     }
 }
 

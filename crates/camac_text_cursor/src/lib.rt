@@ -3,7 +3,9 @@
 
 mod counting;
 mod cursor;
+mod declaring;
 mod names;
 mod naming;
 
 pub use cursor::Parser;
+pub use declaring::Outside;

@@ -38,7 +38,7 @@ fn in_brackets(parser: &mut Parser<'_>, room: u32, count: usize) -> Result<Vec<E
 fn argument_list(parser: &mut Parser<'_>, room: u32, count: usize) -> Result<Vec<Expr>, TextFault>
     ensures { Gives (λ es. map expression_of es.items) result parser.new (more_arguments room count [] (state parser.old)) }
 {
-    let mut arguments = Vec::new(parser.alloc);
+    let mut arguments = Vec::new(parser.alloc());
     while arguments.len() < count {
         let argument = argument(parser, room, &arguments)?;
         arguments.push(argument)?;

@@ -17,7 +17,7 @@ pub fn condition(parser: &mut Parser<'_>, room: u32) -> Result<Cond, TextFault>
     ensures { Gives condition_of result parser.new (condition_at room (state parser.old)) }
 {
     let first = part(parser, room)?;
-    let mut parts = Vec::new(parser.alloc);
+    let mut parts = Vec::new(parser.alloc());
     parts.push(first)?;
     while parser.next_is(Keyword::And) {
         let part = and_part(parser, room, parts.len())?;

@@ -62,7 +62,7 @@ fn sum_turn(parser: &mut Parser<'_>, room: u32, left: Counted) -> Result<Counted
         left: left.value,
         right: right.value,
     };
-    let operands = Box::new(parser.alloc, operands)?;
+    let operands = Box::new(parser.alloc(), operands)?;
     let value = if is_difference {
         Expr::Sub(operands)
     } else {
@@ -104,13 +104,13 @@ fn product_turn(parser: &mut Parser<'_>, room: u32, left: Counted) -> Result<Cou
         Some(TokenKind::Sign(Sign::Over)) => {
             let operators = operator(parser, left.operators)?;
             let divisor = divisor(parser)?;
-            let value = Expr::Div(divisor, Box::new(parser.alloc, left.value)?);
+            let value = Expr::Div(divisor, Box::new(parser.alloc(), left.value)?);
             Ok(Counted { value, operators })
         }
         Some(TokenKind::Sign(Sign::Modulo)) => {
             let operators = operator(parser, left.operators)?;
             let divisor = divisor(parser)?;
-            let value = Expr::Rem(divisor, Box::new(parser.alloc, left.value)?);
+            let value = Expr::Rem(divisor, Box::new(parser.alloc(), left.value)?);
             Ok(Counted { value, operators })
         }
         _ => {
@@ -121,7 +121,7 @@ fn product_turn(parser: &mut Parser<'_>, room: u32, left: Counted) -> Result<Cou
                 left: left.value,
                 right: right.value,
             };
-            let value = Expr::Mul(Box::new(parser.alloc, operands)?);
+            let value = Expr::Mul(Box::new(parser.alloc(), operands)?);
             Ok(Counted { value, operators })
         }
     }
@@ -172,7 +172,7 @@ fn in_brackets(parser: &mut Parser<'_>, room: u32, so_far: u32) -> Result<Counte
     let inner = sum(parser, room, so_far)?;
     parser.expect_sign(Sign::RightBracket)?;
     let operators = inner.operators;
-    let value = Expr::Group(Box::new(parser.alloc, inner.value)?);
+    let value = Expr::Group(Box::new(parser.alloc(), inner.value)?);
     Ok(Counted { value, operators })
 }
 

@@ -30,7 +30,7 @@ pub fn keeps(parser: &mut Parser<'_>, own: usize) -> Result<Vec<Keep>, TextFault
     ensures { Gives (λ ks. map keep_of ks.items) result parser.new (keeps_at own (state parser.old)) }
 {
     if !parser.next_is(Keyword::Keep) {
-        return Ok(Vec::new(parser.alloc));
+        return Ok(Vec::new(parser.alloc()));
     }
     keep_list(parser, own)
 }
@@ -40,7 +40,7 @@ fn keep_list(parser: &mut Parser<'_>, own: usize) -> Result<Vec<Keep>, TextFault
     ensures { Gives (λ ks. map keep_of ks.items) result parser.new (keep_list own (state parser.old)) }
 {
     parser.advance();
-    let mut keeps = Vec::new(parser.alloc);
+    let mut keeps = Vec::new(parser.alloc());
     let first = keep(parser, own, &keeps)?;
     keeps.push(first)?;
     while parser.next_is_sign(Sign::Comma) {

@@ -11,8 +11,9 @@ use Rattle.camac_text_tokens.specs.declared.token.TokenKind.{TokenKind}
 use Rattle.camac_text_tokens.specs.declared.token.TokenKind.TheVariants as kind
 use Rattle.camac_text_cursor.specs.Reading.{State, ◌>>◌, give, change, advance, kind_of, after_first, while_next}
 use Rattle.camac_text_cursor.specs.Readers.{is_name, new_name, with_variable, new_variable, expect, any_number, branch_number, sub_address_number, used_lam, added}
+use Rattle.camac_text_cursor.specs.Declaring.{with_lam, with_variables_of, with_service}
 use Rattle.camac_text_statements.specs.Statements.{block_at}
-use Rattle.camac_text.specs.Declarations.{with_lam, lam_declaration, one_more_variable, with_variables_of, variable_declaration, with_service, service_declaration, declaration_by, declaration_at}
+use Rattle.camac_text.specs.Declarations.{lam_declaration, one_more_variable, variable_declaration, service_declaration, declaration_by, declaration_at}
 use Rattle.camac_text_cursor.proofs.Steps.{while_off}
 use Rattle.camac_text_cursor.proofs.Registers.{first_of_both, second_of_both}
 use Rattle.camac_text.proofs.Variables.{variables_progress}

@@ -14,11 +14,12 @@ use Rattle.camac_text_tokens.specs.declared.token.TokenKind.{TokenKind}
 use Rattle.camac_text_tokens.specs.declared.token.TokenKind.TheVariants as kind
 use Rattle.camac_text_cursor.specs.Reading.{State, ◌>>◌, give, kind_of, after_first, while_next, one_more}
 use Rattle.camac_text_cursor.specs.Readers.{is_sign, expect, expect_sign, any_number, new_name, added, new_parameter}
+use Rattle.camac_text_cursor.specs.Declaring.{in_heading, with_procedure}
 use Rattle.camac_text_cursor.proofs.Steps.{while_off}
 use Rattle.camac_text_cursor.proofs.Registers.{first_of_both, second_of_both}
 use Rattle.camac_text_statements.specs.Statements.{block_at}
 use Rattle.camac_text.specs.Declarations.{declaration_at}
-use Rattle.camac_text.specs.Procedures.{parameter_at, next_parameter, parameter_list, parameters_at, Heading, heading_at, in_heading, procedure_made, with_procedure, procedure_declaration}
+use Rattle.camac_text.specs.Procedures.{parameter_at, next_parameter, parameter_list, parameters_at, Heading, heading_at, procedure_made, procedure_declaration}
 use Rattle.camac_text.proofs.ParametersRead.{names_of, parameters_progress}
 use Rattle.camac_text_spelling.specs.Pieces.{Piece, word, sign, numeral, name, others, separated, Names, Prefix}
 use Rattle.camac_text_spelling.specs.Declarations as spell

@@ -11,11 +11,11 @@ use Rattle.camac_text_tokens.specs.declared.token.TokenKind.{TokenKind}
 use Rattle.camac_text_tokens.specs.declared.token.TokenKind.TheVariants as kind
 use Rattle.camac_text_cursor.specs.Reading.{State, Reader, ◌>>=◌, ◌>>◌, give, ask, change, advance, kind_of, line_of, after_first, while_next, one_more}
 use Rattle.camac_text_cursor.specs.Readers.{is_sign, expect, expect_sign, any_number, new_name, added, new_parameter}
+use Rattle.camac_text_cursor.specs.Declaring.{tree_so_far, in_heading, with_procedure as procedure_added}
 use Rattle.camac_text_cursor.proofs.Steps.{then_ok, ok_is, while_keeps}
 use Rattle.camac_text_cursor.proofs.Moves.{TakesOne, check_ok, any_number_ok, new_name_ok}
 use Rattle.camac_text_statements.specs.Statements.{block_at}
-use Rattle.camac_text.specs.Parser.{tree_so_far}
-use Rattle.camac_text.specs.Procedures.{parameter_at, next_parameter, parameter_list, parameters_at, Heading, heading_at, in_heading, procedure_made, with_procedure as procedure_added, procedure_declaration}
+use Rattle.camac_text.specs.Procedures.{parameter_at, next_parameter, parameter_list, parameters_at, Heading, heading_at, procedure_made, procedure_declaration}
 use Rattle.camac_text.proofs.Variables.{added_ok}
 use Rattle.camac_text_spelling.specs.Pieces.{Piece, piece, first_word, word, sign, numeral, name, separated, text_at, Prefix}
 use Rattle.camac_text_spelling.specs.Declarations as spell

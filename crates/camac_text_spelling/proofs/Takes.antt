@@ -16,7 +16,7 @@ use Rattle.camac_text_tokens.specs.Fault.{Fault}
 use Rattle.camac_text_cursor.specs.Names.{place_of, lam_place, table_place, procedure_place}
 use Rattle.camac_text_cursor.specs.Reading.{◌>>◌, State, advance, fail, kind_of, line_of, after_first, give}
 use Rattle.camac_text_cursor.specs.Readers.{is_keyword, is_sign, expect, expect_sign, name_here, number_here, branch_number, used_at, used_register, used_variable, used_lam, known_at, variable_here, used_table, procedure_here, callable_by, called}
-use Rattle.camac_text.specs.Parser.{tree_so_far}
+use Rattle.camac_text_cursor.specs.Declaring.{tree_so_far}
 use Rattle.camac_text_cursor.proofs.Steps.{then_ok, ok_is, err_no_ok}
 use Rattle.camac_text_cursor.proofs.Moves.{TakesOne, check_ok, name_ok, number_ok}
 use Rattle.camac_text_spelling.specs.Pieces.{Piece, piece, first_piece, text_at, name_at, Names, Prefix}

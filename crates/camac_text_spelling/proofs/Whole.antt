@@ -6,8 +6,9 @@ use Rattle.camac_text_tokens.specs.declared.token.TokenKind.{TokenKind}
 use Rattle.camac_text_tokens.specs.Fault.{Fault}
 use Rattle.camac_text_tokens.specs.Scanning.{tokens_of, last_line}
 use Rattle.camac_text_cursor.specs.Reading.{State, Reader, ◌>>=◌, give, kind_of, turns, while_next}
+use Rattle.camac_text_cursor.specs.Declaring.{tree_so_far}
 use Rattle.camac_text.specs.Declarations.{declaration_at, is_token, declarations_at}
-use Rattle.camac_text.specs.Parser.{start, tree_so_far, tree_in, tree_of_tokens, tree_after, script_of}
+use Rattle.camac_text.specs.Parser.{start, tree_in, tree_of_tokens, tree_after, script_of}
 use Rattle.camac_text_cursor.proofs.Steps.{then_ok, ok_is, Progresses}
 use Rattle.camac_text.proofs.Declares.{declarations_progress}
 use Rattle.camac_text.proofs.WellFormed.{read_well_formed}

@@ -89,7 +89,7 @@ pub fn while_statement(parser: &mut Parser<'_>, room: u32, line: u32) -> Result<
 pub fn lock_statement(parser: &mut Parser<'_>, room: u32, line: u32) -> Result<Stmt, TextFault>
     ensures { Gives statement_of result parser.new (lock_statement room (block_at room) line (state parser.old)) }
 {
-    if parser.in_procedure {
+    if parser.in_procedure() {
         return Err(parser.fault(TextRule::UnexpectedToken));
     }
     parser.begin()?;

@@ -46,7 +46,7 @@ fn in_braces(parser: &mut Parser<'_>, room: u32) -> Result<Vec<Stmt>, TextFault>
 fn statements(parser: &mut Parser<'_>, room: u32) -> Result<Vec<Stmt>, TextFault>
     ensures { Gives (λ b. map statement_of b.items) result parser.new (many is_no_end (statement_with room (block_at room)) (state parser.old)) }
 {
-    let mut body = Vec::new(parser.alloc);
+    let mut body = Vec::new(parser.alloc());
     while is_in_block(parser) {
         let statement = statement(parser, room)?;
         body.push(statement)?;

@@ -36,4 +36,4 @@ abbrev pub invariant-statements::statements-loop-parser : goal.invariant-stateme
 invariant-statements::statements-loop-parser l = while_next is_no_end (one_more (statement_with l.room (block_at l.room))) (map statement_of l.body.items) (state l.parser) ≡ many is_no_end (statement_with l.fn.room (block_at l.fn.room)) (state l.fn.parser)
 
 abbrev pub decreases-statements::statements-loop-parser : goal.decreases-statements::statements-loop-parser
-decreases-statements::statements-loop-parser l = length l.parser.rest
+decreases-statements::statements-loop-parser l = length (state l.parser).rest

@@ -1,4 +1,4 @@
-use Rattle.std.proofs.Common.{◌≡◌, ℕ, suc, ◌+◌, ◌<◌, length, Result, sym, ap, ◌∙◌, arith}
+use Rattle.std.proofs.Common.{◌≡◌, suc, ◌+◌, ◌<◌, Result, sym, ap, ◌∙◌, arith}
 use Rattle.std.proofs.lemmas.Result.{err_from_is_err_and}
 use Rattle.camac_text_tokens.specs.Fault.{Fault}
 use Rattle.camac_text_cursor.specs.Reading.{State, then_read, give, while_next}
@@ -24,13 +24,13 @@ loop-parser-smaller c =
 pub overflow_add-count : goal.overflow_add-count
 overflow_add-count c =
     let d = new_variable_ok (state c.loop-parser.parser) (tt, state c.new_variable.new.self) c.in_ok-new_variable.ensures in
-    let room : c.loop-parser.parser.variable_count < 64 = d.1.room in
+    let room : (state c.loop-parser.parser).variable_count < 64 = d.1.room in
     omega (arith, c.loop-parser.invariant.1, room)
 
 pub loop-parser-preserved : goal.loop-parser-preserved
 loop-parser-preserved c =
     let d = new_variable_ok (state c.loop-parser.parser) (tt, state c.new_variable.new.self) c.in_ok-new_variable.ensures in
-    let counted : c.new_variable.new.self.variable_count ≡ suc c.loop-parser.parser.variable_count = ap (λ (s : State). s.variable_count) d.1.left in (
+    let counted : (state c.new_variable.new.self).variable_count ≡ suc (state c.loop-parser.parser).variable_count = ap (λ (s : State). s.variable_count) d.1.left in (
       goes is_name one_more_variable variables_progress c.loop-parser.count (state c.loop-parser.parser) (while_next is_name one_more_variable 1 (state c.args.parser.now)) (c.loop-parser.count + 1) (state c.new_variable.new.self) (sym c.next_is_name.ensures ∙ c.loop-parser-test.true)
           (ap (λ (r : Result (Unit {0} × State) Fault). then_read r (λ _. give (c.loop-parser.count + 1))) c.in_ok-new_variable.ensures) c.loop-parser.invariant.0,
       omega (arith, c.loop-parser.invariant.1, counted),

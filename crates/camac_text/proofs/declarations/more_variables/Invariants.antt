@@ -6,7 +6,7 @@ use Rattle.camac_text_cursor.specs.Parser.{state}
 use Rattle.camac_text.proofs.declarations.more_variables.Given as goal
 
 abbrev pub invariant-loop-parser : goal.invariant-loop-parser
-invariant-loop-parser l = (while_next is_name one_more_variable l.count (state l.parser) ≡ while_next is_name one_more_variable 1 (state l.fn.parser)) × (l.count + l.fn.parser.variable_count ≤ 1 + l.parser.variable_count)
+invariant-loop-parser l = (while_next is_name one_more_variable l.count (state l.parser) ≡ while_next is_name one_more_variable 1 (state l.fn.parser)) × (l.count + (state l.fn.parser).variable_count ≤ 1 + (state l.parser).variable_count)
 
 abbrev pub decreases-loop-parser : goal.decreases-loop-parser
-decreases-loop-parser l = length l.parser.rest
+decreases-loop-parser l = length (state l.parser).rest

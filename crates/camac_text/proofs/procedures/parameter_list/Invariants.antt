@@ -11,4 +11,4 @@ abbrev pub invariant-loop-parser : goal.invariant-loop-parser
 invariant-loop-parser l = while_next (is_sign sign.Comma) (one_more next_parameter) (map parameter_of l.parameters.items) (state l.parser) ≡ parameter_list (state l.fn.parser)
 
 abbrev pub decreases-loop-parser : goal.decreases-loop-parser
-decreases-loop-parser l = length l.parser.rest
+decreases-loop-parser l = length (state l.parser).rest

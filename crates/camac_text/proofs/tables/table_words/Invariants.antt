@@ -8,4 +8,4 @@ abbrev pub invariant-loop-parser : goal.invariant-loop-parser
 invariant-loop-parser l = while_next is_number one_more_word l.words.items (state l.parser) ≡ table_words (state l.fn.parser)
 
 abbrev pub decreases-loop-parser : goal.decreases-loop-parser
-decreases-loop-parser l = length l.parser.rest
+decreases-loop-parser l = length (state l.parser).rest

@@ -1,5 +1,4 @@
-use Rattle.std.proofs.Common.{◌≡◌, ℕ, ◌+◌, min, map, take, length, arith}
-use Rattle.camac_lang.specs.Tests.{total}
+use Rattle.std.proofs.Common.{length, arith}
 use Rattle.camac_lang.specs.Tree.{Procedure}
 use Rattle.camac_lang.specs.View.{procedure_of}
 use Rattle.camac_text_cursor.proofs.Sums.{total_more}

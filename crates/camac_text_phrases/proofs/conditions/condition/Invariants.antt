@@ -11,4 +11,4 @@ abbrev pub invariant-loop-parser : goal.invariant-loop-parser
 invariant-loop-parser l = while_next (is_keyword word.And) (one_more_part l.room) (map part_of l.parts.items) (state l.parser) ≡ condition_at l.fn.room (state l.fn.parser)
 
 abbrev pub decreases-loop-parser : goal.decreases-loop-parser
-decreases-loop-parser l = length l.parser.rest
+decreases-loop-parser l = length (state l.parser).rest

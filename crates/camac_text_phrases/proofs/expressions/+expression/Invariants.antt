@@ -30,10 +30,10 @@ abbrev pub invariant-product-loop-parser : goal.invariant-product-loop-parser
 invariant-product-loop-parser l = while_next is_product_sign (product_turn (bracketed l.room)) (counted_of l.left) (state l.parser) ≡ product_with (bracketed l.fn.room) l.fn.so_far (state l.fn.parser)
 
 abbrev pub decreases-product-loop-parser : goal.decreases-product-loop-parser
-decreases-product-loop-parser l = length l.parser.rest
+decreases-product-loop-parser l = length (state l.parser).rest
 
 abbrev pub invariant-sum-loop-parser : goal.invariant-sum-loop-parser
 invariant-sum-loop-parser l = while_next is_sum_sign (sum_turn (bracketed l.room)) (counted_of l.left) (state l.parser) ≡ sum_with (bracketed l.fn.room) l.fn.so_far (state l.fn.parser)
 
 abbrev pub decreases-sum-loop-parser : goal.decreases-sum-loop-parser
-decreases-sum-loop-parser l = length l.parser.rest
+decreases-sum-loop-parser l = length (state l.parser).rest

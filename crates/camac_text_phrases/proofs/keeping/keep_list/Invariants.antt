@@ -11,4 +11,4 @@ abbrev pub invariant-loop-parser : goal.invariant-loop-parser
 invariant-loop-parser l = while_next (is_sign sign.Comma) (one_more_keep l.own) (map keep_of l.keeps.items) (state l.parser) ≡ keep_list l.fn.own (state l.fn.parser)
 
 abbrev pub decreases-loop-parser : goal.decreases-loop-parser
-decreases-loop-parser l = length l.parser.rest
+decreases-loop-parser l = length (state l.parser).rest
