@@ -22,7 +22,7 @@ use Rattle.camac_run_machine.specs.declared.machine.Wanting.TheVariants as wanti
 use Rattle.camac_run_machine.specs.declared.machine.Wanting.TheVariants.{Cycle, Read, Lock}
 use Rattle.camac_run_machine.specs.MachineState.{bounds_at, bounds_of, opens_in, locked_among, context_in, state_of, left_in, stands, want_of, FineThen, IsFineHere, HasRoom, IsWanting, Takes, Settles, Serves}
 use Rattle.camac_run_machine.specs.Rest.{follows, rest_in, says, served}
-use Rattle.camac_run_machine.specs.Runner.{Left, bit_at, rest, last_words_in, with_event}
+use Rattle.camac_run_machine.specs.Runner.{RunnerState, Left, bit_at, rest, last_words_in, with_event}
 use Rattle.camac_run_machine.specs.Sound.{runner_state, event_here, IsSound}
 use Rattle.camac_run_machine.proofs.Bounds.{fine_at}
 use Rattle.camac_run_machine.proofs.Fine.{fine_says}
@@ -32,29 +32,27 @@ use Rattle.camac_run_machine.proofs.Serving.{served_says, served_stops, onward_o
 use Rattle.camac_run_machine.proofs.Takes.{waits_first}
 
 module _ {V D C : ℕ} where
+  -- the event of a service that is over is told and counted, and nothing else changes
+  module _ (new : Machine V D C) (next' : Option Wanting) (event : Option Left) (fed n : ℕ) (has : Bool) (o : Option Overrun) (s : RunnerState) where
+    abbrev pub IsCounted : Type 0
+    IsCounted = IfNone (option_map want_of next') ((event ≡ Some (event_here new (n + 1))) × (s ≡ record (runner_state new next' fed n has o) { events = n + 1; has_event = true }))
+
+    abbrev pub IsAsBefore : Type 0
+    IsAsBefore = OnSome (option_map want_of next') ((event ≡ None) × (s ≡ record (runner_state new next' fed n has o) { has_event = false }))
+
   -- where nothing is wanted the event is told, and else what is left is that of the machine
-  pub told : (new : Machine V D C) (next' : Option Wanting) (event : Option Left) (fed n' : ℕ) (has : Bool) (o : Option Overrun) (answers : List Answer)
-      → IfNone next' (new.frames.items ≡ []) → IfNone next' (event ≡ Some (event_here new n')) → OnSome next' (event ≡ None) → IfNone next' (has ≡ true)
-      → served (context_in new.checked.now) new.checked.now.script.services (bit_at new.checked.now new.service) (stands next' new answers)
-      ≡ with_event event (last_words_in (runner_state new next' fed n' has o)) (rest (runner_state new next' fed n' has o) answers)
+  pub told : (new : Machine V D C) (next' : Option Wanting) (event : Option Left) (fed n : ℕ) (has : Bool) (o : Option Overrun) (s : RunnerState) (answers : List Answer)
+      → IfNone next' (new.frames.items ≡ []) → IsCounted new next' event fed n has o s → IsAsBefore new next' event fed n has o s
+      → served (context_in new.checked.now) new.checked.now.script.services (bit_at new.checked.now new.service) (stands next' new answers) ≡ with_event event (last_words_in s) (rest s answers)
   unfolding served rest_in
-  told new None event fed n' has o answers f a b t = rw (f, a, t) refl
-  told new (Some w) event fed n' has o answers f a b t = rw b refl
+  told new None event fed n has o s answers f a b = rw (f, a.0, a.1) refl
+  told new (Some w) event fed n has o s answers f a b = rw (b.0, b.1) refl
 
-  pub numbered : (new : Machine V D C) (next' : Option Wanting) (event : Option Left) (n n' : ℕ) → new.missed ≤ new.cycles → IfNone next' (event ≡ Some (event_here new n')) → OnSome next' (event ≡ None) → IfNone next' (n' ≡ n + 1) → OnSome next' (n' ≡ n) → IfNone event (n' ≡ n) × IfSome event (λ e. (e.0 ≡ n + 1) × (n' ≡ e.0) × (e.2.missed ≤ e.2.cycles)) × (n' ≤ n + 1)
-  numbered new None event n n' few a b x y = rw a (tt, (x, refl, few), omega arith)
-  numbered new (Some w) event n n' few a b x y = rw b (y, tt, omega arith)
-
-  pub quiet : (new : Machine V D C) (next' : Option Wanting) (event : Option Left) (fed n' : ℕ) (has : Bool) (o : Option Overrun) → IfNone next' (event ≡ Some (event_here new n')) → OnSome next' (has ≡ false) → IfNone event (last_words_in (runner_state new next' fed n' has o) ≡ [])
-  quiet new None event fed n' has o a t = rw a tt
-  quiet new (Some w) event fed n' has o a t = go event
-    where
-      silent : last_words_in (runner_state new (Some w) fed n' has o) ≡ []
-      silent = rw t refl
-
-      go : (e : Option Left) → IfNone e (last_words_in (runner_state new (Some w) fed n' has o) ≡ [])
-      go None = silent
-      go (Some e) = tt
+  pub counted : (new : Machine V D C) (next' : Option Wanting) (event : Option Left) (fed n : ℕ) (has : Bool) (o : Option Overrun) (s : RunnerState)
+      → new.missed ≤ new.cycles → IsCounted new next' event fed n has o s → IsAsBefore new next' event fed n has o s
+      → IfNone event (s.events ≡ n) × IfSome event (λ e. (e.0 ≡ n + 1) × (s.events ≡ e.0) × (e.2.missed ≤ e.2.cycles)) × IfNone event (last_words_in s ≡ []) × (s.fed ≡ fed) × (s.overrun ≡ o) × (s.checked ≡ new.checked.now)
+  counted new None event fed n has o s few a b = rw (a.0, a.1) (tt, (refl, refl, few), tt, refl, refl, refl)
+  counted new (Some w) event fed n has o s few a b = rw (b.0, b.1) (refl, tt, refl, refl, refl, refl)
 
   -- a machine whose releases are told
   pub room_told : (h : Machine V D C) (none : ArrayVec ℕ) → none.items ≡ [] → HasRoom h → HasRoom (record h { unlocks = none })
@@ -76,10 +74,10 @@ module _ {V D C : ℕ} where
         unlocks = omega (arith, few, n);
       }
 
-  pub sound_after : (old new : Machine V D C) (none : ArrayVec ℕ) (before next' : Option Wanting) (fed count count' i : ℕ) → none.items ≡ [] → IsSound old before fed count
+  pub sound_after : (old new : Machine V D C) (none : ArrayVec ℕ) (before next' : Option Wanting) (fed count i : ℕ) → none.items ≡ [] → IsSound old before fed count
       → HasRoom new → new.checked ≡ old.checked → new.service ≡ i → i < length old.checked.now.script.services → IfSome next' (IsWanting new) → IfNone next' (new.frames.items ≡ [])
-      → ((answers : List Answer) → IsFineHere new (stands next' new answers)) → count' ≤ fed + 1 → IsSound (record new { unlocks = none }) next' (fed + 1) count'
-  sound_after old new none before next' fed count count' i quiet s room e service below wants over fine few = record {
+      → ((answers : List Answer) → IsFineHere new (stands next' new answers)) → IsSound (record new { unlocks = none }) next' (fed + 1) count
+  sound_after old new none before next' fed count i quiet s room e service below wants over fine = record {
     room = room_told new none quiet room;
     quiet = quiet;
     checked = subst (λ (b : Bor CheckedScript). IsChecked b.now) (sym e) s.checked;
@@ -89,7 +87,7 @@ module _ {V D C : ℕ} where
     idle = over;
     service = there next';
     fine = is_fine next' fine;
-    events = few;
+    events = let few = s.events in omega (arith, few);
   }
     where
       there : (o : Option Wanting) → IfSome o (λ w. new.service < length new.checked.now.script.services)
@@ -109,24 +107,24 @@ module _ {V D C : ℕ} where
       is_fine None f = tt
       is_fine (Some w) f = f
 
-  along_told : (new : Machine V D C) (ck : Bor CheckedScript) (i bit : ℕ) (next' : Option Wanting) (event : Option Left) (fed n' : ℕ) (has : Bool) (o : Option Overrun) (answers : List Answer)
+  along_told : (new : Machine V D C) (ck : Bor CheckedScript) (i bit : ℕ) (next' : Option Wanting) (event : Option Left) (fed n : ℕ) (has : Bool) (o : Option Overrun) (s : RunnerState) (answers : List Answer)
       → new.checked ≡ ck → new.service ≡ i → bit_at ck.now i ≡ bit
-      → IfNone next' (new.frames.items ≡ []) → IfNone next' (event ≡ Some (event_here new n')) → OnSome next' (event ≡ None) → IfNone next' (has ≡ true)
-      → served (context_in ck.now) ck.now.script.services bit (stands next' new answers) ≡ with_event event (last_words_in (runner_state new next' fed n' has o)) (rest (runner_state new next' fed n' has o) answers)
-  along_told new ck i bit next' event fed n' has o answers e1 e2 e3 f a b t =
+      → IfNone next' (new.frames.items ≡ []) → IsCounted new next' event fed n has o s → IsAsBefore new next' event fed n has o s
+      → served (context_in ck.now) ck.now.script.services bit (stands next' new answers) ≡ with_event event (last_words_in s) (rest s answers)
+  along_told new ck i bit next' event fed n has o s answers e1 e2 e3 f a b =
       ap (λ k. served (context_in ck.now) ck.now.script.services k (stands next' new answers)) (sym e3)
       ∙ ap (λ j. served (context_in ck.now) ck.now.script.services (bit_at ck.now j) (stands next' new answers)) (sym e2)
       ∙ ap (λ (z : Bor CheckedScript). served (context_in z.now) z.now.script.services (bit_at z.now new.service) (stands next' new answers)) (sym e1)
-      ∙ told new next' event fed n' has o answers f a b t
+      ∙ told new next' event fed n has o s answers f a b
 
   -- the same along what an answer leaves as it was
-  pub told_along : (new : Machine V D C) (ck : Bor CheckedScript) (i bit : ℕ) (next' : Option Wanting) (event : Option Left) (fed n' : ℕ) (has : Bool) (o : Option Overrun) (answers : List Answer)
+  pub told_along : (new : Machine V D C) (ck : Bor CheckedScript) (i bit : ℕ) (next' : Option Wanting) (event : Option Left) (fed n : ℕ) (has : Bool) (o : Option Overrun) (s : RunnerState) (answers : List Answer)
       → new.checked ≡ ck → new.service ≡ i → bit_at ck.now i ≡ bit
-      → IfNone next' (new.frames.items ≡ []) → IfNone next' (event ≡ Some (event_here new n')) → OnSome next' (event ≡ None) → IfNone next' (has ≡ true)
-      → (us : List ℕ) → served (context_in ck.now) ck.now.script.services bit (says us (stands next' new answers)) ≡ says us (with_event event (last_words_in (runner_state new next' fed n' has o)) (rest (runner_state new next' fed n' has o) answers))
-  told_along new ck i bit next' event fed n' has o answers e1 e2 e3 f a b t us =
+      → IfNone next' (new.frames.items ≡ []) → IsCounted new next' event fed n has o s → IsAsBefore new next' event fed n has o s
+      → (us : List ℕ) → served (context_in ck.now) ck.now.script.services bit (says us (stands next' new answers)) ≡ says us (with_event event (last_words_in s) (rest s answers))
+  told_along new ck i bit next' event fed n has o s answers e1 e2 e3 f a b us =
       served_says (context_in ck.now) ck.now.script.services bit us (stands next' new answers)
-      ∙ ap (says us) (along_told new ck i bit next' event fed n' has o answers e1 e2 e3 f a b t)
+      ∙ ap (says us) (along_told new ck i bit next' event fed n has o s answers e1 e2 e3 f a b)
 
   fine_told : (new : Machine V D C) (b : Behaviour State) → IsFineHere new (says new.unlocks.items b) → IsFineHere new b
   fine_told new b f = fine_says new.checked.now.plan (bounds_of new) new.unlocks.items b f
@@ -162,18 +160,6 @@ module _ {V D C : ℕ} where
 
   pub rest_over : (h : Machine V D C) (wanting : Option Wanting) (fed n : ℕ) (has : Bool) (o : Option Overrun) → wanting ≡ None → rest (runner_state h wanting fed n has o) [] ≡ ends tt
   rest_over h wanting fed n has o e = rw e (onward_over (context_in h.checked.now) h.checked.now.script.services (branch_of h.branch))
-
-pub none_mapped : {A : Type 0} (o : Option A) (P Q : Type 0) → IfNone o P → (P → Q) → IfNone o Q
-none_mapped None P Q h f = f h
-none_mapped (Some a) P Q h f = tt
-
-pub some_mapped : {A : Type 0} (o : Option A) (P Q : Type 0) → OnSome o P → (P → Q) → OnSome o Q
-some_mapped None P Q h f = tt
-some_mapped (Some a) P Q h f = f h
-
-pub few_events : {A : Type 0} (o : Option A) (n n' : ℕ) → IfNone o (n' ≡ n + 1) → OnSome o (n' ≡ n) → n' ≤ n + 1
-few_events None n n' a b = omega (arith, a)
-few_events (Some x) n n' a b = omega (arith, b)
 
 pub below_along : {V D C : ℕ} (new : Machine V D C) (ck : Bor CheckedScript) (i : ℕ) → new.checked ≡ ck → new.service ≡ i → i < length ck.now.script.services → new.service < length new.checked.now.script.services
 below_along new ck i e1 e2 h =

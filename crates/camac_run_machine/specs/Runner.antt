@@ -77,6 +77,10 @@ last_words_in h = if h.has_event then h.words else []
 abbrev pub Left : Type 0
 Left = ℕ × ℕ × Usage
 
+-- the event of the service in progress, or of the last one, under this number
+abbrev pub event_in : RunnerState → ℕ → Left
+event_in h n = (n, bit_at h.checked h.service, record { cycles = h.cycles; missed = h.missed })
+
 -- an event, where one was left, and then the rest
 abbrev pub with_event : Option Left → List ℕ → Behaviour (Unit {0}) → Behaviour (Unit {0})
 with_event None words b = b

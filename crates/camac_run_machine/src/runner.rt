@@ -1,12 +1,12 @@
 // A run that is fed an answer at a time, and takes no memory.
 
-ghost use Rattle.std.specs.Prelude.{◌≡◌, ◌+◌, ◌<◌, ◌≤◌, ◌^◌, List, [], length, true, Some, None, false, IsSome, IfNone, OnSome, if◌then◌else◌};
+ghost use Rattle.std.specs.Prelude.{◌≡◌, ◌+◌, ◌<◌, ◌≤◌, List, [], length, true, Some, None, false, IsSome, IfNone, OnSome, if◌then◌else◌};
 ghost use Rattle.camac_branch.specs.Branch.{Answer};
 ghost use Rattle.camac_run_machine.specs.MachineState.{bounds_at};
 ghost use Rattle.camac_lang.specs.Fits.{fits};
 ghost use Rattle.camac_model.specs.Behaviour.{stops, short, ends};
 ghost use Rattle.camac_model.specs.Run.{the_run};
-ghost use Rattle.camac_run_machine.specs.Runner.{state_in, rest, last_words_in, Progresses, steps_of, words_of};
+ghost use Rattle.camac_run_machine.specs.Runner.{state_in, rest, last_words_in, event_in, Progresses, steps_of, words_of};
 ghost use Rattle.camac_run_machine.specs.Operation.{CanLock, Wants, operation};
 
 use crate::item::{Item, Progress, Wanted};
@@ -118,16 +118,12 @@ impl<'a, const V: usize, const DEPTH: usize, const CAP: usize> Runner<'a, V, DEP
             }
             Some(called) => {
                 self.machine.serve(called.number, &mut self.wanting);
-                let over = is_over(&self.wanting);
-                let events = events_after(over, self.events);
-                let event = self.machine.event(events);
                 let unlocks = self.machine.unlocks.take();
-                self.has_event = over;
-                self.events = events;
+                let event = self.close();
                 Progress::Went {
                     item: Item::Demand(pattern, Some(called.number)),
                     unlocks,
-                    event: if_over(over, event),
+                    event,
                 }
             }
         }
@@ -147,23 +143,40 @@ impl<'a, const V: usize, const DEPTH: usize, const CAP: usize> Runner<'a, V, DEP
         match taken {
             Ok(item) => {
                 self.machine.go_further(&mut self.wanting);
-                let over = is_over(&self.wanting);
-                let events = events_after(over, self.events);
-                let event = self.machine.event(events);
-                let unlocks = self.machine.unlocks.take();
                 self.fed += 1;
-                self.has_event = over;
-                self.events = events;
+                let unlocks = self.machine.unlocks.take();
+                let event = self.close();
                 Progress::Went {
                     item,
                     unlocks,
-                    event: if_over(over, event),
+                    event,
                 }
             }
             Err(overrun) => {
                 let progress = stopped(&overrun);
                 self.overrun = Some(overrun);
                 progress
+            }
+        }
+    }
+
+    // Counts the event of a service that is over, and tells it.
+    fn close(&mut self) -> Option<(u32, GlBit, Usage)>
+        requires service { self.old.service < length self.old.checked.script.services }
+        requires events { self.old.events < self.old.fed }
+        requires fed { self.old.fed ≤ 1000000 }
+        ensures ended { IfNone self.old.wanting ((result ≡ Some (event_in self.old (self.old.events + 1))) × (self.new ≡ record self.old { events = self.old.events + 1; has_event = true })) }
+        ensures goes_on { OnSome self.old.wanting ((result ≡ None) × (self.new ≡ record self.old { has_event = false })) }
+    {
+        match self.wanting {
+            None => {
+                self.events += 1;
+                self.has_event = true;
+                Some(self.machine.event(self.events))
+            }
+            Some(_) => {
+                self.has_event = false;
+                None
             }
         }
     }
@@ -251,32 +264,4 @@ fn stopped(overrun: &Overrun) -> Progress
     ensures { result ≡ Progress.Overrun overrun.now }
 {
     Progress::Overrun(*overrun)
-}
-
-// Whether a service wants nothing more.
-fn is_over(next: &Option<Wanting>) -> bool
-    ensures ended { IfNone next.now (result ≡ true) }
-    ensures goes_on { OnSome next.now (result ≡ false) }
-{
-    match next {
-        None => true,
-        Some(_) => false,
-    }
-}
-
-// How many events there are, where a service is over or goes on.
-fn events_after(over: bool, events: u32) -> u32
-    requires { events + 1 < 2 ^ 32 }
-    ensures ended { over ≡ true → result ≡ events + 1 }
-    ensures goes_on { over ≡ false → result ≡ events }
-{
-    if over { events + 1 } else { events }
-}
-
-// The event of a service that is over.
-fn if_over(over: bool, event: (u32, GlBit, Usage)) -> Option<(u32, GlBit, Usage)>
-    ensures ended { over ≡ true → result ≡ Some event }
-    ensures goes_on { over ≡ false → result ≡ None }
-{
-    if over { Some(event) } else { None }
 }

@@ -1,4 +1,4 @@
-use Rattle.std.proofs.Common.{◌≡◌, ℕ, ◌+◌, Some, refl, sym, ap, ◌∙◌, arith}
+use Rattle.std.proofs.Common.{◌≡◌, ℕ, ◌+◌, ◌<◌, Some, refl, sym, subst, ap, ◌∙◌, arith}
 use Rattle.std.specs.Prelude.{None, option_map, unwrap_or}
 use Rattle.camac_branch.specs.Branch.{pattern_of}
 use Rattle.camac_branch.specs.Crates.{branch_of}
@@ -10,12 +10,11 @@ use Rattle.camac_model.specs.Fine.{most_turns}
 use Rattle.camac_model.specs.Run.{Chosen, service_for, service_meaning}
 use Rattle.camac_run_machine.specs.MachineState.{context_in, want_of}
 use Rattle.camac_run_machine.specs.Rest.{onward, served, says}
-use Rattle.camac_run_machine.specs.Runner.{bit_at, rest, with_event, last_words_in}
-use Rattle.camac_run_machine.specs.Sound.{runner_state}
+use Rattle.camac_run_machine.specs.Runner.{RunnerState, bit_at, rest, with_event, last_words_in}
 use Rattle.camac_run_machine.proofs.Services.{place}
 use Rattle.camac_run_machine.proofs.Serving.{onward_passes, onward_serves}
 use Rattle.camac_run_machine.proofs.Sizes.{machine_fits}
-use Rattle.camac_run_machine.proofs.Told.{told_along, numbered, quiet, sound_after, serve_fine, none_wanted, none_mapped, some_mapped, few_events, below_along}
+use Rattle.camac_run_machine.proofs.Told.{told_along, counted, sound_after, serve_fine, none_wanted, below_along}
 use Rattle.camac_run_machine.proofs.runner.Runner.demand.Goals as goal
 
 pub serve-requires : goal.serve-requires
@@ -63,15 +62,6 @@ returns-in-None g c =
       checked = refl;
     })
 
-pub event-event-requires : goal.event-event-requires
-event-event-requires g c =
-    let r = c.self.inside in
-    let k = r.machine.checked.now in
-    let i = c.in-Some.called.number in
-    let p = place k.script.services i c.in-Some.ensures.known in
-    let s = c.serve.ensures p.0 p.1 in
-    (machine_fits _ c.requires-raw.1.1.1.0, below_along c.serve.new.self r.machine.checked i s.checked s.service c.in-Some.ensures.known)
-
 pub invariant_of-self-in-Some : goal.invariant_of-self-in-Some
 invariant_of-self-in-Some g c =
     let inv = c.self.invariant in
@@ -80,15 +70,23 @@ invariant_of-self-in-Some g c =
     let i = c.in-Some.called.number in
     let p = place k.script.services i c.in-Some.ensures.known in
     let s = c.serve.ensures p.0 p.1 in
-    let few = few_events c.serve.new.wanting r.events c.events_after-events.result (none_mapped c.serve.new.wanting _ _ c.is_over-over.ensures.ended c.events_after-events.ensures.ended) (some_mapped c.serve.new.wanting _ _ c.is_over-over.ensures.goes_on c.events_after-events.ensures.goes_on) in
     let new = c.serve.new.self in
-    sound_after r.machine new c.take-unlocks.new.self r.wanting c.serve.new.wanting r.fed r.events c.events_after-events.result i c.take-unlocks.ensures.after inv s.room s.checked s.service c.in-Some.ensures.known s.wants s.over
-    (serve_fine r.machine c.serve.new.self i p.0 c.serve.new.wanting inv.checked p.1 s)
-    (let e = inv.events in omega (arith, few, e))
+    sound_after r.machine new c.take-unlocks.new.self r.wanting c.serve.new.wanting r.fed r.events i c.take-unlocks.ensures.after inv s.room s.checked s.service c.in-Some.ensures.known s.wants s.over
+    (serve_fine r.machine new i p.0 c.serve.new.wanting inv.checked p.1 s)
+
+pub close-event-requires : goal.close-event-requires
+close-event-requires g c =
+    let inv = c.self.invariant in
+    let r = c.self.inside in
+    let i = c.in-Some.called.number in
+    let p = place r.machine.checked.now.script.services i c.in-Some.ensures.known in
+    let s = c.serve.ensures p.0 p.1 in
+    let few : r.fed < 1000000 = subst (λ (h : RunnerState). h.fed < 1000000) (sym c.self.view_is) c.requires.fed in
+    let most = inv.events in
+    (search, (below_along c.serve.new.self r.machine.checked i s.checked s.service c.in-Some.ensures.known, (omega (arith, most), omega (arith, few))))
 
 pub returns-in-Some : goal.returns-in-Some
 returns-in-Some g c =
-    let inv = c.self.invariant in
     let r = c.self.inside in
     let k = r.machine.checked.now in
     let b = branch_of r.machine.branch in
@@ -96,7 +94,8 @@ returns-in-Some g c =
     let bit = c.in-Some.called.gl in
     let new = c.serve.new.self in
     let next' = c.serve.new.wanting in
-    let n' = c.events_after-events.result in
+    let event = c.close-event.result in
+    let after = c.close-event.new.self in
     let p = place k.script.services i c.in-Some.ensures.known in
     let s = c.serve.ensures p.0 p.1 in
     let v : Chosen = record { number = i; bit = bit; service = p.0 } in
@@ -106,11 +105,7 @@ returns-in-Some g c =
     let called : service_for (context_in k) (pattern_of k.plan b c.args.answer.gl) k.script.services ≡ Some v =
     ap (λ n. service_for (context_in k) n k.script.services) (sym pat) ∙ c.in-Some.ensures.chosen ∙ ap (option_map (λ w. record { number = i; bit = bit; service = w })) p.1 in
     let its : bit_at k i ≡ bit = ap (λ o. unwrap_or o 0) c.in-Some.ensures.bit in
-    let ended = none_mapped next' _ _ c.is_over-over.ensures.ended (λ t. c.if_over.ensures.ended t ∙ ap (λ x. Some x) c.event-event.ensures) in
-    let silent = some_mapped next' _ _ c.is_over-over.ensures.goes_on c.if_over.ensures.goes_on in
-    let counted = none_mapped next' _ _ c.is_over-over.ensures.ended c.events_after-events.ensures.ended in
-    let stays = some_mapped next' _ _ c.is_over-over.ensures.goes_on c.events_after-events.ensures.goes_on in
-    let number = numbered new next' c.if_over.result r.events n' s.room.missed ended silent counted stays in
+    let all = counted new next' event (r.fed + 1) r.events r.has_event r.overrun after s.room.missed c.close-event.ensures.ended c.close-event.ensures.goes_on in
     rw (← c.self.view_is) (record {
       first = first;
       goes = λ answers. rw wanting
@@ -118,12 +113,12 @@ returns-in-Some g c =
           ∙ ap (λ n. does (demanded n (Some i)) (served (context_in k) k.script.services bit (service_meaning (context_in k) most_turns p.0 b answers))) (sym pat)
           ∙ ap (does (demanded c.demand-pattern.result (Some i)))
           (ap (served (context_in k) k.script.services bit) (sym (s.goes answers))
-          ∙ told_along new r.machine.checked i bit next' c.if_over.result (r.fed + 1) n' c.is_over-over.result r.overrun answers s.checked s.service its s.over ended silent c.is_over-over.ensures.ended new.unlocks.items
-          ∙ ap (λ us. says us (with_event c.if_over.result (last_words_in (runner_state new next' (r.fed + 1) n' c.is_over-over.result r.overrun)) (rest (runner_state new next' (r.fed + 1) n' c.is_over-over.result r.overrun) answers))) (ap (λ (v : ArrayVec ℕ). v.items) (sym c.take-unlocks.ensures.value))));
-      fed = refl;
-      same = number.0;
-      next = number.1;
-      none = quiet new next' c.if_over.result (r.fed + 1) n' c.is_over-over.result r.overrun ended c.is_over-over.ensures.goes_on;
-      overrun = first;
-      checked = ap (λ (z : Bor CheckedScript). z.now) s.checked;
+          ∙ told_along new r.machine.checked i bit next' event (r.fed + 1) r.events r.has_event r.overrun after answers s.checked s.service its s.over c.close-event.ensures.ended c.close-event.ensures.goes_on new.unlocks.items
+          ∙ ap (λ us. says us (with_event event (last_words_in after) (rest after answers))) (ap (λ (v : ArrayVec ℕ). v.items) (sym c.take-unlocks.ensures.value))));
+      fed = all.3;
+      same = all.0;
+      next = all.1;
+      none = all.2;
+      overrun = all.4 ∙ first;
+      checked = all.5 ∙ ap (λ (z : Bor CheckedScript). z.now) s.checked;
     })

@@ -1,4 +1,4 @@
-use Rattle.std.proofs.Common.{◌≡◌, ℕ, ◌+◌, Some, refl, sym, ap, ◌∙◌, arith}
+use Rattle.std.proofs.Common.{◌≡◌, ℕ, ◌+◌, ◌<◌, Some, refl, sym, subst, ap, ◌∙◌, arith}
 use Rattle.std.specs.Prelude.{None}
 use Rattle.std.specs.Borrow.{Bor}
 use Rattle.arrayvec.specs.ArrayVec.{ArrayVec}
@@ -7,11 +7,11 @@ use Rattle.camac_model.specs.Behaviour.{does, then_do}
 use Rattle.camac_run_machine.specs.declared.machine.Machine.{Machine}
 use Rattle.camac_run_machine.specs.MachineState.{context_in, state_of, left_in, want_of, piece_of}
 use Rattle.camac_run_machine.specs.Rest.{follows, served, says}
-use Rattle.camac_run_machine.specs.Runner.{bit_at, rest, with_event, last_words_in}
+use Rattle.camac_run_machine.specs.Runner.{RunnerState, bit_at, rest, with_event, last_words_in}
 use Rattle.camac_run_machine.specs.Sound.{runner_state}
 use Rattle.camac_run_machine.proofs.Serving.{served_does, served_stops}
 use Rattle.camac_run_machine.proofs.Sizes.{machine_fits}
-use Rattle.camac_run_machine.proofs.Told.{told_along, numbered, quiet, sound_after, take_fine, settle_fine, none_mapped, some_mapped, few_events, below_along}
+use Rattle.camac_run_machine.proofs.Told.{told_along, counted, sound_after, take_fine, settle_fine, below_along}
 use Rattle.camac_run_machine.proofs.runner.Runner.resume.Goals as goal
 
 pub take-taken-requires : goal.take-taken-requires
@@ -35,15 +35,6 @@ go_further-requires g c =
       ),
     )
 
-pub event-event-requires : goal.event-event-requires
-event-event-requires g c =
-    let wanting : c.self.inside.wanting ≡ Some c.in-Some.wanting = c.in-Some.is in
-    let inv = c.self.invariant in
-    let r = c.self.inside in
-    let t = c.in-Ok.ensures.took in
-    let s = rw wanting at c.go_further.ensures in
-    (machine_fits _ c.requires-raw.1.1.1.0, below_along c.go_further.new.self r.machine.checked r.machine.service (s.checked ∙ t.checked) (s.service ∙ t.service) (rw wanting at inv.service))
-
 pub invariant_of-self : goal.invariant_of-self
 invariant_of-self g c =
     let wanting : c.self.inside.wanting ≡ Some c.in-Some.wanting = c.in-Some.is in
@@ -54,10 +45,20 @@ invariant_of-self g c =
     let next' = c.go_further.new.wanting in
     let t = c.in-Ok.ensures.took in
     let s = rw wanting at c.go_further.ensures in
-    let few = few_events next' r.events c.events_after-events.result (none_mapped next' _ _ c.is_over-over.ensures.ended c.events_after-events.ensures.ended) (some_mapped next' _ _ c.is_over-over.ensures.goes_on c.events_after-events.ensures.goes_on) in
     let fine = take_fine r.machine mid c.in-Some.wanting c.args.answer c.in-Ok.item (rw wanting at inv.fine) t in
-    sound_after r.machine new c.take-unlocks.new.self r.wanting next' r.fed r.events c.events_after-events.result r.machine.service c.take-unlocks.ensures.after inv s.room (s.checked ∙ t.checked) (s.service ∙ t.service) (rw wanting at inv.service) s.wants s.over
-    (settle_fine mid new (λ z. follows z (want_of c.in-Some.wanting)) next' fine s) (let e = inv.events in omega (arith, few, e))
+    sound_after r.machine new c.take-unlocks.new.self r.wanting next' r.fed r.events r.machine.service c.take-unlocks.ensures.after inv s.room (s.checked ∙ t.checked) (s.service ∙ t.service) (rw wanting at inv.service) s.wants s.over
+    (settle_fine mid new (λ z. follows z (want_of c.in-Some.wanting)) next' fine s)
+
+pub close-event-requires : goal.close-event-requires
+close-event-requires g c =
+    let wanting : c.self.inside.wanting ≡ Some c.in-Some.wanting = c.in-Some.is in
+    let inv = c.self.invariant in
+    let r = c.self.inside in
+    let t = c.in-Ok.ensures.took in
+    let s = rw wanting at c.go_further.ensures in
+    let few : r.fed < 1000000 = subst (λ (h : RunnerState). h.fed < 1000000) (sym c.self.view_is) c.requires.fed in
+    let most = inv.events in
+    (search, (below_along c.go_further.new.self r.machine.checked r.machine.service (s.checked ∙ t.checked) (s.service ∙ t.service) (rw wanting at inv.service), (omega (arith, most), omega (arith, few))))
 
 pub returns-in-Ok : goal.returns-in-Ok
 returns-in-Ok g c =
@@ -70,16 +71,13 @@ returns-in-Ok g c =
     let mid = c.take-taken.new.self in
     let new = c.go_further.new.self in
     let next' = c.go_further.new.wanting in
-    let n' = c.events_after-events.result in
+    let event = c.close-event.result in
+    let after = c.close-event.new.self in
     let d = c.in-Ok.item in
     let first : r.overrun ≡ None = ap (λ h. h.overrun) c.self.view_is ∙ c.requires.first in
     let t = c.in-Ok.ensures.took in
     let s = rw wanting at c.go_further.ensures in
-    let ended = none_mapped next' _ _ c.is_over-over.ensures.ended (λ u. c.if_over.ensures.ended u ∙ ap (λ x. Some x) c.event-event.ensures) in
-    let silent = some_mapped next' _ _ c.is_over-over.ensures.goes_on c.if_over.ensures.goes_on in
-    let counted = none_mapped next' _ _ c.is_over-over.ensures.ended c.events_after-events.ensures.ended in
-    let stays = some_mapped next' _ _ c.is_over-over.ensures.goes_on c.events_after-events.ensures.goes_on in
-    let number = numbered new next' c.if_over.result r.events n' s.room.missed ended silent counted stays in
+    let all = counted new next' event (r.fed + 1) r.events r.has_event r.overrun after s.room.missed c.close-event.ensures.ended c.close-event.ensures.goes_on in
     rw (← c.self.view_is) (record {
       first = first;
       goes = λ answers. rw wanting
@@ -87,14 +85,14 @@ returns-in-Ok g c =
           ∙ served_does ctx vs bit (piece_of d) (then_do (follows (context_in mid.checked.now) (want_of c.in-Some.wanting) (state_of mid answers)) (left_in mid))
           ∙ ap (does (piece_of d))
           (ap (served ctx vs bit) (sym (s.goes answers))
-          ∙ told_along new r.machine.checked r.machine.service bit next' c.if_over.result (r.fed + 1) n' c.is_over-over.result r.overrun answers (s.checked ∙ t.checked) (s.service ∙ t.service) refl s.over ended silent c.is_over-over.ensures.ended new.unlocks.items
-          ∙ ap (λ us. says us (with_event c.if_over.result (last_words_in (runner_state new next' (r.fed + 1) n' c.is_over-over.result r.overrun)) (rest (runner_state new next' (r.fed + 1) n' c.is_over-over.result r.overrun) answers))) (ap (λ (v : ArrayVec ℕ). v.items) (sym c.take-unlocks.ensures.value))));
-      fed = refl;
-      same = number.0;
-      next = number.1;
-      none = quiet new next' c.if_over.result (r.fed + 1) n' c.is_over-over.result r.overrun ended c.is_over-over.ensures.goes_on;
-      overrun = first;
-      checked = ap (λ (z : Bor CheckedScript). z.now) (s.checked ∙ t.checked);
+          ∙ told_along new r.machine.checked r.machine.service bit next' event (r.fed + 1) r.events r.has_event r.overrun after answers (s.checked ∙ t.checked) (s.service ∙ t.service) refl s.over c.close-event.ensures.ended c.close-event.ensures.goes_on new.unlocks.items
+          ∙ ap (λ us. says us (with_event event (last_words_in after) (rest after answers))) (ap (λ (v : ArrayVec ℕ). v.items) (sym c.take-unlocks.ensures.value))));
+      fed = all.3;
+      same = all.0;
+      next = all.1;
+      none = all.2;
+      overrun = all.4 ∙ first;
+      checked = all.5 ∙ ap (λ (z : Bor CheckedScript). z.now) (s.checked ∙ t.checked);
     })
 
 pub returns-in-Err : goal.returns-in-Err
