@@ -49,14 +49,13 @@ pub fn follow<W: Write, E: Write>(
         (outputs (W.contents (inner_of requests.old)) (E.contents (inner_of events.old))) (outputs (W.contents (inner_of requests.new)) (E.contents (inner_of events.new))) result runner.new }
     ensures failed { (has_failed requests.new || has_failed events.new) ≡ ((has_failed requests.old || has_failed events.old) || is_err result) }
 {
-    let progress = runner.next(answer);
-    match &progress {
+    match runner.next(answer) {
         Progress::Went { unlocks, event, .. } => {
-            tell_after(unlocks, event, runner.last_words(), requests, events)?;
-            let events = count_after(event, count);
+            tell_after(&unlocks, &event, runner.last_words(), requests, events)?;
+            let events = count_after(&event, count);
             Ok(Step::Went { events })
         }
-        Progress::Overrun(overrun) => Ok(Step::Overrun(*overrun)),
+        Progress::Overrun(overrun) => Ok(Step::Overrun(overrun)),
     }
 }
 

@@ -39,19 +39,18 @@ pub fn take_step<W: Write, E: Write>(
         (outputs (W.contents (inner_of out.old)) (E.contents (inner_of events.old))) (outputs (W.contents (inner_of out.new)) (E.contents (inner_of events.new))) result runner.new }
     ensures failed { (has_failed out.new || has_failed events.new) ≡ ((has_failed out.old || has_failed events.old) || is_err result) }
 {
-    let progress = runner.next(answer);
-    match &progress {
+    match runner.next(answer) {
         Progress::Went {
             item,
             unlocks,
             event,
         } => {
-            lay_out_items(lines, checked, item, unlocks);
-            tell(lines, event, runner.last_words(), out, events)?;
-            let events = count_after(event, count);
+            lay_out_items(lines, checked, &item, &unlocks);
+            tell(lines, &event, runner.last_words(), out, events)?;
+            let events = count_after(&event, count);
             Ok(Step::Went { events })
         }
-        Progress::Overrun(overrun) => Ok(Step::Overrun(*overrun)),
+        Progress::Overrun(overrun) => Ok(Step::Overrun(overrun)),
     }
 }
 
