@@ -3,6 +3,7 @@
 import importlib.machinery
 import importlib.util
 import os
+import shutil
 import subprocess
 import sys
 import tempfile
@@ -288,6 +289,20 @@ class Kept(Tool):
         (file,) = self.files()
         os.rename(file, f"{os.path.dirname(file)}/{other}")
         self.assertIsNone(self.refusals().why(other))
+
+    def test_what_a_check_proved_of_the_crate_serves_its_rounds(self):
+        crate = f"{self.room.name}/crates/sample"
+        proofs = self.module.Proofs(self.module.crates()["sample"])
+        self.addCleanup(shutil.rmtree, f"{crate}/out/incremental")
+        self.addCleanup(shutil.rmtree, proofs.all)
+        for name, of_check, of_round in (("first", 9, None), ("later", 9, 8), ("earlier", 8, 9)):
+            for folder, time in ((f"{crate}/out/incremental/build", of_check), (f"{proofs.all}/build", of_round)):
+                if time:
+                    write(f"{folder}/{name}", folder)
+                    os.utime(f"{folder}/{name}", (time, time))
+        proofs.take_over()
+        taken = {it.name for it in os.scandir(f"{proofs.all}/build") if os.path.samefile(it, f"{crate}/out/incremental/build/{it.name}")}
+        self.assertEqual(taken, {"first", "later"})
 
     def test_old_files_are_removed(self):
         self.refusals().keep(self.total(), "a goal is open")
