@@ -37,13 +37,16 @@ eights_decide : (one other rest other_rest : List ℕ) (a b : ℕ) → length on
 eights_decide one other rest other_rest a b lengths some few rest_is other_is decides a_is a_only b_is b_only = by (eqb a b) refl where
   n : ℕ
   n = length one
+
   r : ℕ
   r = length rest
+
   same : a ≡ b → bytes_eq one other ≡ true
   same ab =
       let lasts : drop (n - 8) one ≡ drop (n - 8) other = sym a_only ∙ ap (to_le_bytes w64) ab ∙ b_only ∙ ap (λ (m : ℕ). drop (m - 8) other) (sym lengths) in
       let rests : rest ≡ other_rest = rest_is ∙ last_of n r one few some ∙ ap (λ (xs : List ℕ). drop (8 - r) xs) lasts ∙ sym (last_of n r other few some) ∙ sym other_is in
       sym decides ∙ (bytes_eq-Decides rest other_rest).1 rests
+
   differ : (u : Bool) → eqb a b ≡ false → bytes_eq one other ≡ u → bytes_eq one other ≡ false
   differ false e is = is
   differ true e is =
@@ -51,6 +54,7 @@ eights_decide one other rest other_rest a b lengths some few rest_is other_is de
       let ab : a ≡ b = a_is ∙ ap (λ (xs : List ℕ). from_le_bytes w64 (drop (length xs - 8) xs)) all ∙ sym b_is in
       let both : true ≡ false = sym (eq-eqb a b ab) ∙ e in
       absurd cc
+
   by : (t : Bool) → eqb a b ≡ t → eqb a b ≡ bytes_eq one other
   by true e = e ∙ sym (same (eqb-true a b e))
   by false e = e ∙ sym (differ (bytes_eq one other) e refl)
@@ -78,5 +82,5 @@ loop-rest-preserved c =
 pub returns : goal.returns
 returns c =
     eights_decide c.args.one.now c.args.other.now c.loop-rest.rest.now c.loop-rest.other_rest.now c.last_eight.result c.last_eight-2.result
-      c.if-one-other.false c.if-one-lt8.false c.loop-rest-test.false c.loop-rest.invariant.2 c.loop-rest.invariant.3 c.loop-rest.invariant.0
-      c.last_eight.ensures.number c.last_eight.ensures.only c.last_eight-2.ensures.number c.last_eight-2.ensures.only
+    c.if-one-other.false c.if-one-lt8.false c.loop-rest-test.false c.loop-rest.invariant.2 c.loop-rest.invariant.3 c.loop-rest.invariant.0
+    c.last_eight.ensures.number c.last_eight.ensures.only c.last_eight-2.ensures.number c.last_eight-2.ensures.only
