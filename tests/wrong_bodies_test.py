@@ -176,6 +176,12 @@ class Tries(Tool):
         self.assertIn("sample/half_is_a_third: half\n", ran.stdout)
         self.assertEqual(ran.returncode, 0)
 
+    def test_the_counter_test_refuses_no_function_as_it_stands(self):
+        ran = self.run_tool("--unchanged", "sample/half_is_a_third", "sample/sum_and_one", "above")
+        told = "sample: 2 of 2 functions are proved as they stand\nabove: 1 of 1 functions are proved as they stand\n3 proved, 0 not\n"
+        self.assertEqual(ran.stdout, told)
+        self.assertEqual(ran.returncode, 0)
+
     def test_beside_the_proofs_a_crate_is_tried_once_those_below_it_are_proved(self):
         log = f"{self.room.name}/log"
         write(log, "rt: other proved\n")
@@ -219,6 +225,18 @@ class Kept(Tool):
         cache = tempfile.TemporaryDirectory(dir=self.room.name)
         self.addCleanup(cache.cleanup)
         self.cache = cache.name
+
+    def test_the_counter_test_tells_what_is_refused_as_it_stands(self):
+        crate = self.module.crates()["sample"]
+        tested = self.module.CounterTest(crate, [it for it in self.module.bodies_of(crate, False) if it.name in ("half_is_a_third", "sum_and_one")])
+        open_goal = "no proof: `search` did not prove `returns`"
+        for said, refused in (
+            ("fn sample::half: no holes\nfn sample::sum: depends on a hole in `half`\n", {}),
+            (f"fn sample::half: no holes\nfn sample::sum: {open_goal}\n", {"sum": open_goal}),
+            ("fn sample::half: no holes\n", {"sum": "the prover has no such function"}),
+        ):
+            with mock.patch.object(tested, "run", lambda said=said: said):
+                self.assertEqual(tested.refused(), refused)
 
     def refusals(self):
         with mock.patch.dict(os.environ, XDG_CACHE_HOME=self.cache):
