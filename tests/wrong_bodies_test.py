@@ -228,12 +228,12 @@ class Kept(Tool):
 
     def test_the_counter_test_tells_what_is_refused_as_it_stands(self):
         crate = self.module.crates()["sample"]
-        tested = self.module.CounterTest(crate, [it for it in self.module.bodies_of(crate, False) if it.name in ("half_is_a_third", "sum_and_one")])
-        open_goal = "no proof: `search` did not prove `returns`"
+        tested = self.module.CounterTest(crate, [it for it in self.module.bodies_of(crate, False) if not it.fault])
+        proved, open_goal = "fn sample::half: no holes\nfn sample::weak: proved\n", "no proof: `search` did not prove `returns`"
         for said, refused in (
-            ("fn sample::half: no holes\nfn sample::sum: depends on a hole in `half`\n", {}),
-            (f"fn sample::half: no holes\nfn sample::sum: {open_goal}\n", {"sum": open_goal}),
-            ("fn sample::half: no holes\n", {"sum": "the prover has no such function"}),
+            (f"{proved}fn sample::sum: depends on a hole in `half`\n", {}),
+            (f"{proved}fn sample::sum: {open_goal}\n", {"sum": open_goal}),
+            (proved, {"sum": "the prover has no such function"}),
         ):
             with mock.patch.object(tested, "run", lambda said=said: said):
                 self.assertEqual(tested.refused(), refused)

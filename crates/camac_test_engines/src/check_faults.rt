@@ -18,7 +18,7 @@ fn expect_full(
     let mut script = Watched::new(STRAIGHT_LINE);
     let mut out = narrow(rt.alloc(), room, when_full);
     let answer = engine_check(rt.alloc(), &mut plan, &mut script, &mut out);
-    assert_eq!(rt; answer, Err(ToolFault::Write));
+    assert!(rt; answer == Err(ToolFault::Write));
     assert!(rt; VERDICT.starts_with(out.into_inner().taken.as_slice()));
     Ok(())
 }
@@ -38,8 +38,8 @@ fn a_writer_takes_a_byte_at_a_time(rt: HostRuntime) -> Result<(), Fail> {
     let mut script = Watched::new(STRAIGHT_LINE);
     let mut out = narrow(rt.alloc(), VERDICT.len(), WhenFull::Error);
     let answer = engine_check(rt.alloc(), &mut plan, &mut script, &mut out);
-    assert_eq!(rt; answer, Ok(Outcome::Good));
-    assert_eq!(rt; out.into_inner().taken.as_slice(), VERDICT);
+    assert!(rt; answer == Ok(Outcome::Good));
+    assert!(rt; out.into_inner().taken.as_slice() == VERDICT);
     Ok(())
 }
 
@@ -52,8 +52,8 @@ fn reads_fail_each_in_turn(rt: HostRuntime) -> Result<(), Fail> {
         });
         let mut out = Watched::new(Vec::new(rt.alloc()));
         let answer = engine_check(rt.alloc(), &mut plan, &mut script, &mut out);
-        assert_eq!(rt; answer, Err(ToolFault::Read));
-        assert_eq!(rt; status(&answer), 3);
+        assert!(rt; answer == Err(ToolFault::Read));
+        assert!(rt; status(&answer) == 3);
         assert!(rt; out.into_inner().is_empty());
     }
     Ok(())

@@ -49,14 +49,14 @@ fn live_answers_fail(rt: HostRuntime) -> Result<(), Fail> {
                 bytes: &ANSWERS[..given],
             },
         );
-        assert_eq!(rt; answer, Err(ToolFault::Read));
+        assert!(rt; answer == Err(ToolFault::Read));
         let requests = if given < 20 {
             b"demand\n".as_slice()
         } else {
             b"demand\ncycle 1 5 0 0 in\n".as_slice()
         };
-        assert_eq!(rt; sent.as_slice(), requests);
-        assert_eq!(rt; events.as_slice(), NO_EVENTS);
+        assert!(rt; sent.as_slice() == requests);
+        assert!(rt; events.as_slice() == NO_EVENTS);
     }
     Ok(())
 }
@@ -78,8 +78,8 @@ fn live_requests_fail(rt: HostRuntime) -> Result<(), Fail> {
             &mut requests,
             &mut events,
         );
-        assert_eq!(rt; answer, Err(ToolFault::Write));
-        assert_eq!(rt; requests.into_inner().taken.as_slice(), &REQUESTS[..room]);
+        assert!(rt; answer == Err(ToolFault::Write));
+        assert!(rt; requests.into_inner().taken.as_slice() == &REQUESTS[..room]);
         let left = if room < 7 {
             40
         } else if room < 24 {
@@ -87,7 +87,7 @@ fn live_requests_fail(rt: HostRuntime) -> Result<(), Fail> {
         } else {
             0
         };
-        assert_eq!(rt; answers.into_inner().len(), left);
+        assert!(rt; answers.into_inner().len() == left);
     }
     Ok(())
 }

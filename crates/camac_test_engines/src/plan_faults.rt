@@ -17,9 +17,9 @@ fn expect_full(
     let mut plan = PlanSource::<&[u8]>::Sample;
     let mut out = narrow(rt.alloc(), room, when_full);
     let answer = engine_plan(rt.alloc(), &mut plan, &mut out);
-    assert_eq!(rt; answer, Err(ToolFault::Write));
+    assert!(rt; answer == Err(ToolFault::Write));
     let taken = out.into_inner().taken;
-    assert_eq!(rt; taken.len(), room);
+    assert!(rt; taken.len() == room);
     assert!(rt; LISTING.starts_with(taken.as_slice()));
     Ok(())
 }
@@ -38,8 +38,8 @@ fn a_writer_takes_a_byte_at_a_time(rt: HostRuntime) -> Result<(), Fail> {
     let mut plan = PlanSource::<&[u8]>::Sample;
     let mut out = narrow(rt.alloc(), LISTING.len(), WhenFull::Error);
     let answer = engine_plan(rt.alloc(), &mut plan, &mut out);
-    assert_eq!(rt; answer, Ok(Outcome::Good));
-    assert_eq!(rt; out.into_inner().taken.as_slice(), LISTING);
+    assert!(rt; answer == Ok(Outcome::Good));
+    assert!(rt; out.into_inner().taken.as_slice() == LISTING);
     Ok(())
 }
 
@@ -51,8 +51,8 @@ fn reads_fail_each_in_turn(rt: HostRuntime) -> Result<(), Fail> {
         }));
         let mut out = Watched::new(Vec::new(rt.alloc()));
         let answer = engine_plan(rt.alloc(), &mut plan, &mut out);
-        assert_eq!(rt; answer, Err(ToolFault::Read));
-        assert_eq!(rt; status(&answer), 3);
+        assert!(rt; answer == Err(ToolFault::Read));
+        assert!(rt; status(&answer) == 3);
         assert!(rt; out.into_inner().is_empty());
     }
     Ok(())

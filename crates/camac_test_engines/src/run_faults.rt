@@ -45,9 +45,9 @@ fn expect_full(
     let (listing, events) = room;
     for when_full in [WhenFull::Error, WhenFull::Nothing] {
         let (answer, out, written) = run_into(rt.alloc(), ANSWERS, listing, events, when_full);
-        assert_eq!(rt; answer, Err(ToolFault::Write));
-        assert_eq!(rt; out.as_slice(), lines);
-        assert_eq!(rt; written.as_slice(), file);
+        assert!(rt; answer == Err(ToolFault::Write));
+        assert!(rt; out.as_slice() == lines);
+        assert!(rt; written.as_slice() == file);
     }
     Ok(())
 }
@@ -89,12 +89,9 @@ fn answers_fail_after_line_1(rt: HostRuntime) -> Result<(), Fail> {
         &mut out,
         &mut events,
     );
-    assert_eq!(rt; answer, Err(ToolFault::Read));
-    assert_eq!(rt;
-        out.into_inner().as_slice(),
-        b"demand 000004 adc\n".as_slice()
-    );
-    assert_eq!(rt; events.into_inner().as_slice(), b"CAMACEV2".as_slice());
+    assert!(rt; answer == Err(ToolFault::Read));
+    assert!(rt; out.into_inner().as_slice() == b"demand 000004 adc\n".as_slice());
+    assert!(rt; events.into_inner().as_slice() == b"CAMACEV2".as_slice());
     Ok(())
 }
 
@@ -102,14 +99,14 @@ fn answers_fail_after_line_1(rt: HostRuntime) -> Result<(), Fail> {
 fn writes_fail_each_in_turn(rt: HostRuntime) -> Result<(), Fail> {
     for room in 0..LISTING.len() {
         let (answer, out, _) = run_into(rt.alloc(), ANSWERS, room, 100, WhenFull::Error);
-        assert_eq!(rt; answer, Err(ToolFault::Write));
-        assert_eq!(rt; out.len(), room);
+        assert!(rt; answer == Err(ToolFault::Write));
+        assert!(rt; out.len() == room);
         assert!(rt; LISTING.starts_with(out.as_slice()));
     }
     for room in 0..FILE_TWO.len() {
         let (answer, _, file) = run_into(rt.alloc(), ANSWERS, 100, room, WhenFull::Nothing);
-        assert_eq!(rt; answer, Err(ToolFault::Write));
-        assert_eq!(rt; file.len(), room);
+        assert!(rt; answer == Err(ToolFault::Write));
+        assert!(rt; file.len() == room);
         assert!(rt; FILE_TWO.starts_with(file.as_slice()));
     }
     Ok(())
@@ -118,8 +115,8 @@ fn writes_fail_each_in_turn(rt: HostRuntime) -> Result<(), Fail> {
 #[test]
 fn writers_take_a_byte_at_a_time(rt: HostRuntime) -> Result<(), Fail> {
     let (answer, out, file) = run_into(rt.alloc(), ANSWERS, 70, 28, WhenFull::Error);
-    assert_eq!(rt; answer, Ok(Outcome::Good));
-    assert_eq!(rt; out.as_slice(), LISTING);
-    assert_eq!(rt; file.as_slice(), FILE_TWO);
+    assert!(rt; answer == Ok(Outcome::Good));
+    assert!(rt; out.as_slice() == LISTING);
+    assert!(rt; file.as_slice() == FILE_TWO);
     Ok(())
 }

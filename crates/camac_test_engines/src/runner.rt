@@ -22,10 +22,10 @@ fn expect_at(
     in_service: bool,
     steps: u32,
 ) -> Result<(), Fail> {
-    assert_eq!(rt; runner.fed(), fed);
-    assert_eq!(rt; runner.in_service(), in_service);
-    assert_eq!(rt; runner.steps(), steps);
-    assert_eq!(rt; runner.event_words(), 0);
+    assert!(rt; runner.fed() == fed);
+    assert!(rt; runner.in_service() == in_service);
+    assert!(rt; runner.steps() == steps);
+    assert!(rt; runner.event_words() == 0);
     Ok(())
 }
 
@@ -41,8 +41,8 @@ fn expect_demand(rt: &impl Abort, progress: &Progress) -> Result<(), Fail> {
     let Item::Demand(pattern, service) = item else {
         return Err(Fail::from("a demand"));
     };
-    assert_eq!(rt; pattern.get(), 4);
-    assert_eq!(rt; *service, Some(0));
+    assert!(rt; pattern.get() == 4);
+    assert!(rt; *service == Some(0));
     assert!(rt; event.is_none());
     Ok(())
 }
@@ -57,11 +57,11 @@ fn expect_event(rt: &impl Abort, progress: &Progress) -> Result<(), Fail> {
     let Some((number, gl, usage)) = event else {
         return Err(Fail::from("an event"));
     };
-    assert_eq!(rt; cycle.wait, 2);
-    assert_eq!(rt; *number, 1);
-    assert_eq!(rt; gl.get(), 3);
-    assert_eq!(rt; usage.cycles, 3);
-    assert_eq!(rt; usage.missed, 0);
+    assert!(rt; cycle.wait == 2);
+    assert!(rt; *number == 1);
+    assert!(rt; gl.get() == 3);
+    assert!(rt; usage.cycles == 3);
+    assert!(rt; usage.missed == 0);
     Ok(())
 }
 
@@ -69,11 +69,11 @@ fn expect_wanted_read(rt: &impl Abort, wanted: Option<Wanted>) -> Result<(), Fai
     let Some(Wanted::Cycle(command)) = wanted else {
         return Err(Fail::from("a cycle"));
     };
-    assert_eq!(rt; command.c.get(), 1);
-    assert_eq!(rt; command.n.get(), 5);
-    assert_eq!(rt; command.a.get(), 0);
-    assert_eq!(rt; command.f.get(), 0);
-    assert_eq!(rt; command.mv, DataMove::In);
+    assert!(rt; command.c.get() == 1);
+    assert!(rt; command.n.get() == 5);
+    assert!(rt; command.a.get() == 0);
+    assert!(rt; command.f.get() == 0);
+    assert!(rt; command.mv == DataMove::In);
     Ok(())
 }
 
@@ -81,7 +81,7 @@ fn expect_straight_line(rt: &impl Abort, checked: &Checked) -> Result<(), Fail> 
     assert!(rt; checked.fits(1, 1, 1));
     let mut runner = Runner::<1, 1, 1>::start(checked);
     expect_at(rt, &runner, 0, false, 0)?;
-    assert_eq!(rt; runner.wants(), Some(Wanted::Demand));
+    assert!(rt; runner.wants() == Some(Wanted::Demand));
     let progress = feed(rt, &mut runner, answer(false, 0, 0, 4)?);
     expect_demand(rt, &progress)?;
     expect_at(rt, &runner, 1, true, 2)?;
@@ -90,9 +90,9 @@ fn expect_straight_line(rt: &impl Abort, checked: &Checked) -> Result<(), Fail> 
     let progress = feed(rt, &mut runner, answer(true, 0x123fff, 2, 0)?);
     expect_event(rt, &progress)?;
     expect_at(rt, &runner, 2, false, 0)?;
-    assert_eq!(rt; runner.wants(), Some(Wanted::Demand));
+    assert!(rt; runner.wants() == Some(Wanted::Demand));
     let word = runner.last_words().first().ok_or("a word")?;
-    assert_eq!(rt; word.get(), 0xfff);
+    assert!(rt; word.get() == 0xfff);
     Ok(())
 }
 
@@ -111,8 +111,8 @@ fn expect_overrun(rt: &impl Abort, checked: &Checked) -> Result<(), Fail> {
     let Progress::Overrun(overrun) = progress else {
         return Err(Fail::from("a wait that is not permitted"));
     };
-    assert_eq!(rt; overrun.wait, 3);
-    assert_eq!(rt; runner.wants(), None);
+    assert!(rt; overrun.wait == 3);
+    assert!(rt; runner.wants() == None);
     Ok(())
 }
 

@@ -19,23 +19,23 @@ fn run_words(rt: HostRuntime) -> Result<(), Fail> {
     let Ok(Job::Run(plan, script, answers, events)) = job else {
         return Err(Fail::from("no run"));
     };
-    assert_eq!(rt; plan, "a");
-    assert_eq!(rt; script, "b");
-    assert_eq!(rt; answers, "c");
-    assert_eq!(rt; events, "d");
+    assert!(rt; plan == "a");
+    assert!(rt; script == "b");
+    assert!(rt; answers == "c");
+    assert!(rt; events == "d");
     Ok(())
 }
 
 #[test]
 fn status_of_each_outcome(rt: HostRuntime) {
-    assert_eq!(rt; status(&Ok(Outcome::Good)), 0);
-    assert_eq!(rt; status(&Ok(Outcome::Refused)), 1);
+    assert!(rt; status(&Ok(Outcome::Good)) == 0);
+    assert!(rt; status(&Ok(Outcome::Refused)) == 1);
     for fault in [
         ToolFault::Read,
         ToolFault::Write,
         ToolFault::Memory,
         ToolFault::TooLong,
     ] {
-        assert_eq!(rt; status(&Err(fault)), 3);
+        assert!(rt; status(&Err(fault)) == 3);
     }
 }

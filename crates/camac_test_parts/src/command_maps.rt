@@ -30,19 +30,19 @@ fn declared<const A: usize>(
 fn small_command_map(rt: HostRuntime) {
     let mut map = CommandMap::<4>::new(rt.alloc());
     let at_4 = declared(&mut map, 0, 4, 12, false);
-    assert_eq!(rt; at_4, Some(Err(ModuleFault::NoSuchSubAddress)));
+    assert!(rt; at_4 == Some(Err(ModuleFault::NoSuchSubAddress)));
     let wide = declared(&mut map, 0, 4, 25, false);
-    assert_eq!(rt; wide, Some(Err(ModuleFault::WidthOutOfRange)));
+    assert!(rt; wide == Some(Err(ModuleFault::WidthOutOfRange)));
 }
 
 #[test]
 fn builder_faults_of_a_type(rt: HostRuntime) {
     let mut adc = ModuleType::new(rt.alloc());
-    assert_eq!(rt; declared(&mut adc, 0, 0, 12, false), Some(Ok(())));
+    assert!(rt; declared(&mut adc, 0, 0, 12, false) == Some(Ok(())));
     let again = declared(&mut adc, 0, 0, 12, false);
-    assert_eq!(rt; again, Some(Err(ModuleFault::DeclaredBefore)));
+    assert!(rt; again == Some(Err(ModuleFault::DeclaredBefore)));
     let wide = declared(&mut adc, 1, 0, 25, false);
-    assert_eq!(rt; wide, Some(Err(ModuleFault::WidthOutOfRange)));
+    assert!(rt; wide == Some(Err(ModuleFault::WidthOutOfRange)));
     let probe = declared(&mut adc, 1, 0, 12, true);
-    assert_eq!(rt; probe, Some(Err(ModuleFault::WidthOutOfRange)));
+    assert!(rt; probe == Some(Err(ModuleFault::WidthOutOfRange)));
 }

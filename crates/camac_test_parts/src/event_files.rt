@@ -34,48 +34,45 @@ fn word(value: u32) -> Result<Word24, Fail> {
 #[test]
 fn event_file_one(rt: HostRuntime) -> Result<(), Fail> {
     let events = decode(rt.alloc(), &ONE)?;
-    assert_eq!(rt; events.version(), Version::One);
-    assert_eq!(rt; events.len(), 1);
+    assert!(rt; events.version() == Version::One);
+    assert!(rt; events.len() == 1);
     let event = events.get(0).ok_or("event 1")?;
-    assert_eq!(rt; (event.gl.get(), event.usage), (3, None));
-    assert_eq!(rt; event.words.as_slice(), [word(0xfff)?].as_slice());
+    assert!(rt; event.gl.get() == 3 && event.usage == None);
+    assert!(rt; event.words.as_slice() == [word(0xfff)?].as_slice());
     Ok(())
 }
 
 #[test]
 fn event_file_two(rt: HostRuntime) -> Result<(), Fail> {
     let events = decode(rt.alloc(), &TWO)?;
-    assert_eq!(rt; events.version(), Version::Two);
-    assert_eq!(rt; events.len(), 1);
+    assert!(rt; events.version() == Version::Two);
+    assert!(rt; events.len() == 1);
     let event = events.get(0).ok_or("event 1")?;
     let usage = Some(Usage {
         cycles: 3,
         missed: 0,
     });
-    assert_eq!(rt; (event.gl.get(), event.usage), (3, usage));
-    assert_eq!(rt; event.words.as_slice(), [word(0xfff)?].as_slice());
+    assert!(rt; event.gl.get() == 3 && event.usage == usage);
+    assert!(rt; event.words.as_slice() == [word(0xfff)?].as_slice());
     Ok(())
 }
 
 #[test]
 fn event_file_two_in_place(rt: HostRuntime) -> Result<(), Fail> {
     let file = EventFile::new(&TWO).ok().ok_or("file")?;
-    assert_eq!(rt; file.version(), Version::Two);
+    assert!(rt; file.version() == Version::Two);
     let mut records = file.records();
     let record = records.next().ok_or("event 1")?;
     let usage = Some(Usage {
         cycles: 3,
         missed: 0,
     });
-    assert_eq!(rt;
-        (record.number, record.gl.get(), record.usage),
-        (1, 3, usage)
-    );
-    assert_eq!(rt; record.words.len(), 1);
-    assert_eq!(rt; record.words.get(0), Some(word(0xfff)?));
-    assert_eq!(rt; record.words.get(1), None);
+    assert!(rt; record.number == 1 && record.gl.get() == 3 && record.usage == usage);
+    assert!(rt; record.words.len() == 1);
+    assert!(rt; record.words.get(0) == Some(word(0xfff)?));
+    assert!(rt; record.words.get(1) == None);
     assert!(rt; records.next().is_none());
-    assert_eq!(rt; records.read(), 1);
+    assert!(rt; records.read() == 1);
     Ok(())
 }
 
@@ -99,8 +96,8 @@ fn event_file_two_cut(rt: HostRuntime) -> Result<(), Fail> {
             );
         }
     }
-    assert_eq!(rt; decode(alloc, &TWO[..8])?.len(), 0);
-    assert_eq!(rt; fault(alloc, &TWO[..7]), broken(EventRule::WrongHeader, 0));
+    assert!(rt; decode(alloc, &TWO[..8])?.len() == 0);
+    assert!(rt; fault(alloc, &TWO[..7]) == broken(EventRule::WrongHeader, 0));
     Ok(())
 }
 
@@ -109,19 +106,13 @@ fn event_file_two_faults(rt: HostRuntime) -> Result<(), Fail> {
     let alloc = rt.alloc();
     let mut missed = TWO;
     missed[21] = 4;
-    assert_eq!(rt;
-        fault(alloc, &missed),
-        broken(EventRule::MissedAboveCycles, 20)
-    );
+    assert!(rt; fault(alloc, &missed) == broken(EventRule::MissedAboveCycles, 20));
     let mut wide = TWO;
     wide[24] = 1;
-    assert_eq!(rt; fault(alloc, &wide), broken(EventRule::WordTooWide, 24));
+    assert!(rt; fault(alloc, &wide) == broken(EventRule::WordTooWide, 24));
     let mut twice = TWO.to_vec(alloc)?;
     twice.extend_from_slice(&TWO[8..])?;
-    assert_eq!(rt;
-        fault(alloc, &twice),
-        broken(EventRule::NumberOutOfOrder, 32)
-    );
+    assert!(rt; fault(alloc, &twice) == broken(EventRule::NumberOutOfOrder, 32));
     Ok(())
 }
 
@@ -141,21 +132,15 @@ fn event_field_faults(rt: HostRuntime) -> Result<(), Fail> {
     }
     let mut file = ONE;
     file[16] = 0x10;
-    assert_eq!(rt; fault(alloc, &file), broken(EventRule::CountAboveLimit, 16));
+    assert!(rt; fault(alloc, &file) == broken(EventRule::CountAboveLimit, 16));
     Ok(())
 }
 
 #[test]
 fn encode_event_files(rt: HostRuntime) -> Result<(), Fail> {
     let alloc = rt.alloc();
-    assert_eq!(rt;
-        encode(alloc, &decode(alloc, &ONE)?)?.as_slice(),
-        ONE.as_slice()
-    );
-    assert_eq!(rt;
-        encode(alloc, &decode(alloc, &TWO)?)?.as_slice(),
-        TWO.as_slice()
-    );
+    assert!(rt; encode(alloc, &decode(alloc, &ONE)?)?.as_slice() == ONE.as_slice());
+    assert!(rt; encode(alloc, &decode(alloc, &TWO)?)?.as_slice() == TWO.as_slice());
     Ok(())
 }
 
@@ -172,7 +157,7 @@ fn appended_events(rt: HostRuntime) -> Result<(), Fail> {
         missed: 0,
     });
     events.append(GlBit::new(3).ok_or("GL bit")?, usage, buffer.words())?;
-    assert_eq!(rt; encode(alloc, &events)?.as_slice(), TWO.as_slice());
+    assert!(rt; encode(alloc, &events)?.as_slice() == TWO.as_slice());
     Ok(())
 }
 
@@ -186,6 +171,6 @@ fn written_events(rt: HostRuntime) -> Result<(), Fail> {
     };
     write_header(&mut out).map_err(|_| "header")?;
     write_record(&mut out, 1, gl, usage, &[word(0xfff)?]).map_err(|_| "record")?;
-    assert_eq!(rt; out.into_inner().as_slice(), TWO.as_slice());
+    assert!(rt; out.into_inner().as_slice() == TWO.as_slice());
     Ok(())
 }

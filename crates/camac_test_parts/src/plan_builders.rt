@@ -78,15 +78,9 @@ fn sample(alloc: Global) -> Result<Plan, Fail> {
 fn builder_faults_of_types_and_crates(rt: HostRuntime) -> Result<(), Fail> {
     let mut plan = sample(rt.alloc())?;
     let again = plan.add_type(name("ADC")?, ModuleType::new(rt.alloc()));
-    assert_eq!(rt; again, Err(BuildFault::TypeTwice));
-    assert_eq!(rt;
-        plan.add_crate(crate_no(1)?, 2),
-        Err(BuildFault::CrateTwice)
-    );
-    assert_eq!(rt;
-        plan.add_crate(crate_no(2)?, 16),
-        Err(BuildFault::OutOfRange)
-    );
+    assert!(rt; again == Err(BuildFault::TypeTwice));
+    assert!(rt; plan.add_crate(crate_no(1)?, 2) == Err(BuildFault::CrateTwice));
+    assert!(rt; plan.add_crate(crate_no(2)?, 16) == Err(BuildFault::OutOfRange));
     Ok(())
 }
 
@@ -94,11 +88,11 @@ fn builder_faults_of_types_and_crates(rt: HostRuntime) -> Result<(), Fail> {
 fn builder_faults_of_stations(rt: HostRuntime) -> Result<(), Fail> {
     let mut plan = sample(rt.alloc())?;
     let past = plan.add_station(crate_no(1)?, station(24)?, 0, None);
-    assert_eq!(rt; past, Err(BuildFault::OutOfRange));
+    assert!(rt; past == Err(BuildFault::OutOfRange));
     let again = plan.add_station(crate_no(1)?, station(5)?, 0, None);
-    assert_eq!(rt; again, Err(BuildFault::StationTwice));
+    assert!(rt; again == Err(BuildFault::StationTwice));
     let same_bit = plan.add_station(crate_no(1)?, station(7)?, 0, Some(bit(3)?));
-    assert_eq!(rt; same_bit, Err(BuildFault::BitTwice));
+    assert!(rt; same_bit == Err(BuildFault::BitTwice));
     Ok(())
 }
 
@@ -112,13 +106,10 @@ fn builder_faults_of_buffers(rt: HostRuntime) {
 fn type_copy(rt: HostRuntime) -> Result<(), Fail> {
     let commands = adc_commands(rt.alloc())?;
     let copy = commands.try_clone(rt.alloc())?;
-    assert_eq!(rt; copy.counts(), (20, 4));
+    assert!(rt; copy.counts() == (20, 4));
     for a in 0..16 {
         let a = sub_address(a)?;
-        assert_eq!(rt;
-            copy.width(function(0)?, a),
-            commands.width(function(0)?, a)
-        );
+        assert!(rt; copy.width(function(0)?, a) == commands.width(function(0)?, a));
     }
     Ok(())
 }
@@ -127,14 +118,14 @@ fn type_copy(rt: HostRuntime) -> Result<(), Fail> {
 fn plan_copy(rt: HostRuntime) -> Result<(), Fail> {
     let plan = sample(rt.alloc())?;
     let copy = plan.try_clone(rt.alloc())?;
-    assert_eq!(rt; copy.types(), plan.types());
+    assert!(rt; copy.types() == plan.types());
     for i in 0..plan.types() {
-        assert_eq!(rt; copy.type_counts(i), plan.type_counts(i));
+        assert!(rt; copy.type_counts(i) == plan.type_counts(i));
     }
     let (c, n) = (crate_no(1)?, station(5)?);
     for a in 0..16 {
         let (a, f) = (sub_address(a)?, function(0)?);
-        assert_eq!(rt; copy.allowed(c, n, a, f), plan.allowed(c, n, a, f));
+        assert!(rt; copy.allowed(c, n, a, f) == plan.allowed(c, n, a, f));
     }
     Ok(())
 }
@@ -151,16 +142,16 @@ fn widths(plan: &Plan, n: u32, f: u32, first: u32, last: u32) -> Result<Option<(
 #[test]
 fn widths_of_range(rt: HostRuntime) -> Result<(), Fail> {
     let plan = sample(rt.alloc())?;
-    assert_eq!(rt; widths(&plan, 5, 0, 0, 11)?, Some((12, 12)));
-    assert_eq!(rt; widths(&plan, 5, 0, 0, 15)?, Some((12, 24)));
-    assert_eq!(rt; widths(&plan, 6, 0, 0, 1)?, None);
+    assert!(rt; widths(&plan, 5, 0, 0, 11)? == Some((12, 12)));
+    assert!(rt; widths(&plan, 5, 0, 0, 15)? == Some((12, 24)));
+    assert!(rt; widths(&plan, 6, 0, 0, 1)? == None);
     Ok(())
 }
 
 #[test]
 fn widths_of_controller(rt: HostRuntime) -> Result<(), Fail> {
     let plan = sample(rt.alloc())?;
-    assert_eq!(rt; widths(&plan, 30, 24, 9, 10)?, Some((24, 24)));
-    assert_eq!(rt; widths(&plan, 30, 24, 9, 11)?, None);
+    assert!(rt; widths(&plan, 30, 24, 9, 10)? == Some((24, 24)));
+    assert!(rt; widths(&plan, 30, 24, 9, 11)? == None);
     Ok(())
 }

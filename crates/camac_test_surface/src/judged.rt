@@ -29,13 +29,13 @@ fn numbers_of_the_service(script: &Script) -> Option<(u32, u32)> {
 fn least_headings(rt: HostRuntime) -> Result<(), Fail> {
     let plan = sample_plan(rt.alloc())?;
     let mut script = parse(rt.alloc(), STRAIGHT_LINE)?;
-    assert_eq!(rt; script.services().len(), 1);
+    assert!(rt; script.services().len() == 1);
     script.annotate_service(0, 9, 8);
-    assert_eq!(rt; numbers_of_the_service(&script), Some((9, 8)));
+    assert!(rt; numbers_of_the_service(&script) == Some((9, 8)));
     script.unannotate();
-    assert_eq!(rt; numbers_of_the_service(&script), Some((0, 0)));
+    assert!(rt; numbers_of_the_service(&script) == Some((0, 0)));
     let checked = least(rt.alloc(), script, &plan)?;
-    assert_eq!(rt; numbers_of_the_service(checked.script()), Some((3, 1)));
+    assert!(rt; numbers_of_the_service(checked.script()) == Some((3, 1)));
     Ok(())
 }
 
@@ -54,19 +54,19 @@ pub fn straight_line_log(alloc: Global, checked: &Checked) -> Result<Log, Fail> 
 #[test]
 fn checked_script(rt: HostRuntime) -> Result<(), Fail> {
     let checked = straight_line(rt.alloc())?;
-    assert_eq!(rt; checked.services(), 1);
+    assert!(rt; checked.services() == 1);
     assert!(rt; checked.services() > 0);
-    assert_eq!(rt; checked.gl(0).get(), 3);
+    assert!(rt; checked.gl(0).get() == 3);
     assert!(rt; checked.services() > 0);
     let bounds = checked.bounds(0);
-    assert_eq!(rt; (bounds.cycles, bounds.words, bounds.steps), (3, 1, 3));
-    assert_eq!(rt; checked.script().services().len(), 1);
+    assert!(rt; bounds.cycles == 3 && bounds.words == 1 && bounds.steps == 3);
+    assert!(rt; checked.script().services().len() == 1);
     assert!(rt; checked.script().try_clone(rt.alloc()).is_ok());
-    assert_eq!(rt; checked.plan().buffer(), 4096);
+    assert!(rt; checked.plan().buffer() == 4096);
     assert!(rt; checked.fits(1, 1, 1));
     let runner = Runner::<1, 1, 1>::start(&checked);
-    assert_eq!(rt; runner.fed(), 0);
-    assert_eq!(rt; runner.last_words().len(), 0);
+    assert!(rt; runner.fed() == 0);
+    assert!(rt; runner.last_words().len() == 0);
     Ok(())
 }
 
@@ -74,10 +74,10 @@ fn checked_script(rt: HostRuntime) -> Result<(), Fail> {
 fn log_of_a_run(rt: HostRuntime) -> Result<(), Fail> {
     let checked = straight_line(rt.alloc())?;
     let log = straight_line_log(rt.alloc(), &checked)?;
-    assert_eq!(rt; log.end, End::Ended);
-    assert_eq!(rt; log.events.len(), 1);
+    assert!(rt; log.end == End::Ended);
+    assert!(rt; log.events.len() == 1);
     let items = log.items.as_slice();
-    assert_eq!(rt; items.len(), 2);
+    assert!(rt; items.len() == 2);
     assert!(rt; matches!(&items[0], Item::Demand(_, Some(0))));
     Ok(())
 }

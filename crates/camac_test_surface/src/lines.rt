@@ -17,11 +17,11 @@ fn lines_of_a_verdict(rt: HostRuntime) -> Result<(), Fail> {
     let mut out = Watched::new(Vec::new(rt.alloc()));
     write_verdict(&mut out, &checked)?;
     let want = b"accepted\nservice adc gl 3 cycles 3 of 3 words 1 of 1 steps 3\n";
-    assert_eq!(rt; out.into_inner().as_slice(), want.as_slice());
+    assert!(rt; out.into_inner().as_slice() == want.as_slice());
     let mut out = Watched::new(Vec::new(rt.alloc()));
     write_headings(&mut out, checked.script())?;
     let want = b"service adc within 3 cycles event 1 words\n";
-    assert_eq!(rt; out.into_inner().as_slice(), want.as_slice());
+    assert!(rt; out.into_inner().as_slice() == want.as_slice());
     let mut out = Watched::new(Vec::new(rt.alloc()));
     write_plan(&mut out, checked.plan())?;
     assert!(rt; out.into_inner().as_slice().starts_with(b"buffer 4096\n"));
@@ -33,19 +33,19 @@ fn lines_of_a_run(rt: HostRuntime) -> Result<(), Fail> {
     let checked = straight_line(rt.alloc())?;
     let log = straight_line_log(rt.alloc(), &checked)?;
     let items = log.items.as_slice();
-    assert_eq!(rt; items.len(), 2);
+    assert!(rt; items.len() == 2);
     let mut out = Watched::new(Vec::new(rt.alloc()));
     write_item(&mut out, &checked, &items[0])?;
     write_items(&mut out, &checked, &items[1], &[])?;
     write_end(&mut out, End::Ended, 1)?;
     let want = b"demand 000004 adc\ncycle 1 5 0 0 in 123fff x1 q1 wait 2\nended events 1\n";
-    assert_eq!(rt; out.into_inner().as_slice(), want.as_slice());
+    assert!(rt; out.into_inner().as_slice() == want.as_slice());
     let mut out = Watched::new(Vec::new(rt.alloc()));
     if let Item::Cycle(done) = &items[1] {
         write_cycle(&mut out, done)?;
     }
     let want = b"cycle 1 5 0 0 in 123fff x1 q1 wait 2\n";
-    assert_eq!(rt; out.into_inner().as_slice(), want.as_slice());
+    assert!(rt; out.into_inner().as_slice() == want.as_slice());
     Ok(())
 }
 
@@ -63,7 +63,7 @@ fn lines_of_a_live_run(rt: HostRuntime) -> Result<(), Fail> {
     write_request(&mut out, Wanted::Lock(crate_no))?;
     write_unlocks(&mut out, &[crate_no])?;
     let want = b"demand\ncycle 1 5 0 0 in\nlock 7\nunlock 7\n";
-    assert_eq!(rt; out.into_inner().as_slice(), want.as_slice());
+    assert!(rt; out.into_inner().as_slice() == want.as_slice());
     Ok(())
 }
 
@@ -74,7 +74,7 @@ fn lines_of_an_event_file(rt: HostRuntime) -> Result<(), Fail> {
     let mut out = Watched::new(Vec::new(rt.alloc()));
     write_events(&mut out, &log.events)?;
     let want = b"event 1 gl 3 cycles 3 missed 0 words 1 000fff\nevents 1\n";
-    assert_eq!(rt; out.into_inner().as_slice(), want.as_slice());
+    assert!(rt; out.into_inner().as_slice() == want.as_slice());
     Ok(())
 }
 
@@ -85,6 +85,6 @@ fn lines_of_an_event_file_in_place(rt: HostRuntime) -> Result<(), Fail> {
     let mut out = Watched::new(Vec::new(rt.alloc()));
     write_event_file(&mut out, &file)?;
     let want = b"event 1 gl 3 words 2 000fff 123456\nevents 1\n";
-    assert_eq!(rt; out.into_inner().as_slice(), want.as_slice());
+    assert!(rt; out.into_inner().as_slice() == want.as_slice());
     Ok(())
 }

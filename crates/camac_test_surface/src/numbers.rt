@@ -9,22 +9,19 @@ use std::test::Fail;
 
 fn expect_ends(rt: &impl Abort, found: Option<Range>, lo: u32, hi: u32) -> Result<(), Fail> {
     let range = found.ok_or("a range")?;
-    assert_eq!(rt; range.lo(), lo);
-    assert_eq!(rt; range.hi(), hi);
+    assert!(rt; range.lo() == lo);
+    assert!(rt; range.hi() == hi);
     Ok(())
 }
 
 #[test]
 fn numbers_in_their_ranges(rt: HostRuntime) {
-    assert_eq!(rt;
-        Word24::new(0xff_ffff).map(|word| word.get()),
-        Some(0xff_ffff)
-    );
-    assert_eq!(rt; Station::new(31).map(|n| n.get()), Some(31));
-    assert_eq!(rt; SubAddress::new(15).map(|a| a.get()), Some(15));
-    assert_eq!(rt; Function::new(31).map(|f| f.get()), Some(31));
-    assert_eq!(rt; CrateNo::new(7).map(|c| c.get()), Some(7));
-    assert_eq!(rt; GlBit::new(24).map(|bit| bit.get()), Some(24));
+    assert!(rt; Word24::new(0xff_ffff).map(|word| word.get()) == Some(0xff_ffff));
+    assert!(rt; Station::new(31).map(|n| n.get()) == Some(31));
+    assert!(rt; SubAddress::new(15).map(|a| a.get()) == Some(15));
+    assert!(rt; Function::new(31).map(|f| f.get()) == Some(31));
+    assert!(rt; CrateNo::new(7).map(|c| c.get()) == Some(7));
+    assert!(rt; GlBit::new(24).map(|bit| bit.get()) == Some(24));
     assert!(rt; Word24::new(0x100_0000).is_none() && Station::new(32).is_none());
     assert!(rt; SubAddress::new(16).is_none() && Function::new(32).is_none());
     assert!(rt; CrateNo::new(0).is_none() && CrateNo::new(8).is_none());
@@ -61,10 +58,10 @@ fn function_codes(rt: HostRuntime) -> Result<(), Fail> {
     let read = Function::new(0).ok_or("a function")?;
     let write = Function::new(16).ok_or("a function")?;
     let enable = Function::new(26).ok_or("a function")?;
-    assert_eq!(rt; class(read), FunctionClass::Read);
-    assert_eq!(rt; class(write), FunctionClass::Write);
-    assert_eq!(rt; class(enable), FunctionClass::Control);
-    assert_eq!(rt; name(enable), "enable");
+    assert!(rt; class(read) == FunctionClass::Read);
+    assert!(rt; class(write) == FunctionClass::Write);
+    assert!(rt; class(enable) == FunctionClass::Control);
+    assert!(rt; name(enable) == "enable");
     assert!(rt; fits(FunctionClass::Read, &DataMove::In));
     assert!(rt; !fits(FunctionClass::Read, &DataMove::None));
     assert!(rt; fits(FunctionClass::Control, &DataMove::None));
@@ -79,18 +76,18 @@ fn op(n: u32, a: u32, f: u32) -> Option<ControllerOp> {
 
 #[test]
 fn controller_commands(rt: HostRuntime) -> Result<(), Fail> {
-    assert_eq!(rt; op(28, 8, 26), Some(ControllerOp::Initialise));
-    assert_eq!(rt; op(30, 0, 0), Some(ControllerOp::ReadGl));
-    assert_eq!(rt; op(30, 0, 1), None);
+    assert!(rt; op(28, 8, 26) == Some(ControllerOp::Initialise));
+    assert!(rt; op(30, 0, 0) == Some(ControllerOp::ReadGl));
+    assert!(rt; op(30, 0, 1) == None);
     let gl = Word24::new(4).ok_or("a word")?;
     let mut state = CrateState::start();
     assert!(rt; !state.is_inhibited() && state.is_demand_enabled());
     let (word, q) = apply(&mut state, ControllerOp::ReadGl, gl);
     assert!(rt; q);
-    assert_eq!(rt; word.get(), 4);
+    assert!(rt; word.get() == 4);
     let (word, q) = apply(&mut state, ControllerOp::Initialise, gl);
     assert!(rt; !q);
-    assert_eq!(rt; word.get(), 0);
+    assert!(rt; word.get() == 0);
     assert!(rt; state.is_inhibited() && !state.is_demand_enabled());
     Ok(())
 }

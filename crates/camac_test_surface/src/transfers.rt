@@ -13,54 +13,54 @@ const HERE: Address = Address { c: 1, n: 5, a: 0 };
 fn calls_are_commands(rt: HostRuntime) -> Result<(), Fail> {
     let c = CrateNo::new(1).ok_or("a crate")?;
     let clear = crate_call(CrateCall::Clear, c);
-    assert_eq!(rt; (clear.n.get(), clear.a.get(), clear.f.get()), (28, 9, 26));
-    assert_eq!(rt; clear.mv, DataMove::None);
+    assert!(rt; clear.n.get() == 28 && clear.a.get() == 9 && clear.f.get() == 26);
+    assert!(rt; clear.mv == DataMove::None);
     let enable = lam_call(LamCall::Enable, HERE);
-    assert_eq!(rt; (enable.c.get(), enable.n.get()), (1, 5));
-    assert_eq!(rt; (enable.a.get(), enable.f.get()), (0, 26));
+    assert!(rt; enable.c.get() == 1 && enable.n.get() == 5);
+    assert!(rt; enable.a.get() == 0 && enable.f.get() == 26);
     Ok(())
 }
 
 #[test]
 fn transfer_until_no_q(rt: HostRuntime) {
     let mut transfer = QStop::new(HERE, 2);
-    assert_eq!(rt; transfer.index(), 0);
+    assert!(rt; transfer.index() == 0);
     assert!(rt; transfer.next().is_some());
     transfer.take(true);
-    assert_eq!(rt; transfer.next(), Some(HERE));
+    assert!(rt; transfer.next() == Some(HERE));
     assert!(rt; transfer.next().is_some());
     transfer.take(false);
-    assert_eq!(rt; transfer.next(), None);
-    assert_eq!(rt; transfer.tally(), 1);
+    assert!(rt; transfer.next() == None);
+    assert!(rt; transfer.tally() == 1);
 }
 
 #[test]
 fn transfer_that_repeats(rt: HostRuntime) {
     let mut transfer = QRepeat::new(HERE, 1, 3);
-    assert_eq!(rt; transfer.next(), Some(HERE));
+    assert!(rt; transfer.next() == Some(HERE));
     assert!(rt; transfer.next().is_some());
     transfer.take(false);
-    assert_eq!(rt; transfer.index(), 0);
-    assert_eq!(rt; transfer.next(), Some(HERE));
+    assert!(rt; transfer.index() == 0);
+    assert!(rt; transfer.next() == Some(HERE));
     assert!(rt; transfer.next().is_some());
     transfer.take(true);
-    assert_eq!(rt; transfer.next(), None);
-    assert_eq!(rt; transfer.tally(), 1);
+    assert!(rt; transfer.next() == None);
+    assert!(rt; transfer.tally() == 1);
 }
 
 #[test]
 fn transfer_along_addresses(rt: HostRuntime) {
     let mut transfer = Scan::new(HERE, Address { c: 1, n: 6, a: 3 }, 2);
-    assert_eq!(rt; transfer.next(), Some(HERE));
+    assert!(rt; transfer.next() == Some(HERE));
     assert!(rt; transfer.next().is_some());
     transfer.take(true);
-    assert_eq!(rt; transfer.next(), Some(Address { c: 1, n: 5, a: 1 }));
+    assert!(rt; transfer.next() == Some(Address { c: 1, n: 5, a: 1 }));
     assert!(rt; transfer.next().is_some());
     transfer.take(false);
-    assert_eq!(rt; transfer.next(), Some(Address { c: 1, n: 6, a: 0 }));
+    assert!(rt; transfer.next() == Some(Address { c: 1, n: 6, a: 0 }));
     assert!(rt; transfer.next().is_some());
     transfer.take(true);
-    assert_eq!(rt; transfer.next(), None);
-    assert_eq!(rt; transfer.tally(), 2);
-    assert_eq!(rt; transfer.index(), 2);
+    assert!(rt; transfer.next() == None);
+    assert!(rt; transfer.tally() == 2);
+    assert!(rt; transfer.index() == 2);
 }
