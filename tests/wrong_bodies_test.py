@@ -209,6 +209,81 @@ class Tries(Tool):
             self.assertEqual(ran.stdout, "0 refused, 1 not\n", words)
 
 
+CYCLE = """\
+#![tactic(auto)]
+
+ghost use Rattle.std.specs.Prelude.{◌≡◌};
+
+#[cycle(count)]
+pub fn down(n: u32) -> u32
+    ensures { result ≡ 0 }
+{
+    if n == 0 { 0 } else { further(n - 1) }
+}
+
+#[cycle(count)]
+pub fn further(n: u32) -> u32
+    ensures { result ≡ 0 }
+{
+    if n < 1 { 0 } else { at_last(n - 1) }
+}
+
+#[cycle(count)]
+pub fn at_last(n: u32) -> u32
+    ensures { result ≡ 0 }
+{
+    if 0 == n { 0 } else { down(n - 1) }
+}
+"""
+
+MEASURES = """\
+use Rattle.sample.proofs.+count.Given as goal
+
+abbrev pub decreases-down : goal.decreases-down
+decreases-down l = l.n
+
+abbrev pub decreases-further : goal.decreases-further
+decreases-further l = l.n
+
+abbrev pub decreases-at_last : goal.decreases-at_last
+decreases-at_last l = l.n
+"""
+
+FURTHER = """\
+use Rattle.std.proofs.Common.{rules}
+use Rattle.sample.proofs.+count.Goals as goal
+
+pub further-returns-then-n-lt1 : goal.further-returns-then-n-lt1
+further-returns-then-n-lt1 t c = search rules
+"""
+
+
+class Cycle(Tool):
+    """Functions that call one another have one proof, and share a round all the same."""
+
+    @classmethod
+    def make(cls):
+        crate = f"{cls.room.name}/crates/sample"
+        write(f"{cls.room.name}/crates.txt", "sample:\n")
+        write(f"{crate}/src/lib.rt", CYCLE)
+        write(f"{crate}/proofs/+count/Invariants.antt", MEASURES)
+        write(f"{crate}/proofs/+count/Answers.antt", FURTHER)
+        for name, old, new in (
+            ("down_ends_at_1", "n == 0 { 0 }", "n == 0 { 1 }"),
+            ("further_ends_at_2", "n < 1 { 0 }", "n < 1 { 2 }"),
+            ("at_last_halves", "down(n - 1)", "down(n / 2)"),
+        ):
+            write(f"{crate}/wrong-bodies/{name}.edit", f"file: src/lib.rt\nold: {old}\nnew: {new}\n")
+
+    def test_each_body_is_judged_by_the_goals_of_its_function(self):
+        ran = self.run_tool()
+        told = {it.partition(": ")[0]: it.partition(": ")[2] for it in ran.stdout.split("\n")}
+        self.assertRegex(told["sample/down_ends_at_1"], "^refused: .*`down-returns")
+        self.assertRegex(told["sample/further_ends_at_2"], "^refused: .*`further-returns")
+        self.assertEqual(told["sample/at_last_halves"], "NOT REFUSED FOR ITSELF: its function is still proved")
+        self.assertTrue(ran.stdout.endswith("2 refused, 1 not\n"))
+
+
 class Kept(Tool):
     """Which refusals are used again, without a prover."""
 
