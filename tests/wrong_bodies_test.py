@@ -215,6 +215,7 @@ CYCLE = """\
 ghost use Rattle.std.specs.Prelude.{◌≡◌};
 
 #[cycle(count)]
+#[tactic(auto)]
 pub fn down(n: u32) -> u32
     ensures { result ≡ 0 }
 {
