@@ -285,8 +285,8 @@ class Cycle(Tool):
         self.assertTrue(ran.stdout.endswith("2 refused, 1 not\n"))
 
 
-class Kept(Tool):
-    """Which refusals are used again, without a prover."""
+class Module(Tool):
+    """The tool as a module of Python."""
 
     @classmethod
     def setUpClass(cls):
@@ -296,6 +296,86 @@ class Kept(Tool):
         with mock.patch.object(sys, "dont_write_bytecode", True):
             loader.exec_module(cls.module)
         cls.module.TOP = cls.room.name
+
+    def body(self, name):
+        return next(it for it in self.module.bodies_of(self.module.crates()["sample"], False) if it.name == name)
+
+
+class Checked(Module):
+    """What `rt check` proved of a crate stands in its rounds."""
+
+    def test_the_same_bodies_are_refused_as_with_a_hole_for_each_proof(self):
+        crate = self.module.crates()["sample"]
+        before = self.run_tool("--anew", "sample")
+        os.makedirs(f"{crate.folder}/out/incremental")
+        checked = self.module.rattle("check", [*crate.words(), "--incremental", "out/incremental"], crate.folder)
+        self.assertIn("\nlogic=proved ", checked.stdout)
+        self.assertEqual(self.module.Round(crate, [self.body("weak_is_half")]).open_proofs(), set())
+        after = self.run_tool("--anew", "sample")
+        refused = [{it.partition(": ")[0] for it in ran.stdout.split("\n") if ": refused: " in it} for ran in (before, after)]
+        self.assertEqual(refused, [{"sample/half_is_a_third", "sample/sum_and_one"}] * 2)
+        self.assertTrue(after.stdout.endswith("2 refused, 5 not\n"))
+
+
+CHAIN = """\
+fn low(n: u32) -> u32 { n }
+fn middle(n: u32) -> u32 { low(n) }
+fn high(n: u32) -> u32 { middle(n) }
+fn beside(low: u32) -> u32 { low + crate::middle(1) }
+"""
+
+
+class Rounds(Module):
+    """Which bodies share a round, and which proofs have a hole there."""
+
+    def setUp(self):
+        self.functions = self.module.functions_in(CHAIN, [], {})
+        self.calls = self.module.Calls(mock.Mock(functions=lambda: self.functions))
+
+    def test_what_stands_between_changed_functions(self):
+        self.assertEqual(self.calls.called, {"low": set(), "middle": {"low"}, "high": {"middle", "low"}, "beside": {"middle", "low"}})
+        for keys, between in (({"low", "high"}, {"middle"}), ({"low", "middle", "high"}, set()), ({"high", "beside"}, set()), ({"low"}, set())):
+            self.assertEqual(self.calls.between(keys), between)
+
+    def bodies(self, *names):
+        found = {it.path: mock.Mock(functions=[it], is_wide=False, shares_no_round=lambda other: False) for it in self.functions}
+        for name, body in found.items():
+            body.name = name
+        return [found[it] for it in names]
+
+    def packed(self, bodies, most=sys.maxsize, begin=0, apart=()):
+        with mock.patch.object(self.module, "BEGIN", begin):
+            return sorted(sorted(it.name for it in some) for some in self.module.packed(bodies, {*apart}, self.calls, most))
+
+    def test_bodies_share_a_round_where_little_stands_between_them(self):
+        low, high, beside = self.bodies("low", "high", "beside")
+        self.assertEqual(self.packed([low, high, beside]), [["beside", "high"], ["low"]])
+        self.assertEqual(self.packed([low, high, beside], begin=9), [["beside", "high", "low"]])
+
+    def test_bodies_share_no_round_that_is_too_long_or_where_one_waits_for_the_other(self):
+        high, beside = self.bodies("high", "beside")
+        self.assertEqual(self.packed([high, beside], most=2), [["beside"], ["high"]])
+        self.assertEqual(self.packed([high, beside], apart=[frozenset((high, beside))]), [["beside"], ["high"]])
+
+    def test_a_hole_stands_for_a_proof_that_is_lacking_or_rests_on_a_changed_function(self):
+        crate = self.module.crates()["sample"]
+        self.addCleanup(shutil.rmtree, f"{crate.folder}/out/incremental")
+        half, weak = (self.module.Round(crate, [self.body(it)]) for it in ("half_is_a_third", "weak_is_half"))
+        self.assertEqual(half.open_proofs(), {"weak", "sum"})
+        for name in ("half", "weak"):
+            write(f"{crate.folder}/out/incremental/build/Rattle-sample-proofs.{name}.Proof.oantt", "")
+        self.assertEqual((half.open_proofs(), weak.open_proofs()), ({"sum"}, {"sum"}))
+        write(f"{crate.folder}/out/incremental/build/Rattle-sample-proofs.sum.Proof.oantt", "")
+        self.assertEqual((half.open_proofs(), weak.open_proofs()), ({"sum"}, set()))
+
+    def test_a_round_of_a_crate_with_a_cycle_whose_proof_has_no_folder(self):
+        crate = self.module.crates()["sample"]
+        with mock.patch.object(crate, "proof_of", lambda it: None if it.path == "weak" else it.path):
+            self.assertEqual(self.module.Round(crate, [self.body("half_is_a_third")]).open_proofs(), {"sum"})
+
+
+class Kept(Module):
+    """Which refusals are used again, without a prover."""
 
     def setUp(self):
         cache = tempfile.TemporaryDirectory(dir=self.room.name)
