@@ -317,6 +317,75 @@ class Checked(Module):
         self.assertTrue(after.stdout.endswith("2 refused, 5 not\n"))
 
 
+CONVERSION = """\
+#![tactic(auto)]
+
+ghost use Rattle.std.specs.Prelude.{◌≡◌, IfOk, Ok};
+
+#[derive(Clone, Copy)]
+pub struct Small {
+    pub n: u32,
+}
+
+#[derive(Clone, Copy)]
+pub struct Wide {
+    pub n: u32,
+}
+
+impl From<Small> for Wide {
+    ghost from_gives = { λ s w. w.n ≡ s.n };
+
+    fn from(s: Small) -> Wide {
+        Wide { n: s.n }
+    }
+}
+
+fn middle(r: Result<u32, Small>) -> Result<u32, Wide>
+    ensures { IfOk result (λ n. r ≡ Ok n) }
+{
+    Ok(r?)
+}
+
+pub fn high(r: Result<u32, Small>) -> Result<u32, Wide>
+    ensures { IfOk result (λ n. r ≡ Ok n) }
+{
+    let n = middle(r)?;
+    Ok(n)
+}
+"""
+
+
+class HiddenCall(Module):
+    """A call by `?` does not show in the names: a body that waits for what calls so is tried again, and judged for itself."""
+
+    @classmethod
+    def make(cls):
+        crate = f"{cls.room.name}/crates/sample"
+        write(f"{cls.room.name}/crates.txt", "sample:\n")
+        write(f"{crate}/src/lib.rt", CONVERSION)
+        for name, *pairs in (
+            ("from_is_half", ("n: s.n }", "n: s.n / 2 }")),
+            ("high_is_half", ("Ok(n)", "Ok(n / 2)")),
+            ("high_renamed", ("let n = ", "let m = "), ("Ok(n)", "Ok(m)")),
+        ):
+            lines = [f"old: {old}\nnew: {new}\n" for old, new in pairs]
+            write(f"{crate}/wrong-bodies/{name}.edit", "".join(["file: src/lib.rt\n", *lines]))
+
+    def test_a_body_that_is_not_wrong_waits_and_is_not_refused(self):
+        crate = self.module.crates()["sample"]
+        os.makedirs(f"{crate.folder}/out/incremental")
+        checked = self.module.rattle("check", [*crate.words(), "--incremental", "out/incremental"], crate.folder)
+        self.assertIn("\nlogic=proved ", checked.stdout)
+        self.assertEqual(crate.calls.called["middle"], set())
+        both = self.module.Round(crate, [self.body("from_is_half"), self.body("high_renamed")])
+        self.assertEqual(both.open_proofs(), set())
+        kinds = {body.name: kind for body, (kind, _) in both.verdicts(both.run()).items()}
+        self.assertEqual(kinds, {"from_is_half": "refused", "high_renamed": "waits"})
+        ran = self.run_tool("--anew", "sample")
+        self.assertIn("sample/high_renamed: NOT REFUSED FOR ITSELF: its function is still proved\n", ran.stdout)
+        self.assertTrue(ran.stdout.endswith("2 refused, 1 not\n"), ran.stdout)
+
+
 CHAIN = """\
 fn low(n: u32) -> u32 { n }
 fn middle(n: u32) -> u32 { low(n) }
@@ -330,7 +399,7 @@ class Rounds(Module):
 
     def setUp(self):
         self.functions = self.module.functions_in(CHAIN, [], {})
-        self.calls = self.module.Calls(mock.Mock(functions=lambda: self.functions))
+        self.calls = self.module.Calls(self.functions)
 
     def test_what_stands_between_changed_functions(self):
         self.assertEqual(self.calls.called, {"low": set(), "middle": {"low"}, "high": {"middle", "low"}, "beside": {"middle", "low"}})
@@ -345,7 +414,7 @@ class Rounds(Module):
 
     def packed(self, bodies, most=sys.maxsize, begin=0, apart=()):
         with mock.patch.object(self.module, "BEGIN", begin):
-            return sorted(sorted(it.name for it in some) for some in self.module.packed(bodies, {*apart}, self.calls, most))
+            return sorted(sorted(it.name for it in some) for some in self.module.packed(bodies, {*apart}, self.calls.weight, most))
 
     def test_bodies_share_a_round_where_little_stands_between_them(self):
         low, high, beside = self.bodies("low", "high", "beside")
@@ -367,6 +436,17 @@ class Rounds(Module):
         self.assertEqual((half.open_proofs(), weak.open_proofs()), ({"sum"}, {"sum"}))
         write(f"{crate.folder}/out/incremental/build/Rattle-sample-proofs.sum.Proof.oantt", "")
         self.assertEqual((half.open_proofs(), weak.open_proofs()), ({"sum"}, set()))
+
+    def test_the_rounds_of_each_crate_of_this_repository_can_be_planned(self):
+        with mock.patch.object(self.module, "TOP", TOP):
+            for crate in self.module.crates().values():
+                bodies = self.module.bodies_of(crate, True)
+                rounds = self.module.packed(bodies, set(), crate.calls.weight, sys.maxsize)
+                self.assertEqual(sorted(it.name for some in rounds for it in some), sorted(it.name for it in bodies))
+                for some in rounds:
+                    holes = self.module.Round(crate, some).open_proofs()
+                    own = {crate.proof_of(function) for body in some for function in body.functions}
+                    self.assertFalse(holes & {*own, None}, crate.name)
 
     def test_a_round_of_a_crate_with_a_cycle_whose_proof_has_no_folder(self):
         crate = self.module.crates()["sample"]
