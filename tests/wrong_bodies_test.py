@@ -1,7 +1,5 @@
 #!/usr/bin/env python3
 """Tests of ./wrong_bodies, on a repository of one small crate that is made for them."""
-import importlib.machinery
-import importlib.util
 import os
 import shutil
 import subprocess
@@ -11,6 +9,13 @@ import unittest
 from unittest import mock
 
 TOP = os.path.dirname(os.path.dirname(os.path.realpath(__file__)))
+sys.path.insert(0, f"{TOP}/tools")
+
+from rounds import repository
+from rounds.bodies import bodies_of, packed
+from rounds.prover import CounterTest, Proofs, Round
+from rounds.refusals import Refusals
+from rounds.source import Calls, functions_in
 
 SOURCE = """\
 #![tactic(auto)]
@@ -285,32 +290,30 @@ class Cycle(Tool):
         self.assertTrue(ran.stdout.endswith("2 refused, 1 not\n"))
 
 
-class Module(Tool):
-    """The tool as a module of Python."""
+class Parts(Tool):
+    """The parts of the tool, over the repository that is made."""
 
     @classmethod
     def setUpClass(cls):
         super().setUpClass()
-        loader = importlib.machinery.SourceFileLoader("wrong_bodies", f"{TOP}/wrong_bodies")
-        cls.module = importlib.util.module_from_spec(importlib.util.spec_from_loader(loader.name, loader))
-        with mock.patch.object(sys, "dont_write_bytecode", True):
-            loader.exec_module(cls.module)
-        cls.module.TOP = cls.room.name
+        top = mock.patch.object(repository, "TOP", cls.room.name)
+        top.start()
+        cls.addClassCleanup(top.stop)
 
     def body(self, name):
-        return next(it for it in self.module.bodies_of(self.module.crates()["sample"], False) if it.name == name)
+        return next(it for it in bodies_of(repository.crates()["sample"], False) if it.name == name)
 
 
-class Checked(Module):
+class Checked(Parts):
     """What `rt check` proved of a crate stands in its rounds."""
 
     def test_the_same_bodies_are_refused_as_with_a_hole_for_each_proof(self):
-        crate = self.module.crates()["sample"]
+        crate = repository.crates()["sample"]
         before = self.run_tool("--anew", "sample")
         os.makedirs(f"{crate.folder}/out/incremental")
-        checked = self.module.rattle("check", [*crate.words(), "--incremental", "out/incremental"], crate.folder)
+        checked = repository.rattle("check", [*crate.words(), "--incremental", "out/incremental"], crate.folder)
         self.assertIn("\nlogic=proved ", checked.stdout)
-        self.assertEqual(self.module.Round(crate, [self.body("weak_is_half")]).open_proofs(), set())
+        self.assertEqual(Round(crate, [self.body("weak_is_half")]).open_proofs(), set())
         after = self.run_tool("--anew", "sample")
         refused = [{it.partition(": ")[0] for it in ran.stdout.split("\n") if ": refused: " in it} for ran in (before, after)]
         self.assertEqual(refused, [{"sample/half_is_a_third", "sample/sum_and_one"}] * 2)
@@ -355,7 +358,7 @@ pub fn high(r: Result<u32, Small>) -> Result<u32, Wide>
 """
 
 
-class HiddenCall(Module):
+class HiddenCall(Parts):
     """A call by `?` does not show in the names: a body that waits for what calls so is tried again, and judged for itself."""
 
     @classmethod
@@ -372,12 +375,12 @@ class HiddenCall(Module):
             write(f"{crate}/wrong-bodies/{name}.edit", "".join(["file: src/lib.rt\n", *lines]))
 
     def test_a_body_that_is_not_wrong_waits_and_is_not_refused(self):
-        crate = self.module.crates()["sample"]
+        crate = repository.crates()["sample"]
         os.makedirs(f"{crate.folder}/out/incremental")
-        checked = self.module.rattle("check", [*crate.words(), "--incremental", "out/incremental"], crate.folder)
+        checked = repository.rattle("check", [*crate.words(), "--incremental", "out/incremental"], crate.folder)
         self.assertIn("\nlogic=proved ", checked.stdout)
         self.assertEqual(crate.calls.called["middle"], set())
-        both = self.module.Round(crate, [self.body("from_is_half"), self.body("high_renamed")])
+        both = Round(crate, [self.body("from_is_half"), self.body("high_renamed")])
         self.assertEqual(both.open_proofs(), set())
         kinds = {body.name: kind for body, (kind, _) in both.verdicts(both.run()).items()}
         self.assertEqual(kinds, {"from_is_half": "refused", "high_renamed": "waits"})
@@ -394,12 +397,12 @@ fn beside(low: u32) -> u32 { low + crate::middle(1) }
 """
 
 
-class Rounds(Module):
+class Rounds(Parts):
     """Which bodies share a round, and which proofs have a hole there."""
 
     def setUp(self):
-        self.functions = self.module.functions_in(CHAIN, [], {})
-        self.calls = self.module.Calls(self.functions)
+        self.functions = functions_in(CHAIN, [], {})
+        self.calls = Calls(self.functions)
 
     def test_what_stands_between_changed_functions(self):
         self.assertEqual(self.calls.called, {"low": set(), "middle": {"low"}, "high": {"middle", "low"}, "beside": {"middle", "low"}})
@@ -413,8 +416,8 @@ class Rounds(Module):
         return [found[it] for it in names]
 
     def packed(self, bodies, most=sys.maxsize, begin=0, apart=()):
-        with mock.patch.object(self.module, "BEGIN", begin):
-            return sorted(sorted(it.name for it in some) for some in self.module.packed(bodies, {*apart}, self.calls.weight, most))
+        with mock.patch("rounds.bodies.BEGIN", begin):
+            return sorted(sorted(it.name for it in some) for some in packed(bodies, {*apart}, self.calls.weight, most))
 
     def test_bodies_share_a_round_where_little_stands_between_them(self):
         low, high, beside = self.bodies("low", "high", "beside")
@@ -427,9 +430,9 @@ class Rounds(Module):
         self.assertEqual(self.packed([high, beside], apart=[frozenset((high, beside))]), [["beside"], ["high"]])
 
     def test_a_hole_stands_for_a_proof_that_is_lacking_or_rests_on_a_changed_function(self):
-        crate = self.module.crates()["sample"]
+        crate = repository.crates()["sample"]
         self.addCleanup(shutil.rmtree, f"{crate.folder}/out/incremental")
-        half, weak = (self.module.Round(crate, [self.body(it)]) for it in ("half_is_a_third", "weak_is_half"))
+        half, weak = (Round(crate, [self.body(it)]) for it in ("half_is_a_third", "weak_is_half"))
         self.assertEqual(half.open_proofs(), {"weak", "sum"})
         for name in ("half", "weak"):
             write(f"{crate.folder}/out/incremental/build/Rattle-sample-proofs.{name}.Proof.oantt", "")
@@ -438,23 +441,23 @@ class Rounds(Module):
         self.assertEqual((half.open_proofs(), weak.open_proofs()), ({"sum"}, set()))
 
     def test_the_rounds_of_each_crate_of_this_repository_can_be_planned(self):
-        with mock.patch.object(self.module, "TOP", TOP):
-            for crate in self.module.crates().values():
-                bodies = self.module.bodies_of(crate, True)
-                rounds = self.module.packed(bodies, set(), crate.calls.weight, sys.maxsize)
+        with mock.patch.object(repository, "TOP", TOP):
+            for crate in repository.crates().values():
+                bodies = bodies_of(crate, True)
+                rounds = packed(bodies, set(), crate.calls.weight, sys.maxsize)
                 self.assertEqual(sorted(it.name for some in rounds for it in some), sorted(it.name for it in bodies))
                 for some in rounds:
-                    holes = self.module.Round(crate, some).open_proofs()
+                    holes = Round(crate, some).open_proofs()
                     own = {crate.proof_of(function) for body in some for function in body.functions}
                     self.assertFalse(holes & {*own, None}, crate.name)
 
     def test_a_round_of_a_crate_with_a_cycle_whose_proof_has_no_folder(self):
-        crate = self.module.crates()["sample"]
+        crate = repository.crates()["sample"]
         with mock.patch.object(crate, "proof_of", lambda it: None if it.path == "weak" else it.path):
-            self.assertEqual(self.module.Round(crate, [self.body("half_is_a_third")]).open_proofs(), {"sum"})
+            self.assertEqual(Round(crate, [self.body("half_is_a_third")]).open_proofs(), {"sum"})
 
 
-class Kept(Module):
+class Kept(Parts):
     """Which refusals are used again, without a prover."""
 
     def setUp(self):
@@ -463,8 +466,8 @@ class Kept(Module):
         self.cache = cache.name
 
     def test_the_counter_test_tells_what_is_refused_as_it_stands(self):
-        crate = self.module.crates()["sample"]
-        tested = self.module.CounterTest(crate, [it for it in self.module.bodies_of(crate, False) if not it.fault])
+        crate = repository.crates()["sample"]
+        tested = CounterTest(crate, [it for it in bodies_of(crate, False) if not it.fault])
         proved, open_goal = "fn sample::half: no holes\nfn sample::weak: proved\n", "no proof: `search` did not prove `returns`"
         for said, refused in (
             (f"{proved}fn sample::sum: depends on a hole in `half`\n", {}),
@@ -476,12 +479,12 @@ class Kept(Module):
 
     def refusals(self):
         with mock.patch.dict(os.environ, XDG_CACHE_HOME=self.cache):
-            return self.module.Refusals()
+            return Refusals()
 
     def total(self, crate="sample", name="half_is_a_third"):
         """The sum of all that decides the verdict on a body."""
-        crate = self.module.crates()[crate]
-        body = next(it for it in self.module.bodies_of(crate, False) if it.name == name)
+        crate = repository.crates()[crate]
+        body = next(it for it in bodies_of(crate, False) if it.name == name)
         return self.refusals().sums(crate, [body])[body]
 
     def files(self):
@@ -523,7 +526,7 @@ class Kept(Module):
 
     def test_another_toolchain(self):
         total = self.total()
-        with mock.patch.object(self.module, "toolchain", lambda: "another"):
+        with mock.patch("rounds.refusals.toolchain", lambda: "another"):
             self.assertNotEqual(self.total(), total)
 
     def test_a_damaged_file_counts_for_nothing(self):
@@ -546,7 +549,7 @@ class Kept(Module):
 
     def test_what_a_check_proved_of_the_crate_serves_its_rounds(self):
         crate = f"{self.room.name}/crates/sample"
-        proofs = self.module.Proofs(self.module.crates()["sample"])
+        proofs = Proofs(repository.crates()["sample"])
         self.addCleanup(shutil.rmtree, f"{crate}/out/incremental")
         self.addCleanup(shutil.rmtree, proofs.all)
         for name, of_check, of_round in (("first", 9, None), ("later", 9, 8), ("earlier", 8, 9)):
@@ -568,7 +571,7 @@ class Kept(Module):
     def test_nothing_is_kept_where_no_folder_can_be_made(self):
         write(f"{self.cache}/file", "")
         with mock.patch.dict(os.environ, XDG_CACHE_HOME=f"{self.cache}/file"):
-            refusals = self.module.Refusals()
+            refusals = Refusals()
         refusals.keep(self.total(), "a goal is open")
         self.assertIsNone(refusals.why(self.total()))
 
