@@ -11,10 +11,10 @@ use Rattle.camac_check_rules.specs.Cycles.{Around}
 use Rattle.camac_check_rules.specs.Statements.{accept_statement, accept_block}
 use Rattle.camac_lang.specs.View.{statement_of, statements_of}
 use Rattle.camac_lang.specs.declared.tree.Stmt.{Stmt}
-use Rattle.camac_check.specs.declared.context.Context as code
+use Rattle.camac_check_simple.specs.declared.context.Context as code
 use Rattle.camac_check_known.specs.declared.fault.CheckFault.{CheckFault}
 use Rattle.camac_check_known.specs.declared.fault.CheckFault.TheVariants.{OutOfMemory, Broken}
-use Rattle.camac_check.specs.Gives.{Fails, by_code}
+use Rattle.camac_check_simple.specs.Gives.{Fails, by_code}
 
 same_costs : (a b c d e f : ℕ) → a ≡ d → b ≡ e → c ≡ f → costs a b c ≡ costs d e f
 same_costs a b c d e f p q r = cc

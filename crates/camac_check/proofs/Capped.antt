@@ -31,8 +31,8 @@ use Rattle.camac_check_rules.specs.Windows.{window_of, is_installed, is_declared
 use Rattle.camac_check_rules.specs.Calls.{is_crate, lam_region, lock_rule}
 use Rattle.camac_check_rules.specs.Statements.{greatest_word, accept_statement, accept_block}
 use Rattle.camac_check_rules.specs.Accept.{at_start, within, accept_procedure, accept_service}
-use Rattle.camac_check.specs.declared.context.Context as code
-use Rattle.camac_check.specs.Gives.{by_code, by_rules}
+use Rattle.camac_check_simple.specs.declared.context.Context as code
+use Rattle.camac_check_simple.specs.Gives.{by_code, by_rules}
 
 -- a verdict with its costs cut
 abbrev pub cut : Verdict → Verdict

@@ -1,5 +1,5 @@
 -- What is accepted of a linked script is as the checker's type says.
-use Rattle.std.proofs.Common.{◌≡◌, ℕ, ◌≤◌, Bool, true, false, List, [], ◌∷◌, ◌++◌, length, Option, Some, None, Ok, refl, arith}
+use Rattle.std.proofs.Common.{◌≡◌, ℕ, ◌≤◌, Bool, true, false, List, [], ◌∷◌, ◌++◌, Option, Some, None, Ok, refl}
 use Rattle.std.specs.Prelude.{IsTrue, not, nat_le, is_some, slice_get}
 use Rattle.std.proofs.lemmas.Bool.{leb-true}
 use Rattle.camac_lang.specs.Scope.{is_well_formed}
@@ -9,7 +9,6 @@ use Rattle.camac_names.specs.declared.fault.LinkFault.{LinkFault}
 use Rattle.camac_names.specs.declared.fault.LinkRule.{LinkRule}
 use Rattle.camac_names.specs.declared.fault.LinkRule.TheVariants.{StationWithoutBit, StationServedTwice, EventAboveBuffer}
 use Rattle.camac_names.specs.Link.{unless, lams_fault, lam_bit, is_served, service_fault, served_fault, or_else, services_fault, link_fault}
-use Rattle.camac_model.specs.Fine.{Bounds, AreFine}
 use Rattle.camac_model.proofs.Headline.{fine_services_run}
 use Rattle.camac_check_rules.specs.Accept.{accept}
 use Rattle.camac_check_rules.specs.Laws.{EventsFit}

@@ -1,5 +1,4 @@
-pub mod Steps
-pub mod Lams
+pub mod Called
 pub mod Capped
 pub mod Judged
 pub mod Blocks

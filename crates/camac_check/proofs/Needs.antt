@@ -1,5 +1,5 @@
 -- What a body needs, by costs that are cut at 64 bits.
-use Rattle.std.proofs.Common.{◌≡◌, ℕ, ◌-◌, ◌^◌, ◌<◌, Result, Ok, Err, refl, sym, ap, ◌∙◌, ⊎_elim, lit<, arith}
+use Rattle.std.proofs.Common.{◌≡◌, ℕ, ◌-◌, ◌^◌, Result, Ok, Err, refl, sym, ap, ◌∙◌, ⊎_elim, lit<, arith}
 use Rattle.std.specs.Prelude.{min, nat_le, if◌then◌else◌}
 use Rattle.std.proofs.lemmas.Bool.{lt-leb, cases_lt}
 use Rattle.camac_lang.specs.Tree.{Service}
@@ -16,11 +16,11 @@ use Rattle.camac_check_rules.specs.Statements.{accept_block}
 use Rattle.camac_check_rules.specs.Accept.{at_start, within}
 use Rattle.camac_check_known.specs.declared.fault.CheckFault.{CheckFault}
 use Rattle.camac_check_known.specs.declared.fault.CheckFault.TheVariants.{OutOfMemory, Broken}
-use Rattle.camac_check.specs.declared.context.Context as code
+use Rattle.camac_check_simple.specs.declared.context.Context as code
 use Rattle.camac_check.specs.declared.fault.LeastFault.{LeastFault}
 use Rattle.camac_check.specs.declared.fault.LeastFault.TheVariants as least
 use Rattle.camac_check.specs.Faults.{of_check}
-use Rattle.camac_check.specs.Gives.{Fails, by_code, by_rules}
+use Rattle.camac_check_simple.specs.Gives.{Fails, by_code, by_rules}
 use Rattle.camac_check.specs.Least.{Finds, and_then, checked, event_fits, most, service_needs}
 use Rattle.camac_check.proofs.Capped.{cut, cut_all, block_cut, within_cut}
 

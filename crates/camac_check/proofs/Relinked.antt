@@ -22,7 +22,7 @@ use Rattle.camac_check_rules.specs.Statements.{accept_block}
 use Rattle.camac_check_rules.specs.Accept.{at_start, within, accept_procedure, accept_service, accept_items, with_procedure, bare}
 use Rattle.camac_check.specs.declared.fault.LeastFault.{LeastFault}
 use Rattle.camac_check.specs.declared.fault.LeastFault.TheVariants as fault
-use Rattle.camac_check.specs.Least.{AreHeadings, Headed, and_then, checked, event_fits, least_items, linked, most, needing, procedure_first, procedure_needs, service_first, service_needing, service_needs}
+use Rattle.camac_check.specs.Least.{AreHeadings, Headed, and_then, checked, event_fits, least_items, most, needing, procedure_first, procedure_needs, service_first, service_needing, service_needs}
 use Rattle.camac_check.proofs.Judged.{or_else_parts, unless_parts}
 
 -- ---- steps that were allowed

@@ -1,4 +1,3 @@
-pub mod Gives
 pub mod Ends
 pub mod Judges
 pub mod Faults

@@ -4,15 +4,15 @@ ghost use Rattle.std.specs.Prelude.{◌≡◌, ◌<◌, ◌≤◌, length, slice
 ghost use Rattle.camac_lang.specs.Headings.{unannotated};
 ghost use Rattle.camac_lang.specs.Tree.{Procedure as ProcedureTree, Service as ServiceTree};
 ghost use Rattle.camac_lang.specs.View.{item_of};
-ghost use Rattle.camac_check.specs.Gives.{by_rules};
+ghost use Rattle.camac_check_simple.specs.Gives.{by_rules};
 ghost use Rattle.camac_check.specs.Least.{Finds, AreHeadings, Heads, after_procedures, least, least_from, procedure_needs, service_needs};
 
 use crate::accept::{procedure_within, service_needs};
-use crate::context::Context;
 use crate::fault::LeastFault;
 use crate::judge::check;
 use camac_branch::Plan;
 use camac_check_result::{Bounds, Checked};
+use camac_check_simple::Context;
 use camac_lang::{Item, Script};
 use camac_names::resolve;
 use std::alloc::Global;

@@ -2,21 +2,17 @@
 #![tactic(auto)]
 
 mod accept;
-mod calls;
-mod context;
-mod cycle;
 mod fault;
 mod headings;
 mod judge;
 mod procedure;
 mod statement;
-mod transfer;
 
 pub use camac_check_known::CheckFault;
 pub use camac_check_result::{Bounds, Checked};
 pub use camac_check_rules::CheckRule;
-pub use context::Context;
+pub use camac_check_simple::{Context, Findings};
 pub use fault::LeastFault;
 pub use headings::least;
 pub use judge::check;
-pub use statement::{Findings, accept_block, accept_statement};
+pub use statement::{accept_block, accept_statement};

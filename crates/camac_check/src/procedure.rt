@@ -5,12 +5,11 @@ ghost use Rattle.camac_lang.specs.View.{expression_of, parameter_of, procedure_o
 ghost use Rattle.camac_check_rules.specs.Procedures.{ranges_of, parameter_range, arguments_fit, call_rule, can_be_called, at_entry};
 ghost use Rattle.camac_check_rules.specs.Refusal.{given};
 ghost use Rattle.camac_range.specs.Interval.{is_inside};
-ghost use Rattle.camac_check.specs.Gives.{Gives, by_code, verdict_of};
+ghost use Rattle.camac_check_simple.specs.Gives.{Gives, by_code, verdict_of};
 
-use crate::context::Context;
-use crate::statement::Findings;
 use camac_check_known::{CheckFault, Costs, Facts, range_of, required};
 use camac_check_rules::CheckRule;
+use camac_check_simple::{Context, Findings};
 use camac_lang::{Expr, Parameter, Procedure};
 use camac_range::Range;
 use std::alloc::{AllocError, Global};
@@ -62,7 +61,7 @@ fn ranges_of(
 }
 
 // A procedure by its number. E21 where there is none.
-#[tactic(auto, using(crate::proofs::Lams::procedures_by_number), unfolding(camac_check_rules::specs::Refusal::given))]
+#[tactic(auto, using(crate::proofs::Called::procedures_by_number), unfolding(camac_check_rules::specs::Refusal::given))]
 fn procedure_at(
     procedures: &[Procedure],
     number: usize,

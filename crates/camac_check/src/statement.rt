@@ -1,34 +1,22 @@
 // The rules of all statements, and of blocks of them.
 
 ghost use Rattle.std.specs.Prelude.{◌≡◌, IfOk, IsTrue, map};
-ghost use Rattle.camac_lang.specs.View.{expression_of, keep_of, statement_of, statements_of};
+ghost use Rattle.camac_lang.specs.View.{keep_of, statement_of, statements_of};
 ghost use Rattle.camac_check_rules.specs.Costs.{unreached};
-ghost use Rattle.camac_check_rules.specs.Cycles.{Context as Rules};
 ghost use Rattle.camac_check_rules.specs.Refusal.{if_reached};
-ghost use Rattle.camac_check_rules.specs.Statements.{assign_rule, register_rule, put_rule, accept_statement, accept_block};
+ghost use Rattle.camac_check_rules.specs.Statements.{accept_statement, accept_block};
 ghost use Rattle.camac_check.specs.Ends.{loop_end};
-ghost use Rattle.camac_check.specs.Gives.{Gives, by_code, verdict_of};
-ghost use Rattle.camac_lang.specs.Kinds.{is_plain, is_cycle, is_transfer, is_choice, is_lock, is_for, is_while};
+ghost use Rattle.camac_check_simple.specs.Gives.{Gives, by_code, verdict_of};
+ghost use Rattle.camac_lang.specs.Kinds.{is_choice, is_lock, is_for, is_while};
 
-use crate::calls::{crate_call, lam_call, lock_crate};
-use crate::context::{Context, Place};
-use crate::cycle::single;
 use crate::procedure::call;
-use crate::transfer::{BlockTransfer, q_repeat, q_stop, scan};
-use camac_check_known::{
-    Around, CheckFault, Costs, Facts, Region, join, range_of, required, split, waits_of,
-};
+use camac_check_known::{Around, CheckFault, Costs, Facts, join, split, waits_of};
 use camac_check_loops::{for_limits, keeps_after, turn_bound, while_head};
-use camac_check_rules::CheckRule;
-use camac_lang::{Expr, Keep, Stmt};
+use camac_check_simple::{
+    Context, Findings, cycle_statement, lock_crate, plain_statement, transfer_statement,
+};
+use camac_lang::{Keep, Stmt};
 use std::alloc::{AllocError, Global};
-
-/// What is known after a statement, none where it can't be reached, and what it can cost.
-#[derive(Drop)]
-pub struct Findings {
-    pub known: Option<Facts>,
-    pub costs: Costs,
-}
 
 /// Checks a block from what is known at its begin, if it can be reached.
 #[cycle(statements)]
@@ -279,175 +267,5 @@ fn end_loop(
     Ok(Findings {
         known: after,
         costs: turn.costs.in_loop(turns),
-    })
-}
-
-// A statement without a dataway cycle, and without statements in it.
-fn plain_statement(around: &Around, statement: &Stmt, known: Facts) -> Result<Findings, CheckFault>
-    requires { IsTrue (is_plain (statement_of statement.now)) }
-    ensures { (rules : Rules) → Gives verdict_of result (accept_statement rules around.now (statement_of statement.now) known) }
-{
-    match statement {
-        Stmt::Assign {
-            line,
-            variable,
-            value,
-        } => assign(around, *line, *variable, value, known),
-        Stmt::SetRegister {
-            line,
-            register,
-            crate_no,
-            station,
-            sub_address,
-        } => set_register(*line, *register, crate_no, station, sub_address, known),
-        Stmt::Put { line, value } => put(*line, value, known),
-        _ => unreachable!(),
-    }
-}
-
-// A statement of one dataway cycle.
-fn cycle_statement(
-    context: &Context,
-    around: &Around,
-    statement: &Stmt,
-    known: Facts,
-) -> Result<Findings, CheckFault>
-    requires { IsTrue (is_cycle (statement_of statement.now)) }
-    ensures { Gives verdict_of result (accept_statement (by_code context.now) around.now (statement_of statement.now) known) }
-{
-    let place = Place { context, around };
-    match statement {
-        Stmt::Single {
-            line,
-            size,
-            function,
-            register,
-            data,
-        } => single(&place, *line, *size, *function, *register, data, known),
-        Stmt::CrateCall { line, crate_no, .. } => crate_call(&place, *line, crate_no, known),
-        Stmt::LamCall { line, call, lam } => lam_call(&place, *line, *call, *lam, known),
-        _ => unreachable!(),
-    }
-}
-
-// A transfer.
-fn transfer_statement(
-    context: &Context,
-    around: &Around,
-    statement: &Stmt,
-    known: Facts,
-) -> Result<Findings, CheckFault>
-    requires { IsTrue (is_transfer (statement_of statement.now)) }
-    ensures { Gives verdict_of result (accept_statement (by_code context.now) around.now (statement_of statement.now) known) }
-{
-    let place = Place { context, around };
-    match statement {
-        Stmt::Scan {
-            line,
-            function,
-            first,
-            last,
-            max,
-            tally,
-        } => scan(
-            &place,
-            *line,
-            *function,
-            (*first, *last),
-            max,
-            *tally,
-            known,
-        ),
-        Stmt::QStop {
-            line,
-            function,
-            register,
-            table,
-            max,
-            tally,
-        } => {
-            let transfer = BlockTransfer {
-                f: *function,
-                register: *register,
-                table: *table,
-                tally: *tally,
-            };
-            q_stop(&place, *line, transfer, max, known)
-        }
-        Stmt::QRepeat {
-            line,
-            function,
-            register,
-            table,
-            max,
-            limit,
-            tally,
-        } => {
-            let transfer = BlockTransfer {
-                f: *function,
-                register: *register,
-                table: *table,
-                tally: *tally,
-            };
-            q_repeat(&place, *line, transfer, max, limit, known)
-        }
-        _ => unreachable!(),
-    }
-}
-
-// A variable and its value.
-#[tactic(auto, unfolding(camac_check_rules::specs::Refusal::go_on))]
-fn assign(
-    around: &Around,
-    line: u32,
-    variable: usize,
-    value: &Expr,
-    known: Facts,
-) -> Result<Findings, CheckFault>
-    ensures { Gives verdict_of result (assign_rule around.now line variable (expression_of value.now) known) }
-{
-    let assigned = range_of(line, value, known.ranges())?;
-    required(
-        around.may_write(variable),
-        CheckRule::LoopVariableAssigned,
-        line,
-    )?;
-    Ok(Findings {
-        known: Some(known.put_range(variable, assigned)?),
-        costs: Costs::new(0, 0, 1),
-    })
-}
-
-// `cdreg`.
-#[tactic(auto, unfolding(camac_check_rules::specs::Refusal::go_on))]
-fn set_register(
-    line: u32,
-    register: usize,
-    crate_no: &Expr,
-    station: &Expr,
-    sub_address: &Expr,
-    known: Facts,
-) -> Result<Findings, CheckFault>
-    ensures { Gives verdict_of result (register_rule line register (expression_of crate_no.now) (expression_of station.now) (expression_of sub_address.now) known) }
-{
-    let c = range_of(line, crate_no, known.ranges())?;
-    let n = range_of(line, station, known.ranges())?;
-    let a = range_of(line, sub_address, known.ranges())?;
-    Ok(Findings {
-        known: Some(known.put_region(register, Region::new(c, n, a))?),
-        costs: Costs::new(0, 0, 1),
-    })
-}
-
-// `put`.
-#[tactic(auto, unfolding(camac_check_rules::specs::Refusal::go_on))]
-fn put(line: u32, value: &Expr, known: Facts) -> Result<Findings, CheckFault>
-    ensures { Gives verdict_of result (put_rule line (expression_of value.now) known) }
-{
-    let r = range_of(line, value, known.ranges())?;
-    required(r.hi() <= 16_777_215, CheckRule::WordTooWide, line)?;
-    Ok(Findings {
-        known: Some(known),
-        costs: Costs::new(0, 1, 1),
     })
 }

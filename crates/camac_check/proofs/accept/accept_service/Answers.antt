@@ -1,6 +1,6 @@
 use Rattle.std.proofs.Common.{subst, arith}
 use Rattle.camac_lang.specs.View.{service_of}
-use Rattle.camac_check.specs.Gives.{Gives}
+use Rattle.camac_check_simple.specs.Gives.{Gives}
 use Rattle.camac_check.proofs.Capped.{service_cut}
 use Rattle.camac_check.proofs.accept.accept_service.Goals as goal
 

@@ -1,7 +1,7 @@
 use Rattle.std.proofs.Common.{◌-◌, ◌^◌, ◌<◌, subst, arith}
 use Rattle.camac_lang.specs.Headings.{annotate}
 use Rattle.camac_lang.specs.View.{procedure_of}
-use Rattle.camac_check.specs.Gives.{Gives}
+use Rattle.camac_check_simple.specs.Gives.{Gives}
 use Rattle.camac_check.proofs.Capped.{procedure_cut}
 use Rattle.camac_check.proofs.accept.procedure_within.Goals as goal
 

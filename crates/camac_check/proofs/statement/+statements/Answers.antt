@@ -4,7 +4,7 @@ use Rattle.camac_lang.specs.View.{statement_of, statements_of}
 use Rattle.camac_model.specs.Fine.{Bounds}
 use Rattle.camac_check_rules.specs.Capped.{capped}
 use Rattle.camac_check_rules.specs.Costs.{plus, verdict}
-use Rattle.camac_check.specs.Gives.{Fails, verdict_of}
+use Rattle.camac_check_simple.specs.Gives.{Fails, verdict_of}
 use Rattle.camac_check.proofs.Blocks.{rest_rule, capped_twice, block_starts, block_goes_on, block_stops, block_ends, next_of}
 use Rattle.camac_check.proofs.statement.+statements.Goals as goal
 

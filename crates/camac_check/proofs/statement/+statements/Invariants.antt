@@ -4,7 +4,7 @@ use Rattle.camac_check_rules.specs.Capped.{capped}
 use Rattle.camac_check_rules.specs.Costs.{unreached, verdict}
 use Rattle.camac_check_rules.specs.Refusal.{if_reached}
 use Rattle.camac_check_rules.specs.Statements.{accept_block}
-use Rattle.camac_check.specs.Gives.{by_code}
+use Rattle.camac_check_simple.specs.Gives.{by_code}
 use Rattle.camac_check.proofs.Blocks.{rest_rule}
 use Rattle.camac_check.proofs.statement.+statements.Given as goal
 

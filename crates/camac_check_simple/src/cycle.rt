@@ -10,7 +10,7 @@ ghost use Rattle.camac_range.specs.Interval.{interval};
 ghost use Rattle.camac_check_rules.specs.Cycles.{same_class, one_cycle, control_rule, read_rule, write_rule, single_rule};
 ghost use Rattle.camac_check_rules.specs.Known.{region_at};
 ghost use Rattle.camac_check_rules.specs.Refusal.{given};
-ghost use Rattle.camac_check.specs.Gives.{Gives, by_code, verdict_of};
+ghost use Rattle.camac_check_simple.specs.Gives.{Gives, by_code, verdict_of};
 
 use crate::context::{Context, Place};
 use crate::statement::Findings;

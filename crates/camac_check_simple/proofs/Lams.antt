@@ -3,8 +3,7 @@ use Rattle.std.proofs.Common.{◌≡◌, ℕ, ◌<◌, ◌≤◌, List, length, 
 use Rattle.std.specs.Prelude.{option_map, slice_get}
 use Rattle.std.proofs.lemmas.Option.{slice_get-map, slice_get-get_or, slice_get_past}
 use Rattle.camac_lang.specs.declared.script.Lam.{Lam}
-use Rattle.camac_lang.specs.declared.script.Procedure.{Procedure}
-use Rattle.camac_lang.specs.View.{lam_of, procedure_of}
+use Rattle.camac_lang.specs.View.{lam_of}
 use Rattle.camac_range.specs.Interval.{Interval, only}
 use Rattle.camac_model.specs.Meaning.{lam_address}
 use Rattle.camac_check_rules.specs.declared.rule.CheckRule.{CheckRule}
@@ -33,16 +32,3 @@ no_lam ls i rule line le = ap (λ o. given o rule line) (found ls i None (slice_
 
 pub same_region : (g : Region) (a b c : Interval) (x y z s : ℕ) → g ≡ region a b c → a ≡ only x → b ≡ only y → c ≡ only z → z ≡ s → ◌≡◌ {A = Result Region Fault} (Ok (region (only x) (only y) (only s))) (Ok g)
 same_region g a b c x y z s e f h k l = cc
-
--- a procedure by its number
-pub procedure_there : (ps : List Procedure) (i : ℕ) (p : Procedure) (rule : CheckRule) (line : ℕ) → i < length ps → p ≡ get_or ps i p → given (slice_get (map procedure_of ps) i) rule line ≡ Ok (procedure_of p)
-unfolding given
-procedure_there ps i p rule line lt is =
-    ap (λ o. given o rule line) (slice_get-map procedure_of ps i ∙ ap (option_map procedure_of) (slice_get-get_or ps i p lt ∙ ap (λ x. Some x) (sym is)))
-
-pub no_procedure : (ps : List Procedure) (i : ℕ) (rule : CheckRule) (line : ℕ) → length ps ≤ i → given (slice_get (map procedure_of ps) i) rule line ≡ Err (broken rule line)
-unfolding given
-no_procedure ps i rule line le =
-    ap (λ o. given o rule line) (slice_get-map procedure_of ps i ∙ ap (option_map procedure_of) (slice_get_past ps i le))
-
-pub ruleset procedures_by_number = (procedure_there, no_procedure)

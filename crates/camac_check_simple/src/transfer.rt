@@ -6,7 +6,7 @@ ghost use Rattle.camac_lang.specs.View.{expression_of};
 ghost use Rattle.camac_check_rules.specs.Cycles.{same_class};
 ghost use Rattle.camac_check_rules.specs.Transfers.{has_sub_addresses, scan_verdict, scan_rule, block_class, event_words, block_region, block_verdict, q_stop_rule, q_repeat_cycles, q_repeat_rule};
 ghost use Rattle.camac_check_rules.specs.Windows.{window_of, is_installed, is_declared};
-ghost use Rattle.camac_check.specs.Gives.{Gives, by_code, verdict_of};
+ghost use Rattle.camac_check_simple.specs.Gives.{Gives, by_code, verdict_of};
 
 use crate::context::Place;
 use crate::cycle::{addresses_of, is_read, is_write};

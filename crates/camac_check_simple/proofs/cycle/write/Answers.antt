@@ -4,9 +4,9 @@ use Rattle.camac_check_rules.specs.declared.rule.CheckRule.TheVariants.{WrongDir
 use Rattle.camac_check_rules.specs.Expressions.{range_of}
 use Rattle.camac_check_rules.specs.Refusal.{required}
 use Rattle.camac_check_rules.specs.Cycles.{one_cycle}
-use Rattle.camac_check.specs.Gives.{by_code}
-use Rattle.camac_check.proofs.Steps.{step, same_findings}
-use Rattle.camac_check.proofs.cycle.write.Goals as goal
+use Rattle.camac_check_simple.specs.Gives.{by_code}
+use Rattle.camac_check_simple.proofs.Steps.{step, same_findings}
+use Rattle.camac_check_simple.proofs.cycle.write.Goals as goal
 
 pub returns : goal.returns
 returns c =

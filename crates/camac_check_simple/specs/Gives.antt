@@ -6,8 +6,8 @@ use Rattle.camac_check_rules.specs.Capped.{capped}
 use Rattle.camac_check_rules.specs.Costs.{Verdict, verdict}
 use Rattle.camac_check_rules.specs.Cycles.{Context}
 pub use Rattle.camac_check_known.specs.Gives.{Fails, Gives}
-use Rattle.camac_check.specs.declared.context.Context as code
-use Rattle.camac_check.specs.declared.statement.Findings.{Findings}
+use Rattle.camac_check_simple.specs.declared.context.Context as code
+use Rattle.camac_check_simple.specs.declared.statement.Findings.{Findings}
 
 -- the rules as code follows them, with costs in 64 bits
 abbrev pub by_code : code.Context → Context

@@ -5,7 +5,7 @@ ghost use Rattle.camac_lang.specs.View.{expression_of};
 ghost use Rattle.camac_check_rules.specs.Addresses.{is_among};
 ghost use Rattle.camac_check_rules.specs.Calls.{is_crate, crate_rule, lam_region, lam_rule, lock_rule};
 ghost use Rattle.camac_check_rules.specs.Refusal.{given};
-ghost use Rattle.camac_check.specs.Gives.{Gives, by_code, verdict_of};
+ghost use Rattle.camac_check_simple.specs.Gives.{Gives, by_code, verdict_of};
 
 use crate::context::{Context, Place};
 use crate::cycle::one_cycle;

@@ -1,7 +1,7 @@
 use Rattle.std.proofs.Common.{◌∙◌}
 use Rattle.camac_check_rules.specs.declared.rule.CheckRule.TheVariants.{StationNotInstalled}
-use Rattle.camac_check.proofs.Lams.{lam_there, no_lam, same_region}
-use Rattle.camac_check.proofs.calls.address_of.Goals as goal
+use Rattle.camac_check_simple.proofs.Lams.{lam_there, no_lam, same_region}
+use Rattle.camac_check_simple.proofs.calls.address_of.Goals as goal
 
 pub returns-in-Some : goal.returns-in-Some
 returns-in-Some c =

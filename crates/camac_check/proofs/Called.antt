@@ -1,0 +1,21 @@
+-- A procedure by its number, as the rules see it and as the code does.
+use Rattle.std.proofs.Common.{◌≡◌, ℕ, ◌<◌, ◌≤◌, List, length, get_or, map, Some, Ok, Err, sym, ap, ◌∙◌}
+use Rattle.std.specs.Prelude.{option_map, slice_get}
+use Rattle.std.proofs.lemmas.Option.{slice_get-map, slice_get-get_or, slice_get_past}
+use Rattle.camac_lang.specs.declared.script.Procedure.{Procedure}
+use Rattle.camac_lang.specs.View.{procedure_of}
+use Rattle.camac_check_rules.specs.declared.rule.CheckRule.{CheckRule}
+use Rattle.camac_check_rules.specs.Fault.{broken}
+use Rattle.camac_check_rules.specs.Refusal.{given}
+
+pub procedure_there : (ps : List Procedure) (i : ℕ) (p : Procedure) (rule : CheckRule) (line : ℕ) → i < length ps → p ≡ get_or ps i p → given (slice_get (map procedure_of ps) i) rule line ≡ Ok (procedure_of p)
+unfolding given
+procedure_there ps i p rule line lt is =
+    ap (λ o. given o rule line) (slice_get-map procedure_of ps i ∙ ap (option_map procedure_of) (slice_get-get_or ps i p lt ∙ ap (λ x. Some x) (sym is)))
+
+pub no_procedure : (ps : List Procedure) (i : ℕ) (rule : CheckRule) (line : ℕ) → length ps ≤ i → given (slice_get (map procedure_of ps) i) rule line ≡ Err (broken rule line)
+unfolding given
+no_procedure ps i rule line le =
+    ap (λ o. given o rule line) (slice_get-map procedure_of ps i ∙ ap (option_map procedure_of) (slice_get_past ps i le))
+
+pub ruleset procedures_by_number = (procedure_there, no_procedure)
