@@ -1,5 +1,5 @@
 #!/usr/bin/env python3
-"""Tests the whole explanation of a refusal by each rule, and what is said of typical mistakes; compares the texts with docs/REFUSALS.md.
+"""Tests that each rule has a worked explanation, and what is said of typical mistakes; compares the texts with docs/REFUSALS.md.
 
 usage: tests/explain_test.py [-v] [TEST ..]     from any folder; takes a few seconds
 
@@ -13,7 +13,7 @@ import sys
 import tempfile
 import unittest
 
-import explanations
+from rows_test import ROWS
 
 TOP = pathlib.Path(__file__).resolve().parent.parent
 PROGRAM = os.path.abspath(os.environ.get("CAMAC_PROGRAM") or TOP / "crates/camac/out/camac")
@@ -124,14 +124,16 @@ class Explain(unittest.TestCase):
         return text.splitlines()
 
     def test_explanations(self):
-        self.assertEqual([*explanations.PLANS, *explanations.SCRIPTS], RULES)
-        for rule, (plan, want) in explanations.PLANS.items():
-            with self.subTest(rule=rule):
-                (self.room / "plan.toml").write_text(plan)
-                self.assertEqual(self.call("explain", "plan.toml", "/dev/null"), (1, want))
-        for rule, (script, want) in explanations.SCRIPTS.items():
-            with self.subTest(rule=rule):
-                self.assertEqual("\n".join([*self.explain(script), ""]), want)
+        """Each rule has its row, whose case `check` refuses by the same first line."""
+        self.assertEqual([name.partition("_")[0] for name in ROWS["explanations"]], RULES)
+        for name, (case,) in ROWS["explanations"].items():
+            with self.subTest(row=name):
+                (self.room / "plan.toml").write_bytes(case.inputs.get("PLAN", b""))
+                plan = "plan.toml" if "PLAN" in case.inputs else "@sample"
+                (self.room / "script").write_bytes(case.inputs["SCRIPT"])
+                first = case.printed.decode().partition("\n")[0]
+                self.assertEqual(first.split()[1].rstrip(":"), name.partition("_")[0])
+                self.assertEqual(self.call("check", plan, "script"), (1, f"{first}\n"))
 
     def test_mistakes(self):
         self.assertGreaterEqual(len(MISTAKES), 45)

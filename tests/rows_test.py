@@ -17,7 +17,7 @@ import unittest
 TOP = pathlib.Path(__file__).resolve().parent.parent
 PROGRAM = os.path.abspath(os.environ.get("CAMAC_PROGRAM") or TOP / "crates/camac/out/camac")
 INPUTS = ("PLAN", "SCRIPT", "ANSWERS")
-PLAYED = re.compile(r"(plan|check|bounds|run|drive) ([01])")
+PLAYED = re.compile(r"(plan|check|explain|bounds|run|drive) ([01])")
 EVENT = re.compile(r"gl (\d+) cycles (\d+) missed (\d+) words((?: [0-9a-f]{6})*)")
 NO_EVENTS = b"CAMACEV2"
 
