@@ -151,16 +151,20 @@ impl CheckCase {
             | CheckCase::NotInstalled { .. }
             | CheckCase::NotDeclared { .. }
             | CheckCase::WrongDirection { .. }
-            | CheckCase::Unset { .. }
-            | CheckCase::ScanCrates { .. }
+            | CheckCase::Unset { .. } => self.address_sentence(alloc),
+            CheckCase::ScanCrates { .. }
             | CheckCase::CrateUnfit { .. }
-            | CheckCase::CrateLocked { .. } => self.address_sentence(alloc),
+            | CheckCase::CrateLocked { .. } => self.crate_sentence(alloc),
             CheckCase::Measure { .. }
             | CheckCase::KeepAtEntry { .. }
             | CheckCase::KeepAfterTurn { .. }
             | CheckCase::Turns { .. }
             | CheckCase::Assigned { .. } => self.loop_sentence(alloc),
-            _ => self.value_sentence(alloc),
+            CheckCase::OverBudget { .. } | CheckCase::Count { .. } | CheckCase::Argument { .. } =>
+                self.limit_sentence(alloc),
+            CheckCase::OutOfRange { .. } | CheckCase::TooWide { .. } | CheckCase::Word { .. } => {
+                self.value_sentence(alloc)
+            }
         }
     }
 
@@ -189,6 +193,12 @@ impl CheckCase {
             CheckCase::Unset { register } => {
                 format!(in alloc; "The register {register} may be unset here.")
             }
+            _ => Ok(String::new(alloc)),
+        }
+    }
+
+    fn crate_sentence(&self, alloc: Global) -> Result<String, AllocError> {
+        match self {
             CheckCase::ScanCrates { first, last } => {
                 let first = Numbers(*first);
                 let last = Numbers(*last);
@@ -264,6 +274,15 @@ impl CheckCase {
             CheckCase::TooWide { greatest, bits } => {
                 format!(in alloc; "The value may be {greatest}, and has to fit in {bits} bits.")
             }
+            CheckCase::Word { greatest } => {
+                format!(in alloc; "The word may be {greatest}, and 24 bits hold at most 16777215.")
+            }
+            _ => Ok(String::new(alloc)),
+        }
+    }
+
+    fn limit_sentence(&self, alloc: Global) -> Result<String, AllocError> {
+        match self {
             CheckCase::OverBudget {
                 budget,
                 of_service,
@@ -274,9 +293,6 @@ impl CheckCase {
                 format!(in alloc;
                     "The transfer may send {needed} words, and the table has {words}."
                 )
-            }
-            CheckCase::Word { greatest } => {
-                format!(in alloc; "The word may be {greatest}, and 24 bits hold at most 16777215.")
             }
             CheckCase::Argument {
                 place,

@@ -176,6 +176,18 @@ fn command_case(
             known.register(*first)?,
             known.register(*last)?,
         ),
+        _ => transfer_case(context, statement, known, rule),
+    }
+}
+
+// What a block transfer breaks.
+fn transfer_case(
+    context: &Context,
+    statement: &Stmt,
+    known: &Facts,
+    rule: CheckRule,
+) -> Option<CheckCase> {
+    match statement {
         Stmt::QStop {
             function,
             register,

@@ -249,6 +249,36 @@ fn refused_case(
     rule: CheckRule,
 ) -> Result<Option<CheckCase>, AllocError> {
     match statement {
+        Stmt::If { .. } | Stmt::IfElse { .. } => {
+            if_case(alloc, walk, around, statement, known, rule)
+        }
+        Stmt::Lock { body, .. } => match lock_entry(alloc, walk, around, statement, known, rule)? {
+            Entry::Into(inside, top) => reached_case(alloc, walk, &inside, body, top, rule),
+            Entry::Refused(case) => Ok(case),
+        },
+        Stmt::For { keeps, body, .. } => match for_entry(alloc, walk, around, statement, known)? {
+            Entry::Into(inside, top) => turn_case(alloc, walk, &inside, keeps, body, top, rule),
+            Entry::Refused(case) => Ok(case),
+        },
+        Stmt::While { keeps, body, .. } => match while_top(alloc, walk, statement, known)? {
+            Top::Known(top) => turn_case(alloc, walk, around, keeps, body, top, rule),
+            Top::Refused(case) => Ok(case),
+        },
+        _ => Ok(statement_case(&walk.context, &walk.body, statement, known, rule)),
+    }
+}
+
+// The case of an `if` that is refused.
+#[cycle(walk)]
+fn if_case(
+    alloc: Global,
+    walk: &Walk,
+    around: &Around,
+    statement: &Stmt,
+    known: &Facts,
+    rule: CheckRule,
+) -> Result<Option<CheckCase>, AllocError> {
+    match statement {
         Stmt::If { line, test, then } => match split(
             alloc,
             *line,
@@ -270,19 +300,7 @@ fn refused_case(
             },
             Err(fault) => condition_case(fault, test, known),
         },
-        Stmt::Lock { body, .. } => match lock_entry(alloc, walk, around, statement, known, rule)? {
-            Entry::Into(inside, top) => reached_case(alloc, walk, &inside, body, top, rule),
-            Entry::Refused(case) => Ok(case),
-        },
-        Stmt::For { keeps, body, .. } => match for_entry(alloc, walk, around, statement, known)? {
-            Entry::Into(inside, top) => turn_case(alloc, walk, &inside, keeps, body, top, rule),
-            Entry::Refused(case) => Ok(case),
-        },
-        Stmt::While { keeps, body, .. } => match while_top(alloc, walk, statement, known)? {
-            Top::Known(top) => turn_case(alloc, walk, around, keeps, body, top, rule),
-            Top::Refused(case) => Ok(case),
-        },
-        _ => Ok(statement_case(&walk.context, &walk.body, statement, known, rule)),
+        _ => Ok(None),
     }
 }
 

@@ -58,15 +58,7 @@ fn case_at(
                 hint: hint_for_byte(byte),
             }
         }
-        TextRule::UnexpectedToken => {
-            let expected = expected_after(alloc, between(text, 0, piece.start))?;
-            let hint = hint_at(text, pieces, place, &expected);
-            TextCase::Unexpected {
-                found: Some(quote),
-                expected,
-                hint,
-            }
-        }
+        TextRule::UnexpectedToken => unexpected_at(alloc, text, pieces, place, piece)?,
         TextRule::NumberTooLarge => TextCase::Number {
             number: quote,
             greatest: greatest_after(alloc, between(text, 0, piece.start))?,
@@ -76,17 +68,41 @@ fn case_at(
             line: first_line_of(text, pieces, found),
             hint: hint_before(text, &pieces[..place.min(pieces.len())]),
         },
-        TextRule::NotDeclared => {
-            let expected = expected_after(alloc, between(text, 0, piece.start))?;
-            TextCase::NotDeclared {
-                name: quote,
-                needed: kind_after(text, &pieces[..place.min(pieces.len())]),
-                hint: hint_for_name(text, pieces, place, &expected),
-            }
-        }
+        TextRule::NotDeclared => not_declared_at(alloc, text, pieces, place, piece)?,
         TextRule::LimitPassed => TextCase::Limit { found: quote },
         TextRule::BranchNotOne => TextCase::Branch { number: quote },
     }))
+}
+
+fn unexpected_at(
+    alloc: Global,
+    text: &[u8],
+    pieces: &[Piece],
+    place: usize,
+    piece: &Piece,
+) -> Result<TextCase, AllocError> {
+    let expected = expected_after(alloc, between(text, 0, piece.start))?;
+    let hint = hint_at(text, pieces, place, &expected);
+    Ok(TextCase::Unexpected {
+        found: Some(Quote::new(piece.of(text))),
+        expected,
+        hint,
+    })
+}
+
+fn not_declared_at(
+    alloc: Global,
+    text: &[u8],
+    pieces: &[Piece],
+    place: usize,
+    piece: &Piece,
+) -> Result<TextCase, AllocError> {
+    let expected = expected_after(alloc, between(text, 0, piece.start))?;
+    Ok(TextCase::NotDeclared {
+        name: Quote::new(piece.of(text)),
+        needed: kind_after(text, &pieces[..place.min(pieces.len())]),
+        hint: hint_for_name(text, pieces, place, &expected),
+    })
 }
 
 // The greatest number that may stand after a text: that of a sub-address, a function, a word, or any.
