@@ -10,7 +10,7 @@ use crate::cycle::push_cycle;
 use camac_check_result::Checked;
 use camac_lang::Script;
 use camac_report_text::{Line, lam_name};
-use camac_run_machine::Item;
+use camac_run_runner::Item;
 use camac_word::{CrateNo, Watched, Word24, WriteFault};
 use std::io::Write;
 

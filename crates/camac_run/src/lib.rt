@@ -5,7 +5,7 @@ mod items;
 mod laws;
 mod log;
 
-pub use camac_run_machine::{End, FullRunner, Item, Progress, Runner, Wanted};
+pub use camac_run_runner::{End, FullRunner, Item, Progress, Runner, Wanted};
 pub use items::Items;
 pub use laws::{requests_are_safe, runs_by_headline};
 pub use log::{Log, run};

@@ -17,6 +17,10 @@ use Rattle.camac_model.specs.Value.{truth}
 use Rattle.camac_model.proofs.Grown.{counts_grow}
 use Rattle.camac_run_machine.specs.Rest.{Owner, nothing, releases, for_loop, while_loop, returns, owed, Open, left_of, rest_in, says}
 
+pub turns_are : most_turns ≡ 65535
+unfolding most_turns
+turns_are = refl
+
 pub some_is : {A : Type 0} (o : Option A) (v : A) → o ≡ Some v → IsSome o
 some_is o v e = rw e refl
 

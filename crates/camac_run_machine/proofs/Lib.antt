@@ -15,14 +15,9 @@ pub mod Takes
 pub mod Taken
 pub mod Courses
 pub mod Lams
-pub mod Services
 pub mod Fitted
 pub mod Calls
 pub mod Bounds
-pub mod Serving
-pub mod Told
 pub mod Trees
 pub mod Lists
 pub mod Starts
-pub mod Sizes
-pub mod Operation

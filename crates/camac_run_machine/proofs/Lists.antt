@@ -1,5 +1,6 @@
--- A list by its first element.
-use Rattle.std.proofs.Common.{◌≡◌, ℕ, zero, suc, ◌+◌, ◌-◌, ◌≤◌, ◌==◌, true, false, List, [], ◌∷◌, ◌++◌, length, length-append, take, drop, get_or, slice_index_or, slice_set, refl, sym, ap, ◌∙◌, arith}
+-- A list by its first element, by its last, and by one at a place.
+use Rattle.std.proofs.Common.{◌≡◌, ℕ, zero, suc, ◌+◌, ◌-◌, ◌<◌, ◌≤◌, ◌==◌, true, false, List, [], ◌∷◌, ◌++◌, length, length-append, take, drop, get_or, slice_index_or, slice_set, Option, Some, refl, sym, ap, ◌∙◌, arith}
+use Rattle.std.specs.Prelude.{slice_get}
 use Rattle.std.specs.Borrow.{Bor}
 use Rattle.std.proofs.lemmas.Bool.{false≢true, eqb-true}
 use Rattle.camac_lang.specs.declared.tree.Stmt.{Stmt}
@@ -51,3 +52,11 @@ some_of (x ∷ xs) e = omega arith
 pub none_of : {A : Type 0} (xs : List A) → true ≡ (length xs == 0) → xs ≡ []
 none_of [] e = refl
 none_of (x ∷ xs) e = let none = eqb-true (length (x ∷ xs)) 0 (sym e) in absurd (omega (arith, none))
+
+-- a place of a list, and what follows it
+pub place : {A : Type 0} (xs : List A) (i : ℕ) → i < length xs → (x : A) × (slice_get xs i ≡ Some x) × (drop i xs ≡ x ∷ drop (i + 1) xs)
+place [] i h = absurd (omega arith)
+place (x ∷ xs) zero h = (x, refl, refl)
+place (x ∷ xs) (suc i) h =
+    let p = place xs i (omega arith) in
+    let e : suc (i + 1) ≡ suc i + 1 = omega arith in (p.0, p.1, p.2 ∙ ap (λ n. p.0 ∷ drop n (x ∷ xs)) e)

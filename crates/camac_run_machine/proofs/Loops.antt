@@ -19,9 +19,8 @@ use Rattle.camac_run_machine.specs.declared.machine.Owner.TheVariants.{For, Whil
 use Rattle.camac_run_machine.specs.declared.machine.Wanting.{Wanting}
 use Rattle.camac_run_machine.specs.MachineState.{reach, with_value, variables_here, open_in, context_in, state_of, bounds_of, left_in, IsFineHere, FineThen, HasRoom, Advances}
 use Rattle.camac_run_machine.specs.Rest.{owed, left_of, rest_in}
-use Rattle.camac_run_machine.proofs.Fine.{fine_first, fine_decide, keeps_block, keeps_for, keeps_turns, keeps_rest}
+use Rattle.camac_run_machine.proofs.Fine.{fine_first, fine_decide, keeps_block, keeps_for, keeps_turns, keeps_rest, turns_are}
 use Rattle.camac_run_machine.proofs.Frames.{left_pushed}
-use Rattle.camac_run_machine.proofs.Serving.{turns_are}
 use Rattle.camac_run_machine.proofs.Scopes.{opens_written, variables_written}
 
 module _ {V D C : ℕ} (h : Machine V D C) where

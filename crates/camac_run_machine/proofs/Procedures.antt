@@ -16,7 +16,7 @@ use Rattle.camac_model.specs.Cycle.{take_lock, release}
 use Rattle.camac_model.specs.Meaning.{Context, for_from, turns, enter, effect, block_meaning, with_procedure, routines_with, bare, context}
 use Rattle.camac_model.specs.Value.{value, values, truth}
 use Rattle.camac_run_machine.specs.Within.{Reach, StatementFits, BlockFits}
-use Rattle.camac_run_machine.proofs.Services.{place}
+use Rattle.camac_run_machine.proofs.Lists.{place}
 
 -- elements of a list by their places
 last_at : {A : Type 0} (xs : List A) (x : A) → slice_get (xs ++ x ∷ []) (length xs) ≡ Some x

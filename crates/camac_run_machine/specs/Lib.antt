@@ -1,11 +1,6 @@
 pub mod Store
-pub mod Called
 pub mod Course
 pub mod Rest
 pub mod Codes
 pub mod Within
 pub mod MachineState
-pub mod Runner
-pub mod Sound
-pub mod Ends
-pub mod Operation

@@ -1,5 +1,5 @@
 -- What a machine holds, as the definitions see it.
-use Rattle.std.specs.Prelude.{◌≡◌, ℕ, zero, suc, ◌+◌, ◌*◌, ◌-◌, ◌<◌, ◌≤◌, List, [], ◌∷◌, ◌++◌, length, map, Option, Some, None, IsSome, IfSome, IfNone, true, false, nat_eq, if◌then◌else◌, slice_index_or, slice_set}
+use Rattle.std.specs.Prelude.{◌≡◌, ℕ, zero, suc, ◌+◌, ◌*◌, ◌-◌, ◌<◌, ◌≤◌, List, [], ◌∷◌, ◌++◌, length, map, Option, Some, None, IsSome, IfSome, IfNone, true, false, nat_eq, if◌then◌else◌, slice_index_or, slice_set, unwrap_or}
 use Rattle.std.specs.Borrow.{Bor}
 use Rattle.camac_lang.specs.Tree.{Service}
 use Rattle.camac_lang.specs.declared.tree.Stmt.{Stmt}
@@ -11,13 +11,15 @@ use Rattle.camac_branch.specs.Plan.{crate_waits}
 use Rattle.camac_branch.specs.declared.answer.CycleDone.{CycleDone}
 use Rattle.camac_branch.specs.declared.answer.Overrun.{Overrun}
 use Rattle.camac_branch.specs.declared.answer.Command.{Command}
-use Rattle.camac_check_result.specs.Checked.{CheckedScript}
+use Rattle.camac_check_result.specs.Checked.{CheckedScript, linked_of}
+use Rattle.camac_event.specs.declared.event.Usage.{Usage}
 use Rattle.camac_model.specs.State.{State, Variables, Registers, missed_with}
 use Rattle.camac_model.specs.Behaviour.{Behaviour, does, ends, stops, Piece, demanded, cycled, lock_taken, lock_released, overrun, Action, then_do}
 use Rattle.camac_model.specs.Fine.{Bounds, IsFine, most_turns}
 use Rattle.camac_model.specs.Meaning.{Context, context}
 use Rattle.camac_model.specs.Run.{service_meaning}
 use Rattle.camac_model.specs.Value.{greatest}
+use Rattle.camac_names.specs.Linked.{bit_of_service}
 use Rattle.camac_run_machine.specs.Store.{variables_in, registers_in, held_at}
 use Rattle.camac_lang.specs.Fits.{fits}
 use Rattle.camac_run_machine.specs.Course.{left_at, words_sent, data_of}
@@ -36,6 +38,14 @@ use Rattle.camac_run_machine.specs.declared.transfer.Transfer.{Transfer}
 -- the bounds of the service of this number
 abbrev pub bounds_at : CheckedScript → ℕ → Bounds
 bounds_at c i = slice_index_or c.bounds i (record { cycles = 0; words = 0; steps = 0 })
+
+-- the graded-L bit of the service of this number
+abbrev pub bit_at : CheckedScript → ℕ → ℕ
+bit_at c i = unwrap_or (bit_of_service (linked_of c) i) 0
+
+-- an event's number, its bit and its usage
+abbrev pub Left : Type 0
+Left = ℕ × ℕ × Usage
 
 abbrev pub context_in : CheckedScript → Context
 context_in c = context c.plan c.script
@@ -177,6 +187,10 @@ module _ {V D C : ℕ} where
 
   abbrev pub bounds_of : Machine V D C → Bounds
   bounds_of h = bounds_at h.checked.now h.service
+
+  -- the event of the service in progress, or of the last one, under this number
+  abbrev pub event_here : Machine V D C → ℕ → Left
+  event_here h n = (n, bit_at h.checked.now h.service, record { cycles = h.cycles; missed = h.missed })
 
   -- what is left of the open blocks
   abbrev pub left_in : Machine V D C → Action

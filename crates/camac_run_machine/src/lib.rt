@@ -1,4 +1,4 @@
-//! Runs an accepted script over a list of answers: at once, or an answer at a time in fixed memory.
+//! The machine of a service in progress: its open blocks, its store, and what it wants an answer for, in fixed memory.
 #![tactic(auto)]
 
 mod arguments;
@@ -6,11 +6,11 @@ mod command;
 mod condition;
 mod item;
 mod machine;
-mod runner;
 mod scope;
-mod service;
 mod transfer;
 mod value;
 
-pub use item::{End, Item, Progress, Wanted};
-pub use runner::{FullRunner, Runner};
+pub use item::Item;
+pub use machine::{Frame, Machine, Owner, TransferCycle, Wanting};
+pub use scope::{Places, Scope};
+pub use transfer::Course;

@@ -11,9 +11,8 @@ ghost use Rattle.camac_model.specs.Fine.{most_turns};
 ghost use Rattle.camac_model.specs.Meaning.{effect};
 ghost use Rattle.camac_model.specs.State.{stepped};
 ghost use Rattle.camac_model.specs.Value.{value, truth};
-ghost use Rattle.camac_run_machine.specs.MachineState.{variables_here, registers_here, reach, holds, stands, free, IsFineHere, FineThen, HasRoom, Advances, Settles, Serves};
+ghost use Rattle.camac_run_machine.specs.MachineState.{event_here, variables_here, registers_here, reach, holds, stands, free, IsFineHere, FineThen, HasRoom, Advances, Settles, Serves};
 ghost use Rattle.camac_lang.specs.Fits.{fits};
-ghost use Rattle.camac_run_machine.specs.Sound.{event_here};
 ghost use Rattle.camac_run_machine.specs.Store.{registers_in, held_at};
 ghost use Rattle.camac_run_machine.specs.Within.{Refers, PartsRefer, StatementFits};
 
@@ -180,7 +179,7 @@ impl<'a, const V: usize, const DEPTH: usize, const CAP: usize> Machine<'a, V, DE
     }
 
     // The variables of the innermost body.
-    pub fn variables(&self) -> &[u32]
+    pub(crate) fn variables(&self) -> &[u32]
         requires { HasRoom self.now }
         ensures values { result.now ≡ held_at self.now.scope.variables self.now.variables }
         ensures count { length result.now ≡ (reach self.now).variables }
@@ -189,7 +188,7 @@ impl<'a, const V: usize, const DEPTH: usize, const CAP: usize> Machine<'a, V, DE
     }
 
     // The registers of the innermost body.
-    pub fn registers(&self) -> &[Option<Address>]
+    pub(crate) fn registers(&self) -> &[Option<Address>]
         requires { HasRoom self.now }
         ensures values { result.now ≡ held_at self.now.scope.registers self.now.registers }
         ensures count { length result.now ≡ (reach self.now).registers }
@@ -198,7 +197,7 @@ impl<'a, const V: usize, const DEPTH: usize, const CAP: usize> Machine<'a, V, DE
     }
 
     // The value of an expression that has one.
-    pub fn value_of(&self, e: &Expr) -> u32
+    pub(crate) fn value_of(&self, e: &Expr) -> u32
         requires room { HasRoom self.now }
         requires declared { Refers (reach self.now).variables (expression_of e.now) }
         requires has_value { IsSome (value (expression_of e.now) (variables_here self.now)) }
@@ -208,7 +207,7 @@ impl<'a, const V: usize, const DEPTH: usize, const CAP: usize> Machine<'a, V, DE
     }
 
     // Whether a condition that has a value holds.
-    pub fn holds(&self, test: &[Part]) -> bool
+    pub(crate) fn holds(&self, test: &[Part]) -> bool
         requires room { HasRoom self.now }
         requires declared { PartsRefer (reach self.now).variables (map part_of test.now) }
         requires has_value { IsSome (truth (map part_of test.now) (variables_here self.now) self.now.q self.now.x) }
@@ -218,7 +217,7 @@ impl<'a, const V: usize, const DEPTH: usize, const CAP: usize> Machine<'a, V, DE
     }
 
     // The address that a register holds.
-    pub fn address_in(&self, register: usize) -> Address
+    pub(crate) fn address_in(&self, register: usize) -> Address
         requires room { HasRoom self.now }
         requires declared { register < (reach self.now).registers }
         requires set { IsSome (registers_here self.now register) }
@@ -228,7 +227,7 @@ impl<'a, const V: usize, const DEPTH: usize, const CAP: usize> Machine<'a, V, DE
     }
 
     // Begins a statement.
-    pub fn begin(&mut self, statement: &'a Stmt) -> Option<Wanting<'a>>
+    pub(crate) fn begin(&mut self, statement: &'a Stmt) -> Option<Wanting<'a>>
         requires room { HasRoom self.old }
         requires fits { StatementFits (reach self.old) (free self.old) (statement_of statement.now) }
         requires fine { FineThen self.old (λ c s. effect c most_turns (statement_of statement.now) (stepped s)) }
@@ -333,7 +332,7 @@ impl<'a, const V: usize, const DEPTH: usize, const CAP: usize> Machine<'a, V, DE
     }
 
     // Goes on until an answer is wanted, or the service is over.
-    pub fn settle(&mut self, wanting: &mut Option<Wanting<'a>>)
+    pub(crate) fn settle(&mut self, wanting: &mut Option<Wanting<'a>>)
         requires room { HasRoom self.old }
         requires quiet { self.old.unlocks.items ≡ [] }
         requires fine { (answers : List Answer) → IsFineHere self.old (stands None self.old answers) }

@@ -13,7 +13,7 @@ use Rattle.camac_tool_play.specs.declared.ending.Ending.TheVariants as how
 use Rattle.camac_report_text.specs.Refusal.{refusal_text}
 use Rattle.camac_report_text.specs.declared.refusal.Refusal.{Refusal}
 use Rattle.camac_report_text.specs.declared.refusal.Refusal.TheVariants as refusal
-use Rattle.camac_run_machine.specs.declared.item.End.TheVariants as end
+use Rattle.camac_run_runner.specs.declared.progress.End.TheVariants as end
 use Rattle.camac_tool_check.specs.Accepted.{Accepted, accepted}
 use Rattle.camac_tool_check.specs.Plan.{Says, IsPlanTooLong}
 use Rattle.camac_tool_check.specs.Reading.{ConsumesSome, WasRead}

@@ -13,7 +13,7 @@ ghost use Rattle.camac_tool.specs.RunInTurn.{FoundInTurn, JudgedInTurn, RunsInTu
 ghost use Rattle.camac_word.specs.Watched.{inner_of, has_failed};
 
 use camac_check::Checked;
-use camac_run_machine::End;
+use camac_run_runner::End;
 use camac_tool_check::{Judged, Outcome, PlanSource, ToolFault, read_judged, refuse};
 use camac_tool_play::{Ending, PlayFault, play};
 use camac_word::Watched;

@@ -8,7 +8,8 @@ use Rattle.camac_model.specs.Behaviour.{Piece, lock_released, uses}
 use Rattle.camac_report.specs.Items.{unlock_texts}
 use Rattle.camac_report.specs.Requests.{live_text}
 use Rattle.camac_run_machine.specs.declared.item.Item.{Item}
-use Rattle.camac_run_machine.specs.Runner.{RunnerState, Left, GoesOn, last_words_in}
+use Rattle.camac_run_machine.specs.MachineState.{Left}
+use Rattle.camac_run_runner.specs.Runner.{RunnerState, GoesOn, last_words_in}
 use Rattle.camac_tool_play.specs.Live.{FollowsBy}
 use Rattle.camac_tool_play.specs.Played.{pieces_sent}
 use Rattle.camac_tool_play.specs.Sent.{Outputs, Sends, SendsPrefix, Sent, to_listing, to_events}

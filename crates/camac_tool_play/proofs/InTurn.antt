@@ -17,10 +17,10 @@ use Rattle.camac_answer.specs.declared.answers.Stage.TheVariants.{Running}
 use Rattle.camac_answer.specs.declared.fault.AnswerFault.{AnswerFault}
 use Rattle.camac_answer.specs.declared.fault.AnswerFault.TheVariants.{OutOfMemory, Read, Broken}
 use Rattle.camac_report.specs.Items.{item_text}
-use Rattle.camac_run_machine.specs.Ends.{stop_in}
-use Rattle.camac_run_machine.specs.Runner.{RunnerState, rest}
-use Rattle.camac_run_machine.specs.declared.item.End.{End}
-use Rattle.camac_run_machine.specs.declared.item.End.TheVariants as end
+use Rattle.camac_run_runner.specs.Ends.{stop_in}
+use Rattle.camac_run_runner.specs.Runner.{RunnerState, rest}
+use Rattle.camac_run_runner.specs.declared.progress.End.{End}
+use Rattle.camac_run_runner.specs.declared.progress.End.TheVariants as end
 use Rattle.camac_tool_play.specs.InTurn.{HasRead, ReadsNoMore, FailsAtRead, PlaysInTurn, FeedsInTurn}
 use Rattle.camac_tool_play.specs.Play.{Gives, HasGiven, Feeds, run_sent, faulted, failed_by}
 use Rattle.camac_tool_play.specs.Played.{pieces_sent, ending, ending_of, ending_text, report, played}

@@ -15,16 +15,16 @@ use Rattle.camac_answer.specs.declared.fault.AnswerFault.{AnswerFault}
 use Rattle.camac_answer.specs.declared.fault.AnswerFault.TheVariants.{OutOfMemory, Read, Broken}
 use Rattle.camac_answer.specs.declared.fault.AnswerRule.{AnswerRule}
 use Rattle.camac_report.specs.Requests.{request_text, live_text}
-use Rattle.camac_run_machine.specs.Ends.{stop_in}
+use Rattle.camac_run_runner.specs.Ends.{stop_in}
 use Rattle.camac_run_machine.specs.MachineState.{piece_of}
-use Rattle.camac_run_machine.specs.Operation.{operation_of, quiet_answer, wanted_after, Begins, Wants}
-use Rattle.camac_run_machine.specs.Runner.{RunnerState, rest}
-use Rattle.camac_run_machine.specs.declared.item.End.{End}
-use Rattle.camac_run_machine.specs.declared.item.End.TheVariants as end
+use Rattle.camac_run_runner.specs.Operation.{operation_of, quiet_answer, wanted_after, Begins, Wants}
+use Rattle.camac_run_runner.specs.Runner.{RunnerState, rest}
+use Rattle.camac_run_runner.specs.declared.progress.End.{End}
+use Rattle.camac_run_runner.specs.declared.progress.End.TheVariants as end
 use Rattle.camac_run_machine.specs.declared.item.Item.{Item}
 use Rattle.camac_run_machine.specs.declared.item.Item.TheVariants as item
-use Rattle.camac_run_machine.specs.declared.item.Wanted.{Wanted}
-use Rattle.camac_run_machine.specs.declared.item.Wanted.TheVariants as wanted
+use Rattle.camac_run_runner.specs.declared.progress.Wanted.{Wanted}
+use Rattle.camac_run_runner.specs.declared.progress.Wanted.TheVariants as wanted
 use Rattle.camac_tool_play.specs.InTurn.{HasRead, ReadsNoMore, FailsAtRead}
 use Rattle.camac_tool_play.specs.Live.{open_request, live_sent, Asks}
 use Rattle.camac_tool_play.specs.Play.{Gives, HasGiven, with_taken, run_sent, faulted, failed_by}

@@ -6,8 +6,8 @@ use Rattle.camac_model.specs.Behaviour.{Behaviour, does, Event, Piece, demanded,
 use Rattle.camac_report.specs.Items.{item_text, unlock_text, unlock_texts}
 use Rattle.camac_run_machine.specs.declared.item.Item.{Item}
 use Rattle.camac_run_machine.specs.declared.item.Item.TheVariants as item
-use Rattle.camac_run_machine.specs.Runner.{Left, with_event}
-use Rattle.camac_run_machine.specs.MachineState.{piece_of}
+use Rattle.camac_run_runner.specs.Runner.{with_event}
+use Rattle.camac_run_machine.specs.MachineState.{piece_of, Left}
 use Rattle.camac_run_machine.specs.Rest.{says}
 use Rattle.camac_tool_play.specs.Played.{record_text, number_after, piece_sent, pieces_sent}
 use Rattle.camac_tool_play.specs.Sent.{Sent, to_listing, to_events}

@@ -9,8 +9,8 @@ use Rattle.camac_branch.specs.declared.answer.Overrun.{Overrun}
 use Rattle.camac_model.specs.Behaviour.{Piece, stops, overrun}
 use Rattle.camac_report.specs.Items.{item_text, unlock_texts}
 use Rattle.camac_run_machine.specs.declared.item.Item.{Item}
-use Rattle.camac_run_machine.specs.Runner.{RunnerState, Left, GoesOn, Stops, rest, last_words_in, state_in}
-use Rattle.camac_run_machine.specs.MachineState.{piece_of}
+use Rattle.camac_run_runner.specs.Runner.{RunnerState, GoesOn, Stops, rest, last_words_in, state_in}
+use Rattle.camac_run_machine.specs.MachineState.{piece_of, Left}
 use Rattle.camac_tool_play.specs.Played.{pieces_sent}
 use Rattle.camac_tool_play.specs.Sent.{Outputs, Sends, SendsPrefix, to_listing, to_events}
 use Rattle.camac_tool_play.specs.Step.{Does, Overruns, StepsBy, after, count_of}

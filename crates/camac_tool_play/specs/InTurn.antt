@@ -9,7 +9,7 @@ use Rattle.camac_answer.specs.Answers.{left_in, window, IsOpen}
 use Rattle.camac_answer.specs.Reading.{Reading}
 use Rattle.camac_answer.specs.declared.answers.Stage.TheVariants.{Running}
 use Rattle.camac_report.specs.Items.{item_text}
-use Rattle.camac_run_machine.specs.declared.item.End.TheVariants as end
+use Rattle.camac_run_runner.specs.declared.progress.End.TheVariants as end
 use Rattle.camac_tool_play.specs.Play.{Gives, HasGiven, run_sent}
 use Rattle.camac_tool_play.specs.Played.{ending, report, played}
 use Rattle.camac_tool_play.specs.Sent.{Outputs, Sends, SendsPrefix}

@@ -9,11 +9,11 @@ use Rattle.camac_model.specs.Behaviour.{Piece, pieces, events, uses}
 use Rattle.camac_model.specs.Run.{the_run}
 use Rattle.camac_answer.specs.Reading.{Reading}
 use Rattle.camac_report.specs.Requests.{request_text, live_text}
-use Rattle.camac_run_machine.specs.Operation.{Wants, wanted_after}
+use Rattle.camac_run_runner.specs.Operation.{Wants, wanted_after}
 use Rattle.camac_run_machine.specs.MachineState.{piece_of}
-use Rattle.camac_run_machine.specs.Runner.{RunnerState}
+use Rattle.camac_run_runner.specs.Runner.{RunnerState}
 use Rattle.camac_run_machine.specs.declared.item.Item.{Item}
-use Rattle.camac_run_machine.specs.declared.item.Wanted.{Wanted}
+use Rattle.camac_run_runner.specs.declared.progress.Wanted.{Wanted}
 use Rattle.camac_tool_play.specs.InTurn.{HasRead, ReadsNoMore, FailsAtRead}
 use Rattle.camac_tool_play.specs.Play.{Gives, run_sent}
 use Rattle.camac_tool_play.specs.Played.{pieces_sent, ending, ending_text}

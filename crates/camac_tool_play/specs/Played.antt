@@ -12,11 +12,11 @@ use Rattle.camac_answer.specs.declared.fault.AnswerFault.{AnswerFault}
 use Rattle.camac_answer.specs.declared.fault.AnswerFault.TheVariants.{Broken}
 use Rattle.camac_report_text.specs.declared.refusal.Refusal.TheVariants as refusal
 use Rattle.camac_report_text.specs.Refusal.{refusal_text}
-use Rattle.camac_run_machine.specs.Ends.{stop_in}
+use Rattle.camac_run_runner.specs.Ends.{stop_in}
 use Rattle.camac_report.specs.Ends.{end_text}
 use Rattle.camac_report.specs.Items.{item_text}
 use Rattle.camac_run.specs.Headline.{entry_of}
-use Rattle.camac_run_machine.specs.declared.item.End.TheVariants as end
+use Rattle.camac_run_runner.specs.declared.progress.End.TheVariants as end
 use Rattle.camac_tool_play.specs.Sent.{Sent, to_listing, to_events}
 use Rattle.camac_tool_play.specs.declared.ending.Ending.{Ending}
 use Rattle.camac_tool_play.specs.declared.ending.Ending.TheVariants as how

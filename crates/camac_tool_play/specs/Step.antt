@@ -6,7 +6,7 @@ use Rattle.camac_branch.specs.declared.answer.Overrun.{Overrun}
 use Rattle.camac_model.specs.State.{State}
 use Rattle.camac_model.specs.Behaviour.{Behaviour, does, stops, Piece, events_in, Stop, short, overrun, wrong, more}
 use Rattle.camac_report.specs.Items.{item_text}
-use Rattle.camac_run_machine.specs.Runner.{RunnerState, rest}
+use Rattle.camac_run_runner.specs.Runner.{RunnerState, rest}
 use Rattle.camac_tool_play.specs.Played.{pieces_sent}
 use Rattle.camac_tool_play.specs.Sent.{Outputs, Sends, SendsPrefix}
 use Rattle.camac_tool_play.specs.declared.step.Step.{Step}

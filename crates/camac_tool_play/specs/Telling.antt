@@ -1,7 +1,7 @@
 -- What is written of an event that a service left.
 use Rattle.std.specs.Prelude.{ℕ, List, [], Option, Some, None}
 use Rattle.camac_event.specs.Spelling.{record_of}
-use Rattle.camac_run_machine.specs.Runner.{Left}
+use Rattle.camac_run_machine.specs.MachineState.{Left}
 
 -- its record, where one was left
 abbrev pub event_record : Option Left → List ℕ → List ℕ

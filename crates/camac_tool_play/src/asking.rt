@@ -15,7 +15,7 @@ use crate::following::{follow, request};
 use crate::step::Step;
 use camac_answer::Answers;
 use camac_check_result::Checked;
-use camac_run_machine::{End, FullRunner};
+use camac_run_runner::{End, FullRunner};
 use camac_word::Watched;
 use std::io::{Read, Write};
 

@@ -3,14 +3,14 @@
 ghost use Rattle.std.specs.Prelude.{◌≡◌, ◌<◌, ◌||◌, ◌+◌, ◌^◌, true, false, []};
 ghost use Rattle.camac_answer.specs.Answers.{left_of, stage_of, given_by, text_of, reader_failed, is_memory_failure, is_read_failure};
 ghost use Rattle.camac_answer.specs.declared.answers.Stage.TheVariants.{Running};
-ghost use Rattle.camac_run_machine.specs.Ends.{stop_in};
+ghost use Rattle.camac_run_runner.specs.Ends.{stop_in};
 ghost use Rattle.camac_model.specs.Behaviour.{stop_of, pieces};
 ghost use Rattle.camac_report.specs.Items.{item_text};
 ghost use Rattle.camac_tool_play.specs.InTurn.{FeedsInTurn};
 ghost use Rattle.camac_tool_play.specs.Play.{Feeds, failed_by, faulted, is_read_fault, is_write_fault};
 ghost use Rattle.camac_tool_play.specs.Step.{IsOut};
 ghost use Rattle.camac_tool_play.specs.Sent.{outputs};
-ghost use Rattle.camac_run_machine.specs.Runner.{rest};
+ghost use Rattle.camac_run_runner.specs.Runner.{rest};
 ghost use Rattle.camac_word.specs.Watched.{inner_of, has_failed};
 
 use crate::ending::Ending;
@@ -19,7 +19,7 @@ use crate::step::{Step, take_step};
 use camac_answer::{AnswerFault, Answers};
 use camac_check_result::Checked;
 use camac_report::Line;
-use camac_run_machine::{End, FullRunner};
+use camac_run_runner::{End, FullRunner};
 use camac_word::Watched;
 use std::io::{Read, Write};
 

@@ -6,14 +6,14 @@ ghost use Rattle.camac_tool_play.specs.Live.{FollowsBy, Requests};
 ghost use Rattle.camac_tool_play.specs.Sent.{outputs, to_listing, to_events, SendsBy};
 ghost use Rattle.camac_tool_play.specs.Telling.{event_record};
 ghost use Rattle.camac_model.specs.Behaviour.{pieces};
-ghost use Rattle.camac_run_machine.specs.Runner.{rest};
+ghost use Rattle.camac_run_runner.specs.Runner.{rest};
 ghost use Rattle.camac_word.specs.Watched.{inner_of, has_failed};
 
 use crate::step::{Step, count_after};
 use crate::telling::{Left, write_event};
 use camac_branch::Answer;
 use camac_report::{write_request, write_unlocks};
-use camac_run_machine::{FullRunner, Progress};
+use camac_run_runner::{FullRunner, Progress};
 use camac_word::{CrateNo, Watched, Word24, WriteFault};
 use std::io::Write;
 

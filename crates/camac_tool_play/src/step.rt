@@ -9,7 +9,7 @@ use crate::telling::{Left, tell};
 use camac_branch::{Answer, Overrun};
 use camac_check_result::Checked;
 use camac_report::{Line, lay_out_items};
-use camac_run_machine::{FullRunner, Progress};
+use camac_run_runner::{FullRunner, Progress};
 use camac_word::{Watched, WriteFault};
 use std::io::Write;
 

@@ -45,7 +45,7 @@ fn set_in(registers: &mut [Option<Address>], register: usize, at: Address)
 
 impl<'a, const V: usize, const DEPTH: usize, const CAP: usize> Machine<'a, V, DEPTH, CAP> {
     // `cdreg`.
-    pub fn set_register(
+    pub(crate) fn set_register(
         &mut self,
         register: usize,
         crate_no: &Expr,
@@ -68,7 +68,7 @@ impl<'a, const V: usize, const DEPTH: usize, const CAP: usize> Machine<'a, V, DE
     }
 
     // `v = e`.
-    pub fn assign(&mut self, variable: usize, value: &Expr)
+    pub(crate) fn assign(&mut self, variable: usize, value: &Expr)
         requires room { HasRoom self.old }
         requires variable { variable < (reach self.old).variables }
         requires declared { Refers (reach self.old).variables (expression_of value.now) }
@@ -80,7 +80,7 @@ impl<'a, const V: usize, const DEPTH: usize, const CAP: usize> Machine<'a, V, DE
     }
 
     // `put`.
-    pub fn put(&mut self, value: &Expr)
+    pub(crate) fn put(&mut self, value: &Expr)
         requires room { HasRoom self.old }
         requires declared { Refers (reach self.old).variables (expression_of value.now) }
         requires fine { FineThen self.old (λ c. effect c most_turns (put 0 (expression_of value.now))) }
@@ -93,7 +93,7 @@ impl<'a, const V: usize, const DEPTH: usize, const CAP: usize> Machine<'a, V, DE
     }
 
     // Sets a variable of the innermost body.
-    pub fn set_variable(&mut self, variable: usize, value: u32)
+    pub(crate) fn set_variable(&mut self, variable: usize, value: u32)
         requires room { HasRoom self.old }
         requires variable { variable < (reach self.old).variables }
         ensures room { HasRoom self.new }
@@ -104,7 +104,13 @@ impl<'a, const V: usize, const DEPTH: usize, const CAP: usize> Machine<'a, V, DE
     }
 
     // `cfsa`, `cssa`.
-    pub fn single(&self, size: WordSize, f: Function, register: usize, moved: &Move) -> Wanting<'a>
+    pub(crate) fn single(
+        &self,
+        size: WordSize,
+        f: Function,
+        register: usize,
+        moved: &Move,
+    ) -> Wanting<'a>
         requires room { HasRoom self.now }
         requires register { register < (reach self.now).registers }
         requires moved { MoveFits (reach self.now).variables (move_of moved.now) }
@@ -133,7 +139,7 @@ impl<'a, const V: usize, const DEPTH: usize, const CAP: usize> Machine<'a, V, DE
     }
 
     // A call of a crate's controller.
-    pub fn call_crate(&self, call: CrateCall, crate_no: &Expr) -> Wanting<'a>
+    pub(crate) fn call_crate(&self, call: CrateCall, crate_no: &Expr) -> Wanting<'a>
         requires room { HasRoom self.now }
         requires declared { Refers (reach self.now).variables (expression_of crate_no.now) }
         requires fine { FineThen self.now (λ c. effect c most_turns (crate_call 0 call (expression_of crate_no.now))) }
@@ -148,7 +154,7 @@ impl<'a, const V: usize, const DEPTH: usize, const CAP: usize> Machine<'a, V, DE
     }
 
     // A call at a LAM's address.
-    pub fn call_lam(&self, call: LamCall, lam: usize) -> Wanting<'a>
+    pub(crate) fn call_lam(&self, call: LamCall, lam: usize) -> Wanting<'a>
         requires lam { lam < length self.now.checked.now.script.lams }
         requires fine { FineThen self.now (λ c. effect c most_turns (lam_call 0 call lam)) }
         ensures { Wants self.now (λ c. effect c most_turns (lam_call 0 call lam)) result }

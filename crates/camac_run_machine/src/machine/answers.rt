@@ -41,7 +41,7 @@ pub fn word_of(done: &CycleDone) -> Word24
 
 impl<'a, const V: usize, const DEPTH: usize, const CAP: usize> Machine<'a, V, DEPTH, CAP> {
     // Makes a cycle with this answer, and sets the flags and the counts.
-    pub fn make(&mut self, command: Command, answer: Answer) -> Result<CycleDone, Overrun>
+    pub(crate) fn make(&mut self, command: Command, answer: Answer) -> Result<CycleDone, Overrun>
         requires room { HasRoom self.old }
         requires in_plan { IsSome (crate_waits self.old.checked.now.plan command.c) }
         requires few { is_permitted self.old.checked.now.plan (branch_of self.old.branch) command.c answer.wait ≡ true → self.old.cycles + (1 + answer.wait) < 2 ^ 32 }
@@ -58,7 +58,7 @@ impl<'a, const V: usize, const DEPTH: usize, const CAP: usize> Machine<'a, V, DE
     }
 
     // Locks auxiliary controllers out of a crate with this answer, and counts its wait.
-    pub fn lock(&mut self, crate_no: CrateNo, answer: Answer) -> Result<u8, Overrun>
+    pub(crate) fn lock(&mut self, crate_no: CrateNo, answer: Answer) -> Result<u8, Overrun>
         requires in_plan { IsSome (crate_waits self.old.checked.now.plan crate_no) }
         requires is_free { (branch_of self.old.branch crate_no).locked ≡ false }
         requires few { is_permitted self.old.checked.now.plan (branch_of self.old.branch) crate_no answer.wait ≡ true → self.old.cycles + answer.wait < 2 ^ 32 }
@@ -72,7 +72,7 @@ impl<'a, const V: usize, const DEPTH: usize, const CAP: usize> Machine<'a, V, DE
     }
 
     // Makes a cycle that keeps no word.
-    pub fn take_cycle(&mut self, command: Command, answer: Answer) -> Result<Item, Overrun>
+    pub(crate) fn take_cycle(&mut self, command: Command, answer: Answer) -> Result<Item, Overrun>
         requires room { HasRoom self.old }
         requires wanting { IsWanting self.old (Wanting.Cycle command) }
         requires fine { (answers : List Answer) → IsFineHere self.old (stands (Some (Wanting.Cycle command)) self.old answers) }
@@ -85,7 +85,7 @@ impl<'a, const V: usize, const DEPTH: usize, const CAP: usize> Machine<'a, V, DE
     }
 
     // Makes a cycle of which a variable keeps so many bits of the word.
-    pub fn take_read(
+    pub(crate) fn take_read(
         &mut self,
         command: Command,
         variable: usize,
@@ -106,7 +106,7 @@ impl<'a, const V: usize, const DEPTH: usize, const CAP: usize> Machine<'a, V, DE
     }
 
     // Takes the lock of a crate, and opens its block.
-    pub fn take_lock(
+    pub(crate) fn take_lock(
         &mut self,
         crate_no: CrateNo,
         body: &'a [Stmt],

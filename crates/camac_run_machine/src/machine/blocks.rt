@@ -20,7 +20,12 @@ use camac_word::CrateNo;
 
 impl<'a, const V: usize, const DEPTH: usize, const CAP: usize> Machine<'a, V, DEPTH, CAP> {
     // The block of an `if` that is to be done.
-    pub fn chosen(&self, test: &[Part], then: &'a [Stmt], otherwise: &'a [Stmt]) -> &'a [Stmt]
+    pub(crate) fn chosen(
+        &self,
+        test: &[Part],
+        then: &'a [Stmt],
+        otherwise: &'a [Stmt],
+    ) -> &'a [Stmt]
         requires room { HasRoom self.now }
         requires declared { PartsRefer (reach self.now).variables (map part_of test.now) }
         requires then { Opens (reach self.now) (free self.now) (statements_of then.now) }
@@ -33,7 +38,7 @@ impl<'a, const V: usize, const DEPTH: usize, const CAP: usize> Machine<'a, V, DE
     }
 
     // Opens a block inside the open ones, after which nothing is released and no caller goes on.
-    pub fn open(&mut self, body: &'a [Stmt], owner: Owner<'a>)
+    pub(crate) fn open(&mut self, body: &'a [Stmt], owner: Owner<'a>)
         requires room { HasRoom self.old }
         requires body { Opens (reach self.old) (free self.old) (statements_of body.now) }
         requires owner { OwnerFits V self.old.checked.now.script self.old.scope (free self.old) (owner_in self.old owner) }
@@ -47,7 +52,7 @@ impl<'a, const V: usize, const DEPTH: usize, const CAP: usize> Machine<'a, V, DE
     }
 
     // `if`: opens the block that is to be done.
-    pub fn choose(&mut self, test: &[Part], then: &'a [Stmt], otherwise: &'a [Stmt])
+    pub(crate) fn choose(&mut self, test: &[Part], then: &'a [Stmt], otherwise: &'a [Stmt])
         requires room { HasRoom self.old }
         requires declared { PartsRefer (reach self.old).variables (map part_of test.now) }
         requires then { Opens (reach self.old) (free self.old) (statements_of then.now) }
@@ -60,7 +65,14 @@ impl<'a, const V: usize, const DEPTH: usize, const CAP: usize> Machine<'a, V, DE
     }
 
     // Begins a turn of a `for`.
-    pub fn turn(&mut self, variable: usize, value: u32, last: u32, turns: u32, body: &'a [Stmt])
+    pub(crate) fn turn(
+        &mut self,
+        variable: usize,
+        value: u32,
+        last: u32,
+        turns: u32,
+        body: &'a [Stmt],
+    )
         requires room { HasRoom self.old }
         requires variable { variable < (reach self.old).variables }
         requires body { Opens (reach self.old) (free self.old) (statements_of body.now) }
@@ -82,7 +94,7 @@ impl<'a, const V: usize, const DEPTH: usize, const CAP: usize> Machine<'a, V, DE
     }
 
     // `for`.
-    pub fn begin_for(&mut self, variable: usize, from: &Expr, to: &Expr, body: &'a [Stmt])
+    pub(crate) fn begin_for(&mut self, variable: usize, from: &Expr, to: &Expr, body: &'a [Stmt])
         requires room { HasRoom self.old }
         requires variable { variable < (reach self.old).variables }
         requires from { Refers (reach self.old).variables (expression_of from.now) }
@@ -99,7 +111,7 @@ impl<'a, const V: usize, const DEPTH: usize, const CAP: usize> Machine<'a, V, DE
     }
 
     // Tests a `while`, and begins a turn where it holds.
-    pub fn test_while(&mut self, test: &'a [Part], turns: u32, body: &'a [Stmt])
+    pub(crate) fn test_while(&mut self, test: &'a [Part], turns: u32, body: &'a [Stmt])
         requires room { HasRoom self.old }
         requires declared { PartsRefer (reach self.old).variables (map part_of test.now) }
         requires body { Opens (reach self.old) (free self.old) (statements_of body.now) }
@@ -120,7 +132,7 @@ impl<'a, const V: usize, const DEPTH: usize, const CAP: usize> Machine<'a, V, DE
     }
 
     // `lock`.
-    pub fn want_lock(&self, crate_no: &Expr, body: &'a [Stmt]) -> Wanting<'a>
+    pub(crate) fn want_lock(&self, crate_no: &Expr, body: &'a [Stmt]) -> Wanting<'a>
         requires room { HasRoom self.now }
         requires declared { Refers (reach self.now).variables (expression_of crate_no.now) }
         requires body { Opens (reach self.now) (free self.now) (statements_of body.now) }
@@ -136,7 +148,7 @@ impl<'a, const V: usize, const DEPTH: usize, const CAP: usize> Machine<'a, V, DE
     }
 
     // `call`: evaluates the arguments in the caller's store, and opens the body with no register set.
-    pub fn call(&mut self, procedure: usize, arguments: &[Expr])
+    pub(crate) fn call(&mut self, procedure: usize, arguments: &[Expr])
         requires room { HasRoom self.old }
         requires fits { CallFits (reach self.old) (free self.old) procedure (map expression_of arguments.now) }
         requires fine { FineThen self.old (λ c. effect c most_turns (call 0 procedure (map expression_of arguments.now))) }
@@ -162,7 +174,7 @@ impl<'a, const V: usize, const DEPTH: usize, const CAP: usize> Machine<'a, V, DE
     }
 
     // Releases the lock of a crate.
-    pub fn release(&mut self, crate_no: u32)
+    pub(crate) fn release(&mut self, crate_no: u32)
         requires room { HasRoomFor self.old (opens_in self.old ++ record { block = done; owner = releases crate_no } ∷ []) }
         requires fine { FineThen self.old (λ c. owed c (releases crate_no)) }
         ensures { Advances self.old (λ c. owed c (releases crate_no)) None self.new }
@@ -178,7 +190,7 @@ impl<'a, const V: usize, const DEPTH: usize, const CAP: usize> Machine<'a, V, DE
     }
 
     // Goes on after a block that is over.
-    pub fn leave(&mut self, owner: &Owner<'a>)
+    pub(crate) fn leave(&mut self, owner: &Owner<'a>)
         requires room { HasRoomFor self.old (opens_in self.old ++ record { block = done; owner = owner_in self.old owner.now } ∷ []) }
         requires fine { FineThen self.old (λ c. owed c (owner_in self.old owner.now)) }
         ensures { Advances self.old (λ c. owed c (owner_in self.old owner.now)) None self.new }
@@ -207,7 +219,7 @@ impl<'a, const V: usize, const DEPTH: usize, const CAP: usize> Machine<'a, V, DE
     }
 
     // Begins the next statement of the innermost block, or leaves that block.
-    pub fn go_on(&mut self) -> Option<Wanting<'a>>
+    pub(crate) fn go_on(&mut self) -> Option<Wanting<'a>>
         requires room { HasRoom self.old }
         requires open { 1 ≤ length self.old.frames.items }
         requires fine { (answers : List Answer) → IsFineHere self.old (stands None self.old answers) }

@@ -34,7 +34,7 @@ fn cut(word: Word24, bits: u32) -> Word24
 
 impl<'a, const V: usize, const DEPTH: usize, const CAP: usize> Machine<'a, V, DEPTH, CAP> {
     // The words of the table that a transfer sends, where it sends any.
-    pub fn sent(&self, table: Option<usize>) -> Option<&'a [Word24]>
+    pub(crate) fn sent(&self, table: Option<usize>) -> Option<&'a [Word24]>
         requires { IsSome (sent (context_in self.now.checked.now) table) }
         ensures { sent (context_in self.now.checked.now) table ≡ Some (words_sent result) }
     {
@@ -46,7 +46,7 @@ impl<'a, const V: usize, const DEPTH: usize, const CAP: usize> Machine<'a, V, DE
     }
 
     // `cfmad`.
-    pub fn scan(
+    pub(crate) fn scan(
         &mut self,
         function: Function,
         first: usize,
@@ -74,7 +74,7 @@ impl<'a, const V: usize, const DEPTH: usize, const CAP: usize> Machine<'a, V, DE
     }
 
     // `cfubc`.
-    pub fn q_stop(
+    pub(crate) fn q_stop(
         &mut self,
         function: Function,
         register: usize,
@@ -101,7 +101,7 @@ impl<'a, const V: usize, const DEPTH: usize, const CAP: usize> Machine<'a, V, DE
     }
 
     // `cfubr`.
-    pub fn q_repeat(
+    pub(crate) fn q_repeat(
         &mut self,
         function: Function,
         register: usize,
@@ -131,7 +131,7 @@ impl<'a, const V: usize, const DEPTH: usize, const CAP: usize> Machine<'a, V, DE
     }
 
     // Goes on with a transfer: to its next cycle, or else to its tally.
-    pub fn proceed(&mut self, transfer: &Transfer<'a>) -> Option<Wanting<'a>>
+    pub(crate) fn proceed(&mut self, transfer: &Transfer<'a>) -> Option<Wanting<'a>>
         requires room { HasRoom self.old }
         requires tally { transfer.now.tally < (reach self.old).variables }
         requires fine { FineThen self.old (λ c. transferred c transfer.now) }
@@ -149,7 +149,7 @@ impl<'a, const V: usize, const DEPTH: usize, const CAP: usize> Machine<'a, V, DE
     }
 
     // The command of a transfer's next cycle, or none at the end, where the tally is set.
-    pub fn next_cycle(&mut self, transfer: &Transfer<'a>) -> Option<Command>
+    pub(crate) fn next_cycle(&mut self, transfer: &Transfer<'a>) -> Option<Command>
         requires room { HasRoom self.old }
         requires tally { transfer.now.tally < (reach self.old).variables }
         requires fine { FineThen self.old (λ c. transferred c transfer.now) }
@@ -167,7 +167,7 @@ impl<'a, const V: usize, const DEPTH: usize, const CAP: usize> Machine<'a, V, DE
     }
 
     // Puts the word of a transfer's cycle into the event, where it is a read that had Q=1, cut to its width.
-    pub fn put_read(&mut self, table: Option<&'a [Word24]>, done: &CycleDone)
+    pub(crate) fn put_read(&mut self, table: Option<&'a [Word24]>, done: &CycleDone)
         requires room { length (words_after (words_sent table) (width self.old.checked.now.plan (address_of done.now.command) done.now.command.f) done.now.reply self.old.words) ≤ CAP }
         ensures words { self.new.words ≡ words_after (words_sent table.entry) (width self.old.checked.now.plan (address_of done.now.command) done.now.command.f) done.now.reply self.old.words }
         ensures same { self.new ≡ record self.old { words = self.new.words } }

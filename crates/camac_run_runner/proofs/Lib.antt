@@ -1,0 +1,5 @@
+pub mod Services
+pub mod Serving
+pub mod Told
+pub mod Sizes
+pub mod Operation

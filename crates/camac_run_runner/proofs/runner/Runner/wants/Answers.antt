@@ -1,0 +1,27 @@
+use Rattle.std.proofs.Common.{◌≡◌, None, Some, subst, sym, ◌∙◌}
+use Rattle.camac_run_runner.specs.Operation.{CanLock}
+use Rattle.camac_run_runner.specs.Runner.{RunnerState}
+use Rattle.camac_run_runner.specs.Sound.{runner_state}
+use Rattle.camac_run_runner.specs.declared.progress.Wanted.{Wanted}
+use Rattle.camac_run_runner.proofs.Operation.{not_some, can_lock, wanted_begins, idle_begins}
+use Rattle.camac_run_runner.proofs.runner.Runner.wants.Goals as goal
+
+pub returns-in-Some-clause-wants : goal.returns-in-Some-clause-wants
+returns-in-Some-clause-wants g c =
+    let r = c.self.inside in
+    let first : r.overrun ≡ None = not_some r.overrun (sym c.is_some.ensures ∙ c.if-is_some.false) in
+    rw (c.operation.ensures, ← c.self.view_is)
+    (first, λ a answers. wanted_begins r.machine a answers r.fed r.events r.has_event r.overrun r.wanting c.in-Some.wanting c.in-Some.is c.self.invariant.wants)
+
+pub returns-in-Some-clause-lock : goal.returns-in-Some-clause-lock
+returns-in-Some-clause-lock g c =
+    let r = c.self.inside in
+    subst (λ (x : RunnerState). CanLock x (Some c.operation.result)) c.self.view_is
+    (subst (λ (o : Wanted). CanLock (runner_state r.machine r.wanting r.fed r.events r.has_event r.overrun) (Some o)) (sym c.operation.ensures)
+    (can_lock r.machine c.in-Some.wanting r.wanting r.fed r.events r.has_event r.overrun c.in-Some.is c.self.invariant.wants))
+
+pub returns-in-None-clause-wants : goal.returns-in-None-clause-wants
+returns-in-None-clause-wants g c =
+    let r = c.self.inside in
+    let first : r.overrun ≡ None = not_some r.overrun (sym c.is_some.ensures ∙ c.if-is_some.false) in
+    rw (← c.self.view_is) (first, λ a answers. idle_begins r.machine a answers r.fed r.events r.has_event r.overrun r.wanting c.in-None.is)

@@ -1,0 +1,5 @@
+pub mod Called
+pub mod Runner
+pub mod Sound
+pub mod Ends
+pub mod Operation

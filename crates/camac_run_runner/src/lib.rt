@@ -1,0 +1,10 @@
+//! Runs an accepted script over a list of answers: at once, or an answer at a time in fixed memory.
+#![tactic(auto)]
+
+mod progress;
+mod runner;
+mod service;
+
+pub use camac_run_machine::Item;
+pub use progress::{End, Progress, Wanted};
+pub use runner::{FullRunner, Runner};
