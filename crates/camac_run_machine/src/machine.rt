@@ -107,24 +107,30 @@ pub struct TransferCycle<'a> {
     pub tally: usize,
 }
 
+/// A service in progress, or the state between two services: the branch, the open blocks and the store, with room for `V` variables, `V`
+/// registers, `DEPTH` open blocks and `CAP` words of an event. All is in fixed memory.
 #[derive(Drop)]
 pub struct Machine<'a, const V: usize, const DEPTH: usize, const CAP: usize> {
     pub checked: &'a Checked,
-    // the number of the service in progress, or of the last one
+    /// The number of the service in progress, or of the last one.
     pub service: usize,
+    /// The open blocks, innermost last.
     pub frames: ArrayVec<Frame<'a>, DEPTH>,
     pub variables: [u32; V],
     pub registers: [Option<Address>; V],
-    // what the innermost body sees of them
+    /// What the innermost body sees of the variables and registers.
     pub scope: Scope,
+    /// Q and X of the last dataway cycle (EUR 4100, IEEE 583).
     pub q: bool,
     pub x: bool,
+    /// The words of the event so far.
     pub words: EventBuffer<CAP>,
+    /// The steps, the dataway cycles with their waits, and the cycles without X, at most 65,535, of the service so far (own).
     pub steps: u32,
     pub cycles: u32,
     pub missed: u16,
     pub branch: Branch,
-    // the crates whose locks were released since the last answer
+    /// The crates whose locks were released since the last answer.
     pub unlocks: ArrayVec<CrateNo, 7>,
 }
 
@@ -141,7 +147,7 @@ fn address_in(registers: &[Option<Address>], register: usize) -> Address
 }
 
 impl<'a, const V: usize, const DEPTH: usize, const CAP: usize> Machine<'a, V, DEPTH, CAP> {
-    // Holds nothing yet.
+    /// A machine that holds nothing yet, before the first service. It takes no memory. The script has to fit the sizes.
     pub fn start(checked: &'a Checked) -> Self
         requires { fits checked.now.script V DEPTH CAP ≡ true }
         ensures room { HasRoom result }
@@ -170,7 +176,7 @@ impl<'a, const V: usize, const DEPTH: usize, const CAP: usize> Machine<'a, V, DE
         }
     }
 
-    // The words of the event of the service in progress, or of the last one.
+    /// The words of the event of the service in progress, or of the last one, `CAP` at most.
     pub fn words(&self) -> &[Word24]
         ensures words { result.now ≡ self.now.words }
         ensures fits { length result.now ≤ CAP }
@@ -347,7 +353,7 @@ impl<'a, const V: usize, const DEPTH: usize, const CAP: usize> Machine<'a, V, DE
         *wanting = None;
     }
 
-    // Begins a service, and goes on.
+    /// Begins the service of this number, and goes on until it wants an answer, or is over: then nothing is wanted.
     pub fn serve(&mut self, number: usize, wanting: &mut Option<Wanting<'a>>)
         requires room { HasRoom self.old }
         requires quiet { self.old.unlocks.items ≡ [] }
@@ -380,7 +386,7 @@ impl<'a, const V: usize, const DEPTH: usize, const CAP: usize> Machine<'a, V, DE
         self.settle(wanting);
     }
 
-    // The event of a service that is over, under this number.
+    /// The event of a service that is over, under this number: with its bit of the graded-L pattern and its usage.
     pub fn event(&self, number: u32) -> (u32, GlBit, Usage)
         requires { self.now.service < length self.now.checked.now.script.services }
         ensures { result ≡ event_here self.now number }

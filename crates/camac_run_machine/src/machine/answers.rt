@@ -128,7 +128,8 @@ impl<'a, const V: usize, const DEPTH: usize, const CAP: usize> Machine<'a, V, DE
         Ok(Item::Lock(crate_no, wait))
     }
 
-    // Takes the answer that is wanted; or tells a wait that is not permitted.
+    /// Takes the answer that is wanted, and returns the item that it was used for. Where its wait is not permitted, it returns that wait, and
+    /// nothing changes.
     pub fn take(&mut self, wanting: &Wanting<'a>, answer: Answer) -> Result<Item, Overrun>
         requires room { HasRoom self.old }
         requires quiet { self.old.unlocks.items ≡ [] }
@@ -155,7 +156,8 @@ impl<'a, const V: usize, const DEPTH: usize, const CAP: usize> Machine<'a, V, DE
         }
     }
 
-    // Goes on after the answer that was wanted: with the transfer that it was wanted for, or else with the open blocks.
+    /// Goes on after the answer that was wanted, until the next one is wanted, or the service is over: with the transfer that it was wanted for, or
+    /// else with the open blocks.
     pub fn go_further(&mut self, wanting: &mut Option<Wanting<'a>>)
         requires room { HasRoom self.old }
         requires quiet { self.old.unlocks.items ≡ [] }

@@ -1,4 +1,4 @@
-use Rattle.std.proofs.Common.{◌<◌, length, sym, subst, arith}
+use Rattle.std.proofs.Common.{◌<◌, length, Some, refl, sym, subst, ap, arith}
 use Rattle.camac_run_runner.specs.Runner.{RunnerState}
 use Rattle.camac_run_runner.proofs.Sizes.{machine_fits}
 use Rattle.camac_run_runner.proofs.runner.Runner.close.Goals as goal
@@ -22,3 +22,6 @@ invariant_of-self g c =
       fine = inv.fine;
       events = omega (arith, few);
     }
+
+pub returns-in-None-clause-ended : goal.returns-in-None-clause-ended
+returns-in-None-clause-ended g c = rw (← c.self.view_is, c.in-None.is) (ap Some c.event.ensures, refl)

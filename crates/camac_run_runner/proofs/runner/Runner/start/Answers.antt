@@ -1,4 +1,4 @@
-use Rattle.std.proofs.Common.{◌≡◌, sym, ap, subst, ◌∙◌, arith, length, true}
+use Rattle.std.proofs.Common.{◌≡◌, refl, sym, ap, subst, ◌∙◌, arith, length, true}
 use Rattle.std.specs.Prelude.{IsTrue}
 use Rattle.std.specs.Borrow.{Bor}
 use Rattle.camac_lang.specs.Scope.{is_well_formed}
@@ -43,3 +43,15 @@ returns-clause-rest g c =
     λ answers. ap (λ (b : Bor CheckedScript). onward (context_in b.now) b.now.script.services (branch_of m.branch) answers) c.start.ensures.checked
     ∙ starts k.plan k.script (branch_of m.branch) answers
     ∙ ap (λ (b : Branch). rounds (length answers) (context k.plan k.script) 65535 k.script.services b answers) c.start.ensures.branch
+
+pub returns-clause-fed : goal.returns-clause-fed
+returns-clause-fed g c = refl
+
+pub returns-clause-events : goal.returns-clause-events
+returns-clause-events g c = refl
+
+pub returns-clause-overrun : goal.returns-clause-overrun
+returns-clause-overrun g c = refl
+
+pub returns-clause-quiet : goal.returns-clause-quiet
+returns-clause-quiet g c = refl
