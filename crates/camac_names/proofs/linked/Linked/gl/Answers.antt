@@ -1,4 +1,3 @@
-use Rattle.std.proofs.Common.{sym}
 use Rattle.camac_names.specs.Link.{service_bit}
 use Rattle.camac_names.proofs.Places.{found_bit}
 use Rattle.camac_names.proofs.linked.Linked.gl.Goals as goal
