@@ -1,5 +1,5 @@
 -- How far a transfer is, and what its next cycle moves.
-use Rattle.std.specs.Prelude.{ℕ, List, [], ◌∷◌, ◌++◌, Option, Some, None, option_map, drop, if◌then◌else◌}
+use Rattle.std.specs.Prelude.{ℕ, Bool, false, List, [], ◌∷◌, ◌++◌, Option, Some, None, option_map, drop, if◌then◌else◌}
 use Rattle.std.specs.Borrow.{Bor}
 use Rattle.camac_func.specs.declared.data.DataMove.{DataMove}
 use Rattle.camac_branch.specs.Branch.{Reply}
@@ -28,7 +28,11 @@ words_sent table = option_map (λ (words : Bor (List ℕ)). words.now) table
 abbrev pub data_of : Course → Option (List ℕ) → Option DataMove
 data_of t table = transfer_data (words_from (left_at t).tally table) []
 
--- the words of the event after a cycle: a read keeps so many bits of a word with Q=1
+-- whether an event keeps the word of a cycle: that of a read with Q=1
+abbrev pub keeps : Option (List ℕ) → Bool → Bool
+keeps None q = q
+keeps (Some table) q = false
+
+-- the words of the event after a cycle, where it keeps so many bits of a word
 abbrev pub words_after : Option (List ℕ) → ℕ → Reply → List ℕ → List ℕ
-words_after None bits r words = if r.q then words ++ kept bits r ∷ [] else words
-words_after (Some table) bits r words = words
+words_after table bits r words = if keeps table r.q then words ++ kept bits r ∷ [] else words

@@ -9,9 +9,9 @@ ghost use Rattle.camac_lang.specs.Tree.{Service};
 ghost use Rattle.camac_model.specs.Behaviour.{ends};
 ghost use Rattle.camac_model.specs.Fine.{most_turns};
 ghost use Rattle.camac_model.specs.Meaning.{effect};
-ghost use Rattle.camac_model.specs.State.{stepped};
+ghost use Rattle.camac_model.specs.State.{fresh, stepped};
 ghost use Rattle.camac_model.specs.Value.{value, truth};
-ghost use Rattle.camac_run_machine.specs.MachineState.{event_here, variables_here, registers_here, reach, holds, stands, free, IsFineHere, FineThen, HasRoom, Advances, Settles, Serves};
+ghost use Rattle.camac_run_machine.specs.MachineState.{event_here, variables_here, registers_here, state_of, reach, holds, stands, free, IsFineHere, FineThen, HasRoom, Advances, Settles, Serves};
 ghost use Rattle.camac_lang.specs.Fits.{fits};
 ghost use Rattle.camac_run_machine.specs.Store.{registers_in, held_at};
 ghost use Rattle.camac_run_machine.specs.Within.{Refers, PartsRefer, StatementFits};
@@ -147,7 +147,8 @@ fn address_in(registers: &[Option<Address>], register: usize) -> Address
 }
 
 impl<'a, const V: usize, const DEPTH: usize, const CAP: usize> Machine<'a, V, DEPTH, CAP> {
-    /// A machine that holds nothing yet, before the first service. It takes no memory. The script has to fit the sizes.
+    /// A machine before the first service: no block is open, and its branch and its store are as a first service finds them. It takes no memory. The
+    /// script has to fit the sizes.
     pub fn start(checked: &'a Checked) -> Self
         requires { fits checked.now.script V DEPTH CAP ≡ true }
         ensures room { HasRoom result }
@@ -155,6 +156,7 @@ impl<'a, const V: usize, const DEPTH: usize, const CAP: usize> Machine<'a, V, DE
         ensures idle { result.frames.items ≡ [] }
         ensures quiet { result.unlocks.items ≡ [] }
         ensures branch { branch_of result.branch ≡ start }
+        ensures fresh { (answers : List Answer) → state_of result answers ≡ fresh start answers }
     {
         checked.is_checked();
         checked.script().well_formed();

@@ -14,8 +14,8 @@ pub struct Places {
 }
 
 impl Places {
-    /// What lies at these places.
-    pub fn of<T>(self, all: &[T]) -> &[T]
+    // What lies at these places.
+    pub(crate) fn of<T>(self, all: &[T]) -> &[T]
         requires order { self.start ≤ self.end }
         requires inside { self.end ≤ length all.now }
         ensures values { result.now ≡ held_at self all.now }
@@ -33,8 +33,8 @@ pub struct Scope {
 }
 
 impl Scope {
-    /// Sees nothing.
-    pub fn empty() -> Scope
+    // Sees nothing.
+    pub(crate) fn empty() -> Scope
         ensures { result ≡ nothing_seen }
     {
         let none = Places { start: 0, end: 0 };
@@ -45,8 +45,8 @@ impl Scope {
         }
     }
 
-    /// What a procedure of this number sees that is called here.
-    pub fn of_procedure(&self, number: usize, procedure: &Procedure) -> Scope
+    // What a procedure of this number sees that is called here.
+    pub(crate) fn of_procedure(&self, number: usize, procedure: &Procedure) -> Scope
         requires variables { self.now.variables.end + vec_len procedure.now.parameters < 2 ^ 64 }
         requires registers { self.now.registers.end + vec_len procedure.now.registers < 2 ^ 64 }
         ensures { result ≡ seen_by_procedure self.now number (procedure_of procedure.now) }
@@ -64,8 +64,8 @@ impl Scope {
         }
     }
 
-    /// What a service sees: all that the script declares, and its own registers.
-    pub fn of_service(script: &Script, service: &Service) -> Scope
+    // What a service sees: all that the script declares, and its own registers.
+    pub(crate) fn of_service(script: &Script, service: &Service) -> Scope
         ensures { result ≡ seen_by_service script.now (service_of service.now) }
     {
         Scope {

@@ -24,8 +24,8 @@ pub enum Course {
 }
 
 impl Course {
-    /// Where the next cycle goes, or none at the end.
-    pub fn next(&self) -> Option<Address>
+    // Where the next cycle goes, or none at the end.
+    pub(crate) fn next(&self) -> Option<Address>
         ensures { result ≡ (left_at self.now).wanted [] }
     {
         match self {
@@ -35,8 +35,8 @@ impl Course {
         }
     }
 
-    /// Takes the Q of the cycle that `next` asked for.
-    pub fn take(&mut self, q: bool)
+    // Takes the Q of the cycle that `next` asked for.
+    pub(crate) fn take(&mut self, q: bool)
         requires { IsSome ((left_at self.old).wanted []) }
         ensures { Continues (left_at self.old) q (left_at self.new) }
     {
@@ -47,8 +47,8 @@ impl Course {
         }
     }
 
-    /// How many cycles had Q=1.
-    pub fn tally(&self) -> u32
+    // How many cycles had Q=1.
+    pub(crate) fn tally(&self) -> u32
         ensures { result ≡ (left_at self.now).tally }
     {
         match self {
@@ -58,7 +58,7 @@ impl Course {
         }
     }
 
-    /// The number of the table word that the next cycle sends, from 0.
+    // The number of the table word that the next cycle sends, from 0.
     fn index(&self) -> usize
         ensures value { result ≡ (left_at self.now).tally }
         ensures in_range { result < 2 ^ 32 }
@@ -79,8 +79,8 @@ pub struct Transfer<'a> {
 }
 
 impl<'a> Transfer<'a> {
-    /// The command of its next cycle, or none at the end.
-    pub fn next(&self) -> Option<Command>
+    // The command of its next cycle, or none at the end.
+    pub(crate) fn next(&self) -> Option<Command>
         requires at { IfSome ((left_at self.now.course).wanted []) IsOnBranch }
         requires data { IfSome ((left_at self.now.course).wanted []) (λ at. IsSome (data_of self.now.course (words_sent self.now.table))) }
         ensures wanted { (left_at self.now.course).wanted [] ≡ option_map address_of result }

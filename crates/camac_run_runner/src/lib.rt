@@ -1,4 +1,4 @@
-//! Runs an accepted script over a list of answers: at once, or an answer at a time in fixed memory.
+//! Runs an accepted script, an answer at a time, in fixed memory.
 #![tactic(auto)]
 
 mod progress;

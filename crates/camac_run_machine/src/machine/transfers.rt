@@ -7,7 +7,7 @@ ghost use Rattle.camac_lang.specs.Tree.{done, address_scan, q_stop, q_repeat};
 ghost use Rattle.camac_model.specs.Fine.{most_turns};
 ghost use Rattle.camac_model.specs.Meaning.{sent, effect};
 ghost use Rattle.camac_run_machine.specs.MachineState.{context_in, reach, FineThen, HasRoom, Proceeds, cycle_of, transferred};
-ghost use Rattle.camac_run_machine.specs.Course.{words_sent, words_after};
+ghost use Rattle.camac_run_machine.specs.Course.{keeps, words_sent, words_after};
 ghost use Rattle.camac_run_machine.specs.Rest.{address_of};
 ghost use Rattle.camac_run_machine.specs.Within.{Refers};
 
@@ -20,6 +20,13 @@ use camac_branch::{Command, CycleDone};
 use camac_esone::{QRepeat, QStop, Scan};
 use camac_lang::{Expr, WordSize};
 use camac_word::{Function, Word24};
+
+// Whether an event keeps the word of a transfer's cycle: that of a read with Q=1.
+fn keeps(table: Option<&[Word24]>, q: bool) -> bool
+    ensures { result ≡ keeps (words_sent table.entry) q }
+{
+    q && table.is_none()
+}
 
 // The low bits of a word.
 fn cut(word: Word24, bits: u32) -> Word24
@@ -172,7 +179,7 @@ impl<'a, const V: usize, const DEPTH: usize, const CAP: usize> Machine<'a, V, DE
         ensures words { self.new.words ≡ words_after (words_sent table.entry) (width self.old.checked.now.plan (address_of done.now.command) done.now.command.f) done.now.reply self.old.words }
         ensures same { self.new ≡ record self.old { words = self.new.words } }
     {
-        if done.reply.q && table.is_none() {
+        if keeps(table, done.reply.q) {
             let bits = bits_kept(self.checked.plan(), &done.command, WordSize::Full);
             self.words.push(cut(word_of(done), bits));
         }
