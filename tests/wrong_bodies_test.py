@@ -13,7 +13,7 @@ sys.path.insert(0, f"{TOP}/tools")
 
 from rounds import repository
 from rounds.bodies import bodies_of, packed
-from rounds.prover import CounterTest, Proofs, Round
+from rounds.prover import CounterTest, Proofs, Round, without_calls
 from rounds.refusals import Refusals
 from rounds.source import Calls, functions_in
 
@@ -440,6 +440,11 @@ class Rounds(Parts):
         write(f"{crate.folder}/out/incremental/build/Rattle-sample-proofs.sum.Proof.oantt", "")
         self.assertEqual((half.open_proofs(), weak.open_proofs()), ({"sum"}, set()))
 
+    def test_a_function_that_is_taken_by_its_contract_calls_nothing(self):
+        chain = CHAIN.replace("{ low(n) }", "{\n    low(n)\n}")
+        text = without_calls(chain, functions_in(chain, [], {})[1:3])
+        self.assertEqual(text.split("\n")[1:5], ["fn middle(n: u32) -> u32 { unreachable!()", "", " }", "fn high(n: u32) -> u32 { unreachable!() }"])
+
     def test_the_rounds_of_each_crate_of_this_repository_can_be_planned(self):
         with mock.patch.object(repository, "TOP", TOP):
             for crate in repository.crates().values():
@@ -455,6 +460,25 @@ class Rounds(Parts):
         crate = repository.crates()["sample"]
         with mock.patch.object(crate, "proof_of", lambda it: None if it.path == "weak" else it.path):
             self.assertEqual(Round(crate, [self.body("half_is_a_third")]).open_proofs(), {"sum"})
+
+
+class Chain(Parts):
+    """A function of which a round changes nothing is taken by its contract, and what it calls is not looked at."""
+
+    @classmethod
+    def make(cls):
+        crate = f"{cls.room.name}/crates/sample"
+        contract = "u32\n    ensures { result ≡ n }\n"
+        source = CHAIN.rpartition("fn beside")[0].replace("u32 {", f"{contract}{{").replace("fn high", "pub fn high")
+        write(f"{cls.room.name}/crates.txt", "sample:\n")
+        write(f"{crate}/src/lib.rt", f"#![tactic(auto)]\n\nghost use Rattle.std.specs.Prelude.{{◌≡◌}};\n\n{source}")
+        write(f"{crate}/wrong-bodies/high_is_half.edit", "file: src/lib.rt\nold: { middle(n) }\nnew: { middle(n) / 2 }\n")
+
+    def test_what_a_callee_calls_is_not_looked_at(self):
+        tried = Round(repository.crates()["sample"], [self.body("high_is_half")])
+        said = tried.run()
+        self.assertRegex(said, r"(?m)^only=2 ")
+        self.assertEqual([kind for kind, _ in tried.verdicts(said).values()], ["refused"])
 
 
 class Kept(Parts):

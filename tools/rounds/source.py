@@ -68,10 +68,11 @@ def conversion(trait):
 
 
 class Function:
-    """A function and its lines: 'begins' is the first line of the attributes and comments above it, 'first' that of the function itself."""
+    """A function and its lines: 'begins' is the first line of the attributes and comments above it, 'first' that of the function itself. Its body
+    begins at the place 'opens' of the text."""
 
-    def __init__(self, path, begins, first, last, cycle, body, of, words):
-        self.path, self.begins, self.first, self.last, self.cycle, self.body = path, begins, first, last, cycle, body
+    def __init__(self, path, begins, first, last, cycle, opens, body, of, words):
+        self.path, self.begins, self.first, self.last, self.cycle, self.opens, self.body = path, begins, first, last, cycle, opens, body
         # The type that it is a method of, and the words of its file.
         self.of, self.words = of, words
         self.name = path.rpartition("::")[2]
@@ -126,7 +127,7 @@ def functions_in(text, module, types):
                 begins = first
                 while begins and re.match(r"\s*(#\[|//)", lines[begins - 1]):
                     begins -= 1
-                found.append(Function("::".join([*path, head[2]]), begins, first, last, cycle and cycle[1], plain[body:at], implemented, words))
+                found.append(Function("::".join([*path, head[2]]), begins, first, last, cycle and cycle[1], body, plain[body:at], implemented, words))
             elif head[0].startswith("macro_rules"):
                 at = closing(plain, head.end() - 1)
             else:

@@ -58,6 +58,10 @@ class Trial:
         """Has so many rounds and more share the work, so that they can run side by side."""
         self.most = max(1, sum(map(self.weight, self.rounds())) // count)
 
+    def start_at_once(self):
+        """Has all rounds begin at once, though others could use what the first one proves: no other work waits for a processor."""
+        self.is_warm = True
+
     def rounds(self):
         return packed(self.left, self.apart, self.weight, self.most)
 
