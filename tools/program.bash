@@ -1,11 +1,14 @@
 # Finds the program of these sources, for scripts of bash. They set `top`, the top of the repository, and call `find_program`. It sets
-# `program`, a file to be run, and `is_proved`, yes or no. Where there is none it says why, and answers 3.
+# `program`, a file to be run, and `is_proved`, yes or no. Where there is none it says why, and answers 3. `find_library` does the same with
+# the archive of the library for C: it sets `library` and `is_library_proved`.
 #
 # The proved program is crates/camac/out/camac, as `rt run` or `rt ci` leaves it, where it stands for these sources. Else it is one that
 # tools/quick_build made of them, which is kept in out/. What was found stands in out/found, with a sum of names, sizes and times, so that
-# the next call only has to see that nothing was touched.
+# the next call only has to see that nothing was touched. The library is found so, too: proved by `rt ci` or ./install --prove, else made by
+# tools/quick_library and kept.
 
 proved_program=crates/camac/out/camac
+proved_library=crates/camac_c/out/libcamac_c.a
 
 say() {
   echo "camac: $1" >&2
@@ -41,52 +44,53 @@ write_down() {
   { mkdir -p "$top/out" && echo "$2" >"$top/out/$1.$$" && mv "$top/out/$1.$$" "$top/out/$1"; } 2>/dev/null || true
 }
 
-# A sum of all texts that are proved, and one of the proved program.
+# A sum of all texts that are proved, and one of what was made of them.
 proof_of() {
   local sum
-  sum=$(sha256sum <"$top/$proved_program") && echo "$(cd "$top" && texts_of crates/*/{src,specs,proofs}) ${sum%% *}"
+  sum=$(sha256sum <"$top/$1") && echo "$(cd "$top" && texts_of crates/*/{src,specs,proofs}) ${sum%% *}"
 }
 
-# Whether the proved program stands for these sources: none of them was touched since its proof began. `rt run` leaves a stamp that ends
-# with the program's sum, only where nothing was changed while it proved and built; `rt ci` opens its lock anew when it begins, and sets
-# aside what was built before. (Of that time whole seconds count, since clocks of files are coarse.) A program that was found to be proved
-# is written down, since times also change where texts do not.
+# Whether what was proved, the program or the library, stands for these sources: none of them was touched since its proof began. `rt run`
+# leaves a stamp that ends with the program's sum, only where nothing was changed while it proved and built; `rt ci` opens its lock anew when
+# it begins, and sets aside what was built before. (Of that time whole seconds count, since clocks of files are coarse.) What was found to be
+# proved is written down in a file of out/, since times also change where texts do not.
 stands_proved() {
-  local proof known= since
-  [ -x "$top/$proved_program" ] && proof=$(proof_of) || return
-  [ -r "$top/out/proved" ] && IFS= read -r known <"$top/out/proved"
+  local made=$1 note=$2 proof known= since
+  [ -r "$top/$made" ] && proof=$(proof_of "$made") || return
+  [ -r "$top/out/$note" ] && IFS= read -r known <"$top/out/$note"
   [ "$known" = "$proof" ] && return
-  since=$top/$proved_program.stamp
+  since=$top/$made.stamp
   if [ ! -r "$since" ] || [[ $(<"$since") != *"${proof#* }" ]]; then
     since=$top/.git/rt-ci.lock
-    [ -e "$since" ] && [ "$top/$proved_program" -nt "$since" ] || return
+    [ -e "$since" ] && [ "$top/$made" -nt "$since" ] || return
   fi
   since=$(stat -c @%Y "$since")
   [ -z "$(cd "$top" && find crates.txt crates/*/{src,specs,proofs} \( -newermt "$since" -o -newerct "$since" \) -print -quit 2>/dev/null)" ] || return
-  write_down proved "$proof"
+  write_down "$note" "$proof"
 }
 
-# Finds the program that is kept for these sources, or builds it.
+# Finds what a tool makes of these texts, which is kept under a name with this begin and end, or has it made. It sets `kept`.
 find_kept() {
-  local texts kit status
-  texts=$(cd "$top" && texts_of crates/*/src)
+  local tool=$1 begin=$2 end=$3 texts kit status
+  shift 3
+  texts=$(cd "$top" && texts_of "$@")
   if [ "$toolchain" = none ]; then
-    for program in "$top/out/camac.$texts."????????????????; do
-      [ -x "$program" ] && return
+    for kept in "$top/out/$begin.$texts."????????????????"$end"; do
+      [ -x "$kept" ] && return
     done
     say "the toolchain's command rt is not here: README.md says what is needed"
     return 3
   fi
   kit=$(rt version | sha256sum)
-  program=$top/out/camac.$texts.${kit:0:16}
-  [ -x "$program" ] && return
-  "$top/tools/quick_build" "$program" </dev/null >/dev/null
+  kept=$top/out/$begin.$texts.${kit:0:16}$end
+  [ -x "$kept" ] && return
+  "$top/tools/$tool" "$kept" </dev/null >/dev/null
   status=$?
   [ "$status" -lt 128 ] || exit "$status"
   [ "$status" -eq 0 ] || return 3
-  if [ "$(cd "$top" && texts_of crates/*/src)" != "$texts" ]; then
-    rm -f "$program"
-    say "the sources were changed while the program was built: call again"
+  if [ "$(cd "$top" && texts_of "$@")" != "$texts" ]; then
+    rm -f "$kept"
+    say "the sources were changed while they were built: call again"
     return 3
   fi
 }
@@ -100,12 +104,26 @@ find_program() {
   if [ "$seen" = "$known_seen" ] && [ "$toolchain" = "$known_toolchain" ] && [ -f "$program" ] && [ -x "$program" ]; then
     return
   fi
-  if stands_proved; then
+  if [ -x "$top/$proved_program" ] && stands_proved $proved_program proved; then
     is_proved=yes
     program=$top/$proved_program
   else
     is_proved=no
-    find_kept || return
+    find_kept quick_build camac '' $(cd "$top" && echo crates/*/src) || return
+    program=$kept
   fi
   write_down found "$seen $toolchain $is_proved ${program#"$top"/}"
+}
+
+find_library() {
+  local toolchain
+  toolchain=$(toolchain_touched)
+  if stands_proved $proved_library proved_library; then
+    is_library_proved=yes
+    library=$top/$proved_library
+  else
+    is_library_proved=no
+    find_kept quick_library libcamac .a $(cd "$top" && echo crates/*/src) tools/library_main.text || return
+    library=$kept
+  fi
 }

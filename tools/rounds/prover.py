@@ -121,7 +121,8 @@ class Round:
         own = {it.key() for it in self.changed()}
         lacking = {key for key, folder in folders.items() if not kept.has_proof(folder)}
         rest_on_them = {key for key in folders if called[key] & (own | lacking)}
-        return {folders[key] for key in (lacking | rest_on_them) - own} - {None}
+        # (a destructor has no statement for which a hole could stand)
+        return {it for it in map(folders.get, (lacking | rest_on_them) - own) if it and os.path.basename(it) != "drop"}
 
     def take_as_they_stand(self, room):
         """Puts a hole in the place of each proof of an unchanged function that the prover would have to make anew. Such a function is taken by its

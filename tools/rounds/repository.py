@@ -19,8 +19,8 @@ class Stop(Exception):
 
 
 class Crate:
-    def __init__(self, name, uses, all_crates):
-        self.name, self.uses, self.all = name, uses, all_crates
+    def __init__(self, name, uses, all_crates, is_for_c=False):
+        self.name, self.uses, self.all, self.is_for_c = name, uses, all_crates, is_for_c
         self.folder = f"{TOP}/crates/{name}"
         self.rlib = f"{self.folder}/out/rlib/{name}.rlib"
         self.is_program = os.path.isfile(f"{self.folder}/src/main.rt")
@@ -92,6 +92,8 @@ class Crate:
         """Returns what the prover is told of the crate and of the libraries below it."""
         kit = os.path.dirname(doc())
         words = ["--crate-name", self.name, f"src/{'main' if self.is_program else 'lib'}.rt"]
+        if self.is_for_c:
+            words += ["--crate-type", "staticlib"]
         for it in ["std", *[it for it in self.uses if it not in self.all]]:
             words += ["--extern", f"{it}={kit}/rlibs/{it}.rlib"]
         words += ["-L", f"dependency={kit}/rlibs"]
@@ -148,7 +150,8 @@ def crates():
     for line in read(f"{TOP}/crates.txt").split("\n"):
         name, colon, uses = line.partition("#")[0].partition(":")
         if colon:
-            found[name.split()[0]] = Crate(name.split()[0], uses.split(), found)
+            name, *kinds = name.split()
+            found[name] = Crate(name, uses.split(), found, "staticlib" in kinds)
     if not found:
         raise Stop(f"{TOP}/crates.txt lists no crate")
     return found

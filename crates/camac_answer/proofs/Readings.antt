@@ -40,132 +40,133 @@ line_decides w rest most short =
           ]
     ]
 
-window_is : (n : ℕ) → n < 1000000 → window n ≡ 20
-window_is n h = rw (lt-ltb n 1000000 h) refl
+module _ (limit : ℕ) where
+  window_is : (n : ℕ) → n < limit → window limit n ≡ 20
+  window_is n h = rw (lt-ltb n limit h) refl
 
-window_from : (c : Bool) → 0 < cond c 20 1
-window_from true = omega arith
-window_from false = omega arith
+  window_from : (c : Bool) → 0 < cond c 20 1
+  window_from true = omega arith
+  window_from false = omega arith
 
-window_to : (c : Bool) → cond c 20 1 ≤ 20
-window_to true = omega arith
-window_to false = omega arith
+  window_to : (c : Bool) → cond c 20 1 ≤ 20
+  window_to true = omega arith
+  window_to false = omega arith
 
-too_many : (n b : ℕ) (text : List ℕ) → 1000000 ≤ n → next_answer n (b ∷ text) ≡ Err (fault.Broken TooMany 1000001)
-too_many n b text h = rw (le-leb 1000000 n h) refl
+  too_many : (n b : ℕ) (text : List ℕ) → limit ≤ n → next_answer limit n (b ∷ text) ≡ Err (fault.Broken TooMany (limit + 1))
+  too_many n b text h = rw (le-leb limit n h) refl
 
--- they decide the result
-pub bytes_decide : (n : ℕ) (w rest : List ℕ) → length w ≤ window n → (length w < window n → length w ≤ length (first_line w) → rest ≡ []) → next_answer n (w ++ rest) ≡ next_answer n w
-bytes_decide n [] rest most short = ap (next_answer n) (short (window_from (nat_lt n 1000000)) (omega arith))
-bytes_decide n (b ∷ w) rest most short =
-    elim (cases_lt n 1000000) [
-      | inl less ↦
-          let size = window_is n less in
-          ap (λ (r : Result Answer AnswerRule). cond (nat_le 1000000 n) (Err (fault.Broken TooMany 1000001)) (judged n r))
-          (line_decides (b ∷ w) rest (rw size at most) (rw size at short))
-      | inr more ↦ too_many n b (w ++ rest) more ∙ sym (too_many n b w more)
-    ]
+  -- they decide the result
+  pub bytes_decide : (n : ℕ) (w rest : List ℕ) → length w ≤ window limit n → (length w < window limit n → length w ≤ length (first_line w) → rest ≡ []) → next_answer limit n (w ++ rest) ≡ next_answer limit n w
+  bytes_decide n [] rest most short = ap (next_answer limit n) (short (window_from (nat_lt n limit)) (omega arith))
+  bytes_decide n (b ∷ w) rest most short =
+      elim (cases_lt n limit) [
+        | inl less ↦
+            let size = window_is n less in
+            ap (λ (r : Result Answer AnswerRule). cond (nat_le limit n) (Err (fault.Broken TooMany (limit + 1))) (judged n r))
+            (line_decides (b ∷ w) rest (rw size at most) (rw size at short))
+        | inr more ↦ too_many n b (w ++ rest) more ∙ sym (too_many n b w more)
+      ]
 
-chosen : (c : Bool) (n : ℕ) (r : Result Answer AnswerRule) (a : Answer) → cond c (Err (fault.Broken TooMany 1000001)) (judged n r) ≡ Ok (Some a) → r ≡ Ok a
-chosen true n r a e = absurd cc
-chosen false n (Ok x) a e = cc
-chosen false n (Err f) a e = absurd cc
+  chosen : (c : Bool) (n : ℕ) (r : Result Answer AnswerRule) (a : Answer) → cond c (Err (fault.Broken TooMany (limit + 1))) (judged n r) ≡ Ok (Some a) → r ≡ Ok a
+  chosen true n r a e = absurd cc
+  chosen false n (Ok x) a e = cc
+  chosen false n (Err f) a e = absurd cc
 
--- and where they are an answer, what they leave is what follows the first line
-pub answer_leaves : (n : ℕ) (w rest : List ℕ) (a : Answer) → n < 1000000 → length w ≤ window n → (length w < window n → length w ≤ length (first_line w) → rest ≡ [])
-    → next_answer n w ≡ Ok (Some a) → rest ≡ after_line (w ++ rest)
-answer_leaves n [] rest a few most short e = absurd cc
-answer_leaves n (b ∷ w) rest a few most short e =
-    let size = window_is n few in
-    let long : length (first_line (b ∷ w)) ≡ 19 = answer_long (first_line (b ∷ w)) a (chosen (nat_le 1000000 n) n (line_answer (first_line (b ∷ w))) a e) in
-    elim (cases_lt (length (first_line (b ∷ w))) (length (b ∷ w))) [
-      | inl ended ↦
-          let full : length (b ∷ w) ≡ 20 = omega (arith, long, ended, rw size at most) in
-          let twenty : length (first_line ((b ∷ w) ++ rest)) + 1 ≡ 20 = ap (λ (l : List ℕ). length l + 1) (line_ends (b ∷ w) rest ended) ∙ omega (arith, long) in
-          sym (ap (λ (k : ℕ). drop k ((b ∷ w) ++ rest)) twenty ∙ drop_at (b ∷ w) rest 20 full)
-      | inr on ↦
-          let none : rest ≡ [] = (rw size at short) (omega (arith, on, long)) on in
-          let whole : (b ∷ w) ++ rest ≡ b ∷ w = ap (λ (r : List ℕ). (b ∷ w) ++ r) none ∙ append-nil (b ∷ w) in
-          none ∙ sym (ap after_line whole ∙ drop_of_length-le (b ∷ w) {i = length (first_line (b ∷ w)) + 1} (omega (arith, on)))
-    ]
+  -- and where they are an answer, what they leave is what follows the first line
+  pub answer_leaves : (n : ℕ) (w rest : List ℕ) (a : Answer) → n < limit → length w ≤ window limit n → (length w < window limit n → length w ≤ length (first_line w) → rest ≡ [])
+      → next_answer limit n w ≡ Ok (Some a) → rest ≡ after_line (w ++ rest)
+  answer_leaves n [] rest a few most short e = absurd cc
+  answer_leaves n (b ∷ w) rest a few most short e =
+      let size = window_is n few in
+      let long : length (first_line (b ∷ w)) ≡ 19 = answer_long (first_line (b ∷ w)) a (chosen (nat_le limit n) n (line_answer (first_line (b ∷ w))) a e) in
+      elim (cases_lt (length (first_line (b ∷ w))) (length (b ∷ w))) [
+        | inl ended ↦
+            let full : length (b ∷ w) ≡ 20 = omega (arith, long, ended, rw size at most) in
+            let twenty : length (first_line ((b ∷ w) ++ rest)) + 1 ≡ 20 = ap (λ (l : List ℕ). length l + 1) (line_ends (b ∷ w) rest ended) ∙ omega (arith, long) in
+            sym (ap (λ (k : ℕ). drop k ((b ∷ w) ++ rest)) twenty ∙ drop_at (b ∷ w) rest 20 full)
+        | inr on ↦
+            let none : rest ≡ [] = (rw size at short) (omega (arith, on, long)) on in
+            let whole : (b ∷ w) ++ rest ≡ b ∷ w = ap (λ (r : List ℕ). (b ∷ w) ++ r) none ∙ append-nil (b ∷ w) in
+            none ∙ sym (ap after_line whole ∙ drop_of_length-le (b ∷ w) {i = length (first_line (b ∷ w)) + 1} (omega (arith, on)))
+      ]
 
-shown : (c : Bool) (n : ℕ) (r : Result Answer AnswerRule) (rest : Reading)
-    → result_at (cond c (no_more (Some (fault.Broken TooMany 1000001))) (with_line n r rest)) 0 ≡ cond c (Err (fault.Broken TooMany 1000001)) (judged n r)
-shown true n r rest = refl
-shown false n (Ok a) rest = refl
-shown false n (Err rule) rest = refl
+  shown : (c : Bool) (n : ℕ) (r : Result Answer AnswerRule) (rest : Reading)
+      → result_at (cond c (no_more (Some (fault.Broken TooMany (limit + 1)))) (with_line n r rest)) 0 ≡ cond c (Err (fault.Broken TooMany (limit + 1))) (judged n r)
+  shown true n r rest = refl
+  shown false n (Ok a) rest = refl
+  shown false n (Err rule) rest = refl
 
--- the first result of a reading is that of the first line
-pub first_result : (n : ℕ) (text : List ℕ) → result_at (reading_from n (lines text)) 0 ≡ next_answer n text
-first_result n [] = refl
-first_result n (b ∷ text) =
-    ap (λ (ls : List (List ℕ)). result_at (reading_from n ls) 0) (lines_first b text)
-    ∙ shown (nat_le 1000000 n) n (line_answer (first_line (b ∷ text))) (reading_from (n + 1) (lines (after_line (b ∷ text))))
+  -- the first result of a reading is that of the first line
+  pub first_result : (n : ℕ) (text : List ℕ) → result_at (reading_from limit n (lines text)) 0 ≡ next_answer limit n text
+  first_result n [] = refl
+  first_result n (b ∷ text) =
+      ap (λ (ls : List (List ℕ)). result_at (reading_from limit n ls) 0) (lines_first b text)
+      ∙ shown (nat_le limit n) n (line_answer (first_line (b ∷ text))) (reading_from limit (n + 1) (lines (after_line (b ∷ text))))
 
-left_after : (c : Bool) (n : ℕ) (r : Result Answer AnswerRule) (rest : Reading) (a : Answer) → cond c (Err (fault.Broken TooMany 1000001)) (judged n r) ≡ Ok (Some a)
-    → after 1 (cond c (no_more (Some (fault.Broken TooMany 1000001))) (with_line n r rest)) ≡ rest
-left_after true n r rest a e = absurd cc
-left_after false n (Ok x) rest a e = refl
-left_after false n (Err rule) rest a e = absurd cc
+  left_after : (c : Bool) (n : ℕ) (r : Result Answer AnswerRule) (rest : Reading) (a : Answer) → cond c (Err (fault.Broken TooMany (limit + 1))) (judged n r) ≡ Ok (Some a)
+      → after 1 (cond c (no_more (Some (fault.Broken TooMany (limit + 1)))) (with_line n r rest)) ≡ rest
+  left_after true n r rest a e = absurd cc
+  left_after false n (Ok x) rest a e = refl
+  left_after false n (Err rule) rest a e = absurd cc
 
--- after an answer the reading of what follows is left
-pub answer_left : (n : ℕ) (text : List ℕ) (a : Answer) → next_answer n text ≡ Ok (Some a) → after 1 (reading_from n (lines text)) ≡ reading_from (n + 1) (lines (after_line text))
-answer_left n [] a e = absurd cc
-answer_left n (b ∷ text) a e =
-    ap (λ (ls : List (List ℕ)). after 1 (reading_from n ls)) (lines_first b text)
-    ∙ left_after (nat_le 1000000 n) n (line_answer (first_line (b ∷ text))) (reading_from (n + 1) (lines (after_line (b ∷ text)))) a e
+  -- after an answer the reading of what follows is left
+  pub answer_left : (n : ℕ) (text : List ℕ) (a : Answer) → next_answer limit n text ≡ Ok (Some a) → after 1 (reading_from limit n (lines text)) ≡ reading_from limit (n + 1) (lines (after_line text))
+  answer_left n [] a e = absurd cc
+  answer_left n (b ∷ text) a e =
+      ap (λ (ls : List (List ℕ)). after 1 (reading_from limit n ls)) (lines_first b text)
+      ∙ left_after (nat_le limit n) n (line_answer (first_line (b ∷ text))) (reading_from limit (n + 1) (lines (after_line (b ∷ text)))) a e
 
-fault_after : (c : Bool) (n : ℕ) (r : Result Answer AnswerRule) (rest : Reading) (f : AnswerFault) → cond c (Err (fault.Broken TooMany 1000001)) (judged n r) ≡ Err f
-    → cond c (no_more (Some (fault.Broken TooMany 1000001))) (with_line n r rest) ≡ no_more (Some f)
-fault_after true n r rest f e = cc
-fault_after false n (Ok x) rest f e = absurd cc
-fault_after false n (Err rule) rest f e = cc
+  fault_after : (c : Bool) (n : ℕ) (r : Result Answer AnswerRule) (rest : Reading) (f : AnswerFault) → cond c (Err (fault.Broken TooMany (limit + 1))) (judged n r) ≡ Err f
+      → cond c (no_more (Some (fault.Broken TooMany (limit + 1)))) (with_line n r rest) ≡ no_more (Some f)
+  fault_after true n r rest f e = cc
+  fault_after false n (Ok x) rest f e = absurd cc
+  fault_after false n (Err rule) rest f e = cc
 
--- a fault ends the reading
-pub fault_left : (n : ℕ) (text : List ℕ) (f : AnswerFault) → next_answer n text ≡ Err f → reading_from n (lines text) ≡ no_more (Some f)
-fault_left n [] f e = absurd cc
-fault_left n (b ∷ text) f e =
-    ap (reading_from n) (lines_first b text)
-    ∙ fault_after (nat_le 1000000 n) n (line_answer (first_line (b ∷ text))) (reading_from (n + 1) (lines (after_line (b ∷ text)))) f e
+  -- a fault ends the reading
+  pub fault_left : (n : ℕ) (text : List ℕ) (f : AnswerFault) → next_answer limit n text ≡ Err f → reading_from limit n (lines text) ≡ no_more (Some f)
+  fault_left n [] f e = absurd cc
+  fault_left n (b ∷ text) f e =
+      ap (reading_from limit n) (lines_first b text)
+      ∙ fault_after (nat_le limit n) n (line_answer (first_line (b ∷ text))) (reading_from limit (n + 1) (lines (after_line (b ∷ text)))) f e
 
--- one call that gave an answer
-steps-answer : (n : ℕ) (old new : Option (List ℕ)) (w : List ℕ) (a : Answer) → n < 1000000 → Consumes old new w → length w ≤ window n
-    → (length w < window n → length w ≤ length (first_line w) → IsAtEnd new) → Ok (Some a) ≡ next_answer n w → Steps (left_in Running n old) (Ok (Some a)) (left_in Running (n + 1) new)
-steps-answer n None new w a few given most short e = tt
-steps-answer n (Some text) None w a few given most short e = absurd given
-steps-answer n (Some text) (Some rest) w a few given most short e =
-    let same : Ok (Some a) ≡ next_answer n text = e ∙ sym (bytes_decide n w rest most short) ∙ ap (next_answer n) (sym given) in
-    let follows : rest ≡ after_line text = answer_leaves n w rest a few most short (sym e) ∙ ap after_line (sym given) in (
-      same ∙ sym (first_result n text),
-      ap (λ (t : List ℕ). Some (reading_from (n + 1) (lines t))) follows ∙ ap Some (sym (answer_left n text a (sym same))),
-    )
+  -- one call that gave an answer
+  steps-answer : (n : ℕ) (old new : Option (List ℕ)) (w : List ℕ) (a : Answer) → n < limit → Consumes old new w → length w ≤ window limit n
+      → (length w < window limit n → length w ≤ length (first_line w) → IsAtEnd new) → Ok (Some a) ≡ next_answer limit n w → Steps (left_in limit Running n old) (Ok (Some a)) (left_in limit Running (n + 1) new)
+  steps-answer n None new w a few given most short e = tt
+  steps-answer n (Some text) None w a few given most short e = absurd given
+  steps-answer n (Some text) (Some rest) w a few given most short e =
+      let same : Ok (Some a) ≡ next_answer limit n text = e ∙ sym (bytes_decide n w rest most short) ∙ ap (next_answer limit n) (sym given) in
+      let follows : rest ≡ after_line text = answer_leaves n w rest a few most short (sym e) ∙ ap after_line (sym given) in (
+        same ∙ sym (first_result n text),
+        ap (λ (t : List ℕ). Some (reading_from limit (n + 1) (lines t))) follows ∙ ap Some (sym (answer_left n text a (sym same))),
+      )
 
--- one call that gave a fault
-steps-fault : (n : ℕ) (old new : Option (List ℕ)) (w : List ℕ) (f : AnswerFault) → Consumes old new w → length w ≤ window n
-    → (length w < window n → length w ≤ length (first_line w) → IsAtEnd new) → Err f ≡ next_answer n w → Steps (left_in Running n old) (Err f) (left_in (Faulted f) n new)
-steps-fault n None new w f given most short e = tt
-steps-fault n (Some text) None w f given most short e = absurd given
-steps-fault n (Some text) (Some rest) w fault.Read given most short e = tt
-steps-fault n (Some text) (Some rest) w fault.OutOfMemory given most short e =
-    let same : Err fault.OutOfMemory ≡ next_answer n text = e ∙ sym (bytes_decide n w rest most short) ∙ ap (next_answer n) (sym given) in
-    (same ∙ sym (first_result n text), ap (λ (r : Reading). Some (after 1 r)) (sym (fault_left n text fault.OutOfMemory (sym same))))
-steps-fault n (Some text) (Some rest) w (fault.Broken rule line) given most short e =
-    let same : Err (fault.Broken rule line) ≡ next_answer n text = e ∙ sym (bytes_decide n w rest most short) ∙ ap (next_answer n) (sym given) in
-    (same ∙ sym (first_result n text), ap (λ (r : Reading). Some (after 1 r)) (sym (fault_left n text (fault.Broken rule line) (sym same))))
+  -- one call that gave a fault
+  steps-fault : (n : ℕ) (old new : Option (List ℕ)) (w : List ℕ) (f : AnswerFault) → Consumes old new w → length w ≤ window limit n
+      → (length w < window limit n → length w ≤ length (first_line w) → IsAtEnd new) → Err f ≡ next_answer limit n w → Steps (left_in limit Running n old) (Err f) (left_in limit (Faulted f) n new)
+  steps-fault n None new w f given most short e = tt
+  steps-fault n (Some text) None w f given most short e = absurd given
+  steps-fault n (Some text) (Some rest) w fault.Read given most short e = tt
+  steps-fault n (Some text) (Some rest) w fault.OutOfMemory given most short e =
+      let same : Err fault.OutOfMemory ≡ next_answer limit n text = e ∙ sym (bytes_decide n w rest most short) ∙ ap (next_answer limit n) (sym given) in
+      (same ∙ sym (first_result n text), ap (λ (r : Reading). Some (after 1 r)) (sym (fault_left n text fault.OutOfMemory (sym same))))
+  steps-fault n (Some text) (Some rest) w (fault.Broken rule line) given most short e =
+      let same : Err (fault.Broken rule line) ≡ next_answer limit n text = e ∙ sym (bytes_decide n w rest most short) ∙ ap (next_answer limit n) (sym given) in
+      (same ∙ sym (first_result n text), ap (λ (r : Reading). Some (after 1 r)) (sym (fault_left n text (fault.Broken rule line) (sym same))))
 
--- the same of the first bytes of a line with room for all that judge it
-pub read-answer : (n : ℕ) (old new : Option (List ℕ)) (line : List ℕ) (len : ℕ) (a : Answer) → n < 1000000 → Consumes old new (take len line) → length line ≡ window n → len ≤ length line
-    → (len < length line → len ≤ length (first_line (take len line)) → IsAtEnd new) → Ok (Some a) ≡ next_answer n (take len line) → Steps (left_in Running n old) (Ok (Some a)) (left_in Running (n + 1) new)
-read-answer n old new line len a few given room within short e =
-    let long = length-take-le len line within in
-    steps-answer n old new (take len line) a few given (omega (arith, long, room, within)) (λ less on. short (omega (arith, long, room, less)) (omega (arith, long, on))) e
+  -- the same of the first bytes of a line with room for all that judge it
+  pub read-answer : (n : ℕ) (old new : Option (List ℕ)) (line : List ℕ) (len : ℕ) (a : Answer) → n < limit → Consumes old new (take len line) → length line ≡ window limit n → len ≤ length line
+      → (len < length line → len ≤ length (first_line (take len line)) → IsAtEnd new) → Ok (Some a) ≡ next_answer limit n (take len line) → Steps (left_in limit Running n old) (Ok (Some a)) (left_in limit Running (n + 1) new)
+  read-answer n old new line len a few given room within short e =
+      let long = length-take-le len line within in
+      steps-answer n old new (take len line) a few given (omega (arith, long, room, within)) (λ less on. short (omega (arith, long, room, less)) (omega (arith, long, on))) e
 
-pub read-fault : (n : ℕ) (old new : Option (List ℕ)) (line : List ℕ) (len : ℕ) (f : AnswerFault) → Consumes old new (take len line) → length line ≡ window n → len ≤ length line
-    → (len < length line → len ≤ length (first_line (take len line)) → IsAtEnd new) → Err f ≡ next_answer n (take len line) → Steps (left_in Running n old) (Err f) (left_in (Faulted f) n new)
-read-fault n old new line len f given room within short e =
-    let long = length-take-le len line within in
-    steps-fault n old new (take len line) f given (omega (arith, long, room, within)) (λ less on. short (omega (arith, long, room, less)) (omega (arith, long, on))) e
+  pub read-fault : (n : ℕ) (old new : Option (List ℕ)) (line : List ℕ) (len : ℕ) (f : AnswerFault) → Consumes old new (take len line) → length line ≡ window limit n → len ≤ length line
+      → (len < length line → len ≤ length (first_line (take len line)) → IsAtEnd new) → Err f ≡ next_answer limit n (take len line) → Steps (left_in limit Running n old) (Err f) (left_in limit (Faulted f) n new)
+  read-fault n old new line len f given room within short e =
+      let long = length-take-le len line within in
+      steps-fault n old new (take len line) f given (omega (arith, long, room, within)) (λ less on. short (omega (arith, long, room, less)) (omega (arith, long, on))) e
 
--- a line with as much room as judges it
-pub room_for : (n w : ℕ) (room : List ℕ) → length room ≡ 20 → w ≡ window n → length (take w room) ≡ window n
-room_for n w room size same = length-take-le w room (omega (arith, size, same, window_to (nat_lt n 1000000))) ∙ same
+  -- a line with as much room as judges it
+  pub room_for : (n w : ℕ) (room : List ℕ) → length room ≡ 20 → w ≡ window limit n → length (take w room) ≡ window limit n
+  room_for n w room size same = length-take-le w room (omega (arith, size, same, window_to (nat_lt n limit))) ∙ same

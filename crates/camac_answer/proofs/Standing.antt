@@ -33,12 +33,12 @@ step_is old (Err fault.Read) new h s = absurd cc
 step_is old (Err (fault.Broken rule line)) new h s = s
 
 -- where something is left a read fault does not come again
-must_run : (s : Stage) (n : ℕ) (t : Option (List ℕ)) (x : Reading) → left_in s n t ≡ Some x → Repeats s (Err fault.Read) → is_running s ≡ true
-must_run Running n t x left again = refl
-must_run Ended n t x left again = absurd cc
-must_run (Faulted fault.OutOfMemory) n t x left again = absurd cc
-must_run (Faulted fault.Read) n t x left again = absurd cc
-must_run (Faulted (fault.Broken rule line)) n t x left again = absurd cc
+must_run : (m : ℕ) (s : Stage) (n : ℕ) (t : Option (List ℕ)) (x : Reading) → left_in m s n t ≡ Some x → Repeats s (Err fault.Read) → is_running s ≡ true
+must_run m Running n t x left again = refl
+must_run m Ended n t x left again = absurd cc
+must_run m (Faulted fault.OutOfMemory) n t x left again = absurd cc
+must_run m (Faulted fault.Read) n t x left again = absurd cc
+must_run m (Faulted (fault.Broken rule line)) n t x left again = absurd cc
 
 -- a result is a read fault or not
 read_or_not : (r : Answered) → (r ≡ Err fault.Read) ⊎ (is_read_failure r ≡ false)
@@ -60,79 +60,79 @@ one_more f n =
     let next : suc n ≡ n + 1 = omega arith in
     ap (λ (k : ℕ). map f (range_with_len 0 k)) next ∙ map-range_with_len_more f 0 n n (omega arith)
 
-few_line : (n : ℕ) (r : Result Answer AnswerRule) (rest : Reading) → length rest.answers + (n + 1) ≤ 1000000 → length (with_line n r rest).answers + n ≤ 1000000
-few_line n (Ok a) rest h = omega (arith, h)
-few_line n (Err rule) rest h = omega (arith, h)
+few_line : (limit n : ℕ) (r : Result Answer AnswerRule) (rest : Reading) → length rest.answers + (n + 1) ≤ limit → length (with_line n r rest).answers + n ≤ limit
+few_line limit n (Ok a) rest h = omega (arith, h)
+few_line limit n (Err rule) rest h = omega (arith, h)
 
-few_from : (n : ℕ) (ls : List (List ℕ)) → n ≤ 1000000 → length (reading_from n ls).answers + n ≤ 1000000
-few_from n [] h = omega (arith, h)
-few_from n (l ∷ ls) h =
-    elim (cases_lt n 1000000) [
-      | inl less ↦ rw (lt-leb 1000000 n less) (few_line n (line_answer l) (reading_from (n + 1) ls) (few_from (n + 1) ls (omega (arith, less))))
-      | inr more ↦ rw (le-leb 1000000 n more) (omega (arith, h))
+few_from : (limit n : ℕ) (ls : List (List ℕ)) → n ≤ limit → length (reading_from limit n ls).answers + n ≤ limit
+few_from limit n [] h = omega (arith, h)
+few_from limit n (l ∷ ls) h =
+    elim (cases_lt n limit) [
+      | inl less ↦ rw (lt-leb limit n less) (few_line limit n (line_answer l) (reading_from limit (n + 1) ls) (few_from limit (n + 1) ls (omega (arith, less))))
+      | inr more ↦ rw (le-leb limit n more) (omega (arith, h))
     ]
 
 pub few : AnswersAreFew
-few text = let h = few_from 0 (lines text) (omega arith) in omega (arith, h)
+few limit text = let h = few_from limit 0 (lines text) (omega arith) in omega (arith, h)
 
 module _ {R : Type 0} (remaining : R → Option (List ℕ)) (old new : Answers R) (r : Answered) (again : Repeats (stage_of old) r) (stage : stage_of new ≡ stage_after r)
     (left : Steps (left_of remaining old) r (left_of remaining new)) (flag : reader_failed new ≡ (reader_failed old || (is_running (stage_of old) && is_read_failure r)))
-    (flagged : Bool) (whole : List ℕ) (results : List Answered) where
+    (limit : ℕ) (flagged : Bool) (whole : List ℕ) (results : List Answered) where
   -- a call that gave what was left to give
-  went : (good : ℕ) → results ≡ map (result_at (reading whole)) (range_with_len 0 good) ++ [] → reader_failed old ≡ (flagged || false)
-      → left_of remaining old ≡ Some (after good (reading whole)) → is_read_failure r ≡ false → StandsAt remaining new flagged whole (results ++ r ∷ [])
+  went : (good : ℕ) → results ≡ map (result_at (reading limit whole)) (range_with_len 0 good) ++ [] → reader_failed old ≡ (flagged || false)
+      → left_of remaining old ≡ Some (after good (reading limit whole)) → is_read_failure r ≡ false → StandsAt remaining limit new flagged whole (results ++ r ∷ [])
   went good are was now h =
-      let took = step_is (after good (reading whole)) r (left_of remaining new) h (rw now at left) in
-      let given : r ≡ result_at (reading whole) good = took.0 ∙ ap (λ (o : Option Answer). given_or o (reading whole).fault) (get_after (reading whole).answers good) in
+      let took = step_is (after good (reading limit whole)) r (left_of remaining new) h (rw now at left) in
+      let given : r ≡ result_at (reading limit whole) good = took.0 ∙ ap (λ (o : Option Answer). given_or o (reading limit whole).fault) (get_after (reading limit whole).answers good) in
       record {
         good = suc good;
         failed = 0;
         are =
-            ap (λ (l : List Answered). l ++ r ∷ []) (are ∙ append-nil _) ∙ ap (λ (x : Answered). map (result_at (reading whole)) (range_with_len 0 good) ++ x ∷ []) given
-            ∙ sym (one_more (result_at (reading whole)) good) ∙ sym (append-nil _);
+            ap (λ (l : List Answered). l ++ r ∷ []) (are ∙ append-nil _) ∙ ap (λ (x : Answered). map (result_at (reading limit whole)) (range_with_len 0 good) ++ x ∷ []) given
+            ∙ sym (one_more (result_at (reading limit whole)) good) ∙ sym (append-nil _);
         flag = unflagged (reader_failed old) (reader_failed new) (is_running (stage_of old)) (is_read_failure r) flag h ∙ was;
-        now = took.1 ∙ ap (λ (l : List Answer). Some (record (reading whole) { answers = l })) (drop_more (reading whole).answers good);
+        now = took.1 ∙ ap (λ (l : List Answer). Some (record (reading limit whole) { answers = l })) (drop_more (reading limit whole).answers good);
       }
 
   -- the first call in which a read failed
-  fell : (good : ℕ) → results ≡ map (result_at (reading whole)) (range_with_len 0 good) ++ [] → reader_failed old ≡ (flagged || false)
-      → left_of remaining old ≡ Some (after good (reading whole)) → r ≡ Err fault.Read → StandsAt remaining new flagged whole (results ++ r ∷ [])
+  fell : (good : ℕ) → results ≡ map (result_at (reading limit whole)) (range_with_len 0 good) ++ [] → reader_failed old ≡ (flagged || false)
+      → left_of remaining old ≡ Some (after good (reading limit whole)) → r ≡ Err fault.Read → StandsAt remaining limit new flagged whole (results ++ r ∷ [])
   fell good are was now h =
-      let running = must_run (stage_of old) _ _ (after good (reading whole)) now (rw h at again) in
+      let running = must_run _ (stage_of old) _ _ (after good (reading limit whole)) now (rw h at again) in
       record {
         good = good;
         failed = 1;
-        are = ap (λ (l : List Answered). l ++ r ∷ []) (are ∙ append-nil _) ∙ ap (λ (x : Answered). map (result_at (reading whole)) (range_with_len 0 good) ++ x ∷ []) h;
+        are = ap (λ (l : List Answered). l ++ r ∷ []) (are ∙ append-nil _) ∙ ap (λ (x : Answered). map (result_at (reading limit whole)) (range_with_len 0 good) ++ x ∷ []) h;
         flag = flagged_now (reader_failed old) (reader_failed new) (is_running (stage_of old)) (is_read_failure r) flagged flag running (ap is_read_failure h) was;
         now = stage ∙ ap stage_after h;
       }
 
   -- a later call
-  stays : (good failed : ℕ) → results ≡ map (result_at (reading whole)) (range_with_len 0 good) ++ map (λ _. Err fault.Read) (range_with_len 0 (suc failed))
-      → reader_failed old ≡ (flagged || nat_lt 0 (suc failed)) → stage_of old ≡ Faulted fault.Read → StandsAt remaining new flagged whole (results ++ r ∷ [])
+  stays : (good failed : ℕ) → results ≡ map (result_at (reading limit whole)) (range_with_len 0 good) ++ map (λ _. Err fault.Read) (range_with_len 0 (suc failed))
+      → reader_failed old ≡ (flagged || nat_lt 0 (suc failed)) → stage_of old ≡ Faulted fault.Read → StandsAt remaining limit new flagged whole (results ++ r ∷ [])
   stays good failed are was now =
       let h : r ≡ Err fault.Read = rw now at again in
       record {
         good = good;
         failed = suc (suc failed);
         are =
-            ap (λ (l : List Answered). l ++ r ∷ []) are ∙ append_assoc (map (result_at (reading whole)) (range_with_len 0 good)) (map (λ _. Err fault.Read) (range_with_len 0 (suc failed))) (r ∷ [])
-            ∙ ap (λ (x : Answered). map (result_at (reading whole)) (range_with_len 0 good) ++ (map (λ _. Err fault.Read) (range_with_len 0 (suc failed)) ++ x ∷ [])) h
-            ∙ ap (λ (l : List Answered). map (result_at (reading whole)) (range_with_len 0 good) ++ l) (sym (one_more (λ _. Err fault.Read) (suc failed)));
+            ap (λ (l : List Answered). l ++ r ∷ []) are ∙ append_assoc (map (result_at (reading limit whole)) (range_with_len 0 good)) (map (λ _. Err fault.Read) (range_with_len 0 (suc failed))) (r ∷ [])
+            ∙ ap (λ (x : Answered). map (result_at (reading limit whole)) (range_with_len 0 good) ++ (map (λ _. Err fault.Read) (range_with_len 0 (suc failed)) ++ x ∷ [])) h
+            ∙ ap (λ (l : List Answered). map (result_at (reading limit whole)) (range_with_len 0 good) ++ l) (sym (one_more (λ _. Err fault.Read) (suc failed)));
         flag =
             unflagged (reader_failed old) (reader_failed new) (is_read_failure r) (is_running (stage_of old)) (flag ∙ ap (λ (b : Bool). reader_failed old || b) (and_comm (is_running (stage_of old)) (is_read_failure r))) (ap is_running now)
             ∙ was ∙ ap (λ (b : Bool). flagged || b) (lt-ltb 0 (suc failed) (omega arith) ∙ sym (lt-ltb 0 (suc (suc failed)) (omega arith)));
         now = stage ∙ ap stage_after h;
       }
 
-  next_of : (good failed : ℕ) → results ≡ map (result_at (reading whole)) (range_with_len 0 good) ++ map (λ _. Err fault.Read) (range_with_len 0 failed)
-      → reader_failed old ≡ (flagged || nat_lt 0 failed) → StandsNow failed (stage_of old) (left_of remaining old) (after good (reading whole))
-      → StandsAt remaining new flagged whole (results ++ r ∷ [])
+  next_of : (good failed : ℕ) → results ≡ map (result_at (reading limit whole)) (range_with_len 0 good) ++ map (λ _. Err fault.Read) (range_with_len 0 failed)
+      → reader_failed old ≡ (flagged || nat_lt 0 failed) → StandsNow failed (stage_of old) (left_of remaining old) (after good (reading limit whole))
+      → StandsAt remaining limit new flagged whole (results ++ r ∷ [])
   next_of good zero are was now = elim (read_or_not r) [ inl h ↦ fell good are was now h | inr h ↦ went good are was now h ]
   next_of good (suc failed) are was now = stays good failed are was now
 
 -- one more call adds its result
 pub stands_next : {R : Type 0} (remaining : R → Option (List ℕ)) (old new : Answers R) (r : Answered) → Repeats (stage_of old) r → stage_of new ≡ stage_after r
     → Steps (left_of remaining old) r (left_of remaining new) → reader_failed new ≡ (reader_failed old || (is_running (stage_of old) && is_read_failure r)) → StandsNext remaining old r new
-stands_next remaining old new r again stage left flag flagged whole results at =
-    next_of remaining old new r again stage left flag flagged whole results at.good at.failed at.are at.flag at.now
+stands_next remaining old new r again stage left flag limit flagged whole results at =
+    next_of remaining old new r again stage left flag limit flagged whole results at.good at.failed at.are at.flag at.now

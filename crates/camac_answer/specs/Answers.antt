@@ -17,6 +17,10 @@ use Rattle.camac_answer.specs.Reading.{Reading, no_more, reading_from, reading, 
 abbrev pub stage_of : {R : Type 0} → Answers R → Stage
 stage_of a = a.stage
 
+-- how many answers it gives at most
+abbrev pub limit_of : {R : Type 0} → Answers R → ℕ
+limit_of a = a.limit
+
 -- how many answers it gave
 abbrev pub given_by : {R : Type 0} → Answers R → ℕ
 given_by a = a.given
@@ -48,11 +52,11 @@ stage_after (Ok (Some a)) = Running
 stage_after (Ok None) = Ended
 stage_after (Err f) = Faulted f
 
--- each answer is counted, and before it there were less than 1,000,000
-abbrev pub Counts : ℕ → Answered → ℕ → Type 0
-Counts old (Ok (Some a)) new = (new ≡ old + 1) × (old < 1000000)
-Counts old (Ok None) new = new ≡ old
-Counts old (Err f) new = new ≡ old
+-- each answer is counted, and before it there were less than may come
+abbrev pub Counts : (limit : ℕ) → ℕ → Answered → ℕ → Type 0
+Counts limit old (Ok (Some a)) new = (new ≡ old + 1) × (old < limit)
+Counts limit old (Ok None) new = new ≡ old
+Counts limit old (Err f) new = new ≡ old
 
 abbrev pub is_running : Stage → Bool
 is_running Running = true
@@ -60,16 +64,16 @@ is_running Ended = false
 is_running (Faulted f) = false
 
 -- what is left in a stage, after n answers and before this text; nothing is known of it after a read fault
-abbrev pub left_in : Stage → ℕ → Option (List ℕ) → Option Reading
-left_in Running n None = None
-left_in Running n (Some text) = Some (reading_from n (lines text))
-left_in Ended n text = Some (no_more None)
-left_in (Faulted OutOfMemory) n text = Some (no_more (Some OutOfMemory))
-left_in (Faulted Read) n text = None
-left_in (Faulted (Broken rule line)) n text = Some (no_more (Some (Broken rule line)))
+abbrev pub left_in : (limit : ℕ) → Stage → ℕ → Option (List ℕ) → Option Reading
+left_in limit Running n None = None
+left_in limit Running n (Some text) = Some (reading_from limit n (lines text))
+left_in limit Ended n text = Some (no_more None)
+left_in limit (Faulted OutOfMemory) n text = Some (no_more (Some OutOfMemory))
+left_in limit (Faulted Read) n text = None
+left_in limit (Faulted (Broken rule line)) n text = Some (no_more (Some (Broken rule line)))
 
 abbrev pub left_of : {R : Type 0} → (R → Option (List ℕ)) → Answers R → Option Reading
-left_of remaining a = left_in (stage_of a) (given_by a) (text_of remaining a)
+left_of remaining a = left_in (limit_of a) (stage_of a) (given_by a) (text_of remaining a)
 
 -- a call answers the first result of what was left, and leaves what follows it, unless a read failed
 abbrev pub Steps : Option Reading → Answered → Option Reading → Type 0
@@ -80,8 +84,8 @@ Steps (Some old) (Err (Broken rule line)) new = (Err (Broken rule line) ≡ resu
 Steps (Some old) (Ok a) new = (Ok a ≡ result_at old 0) × (new ≡ Some (after 1 old))
 
 -- how many bytes judge a line after n others: of one that is too many the first
-abbrev pub window : ℕ → ℕ
-window n = if nat_lt n 1000000 then 20 else 1
+abbrev pub window : (limit : ℕ) → ℕ → ℕ
+window limit n = if nat_lt n limit then 20 else 1
 
 -- the reader gave bytes that do not judge a line yet: fewer than so many, and no LF
 pub record IsOpen (most : ℕ) (old new : Option (List ℕ)) : Type 0 where
@@ -91,9 +95,9 @@ pub record IsOpen (most : ℕ) (old new : Option (List ℕ)) : Type 0 where
   pub no_end : length bytes ≤ length (first_line bytes)
 
 -- no more is read than judges a line: a read fails only in one that the bytes so far do not judge
-abbrev pub FailsInOpenLine : Stage → Answered → ℕ → Option (List ℕ) → Option (List ℕ) → Type 0
-FailsInOpenLine Running (Err Read) n old new = IsOpen (window n) old new
-FailsInOpenLine stage r n old new = Unit {0}
+abbrev pub FailsInOpenLine : (limit : ℕ) → Stage → Answered → ℕ → Option (List ℕ) → Option (List ℕ) → Type 0
+FailsInOpenLine limit Running (Err Read) n old new = IsOpen (window limit n) old new
+FailsInOpenLine limit stage r n old new = Unit {0}
 
 -- what is left after the calls so far, of which the last ones failed
 abbrev pub StandsNow : ℕ → Stage → Option Reading → Reading → Type 0
@@ -102,29 +106,29 @@ StandsNow (suc k) stage left r = stage ≡ Faulted Read
 
 -- Where the calls so far had these results, and the reader the whole text before them: the results are the reading's up to the first
 -- call in which a read failed, and a read fault from that call on. `flagged`: whether the reader had failed before them.
-pub record StandsAt {R : Type 0} (remaining : R → Option (List ℕ)) (a : Answers R) (flagged : Bool) (whole : List ℕ) (results : List Answered) : Type 0 where
+pub record StandsAt {R : Type 0} (remaining : R → Option (List ℕ)) (limit : ℕ) (a : Answers R) (flagged : Bool) (whole : List ℕ) (results : List Answered) : Type 0 where
   pub good : ℕ
   pub failed : ℕ
-  pub are : results ≡ map (result_at (reading whole)) (range_with_len 0 good) ++ map (λ _. Err Read) (range_with_len 0 failed)
+  pub are : results ≡ map (result_at (reading limit whole)) (range_with_len 0 good) ++ map (λ _. Err Read) (range_with_len 0 failed)
   pub flag : reader_failed a ≡ (flagged || nat_lt 0 failed)
-  pub now : StandsNow failed (stage_of a) (left_of remaining a) (after good (reading whole))
+  pub now : StandsNow failed (stage_of a) (left_of remaining a) (after good (reading limit whole))
 
 -- one more call adds its result
 abbrev pub StandsNext : {R : Type 0} → (R → Option (List ℕ)) → Answers R → Answered → Answers R → Type 0
 StandsNext remaining old result new =
-    (flagged : Bool) (whole : List ℕ) (results : List Answered) → StandsAt remaining old flagged whole results
-    → StandsAt remaining new flagged whole (results ++ result ∷ [])
+    (limit : ℕ) (flagged : Bool) (whole : List ℕ) (results : List Answered) → StandsAt remaining limit old flagged whole results
+    → StandsAt remaining limit new flagged whole (results ++ result ∷ [])
 
--- a text gives at most 1,000,000 answers
+-- a text gives no more answers than it may
 abbrev pub AnswersAreFew : Type 0
-AnswersAreFew = (text : List ℕ) → length (reading text).answers ≤ 1000000
+AnswersAreFew = (limit : ℕ) (text : List ℕ) → length (reading limit text).answers ≤ limit
 
 abbrev pub judged : ℕ → Result Answer AnswerRule → Answered
 judged n (Ok a) = Ok (Some a)
 judged n (Err rule) = Err (Broken rule (n + 1))
 
 -- the result of the first line of a text after n others
-abbrev pub next_answer : ℕ → List ℕ → Answered
-next_answer n [] = Ok None
-next_answer n (b ∷ text) =
-    if nat_le 1000000 n then Err (Broken TooMany 1000001) else judged n (line_answer (first_line (b ∷ text)))
+abbrev pub next_answer : (limit : ℕ) → ℕ → List ℕ → Answered
+next_answer limit n [] = Ok None
+next_answer limit n (b ∷ text) =
+    if nat_le limit n then Err (Broken TooMany (limit + 1)) else judged n (line_answer (first_line (b ∷ text)))

@@ -20,14 +20,14 @@ abbrev pub with_line : ℕ → Result Answer AnswerRule → Reading → Reading
 with_line n (Ok a) rest = record rest { answers = a ∷ rest.answers }
 with_line n (Err rule) rest = no_more (Some (Broken rule (n + 1)))
 
--- lines after n others; a line that would be the 1,000,001st is one too many, whatever it holds
-abbrev pub reading_from : ℕ → List (List ℕ) → Reading
-reading_from n [] = no_more None
-reading_from n (line ∷ rest) =
-    if nat_le 1000000 n then no_more (Some (Broken TooMany 1000001)) else with_line n (line_answer line) (reading_from (n + 1) rest)
+-- lines after n others, where a text may give so many answers; a line beyond that is one too many, whatever it holds
+abbrev pub reading_from : (limit : ℕ) → ℕ → List (List ℕ) → Reading
+reading_from limit n [] = no_more None
+reading_from limit n (line ∷ rest) =
+    if nat_le limit n then no_more (Some (Broken TooMany (limit + 1))) else with_line n (line_answer line) (reading_from limit (n + 1) rest)
 
-abbrev pub reading : List ℕ → Reading
-reading text = reading_from 0 (lines text)
+abbrev pub reading : (limit : ℕ) → List ℕ → Reading
+reading limit text = reading_from limit 0 (lines text)
 
 -- the results of a call
 abbrev pub Answered : Type 0

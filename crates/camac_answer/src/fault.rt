@@ -9,7 +9,7 @@ pub enum AnswerRule {
     LineShape,
     /// A2: a byte is no digit of its field.
     BadDigit,
-    /// A4: the line would be the 1,000,001st.
+    /// A4: the line is one more than may come.
     TooMany,
 }
 
@@ -21,5 +21,5 @@ pub enum AnswerFault {
     #[error("read")]
     Read,
     #[error("line {line}: {rule:?}")]
-    Broken { rule: AnswerRule, line: u32 },
+    Broken { rule: AnswerRule, line: u64 },
 }

@@ -6,5 +6,5 @@ mod fault;
 mod filling;
 mod line;
 
-pub use answers::{Answers, answers_are_few};
+pub use answers::{Answers, FILE_ANSWERS, LIVE_ANSWERS, answers_are_few};
 pub use fault::{AnswerFault, AnswerRule};

@@ -1,8 +1,8 @@
 //! Searches in the tables of a plan.
 
-ghost use Rattle.std.specs.Prelude.{◌≡◌, ◌<◌, ◌≤◌, ◌^◌, length, IfSome, IfOk, ℕ, Some};
+ghost use Rattle.std.specs.Prelude.{◌≡◌, ◌<◌, ◌≤◌, ◌^◌, bit_or, length, IfSome, IfOk, ℕ, Some};
 ghost use Rattle.std.specs.List.{list_any};
-ghost use Rattle.camac_branch.specs.Plan.{number_of_name, numbered, has_bit, crate_has_bit, is_some_and, bit_of, bit_value, bits_of};
+ghost use Rattle.camac_branch.specs.Plan.{number_of_name, numbered, has_bit, crate_has_bit, is_some_and, bit_value};
 
 use crate::name::TypeName;
 use crate::plan::{Crate, Installed, Kind};
@@ -76,17 +76,6 @@ pub(crate) fn is_in_use(crates: &[Option<Crate>], gl: &Option<GlBit>) -> bool
     }
 }
 
-// The bit of a station in the graded-L pattern.
-fn bit_of(station: &Option<Installed>) -> u32
-    ensures value { result ≡ bit_of station.now }
-    ensures in_range { result < 2 ^ 24 }
-{
-    match station {
-        Some(s) => bit_value(&s.gl),
-        None => 0,
-    }
-}
-
 // The value of a bit of the graded-L pattern.
 fn bit_value(gl: &Option<GlBit>) -> u32
     ensures value { result ≡ bit_value gl.now }
@@ -98,15 +87,11 @@ fn bit_value(gl: &Option<GlBit>) -> u32
     }
 }
 
-// The bits of the stations of a crate in the graded-L pattern.
-pub(crate) fn bits_of(stations: &[Option<Installed>]) -> Word24
-    ensures { result ≡ bits_of stations.now }
+// The word with a bit of the graded-L pattern set.
+pub(crate) fn with_bit(word: Word24, gl: &Option<GlBit>) -> Word24
+    ensures { result ≡ bit_or word (bit_value gl.now) }
 {
-    let mut bits = 0;
-    'stations: for station in stations {
-        bits |= bit_of(station);
-    }
-    match Word24::new(bits) {
+    match Word24::new(word.get() | bit_value(gl)) {
         Some(word) => word,
         None => unreachable!(),
     }

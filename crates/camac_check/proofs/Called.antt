@@ -4,18 +4,19 @@ use Rattle.std.specs.Prelude.{option_map, slice_get}
 use Rattle.std.proofs.lemmas.Option.{slice_get-map, slice_get-get_or, slice_get_past}
 use Rattle.camac_lang.specs.declared.script.Procedure.{Procedure}
 use Rattle.camac_lang.specs.View.{procedure_of}
+use Rattle.camac_check_rules.specs.declared.case.Case.{Case}
 use Rattle.camac_check_rules.specs.declared.rule.CheckRule.{CheckRule}
 use Rattle.camac_check_rules.specs.Fault.{broken}
 use Rattle.camac_check_rules.specs.Refusal.{given}
 
-pub procedure_there : (ps : List Procedure) (i : ℕ) (p : Procedure) (rule : CheckRule) (line : ℕ) → i < length ps → p ≡ get_or ps i p → given (slice_get (map procedure_of ps) i) rule line ≡ Ok (procedure_of p)
+pub procedure_there : (ps : List Procedure) (i : ℕ) (p : Procedure) (rule : CheckRule) (line : ℕ) (case : Case) → i < length ps → p ≡ get_or ps i p → given (slice_get (map procedure_of ps) i) rule line case ≡ Ok (procedure_of p)
 unfolding given
-procedure_there ps i p rule line lt is =
-    ap (λ o. given o rule line) (slice_get-map procedure_of ps i ∙ ap (option_map procedure_of) (slice_get-get_or ps i p lt ∙ ap (λ x. Some x) (sym is)))
+procedure_there ps i p rule line case lt is =
+    ap (λ o. given o rule line case) (slice_get-map procedure_of ps i ∙ ap (option_map procedure_of) (slice_get-get_or ps i p lt ∙ ap (λ x. Some x) (sym is)))
 
-pub no_procedure : (ps : List Procedure) (i : ℕ) (rule : CheckRule) (line : ℕ) → length ps ≤ i → given (slice_get (map procedure_of ps) i) rule line ≡ Err (broken rule line)
+pub no_procedure : (ps : List Procedure) (i : ℕ) (rule : CheckRule) (line : ℕ) (case : Case) → length ps ≤ i → given (slice_get (map procedure_of ps) i) rule line case ≡ Err (broken rule line case)
 unfolding given
-no_procedure ps i rule line le =
-    ap (λ o. given o rule line) (slice_get-map procedure_of ps i ∙ ap (option_map procedure_of) (slice_get_past ps i le))
+no_procedure ps i rule line case le =
+    ap (λ o. given o rule line case) (slice_get-map procedure_of ps i ∙ ap (option_map procedure_of) (slice_get_past ps i le))
 
 pub ruleset procedures_by_number = (procedure_there, no_procedure)

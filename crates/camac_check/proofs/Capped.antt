@@ -12,9 +12,14 @@ use Rattle.camac_branch.specs.Plan.{crate_waits}
 use Rattle.camac_model.specs.Fine.{Bounds, annotated}
 use Rattle.camac_model.specs.Meaning.{fits_size}
 use Rattle.camac_range.specs.Number.{greatest}
+use Rattle.camac_check_rules.specs.declared.case.Case.{Case}
+use Rattle.camac_check_rules.specs.declared.case.Case.TheVariants.{Budget}
+use Rattle.camac_check_rules.specs.Cases.{budget}
+use Rattle.camac_check_rules.specs.declared.case.Body.{Body}
+use Rattle.camac_check_rules.specs.declared.case.Body.TheVariants as body
 use Rattle.camac_check_rules.specs.declared.rule.CheckRule.{CheckRule}
 use Rattle.camac_check_rules.specs.declared.rule.CheckRule.TheVariants.{StationNotInstalled, CommandNotDeclared, ScanCratesDiffer, WrongDirection, ValueTooWide, RegisterUnset, LoopVariableAssigned, CrateUnfit, WordTooWide, KeepFailsAfterTurn, TooManyWords, TooManyCycles, TooManySteps, ArgumentOutOfRange}
-use Rattle.camac_check_rules.specs.Fault.{Fault}
+use Rattle.camac_check_rules.specs.Fault.{Fault, broken}
 use Rattle.camac_check_rules.specs.Refusal.{go_on, required, given, if_reached}
 use Rattle.camac_check_rules.specs.Known.{region_at, Facts}
 use Rattle.camac_check_rules.specs.Joined.{join}
@@ -23,14 +28,14 @@ use Rattle.camac_check_rules.specs.Conditions.{split}
 use Rattle.camac_check_rules.specs.Costs.{costs, no_costs, plus, choice_costs, lock_costs, loop_costs, Verdict, verdict, unreached}
 use Rattle.camac_check_rules.specs.Capped.{capped}
 use Rattle.camac_check_rules.specs.Addresses.{command_widths}
-use Rattle.camac_check_rules.specs.Cycles.{Around, nothing_around, with_locked, may_write, same_class, single_rule}
+use Rattle.camac_check_rules.specs.Cycles.{Around, alone_in, with_locked, may_write, same_class, single_rule}
 use Rattle.camac_check_rules.specs.Loops.{with_fixed, for_limits, for_head, for_after, keeps_hold_after, turns_between, while_head, turn_bound}
 use Rattle.camac_check_rules.specs.Procedures.{ranges_of, arguments_fit, at_entry}
 use Rattle.camac_check_rules.specs.Transfers.{is_one_crate, has_sub_addresses, scan_rule, block_region}
 use Rattle.camac_check_rules.specs.Windows.{window_of, is_installed, is_declared}
 use Rattle.camac_check_rules.specs.Calls.{is_crate, lam_region, lock_rule}
 use Rattle.camac_check_rules.specs.Statements.{greatest_word, accept_statement, accept_block}
-use Rattle.camac_check_rules.specs.Accept.{at_start, within, accept_procedure, accept_service}
+use Rattle.camac_check_rules.specs.Accept.{at_start, own_body, within, accept_procedure, accept_service}
 use Rattle.camac_check_simple.specs.declared.context.Context as code
 use Rattle.camac_check_simple.specs.Gives.{by_code, by_rules}
 
@@ -100,43 +105,43 @@ loop_cut t a = same_costs _ _ _ _ _ _ (scaled t a.cycles (2 ^ 64 - 1)) (scaled t
 
 single_cut : (context : code.Context) (around : Around) (line : ℕ) (size : WordSize) (f r : ℕ) (m : Move) (k : Facts) → single_rule (by_code context) around line size f r m k ≡ cut_all (single_rule (by_rules context) around line size f r m k)
 single_cut context around line size f r no_data k =
-    go_same (given (region_at k.registers r) RegisterUnset line) _ _ (λ g.
+    go_same (given (region_at k.registers r) RegisterUnset line _) _ _ (λ g.
     go_same (command_widths context.plan.now line f g) _ _ (λ w.
-    go_same (required (same_class Control (class_of f)) WrongDirection line) _ _ (λ _. refl)))
+    go_same (required (same_class Control (class_of f)) WrongDirection line _) _ _ (λ _. refl)))
 single_cut context around line size f r (into x) k =
-    go_same (required (may_write around x) LoopVariableAssigned line) _ _ (λ _.
-    go_same (given (region_at k.registers r) RegisterUnset line) _ _ (λ g.
+    go_same (required (may_write around x) LoopVariableAssigned line _) _ _ (λ _.
+    go_same (given (region_at k.registers r) RegisterUnset line _) _ _ (λ g.
     go_same (command_widths context.plan.now line f g) _ _ (λ w.
-    go_same (required (same_class Read (class_of f)) WrongDirection line) _ _ (λ _. refl))))
+    go_same (required (same_class Read (class_of f)) WrongDirection line _) _ _ (λ _. refl))))
 single_cut context around line size f r (from e) k =
     go_same (range_of line e k.ranges) _ _ (λ v.
-    go_same (given (region_at k.registers r) RegisterUnset line) _ _ (λ g.
+    go_same (given (region_at k.registers r) RegisterUnset line _) _ _ (λ g.
     go_same (command_widths context.plan.now line f g) _ _ (λ w.
-    go_same (required (same_class Write (class_of f)) WrongDirection line) _ _ (λ _.
-    go_same (required (nat_lt v.hi (2 ^ w.lo) && fits_size size v.hi) ValueTooWide line) _ _ (λ _. refl)))))
+    go_same (required (same_class Write (class_of f)) WrongDirection line _) _ _ (λ _.
+    go_same (required (nat_lt v.hi (2 ^ w.lo) && fits_size size v.hi) ValueTooWide line _) _ _ (λ _. refl)))))
 
 scan_cut : (context : code.Context) (around : Around) (line f r1 r2 : ℕ) (e : Expression) (x : ℕ) (k : Facts) → scan_rule (by_code context) around line f r1 r2 e x k ≡ cut_all (scan_rule (by_rules context) around line f r1 r2 e x k)
 scan_cut context around line f r1 r2 e x k =
     go_same (range_of line e k.ranges) _ _ (λ most.
-    go_same (required (may_write around x) LoopVariableAssigned line) _ _ (λ _.
-    go_same (given (region_at k.registers r1) RegisterUnset line) _ _ (λ g.
-    go_same (given (region_at k.registers r2) RegisterUnset line) _ _ (λ h.
-    go_same (required (is_one_crate g h) ScanCratesDiffer line) _ _ (λ _.
-    go_same (required (is_installed context.plan.now (window_of g h)) StationNotInstalled line) _ _ (λ _.
-    go_same (required (has_sub_addresses g && (has_sub_addresses h && is_declared context.plan.now f (window_of g h))) CommandNotDeclared line) _ _ (λ _.
-    go_same (required (same_class Read (class_of f)) WrongDirection line) _ _ (λ _. refl))))))))
+    go_same (required (may_write around x) LoopVariableAssigned line _) _ _ (λ _.
+    go_same (given (region_at k.registers r1) RegisterUnset line _) _ _ (λ g.
+    go_same (given (region_at k.registers r2) RegisterUnset line _) _ _ (λ h.
+    go_same (required (is_one_crate g h) ScanCratesDiffer line _) _ _ (λ _.
+    go_same (required (is_installed context.plan.now (window_of g h)) StationNotInstalled line _) _ _ (λ _.
+    go_same (required (has_sub_addresses g && (has_sub_addresses h && is_declared context.plan.now f (window_of g h))) CommandNotDeclared line _) _ _ (λ _.
+    go_same (required (same_class Read (class_of f)) WrongDirection line _) _ _ (λ _. refl))))))))
 
 mutual
   statement_cut : (context : code.Context) (around : Around) (s : Statement) (k : Facts) → accept_statement (by_code context) around s k ≡ cut_all (accept_statement (by_rules context) around s k)
   statement_cut context around (assign line x e) k =
-      go_same (range_of line e k.ranges) _ _ (λ r. go_same (required (may_write around x) LoopVariableAssigned line) _ _ (λ _. refl))
+      go_same (range_of line e k.ranges) _ _ (λ r. go_same (required (may_write around x) LoopVariableAssigned line _) _ _ (λ _. refl))
   statement_cut context around (set_register line r e1 e2 e3) k =
       go_same (range_of line e1 k.ranges) _ _ (λ c. go_same (range_of line e2 k.ranges) _ _ (λ n. go_same (range_of line e3 k.ranges) _ _ (λ a. refl)))
   statement_cut context around (single line size f r m) k = single_cut context around line size f r m k
   statement_cut context around (put line e) k =
-      go_same (range_of line e k.ranges) _ _ (λ r. go_same (required (nat_le r.hi greatest_word) WordTooWide line) _ _ (λ _. refl))
+      go_same (range_of line e k.ranges) _ _ (λ r. go_same (required (nat_le r.hi greatest_word) WordTooWide line _) _ _ (λ _. refl))
   statement_cut context around (crate_call line which e) k =
-      go_same (range_of line e k.ranges) _ _ (λ r. go_same (required (is_crate context.plan.now r) CrateUnfit line) _ _ (λ _. refl))
+      go_same (range_of line e k.ranges) _ _ (λ r. go_same (required (is_crate context.plan.now r) CrateUnfit line _) _ _ (λ _. refl))
   statement_cut context around (address_scan line f r1 r2 max x) k = scan_cut context around line f r1 r2 max x k
   statement_cut context around (q_stop line f r t max x) k =
       go_same (range_of line max k.ranges) _ _ (λ most. go_same (block_region (by_rules context) around line f r t most.hi x k) _ _ (λ g. refl))
@@ -144,7 +149,7 @@ mutual
       go_same (range_of line max k.ranges) _ _ (λ most.
       go_same (range_of line limit k.ranges) _ _ (λ cycles. go_same (block_region (by_rules context) around line f r t most.hi x k) _ _ (λ g. refl)))
   statement_cut context around (lam_call line which l) k =
-      go_same (given (lam_region (by_rules context) l) StationNotInstalled line) _ _ (λ g.
+      go_same (given (lam_region (by_rules context) l) StationNotInstalled line _) _ _ (λ g.
       go_same (command_widths context.plan.now line (lam_function which) g) _ _ (λ w. refl))
   statement_cut context around (choose line test a) k =
       go_same (split line test k) _ _ (λ ways.
@@ -164,15 +169,15 @@ mutual
       go_cut (if_reached unreached (for_head x l keeps body k) (accept_block (by_code context) (with_fixed x around) body)) (if_reached unreached (for_head x l keeps body k) (accept_block (by_rules context) (with_fixed x around) body)) _ _
       (if_reached_cut (for_head x l keeps body k) (accept_block (by_code context) (with_fixed x around) body) (accept_block (by_rules context) (with_fixed x around) body) (λ q. block_cut context (with_fixed x around) body q))
       (λ turn.
-      go_same (required (keeps_hold_after keeps turn.after) KeepFailsAfterTurn line) _ _ (λ _.
+      go_same (required (keeps_hold_after keeps turn.after) KeepFailsAfterTurn line _) _ _ (λ _.
       ap (λ c. Ok (verdict (for_after x l keeps body k) c)) (loop_cut (turns_between l) turn.costs))))
   statement_cut context around (while_ line test most m keeps body) k =
-      go_same (while_head line most m keeps body k) _ _ (λ top.
+      go_same (while_head around.body line most m keeps body k) _ _ (λ top.
       go_same (split line test top) _ _ (λ arms.
       go_cut (if_reached unreached arms.holds (accept_block (by_code context) around body)) (if_reached unreached arms.holds (accept_block (by_rules context) around body)) _ _
       (if_reached_cut arms.holds (accept_block (by_code context) around body) (accept_block (by_rules context) around body) (λ q. block_cut context around body q))
       (λ turn.
-      go_same (required (keeps_hold_after keeps turn.after) KeepFailsAfterTurn line) _ _ (λ _.
+      go_same (required (keeps_hold_after keeps turn.after) KeepFailsAfterTurn line _) _ _ (λ _.
       ap (λ c. Ok (verdict arms.fails c)) (loop_cut (turn_bound arms.holds most) turn.costs)))))
   statement_cut context around (locked line e body) k =
       go_same (lock_rule (by_rules context) around line e k) _ _ (λ c.
@@ -180,8 +185,8 @@ mutual
       (λ inner. ap (λ d. Ok (verdict inner.after d)) (lock_cut (unwrap_or (crate_waits context.plan.now c) 0) inner.costs)))
   statement_cut context around (call line p es) k =
       go_same (ranges_of line es k.ranges) _ _ (λ rs.
-      go_same (given (slice_get (by_rules context).procedures p) ArgumentOutOfRange line) _ _ (λ procedure.
-      go_same (required (arguments_fit rs procedure.parameters) ArgumentOutOfRange line) _ _ (λ _. refl)))
+      go_same (given (slice_get (by_rules context).procedures p) ArgumentOutOfRange line _) _ _ (λ procedure.
+      go_same (required (arguments_fit rs procedure.parameters) ArgumentOutOfRange line _) _ _ (λ _. refl)))
 
   pub block_cut : (context : code.Context) (around : Around) (b : Block) (k : Facts) → accept_block (by_code context) around b k ≡ cut_all (accept_block (by_rules context) around b k)
   block_cut context around done k = refl
@@ -198,35 +203,45 @@ leb_cut n w k h =
     (λ le. le-leb (min n k) w (omega arith) ∙ sym (le-leb n w le))
     (cases_lt w n)
 
-guard_same : {B : Type 0} (b c : Bool) (rule : CheckRule) (line : ℕ) (r q : Result B Fault) → b ≡ c → (c ≡ true → r ≡ q) → go_on (required b rule line) (λ _. r) ≡ go_on (required c rule line) (λ _. q)
+guard_same : {B : Type 0} (b c : Bool) (rule : CheckRule) (line : ℕ) (d e : Case) (r q : Result B Fault) → b ≡ c → d ≡ e → (c ≡ true → r ≡ q) → go_on (required b rule line d) (λ _. r) ≡ go_on (required c rule line e) (λ _. q)
 unfolding go_on required
-guard_same b true rule line r q e h = ap (λ x. go_on (required x rule line) (λ _. r)) e ∙ h refl
-guard_same b false rule line r q e h = ap (λ x. go_on (required x rule line) (λ _. r)) e
+guard_same b true rule line d e r q is same h = ap (λ x. go_on (required x rule line d) (λ _. r)) is ∙ h refl
+guard_same b false rule line d e r q is same h = ap (λ x. go_on (required x rule line d) (λ _. r)) is ∙ ap (λ c. Err (broken rule line c)) same
+
+-- a cost that is cut is told as the cost
+told_cut : (place : Body) (n allowed : ℕ) → budget place (min n (2 ^ 64 - 1)) allowed ≡ budget place n allowed
+told_cut place n allowed =
+    let k : ℕ = 2 ^ 64 - 1 in
+    let same : min (min n k) k ≡ min n k = omega arith in
+    ap (λ m. Budget place m allowed) same
 
 uncut : (n w k : ℕ) → w < k → nat_le n w ≡ true → min n k ≡ n
 uncut n w k h e = let le : n ≤ w = leb-true n w e in omega arith
 
-pub within_cut : (most found : Bounds) (line : ℕ) → most.cycles < 2 ^ 64 - 1 → most.words < 2 ^ 64 - 1 → most.steps < 2 ^ 64 - 1 → within most (capped found) line ≡ within most found line
-within_cut most found line hc hw hs =
+pub within_cut : (place : Body) (most found : Bounds) (line : ℕ) → most.cycles < 2 ^ 64 - 1 → most.words < 2 ^ 64 - 1 → most.steps < 2 ^ 64 - 1 → within place most (capped found) line ≡ within place most found line
+within_cut place most found line hc hw hs =
     let k = 2 ^ 64 - 1 in
-    guard_same (nat_le (min found.words k) most.words) (nat_le found.words most.words) TooManyWords line _ _ (leb_cut found.words most.words k hw) (λ w.
-    guard_same (nat_le (min found.cycles k) most.cycles) (nat_le found.cycles most.cycles) TooManyCycles line _ _ (leb_cut found.cycles most.cycles k hc) (λ c.
-    guard_same (nat_le (min found.steps k) most.steps) (nat_le found.steps most.steps) TooManySteps line _ _ (leb_cut found.steps most.steps k hs) (λ s.
+    guard_same (nat_le (min found.words k) most.words) (nat_le found.words most.words) TooManyWords line _ _ _ _ (leb_cut found.words most.words k hw) (told_cut place found.words most.words) (λ w.
+    guard_same (nat_le (min found.cycles k) most.cycles) (nat_le found.cycles most.cycles) TooManyCycles line _ _ _ _ (leb_cut found.cycles most.cycles k hc) (told_cut place found.cycles most.cycles) (λ c.
+    guard_same (nat_le (min found.steps k) most.steps) (nat_le found.steps most.steps) TooManySteps line _ _ _ _ (leb_cut found.steps most.steps k hs) (told_cut place found.steps most.steps) (λ s.
     ap (λ x. Ok x) (same_costs _ _ _ _ _ _ (uncut found.cycles most.cycles k hc c) (uncut found.words most.words k hw w) (uncut found.steps most.steps k hs s)))))
 
-finish_all : (most : Bounds) (line : ℕ) → most.cycles < 2 ^ 64 - 1 → most.words < 2 ^ 64 - 1 → most.steps < 2 ^ 64 - 1 → (q r : Result Verdict Fault) → q ≡ cut_all r → go_on q (λ v. within most v.costs line) ≡ go_on r (λ v. within most v.costs line)
+finish_all : (place : Body) (most : Bounds) (line : ℕ) → most.cycles < 2 ^ 64 - 1 → most.words < 2 ^ 64 - 1 → most.steps < 2 ^ 64 - 1 → (q r : Result Verdict Fault) → q ≡ cut_all r → go_on q (λ v. within place most v.costs line) ≡ go_on r (λ v. within place most v.costs line)
 unfolding go_on
-finish_all most line hc hw hs q (Ok v) e = ap (λ x. go_on x (λ v. within most v.costs line)) e ∙ within_cut most v.costs line hc hw hs
-finish_all most line hc hw hs q (Err f) e = ap (λ x. go_on x (λ v. within most v.costs line)) e
+finish_all place most line hc hw hs q (Ok v) e = ap (λ x. go_on x (λ v. within place most v.costs line)) e ∙ within_cut place most v.costs line hc hw hs
+finish_all place most line hc hw hs q (Err f) e = ap (λ x. go_on x (λ v. within place most v.costs line)) e
 
 pub service_cut : (context : code.Context) (v : Service) → v.cycles < 2 ^ 64 - 1 → v.words < 2 ^ 64 - 1 → accept_service (by_code context) v ≡ accept_service (by_rules context) v
 service_cut context v hc hw =
-    finish_all (costs v.cycles v.words greatest) v.line hc hw (lit< tt) (accept_block (by_code context) nothing_around v.body at_start) (accept_block (by_rules context) nothing_around v.body at_start)
-    (block_cut context nothing_around v.body at_start)
+    let around : Around = alone_in (body.Service v.lam) in
+    finish_all (body.Service v.lam) (costs v.cycles v.words greatest) v.line hc hw (lit< tt) (accept_block (by_code context) around v.body at_start) (accept_block (by_rules context) around v.body at_start)
+    (block_cut context around v.body at_start)
 
 pub procedure_cut : (context : code.Context) (p : Procedure) → p.cycles < 2 ^ 64 - 1 → p.words < 2 ^ 64 - 1 → p.steps < 2 ^ 64 - 1 → accept_procedure (by_code context) p ≡ accept_procedure (by_rules context) p
 procedure_cut context p hc hw hs =
-    finish_all (annotated p) p.line hc hw hs
-    (if_reached unreached (at_entry p.parameters) (accept_block (by_code context) nothing_around p.body))
-    (if_reached unreached (at_entry p.parameters) (accept_block (by_rules context) nothing_around p.body))
-    (if_reached_cut (at_entry p.parameters) (accept_block (by_code context) nothing_around p.body) (accept_block (by_rules context) nothing_around p.body) (block_cut context nothing_around p.body))
+    let place : Body = own_body (by_rules context) in
+    let around : Around = alone_in place in
+    finish_all place (annotated p) p.line hc hw hs
+    (if_reached unreached (at_entry p.parameters) (accept_block (by_code context) around p.body))
+    (if_reached unreached (at_entry p.parameters) (accept_block (by_rules context) around p.body))
+    (if_reached_cut (at_entry p.parameters) (accept_block (by_code context) around p.body) (accept_block (by_rules context) around p.body) (block_cut context around p.body))

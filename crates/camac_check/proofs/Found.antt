@@ -66,9 +66,9 @@ pub unlinked : {X : Type 0} (view : X → Script) (plan : Layout) (script s0 k :
     → (f ≢ link.OutOfMemory → link_fault plan k ≡ Some f) → Finds view (Err (of_link f)) (least plan script)
 unfolding and_then
 unlinked view plan script s0 k link.OutOfMemory is copy h = tt
-unlinked view plan script s0 k (link.Broken rule line) is copy h =
-    let e : link_fault plan k ≡ Some (link.Broken rule line) = h (λ bad. cc) in
-    let there : link_fault plan (unannotated script) ≡ Some (link.Broken rule line) = ap (link_fault plan) (sym (copy ∙ is)) ∙ e in
+unlinked view plan script s0 k (link.Broken rule line case) is copy h =
+    let e : link_fault plan k ≡ Some (link.Broken rule line case) = h (λ bad. cc) in
+    let there : link_fault plan (unannotated script) ≡ Some (link.Broken rule line case) = ap (link_fault plan) (sym (copy ∙ is)) ∙ e in
     ap (λ o. and_then (linked o) (λ _. and_then (least_from plan (unannotated script) 0 0 0) (λ h. Ok (record (unannotated script) { procedures = h.procedures; services = h.services })))) there
 
 -- where no rule of linking is broken
@@ -130,12 +130,12 @@ is_headed plan script s0 k new u is copy e heads = go (subst (λ s. Heads (least
 
 pub never_unlinked : {X : Type 0} (view : X → Script) (r : Result Script LeastFault) (o : Option LinkFault) (f : LinkFault) → o ≡ None → (f ≢ link.OutOfMemory → o ≡ Some f) → Finds view (Err (of_link f)) r
 never_unlinked view r o link.OutOfMemory e h = tt
-never_unlinked view r o (link.Broken rule line) e h = let bad : o ≡ Some (link.Broken rule line) = h (λ same. cc) in absurd (cc)
+never_unlinked view r o (link.Broken rule line case) e h = let bad : o ≡ Some (link.Broken rule line case) = h (λ same. cc) in absurd (cc)
 
 pub never_refused : {X : Type 0} (view : X → Script) (r : Result Script LeastFault) (plan : Layout) (s : Script) (l : LinkedScript) (f : CheckFault) (ks : List Bounds) → l ≡ record { plan = plan; script = s }
     → accept plan s ≡ Ok ks → Judges l (Err f) → Finds view (Err (of_check f)) r
 never_refused view r plan s l check.OutOfMemory ks is e h = tt
-never_refused view r plan s l (check.Broken rule line) ks is e h =
+never_refused view r plan s l (check.Broken rule line case) ks is e h =
     let there : accept l.plan l.script ≡ Ok ks = ap (λ (x : LinkedScript). accept x.plan x.script) is ∙ e in
     absurd (cc)
 

@@ -5,10 +5,12 @@ use Rattle.std.proofs.lemmas.Bool.{leb-true}
 use Rattle.camac_lang.specs.Scope.{is_well_formed}
 use Rattle.camac_lang.specs.Tree.{Lam, Service, Script}
 use Rattle.camac_branch.specs.Plan.{Layout, IsPlan}
+use Rattle.camac_names.specs.declared.fault.LinkCase.{LinkCase}
+use Rattle.camac_names.specs.declared.fault.LinkCase.TheVariants.{Words}
 use Rattle.camac_names.specs.declared.fault.LinkFault.{LinkFault}
 use Rattle.camac_names.specs.declared.fault.LinkRule.{LinkRule}
 use Rattle.camac_names.specs.declared.fault.LinkRule.TheVariants.{StationWithoutBit, StationServedTwice, EventAboveBuffer}
-use Rattle.camac_names.specs.Link.{unless, lams_fault, lam_bit, is_served, service_fault, served_fault, or_else, services_fault, link_fault}
+use Rattle.camac_names.specs.Link.{unless, place_of, served_by, lams_fault, lam_bit, is_served, service_fault, served_fault, or_else, services_fault, link_fault}
 use Rattle.camac_model.proofs.Headline.{fine_services_run}
 use Rattle.camac_check_rules.specs.Accept.{accept}
 use Rattle.camac_check_rules.specs.Laws.{EventsFit}
@@ -19,18 +21,18 @@ pub or_else_parts : (o p : Option LinkFault) → or_else o p ≡ None → (o ≡
 or_else_parts None p e = (refl, e)
 or_else_parts (Some x) p e = cc
 
-pub unless_parts : (test : Bool) (rule : LinkRule) (line : ℕ) (p : Option LinkFault) → unless test rule line p ≡ None → (test ≡ true) × (p ≡ None)
-unless_parts true rule line p e = (refl, e)
-unless_parts false rule line p e = cc
+pub unless_parts : (test : Bool) (rule : LinkRule) (line : ℕ) (case : LinkCase) (p : Option LinkFault) → unless test rule line case p ≡ None → (test ≡ true) × (p ≡ None)
+unless_parts true rule line case p e = (refl, e)
+unless_parts false rule line case p e = cc
 
 served_fits : (plan : Layout) (lams : List Lam) (earlier : List Service) (v : Service) (o : Option Lam) → served_fault plan lams earlier v o ≡ None → v.words ≤ plan.buffer
 served_fits plan lams earlier v None e = cc
 served_fits plan lams earlier v (Some l) e =
-    let third : Option LinkFault = unless (nat_le v.words plan.buffer) EventAboveBuffer v.line None in
-    let second : Option LinkFault = unless (not (is_served lams l earlier)) StationServedTwice v.line third in
-    let a = unless_parts (is_some (lam_bit plan l)) StationWithoutBit v.line second e in
-    let b = unless_parts (not (is_served lams l earlier)) StationServedTwice v.line third a.1 in
-    let c = unless_parts (nat_le v.words plan.buffer) EventAboveBuffer v.line None b.1 in
+    let third : Option LinkFault = unless (nat_le v.words plan.buffer) EventAboveBuffer v.line (Words v.words plan.buffer) None in
+    let second : Option LinkFault = unless (not (is_served lams l earlier)) StationServedTwice v.line (served_by lams l earlier) third in
+    let a = unless_parts (is_some (lam_bit plan l)) StationWithoutBit v.line (place_of l) second e in
+    let b = unless_parts (not (is_served lams l earlier)) StationServedTwice v.line (served_by lams l earlier) third a.1 in
+    let c = unless_parts (nat_le v.words plan.buffer) EventAboveBuffer v.line (Words v.words plan.buffer) None b.1 in
     leb-true v.words plan.buffer c.0
 
 events_fit : (plan : Layout) (lams : List Lam) (earlier vs : List Service) → services_fault plan lams earlier vs ≡ None → EventsFit plan vs

@@ -11,7 +11,9 @@ use Rattle.camac_check_rules.specs.declared.rule.CheckRule.TheVariants.{TooManyW
 use Rattle.camac_check_rules.specs.Fault.{Fault}
 use Rattle.camac_check_rules.specs.Capped.{capped}
 use Rattle.camac_check_rules.specs.Costs.{Verdict}
-use Rattle.camac_check_rules.specs.Cycles.{nothing_around}
+use Rattle.camac_check_rules.specs.declared.case.Body.{Body}
+use Rattle.camac_check_rules.specs.declared.case.Body.TheVariants as body
+use Rattle.camac_check_rules.specs.Cycles.{Around, alone_in}
 use Rattle.camac_check_rules.specs.Statements.{accept_block}
 use Rattle.camac_check_rules.specs.Accept.{at_start, within}
 use Rattle.camac_check_known.specs.declared.fault.CheckFault.{CheckFault}
@@ -37,29 +39,30 @@ event_cut plan n line =
     (cases_lt greatest n)
 
 -- what follows the body
-abbrev judged : Layout → ℕ → Verdict → Result Bounds LeastFault
-judged plan line v = and_then (event_fits plan v.costs.words line) (λ _. checked (within most v.costs line))
+abbrev judged : Body → Layout → ℕ → Verdict → Result Bounds LeastFault
+judged place plan line v = and_then (event_fits plan v.costs.words line) (λ _. checked (within place most v.costs line))
 
-judged_cut : (plan : Layout) (line : ℕ) (v : Verdict) → judged plan line (cut v) ≡ judged plan line v
-judged_cut plan line v =
-    ap (λ x. and_then x (λ _. checked (within most (capped v.costs) line))) (event_cut plan v.costs.words line)
-    ∙ ap (λ x. and_then (event_fits plan v.costs.words line) (λ _. checked x)) (within_cut most v.costs line (lit< tt) (lit< tt) (lit< tt))
+judged_cut : (place : Body) (plan : Layout) (line : ℕ) (v : Verdict) → judged place plan line (cut v) ≡ judged place plan line v
+judged_cut place plan line v =
+    ap (λ x. and_then x (λ _. checked (within place most (capped v.costs) line))) (event_cut plan v.costs.words line)
+    ∙ ap (λ x. and_then (event_fits plan v.costs.words line) (λ _. checked x)) (within_cut place most v.costs line (lit< tt) (lit< tt) (lit< tt))
 
-finish_needs : (plan : Layout) (line : ℕ) (q r : Result Verdict Fault) → q ≡ cut_all r → and_then (checked q) (judged plan line) ≡ and_then (checked r) (judged plan line)
+finish_needs : (place : Body) (plan : Layout) (line : ℕ) (q r : Result Verdict Fault) → q ≡ cut_all r → and_then (checked q) (judged place plan line) ≡ and_then (checked r) (judged place plan line)
 unfolding and_then
-finish_needs plan line q (Ok v) e = ap (λ x. and_then (checked x) (judged plan line)) e ∙ judged_cut plan line v
-finish_needs plan line q (Err f) e = ap (λ x. and_then (checked x) (judged plan line)) e
+finish_needs place plan line q (Ok v) e = ap (λ x. and_then (checked x) (judged place plan line)) e ∙ judged_cut place plan line v
+finish_needs place plan line q (Err f) e = ap (λ x. and_then (checked x) (judged place plan line)) e
 
 pub needs_cut : (context : code.Context) (v : Service) → service_needs (by_code context) v ≡ service_needs (by_rules context) v
 needs_cut context v =
-    finish_needs context.plan.now v.line (accept_block (by_code context) nothing_around v.body at_start) (accept_block (by_rules context) nothing_around v.body at_start)
-    (block_cut context nothing_around v.body at_start)
+    let around : Around = alone_in (body.Service v.lam) in
+    finish_needs (body.Service v.lam) context.plan.now v.line (accept_block (by_code context) around v.body at_start) (accept_block (by_rules context) around v.body at_start)
+    (block_cut context around v.body at_start)
 
 -- a fault of the checker, and what it allows, seen as what is needed
 pub finds_fault : {X A B : Type 0} (view : X → B) (e : CheckFault) (f : LeastFault) (r : Result A Fault) (next : A → Result B LeastFault) → f ≡ of_check e → Fails e r → Finds view (Err f) (and_then (checked r) next)
 unfolding and_then
 finds_fault view OutOfMemory f r next is h = rw is tt
-finds_fault view (Broken rule line) f r next is h = rw (is, h) refl
+finds_fault view (Broken rule line case) f r next is h = rw (is, h) refl
 
 pub finds_step : {A B : Type 0} (r : Result A LeastFault) (x : A) (next : A → Result B LeastFault) → r ≡ Ok x → and_then r next ≡ next x
 unfolding and_then

@@ -6,20 +6,25 @@ use Rattle.camac_lang.specs.Headings.{annotate_service}
 use Rattle.camac_lang.specs.Tree.{Lam, Procedure, Service, Item, next_table, next_lam, next_variables, next_procedure, next_service, Script}
 use Rattle.camac_range.specs.Number.{greatest}
 use Rattle.camac_branch.specs.Plan.{Layout}
+use Rattle.camac_names.specs.declared.fault.LinkCase.{LinkCase}
+use Rattle.camac_names.specs.declared.fault.LinkCase.TheVariants.{Words}
 use Rattle.camac_names.specs.declared.fault.LinkFault.{LinkFault}
 use Rattle.camac_names.specs.declared.fault.LinkRule.{LinkRule}
 use Rattle.camac_names.specs.declared.fault.LinkRule.TheVariants.{StationWithoutBit, StationServedTwice, EventAboveBuffer}
-use Rattle.camac_names.specs.Link.{unless, lams_fault, lam_bit, is_on, is_served, service_fault, served_fault, or_else, services_fault, link_fault}
+use Rattle.camac_names.specs.Link.{unless, place_of, served_by, lams_fault, lam_bit, is_on, is_served, service_fault, served_fault, or_else, services_fault, link_fault}
 use Rattle.camac_model.specs.Fine.{Bounds}
+use Rattle.camac_check_rules.specs.declared.case.Case.{Case}
+use Rattle.camac_check_rules.specs.declared.case.Body.{Body}
+use Rattle.camac_check_rules.specs.declared.case.Body.TheVariants as body
 use Rattle.camac_check_rules.specs.declared.rule.CheckRule.{CheckRule}
 use Rattle.camac_check_rules.specs.declared.rule.CheckRule.TheVariants.{TooManyWords, TooManyCycles, TooManySteps}
 use Rattle.camac_check_rules.specs.Fault.{Fault, broken}
 use Rattle.camac_check_rules.specs.Refusal.{go_on, required, if_reached}
 use Rattle.camac_check_rules.specs.Costs.{costs, Verdict, unreached}
-use Rattle.camac_check_rules.specs.Cycles.{Context, nothing_around}
+use Rattle.camac_check_rules.specs.Cycles.{Context, alone_in}
 use Rattle.camac_check_rules.specs.Procedures.{at_entry}
 use Rattle.camac_check_rules.specs.Statements.{accept_block}
-use Rattle.camac_check_rules.specs.Accept.{at_start, within, accept_procedure, accept_service, accept_items, with_procedure, bare}
+use Rattle.camac_check_rules.specs.Accept.{at_start, own_body, within, accept_procedure, accept_service, accept_items, with_procedure, bare}
 use Rattle.camac_check.specs.declared.fault.LeastFault.{LeastFault}
 use Rattle.camac_check.specs.declared.fault.LeastFault.TheVariants as fault
 use Rattle.camac_check.specs.Least.{AreHeadings, Headed, and_then, checked, event_fits, least_items, most, needing, procedure_first, procedure_needs, service_first, service_needing, service_needs}
@@ -34,7 +39,7 @@ then_ok (Err g) f y e = absurd (cc)
 
 checked_ok : {A : Type 0} (r : Result A Fault) (x : A) → checked r ≡ Ok x → r ≡ Ok x
 checked_ok (Ok y) x e = let same : y ≡ x = cc in ap (λ z. Ok z) same
-checked_ok (Err (broken rule line)) x e = absurd (cc)
+checked_ok (Err (broken rule line case)) x e = absurd (cc)
 
 go_ok : {A B : Type 0} (r : Result A Fault) (f : A → Result B Fault) (y : B) → go_on r f ≡ Ok y → (x : A) × (r ≡ Ok x) × (f x ≡ Ok y)
 unfolding go_on
@@ -45,14 +50,14 @@ go_is : {A B : Type 0} (r : Result A Fault) (x : A) (f : A → Result B Fault) �
 unfolding go_on
 go_is r x f e = ap (λ q. go_on q f) e
 
-required_ok : (b : Bool) (rule : CheckRule) (line : ℕ) (u : Unit {0}) → required b rule line ≡ Ok u → b ≡ true
+required_ok : (b : Bool) (rule : CheckRule) (line : ℕ) (case : Case) (u : Unit {0}) → required b rule line case ≡ Ok u → b ≡ true
 unfolding required
-required_ok true rule line u e = refl
-required_ok false rule line u e = absurd (cc)
+required_ok true rule line case u e = refl
+required_ok false rule line case u e = absurd (cc)
 
-required_is : (b : Bool) (rule : CheckRule) (line : ℕ) → b ≡ true → required b rule line ≡ Ok tt
+required_is : (b : Bool) (rule : CheckRule) (line : ℕ) (case : Case) → b ≡ true → required b rule line case ≡ Ok tt
 unfolding required
-required_is b rule line e = ap (λ x. required x rule line) e
+required_is b rule line case e = ap (λ x. required x rule line case) e
 
 -- ---- bounds that are the costs
 
@@ -62,33 +67,34 @@ record Within (m found k : Bounds) : Type 0 where
   words : found.words ≤ m.words
   steps : found.steps ≤ m.steps
 
-within_ok : (m found k : Bounds) (line : ℕ) → within m found line ≡ Ok k → Within m found k
-within_ok m found k line e =
-    let a = go_ok (required (nat_le found.words m.words) TooManyWords line) _ k e in
-    let b = go_ok (required (nat_le found.cycles m.cycles) TooManyCycles line) _ k a.2 in
-    let c = go_ok (required (nat_le found.steps m.steps) TooManySteps line) _ k b.2 in
+within_ok : (place : Body) (m found k : Bounds) (line : ℕ) → within place m found line ≡ Ok k → Within m found k
+within_ok place m found k line e =
+    let a = go_ok (required (nat_le found.words m.words) TooManyWords line _) _ k e in
+    let b = go_ok (required (nat_le found.cycles m.cycles) TooManyCycles line _) _ k a.2 in
+    let c = go_ok (required (nat_le found.steps m.steps) TooManySteps line _) _ k b.2 in
     let last : Ok found ≡ Ok k = c.2 in
     record {
       same = sym (cc);
-      cycles = leb-true found.cycles m.cycles (required_ok (nat_le found.cycles m.cycles) TooManyCycles line b.0 b.1);
-      words = leb-true found.words m.words (required_ok (nat_le found.words m.words) TooManyWords line a.0 a.1);
-      steps = leb-true found.steps m.steps (required_ok (nat_le found.steps m.steps) TooManySteps line c.0 c.1);
+      cycles = leb-true found.cycles m.cycles (required_ok (nat_le found.cycles m.cycles) TooManyCycles line _ b.0 b.1);
+      words = leb-true found.words m.words (required_ok (nat_le found.words m.words) TooManyWords line _ a.0 a.1);
+      steps = leb-true found.steps m.steps (required_ok (nat_le found.steps m.steps) TooManySteps line _ c.0 c.1);
     }
 
-within_is : (m found : Bounds) (line : ℕ) → found.cycles ≤ m.cycles → found.words ≤ m.words → found.steps ≤ m.steps → within m found line ≡ Ok found
-within_is m found line hc hw hs =
-    go_is (required (nat_le found.words m.words) TooManyWords line) tt _ (required_is (nat_le found.words m.words) TooManyWords line (le-leb found.words m.words hw))
-    ∙ go_is (required (nat_le found.cycles m.cycles) TooManyCycles line) tt _ (required_is (nat_le found.cycles m.cycles) TooManyCycles line (le-leb found.cycles m.cycles hc))
-    ∙ go_is (required (nat_le found.steps m.steps) TooManySteps line) tt _ (required_is (nat_le found.steps m.steps) TooManySteps line (le-leb found.steps m.steps hs))
+within_is : (place : Body) (m found : Bounds) (line : ℕ) → found.cycles ≤ m.cycles → found.words ≤ m.words → found.steps ≤ m.steps → within place m found line ≡ Ok found
+within_is place m found line hc hw hs =
+    go_is (required (nat_le found.words m.words) TooManyWords line _) tt _ (required_is (nat_le found.words m.words) TooManyWords line _ (le-leb found.words m.words hw))
+    ∙ go_is (required (nat_le found.cycles m.cycles) TooManyCycles line _) tt _ (required_is (nat_le found.cycles m.cycles) TooManyCycles line _ (le-leb found.cycles m.cycles hc))
+    ∙ go_is (required (nat_le found.steps m.steps) TooManySteps line _) tt _ (required_is (nat_le found.steps m.steps) TooManySteps line _ (le-leb found.steps m.steps hs))
 
 procedure_accepted : (c : Context) (p : Procedure) (k : Bounds) → procedure_needs c p ≡ Ok k → accept_procedure c (needing k p) ≡ Ok k
 procedure_accepted c p k e =
-    let body : Result Verdict Fault = if_reached unreached (at_entry p.parameters) (accept_block c nothing_around p.body) in
-    let v = go_ok body (λ v. within most v.costs p.line) k (checked_ok (accept_procedure c (needing most p)) k e) in
-    let is = within_ok most v.0.costs k p.line v.2 in
-    go_is body v.0 (λ v. within k v.costs p.line) v.1
-    ∙ ap (λ b. within k b p.line) (sym is.same)
-    ∙ within_is k k p.line (omega arith) (omega arith) (omega arith)
+    let place : Body = own_body c in
+    let judged : Result Verdict Fault = if_reached unreached (at_entry p.parameters) (accept_block c (alone_in place) p.body) in
+    let v = go_ok judged (λ v. within place most v.costs p.line) k (checked_ok (accept_procedure c (needing most p)) k e) in
+    let is = within_ok place most v.0.costs k p.line v.2 in
+    go_is judged v.0 (λ v. within place k v.costs p.line) v.1
+    ∙ ap (λ b. within place k b p.line) (sym is.same)
+    ∙ within_is place k k p.line (omega arith) (omega arith) (omega arith)
 
 -- what a service needs, and what that says of its event
 record Served (c : Context) (v : Service) (k : Bounds) : Type 0 where
@@ -106,20 +112,21 @@ event_ok plan words line u e = go (nat_le words greatest) (nat_le words plan.buf
 
 service_served : (c : Context) (v : Service) (k : Bounds) → service_needs c v ≡ Ok k → Served c v k
 service_served c v k e =
-    let body : Result Verdict Fault = accept_block c nothing_around v.body at_start in
-    let x = then_ok (checked body) _ k e in
-    let found = checked_ok body x.0 x.1 in
+    let place : Body = body.Service v.lam in
+    let judged : Result Verdict Fault = accept_block c (alone_in place) v.body at_start in
+    let x = then_ok (checked judged) _ k e in
+    let found = checked_ok judged x.0 x.1 in
     let y = then_ok (event_fits c.plan x.0.costs.words v.line) _ k x.2 in
-    let is = within_ok most x.0.costs k v.line (checked_ok (within most x.0.costs v.line) k y.2) in
+    let is = within_ok place most x.0.costs k v.line (checked_ok (within place most x.0.costs v.line) k y.2) in
     let small : x.0.costs.words ≤ c.plan.buffer = event_ok c.plan x.0.costs.words v.line y.0 y.1 in
     let words : k.words ≡ x.0.costs.words = ap (λ b. b.words) is.same in
     let steps : k.steps ≡ x.0.costs.steps = ap (λ b. b.steps) is.same in
     let below : x.0.costs.steps ≤ greatest = is.steps in
     record {
       accepted =
-          go_is body x.0 (λ v'. within (costs k.cycles k.words greatest) v'.costs v.line) found
-          ∙ ap (λ b. within (costs k.cycles k.words greatest) b v.line) (sym is.same)
-          ∙ within_is (costs k.cycles k.words greatest) k v.line (omega arith) (omega arith) (omega (arith, steps, below));
+          go_is judged x.0 (λ v'. within place (costs k.cycles k.words greatest) v'.costs v.line) found
+          ∙ ap (λ b. within place (costs k.cycles k.words greatest) b v.line) (sym is.same)
+          ∙ within_is place (costs k.cycles k.words greatest) k v.line (omega arith) (omega arith) (omega (arith, steps, below));
       words = omega (arith, words, small);
     }
 
@@ -229,20 +236,20 @@ lams_more (x ∷ vs) (y ∷ ws) v w e h =
     let others : lams_of ws ≡ lams_of vs = cc in
     ap (λ n. n ∷ lams_of (ws ++ w ∷ [])) first ∙ ap (λ ns. x.lam ∷ ns) (lams_more vs ws v w others h)
 
-unless_none : (test : Bool) (rule : LinkRule) (line : ℕ) (next : Option LinkFault) → test ≡ true → next ≡ None → unless test rule line next ≡ None
-unless_none test rule line next e n = ap (λ b. unless b rule line next) e ∙ n
+unless_none : (test : Bool) (rule : LinkRule) (line : ℕ) (case : LinkCase) (next : Option LinkFault) → test ≡ true → next ≡ None → unless test rule line case next ≡ None
+unless_none test rule line case next e n = ap (λ b. unless b rule line case next) e ∙ n
 
 relinked_service : (plan : Layout) (lams : List Lam) (earlier earlier' : List Service) (v w : Service) (o : Option Lam) → lams_of earlier' ≡ lams_of earlier → w.words ≤ plan.buffer
     → served_fault plan lams earlier v o ≡ None → served_fault plan lams earlier' w o ≡ None
 relinked_service plan lams earlier earlier' v w None same fits e = absurd (cc)
 relinked_service plan lams earlier earlier' v w (Some l) same fits e =
-    let third : Option LinkFault = unless (nat_le v.words plan.buffer) EventAboveBuffer v.line None in
-    let second : Option LinkFault = unless (not (is_served lams l earlier)) StationServedTwice v.line third in
-    let a = unless_parts (is_some (lam_bit plan l)) StationWithoutBit v.line second e in
-    let b = unless_parts (not (is_served lams l earlier)) StationServedTwice v.line third a.1 in
-    unless_none (is_some (lam_bit plan l)) StationWithoutBit w.line _ a.0
-    (unless_none (not (is_served lams l earlier')) StationServedTwice w.line _ (ap not (same_served lams l earlier earlier' same) ∙ b.0)
-    (unless_none (nat_le w.words plan.buffer) EventAboveBuffer w.line None (le-leb w.words plan.buffer fits) refl))
+    let third : Option LinkFault = unless (nat_le v.words plan.buffer) EventAboveBuffer v.line (Words v.words plan.buffer) None in
+    let second : Option LinkFault = unless (not (is_served lams l earlier)) StationServedTwice v.line (served_by lams l earlier) third in
+    let a = unless_parts (is_some (lam_bit plan l)) StationWithoutBit v.line (place_of l) second e in
+    let b = unless_parts (not (is_served lams l earlier)) StationServedTwice v.line (served_by lams l earlier) third a.1 in
+    unless_none (is_some (lam_bit plan l)) StationWithoutBit w.line _ _ a.0
+    (unless_none (not (is_served lams l earlier')) StationServedTwice w.line _ _ (ap not (same_served lams l earlier earlier' same) ∙ b.0)
+    (unless_none (nat_le w.words plan.buffer) EventAboveBuffer w.line _ None (le-leb w.words plan.buffer fits) refl))
 
 or_else_none : (o p : Option LinkFault) → o ≡ None → p ≡ None → or_else o p ≡ None
 or_else_none o p e n = ap (λ x. or_else x p) e ∙ n

@@ -11,7 +11,8 @@ use Rattle.camac_model.specs.Fine.{Bounds}
 use Rattle.camac_check_rules.specs.declared.rule.CheckRule.TheVariants.{TooManyWords}
 use Rattle.camac_check_rules.specs.Fault.{Fault, broken}
 use Rattle.camac_check_rules.specs.Costs.{costs}
-use Rattle.camac_check_rules.specs.Cycles.{Context, nothing_around}
+use Rattle.camac_check_rules.specs.declared.case.Body.TheVariants as body
+use Rattle.camac_check_rules.specs.Cycles.{Context, alone_in}
 use Rattle.camac_check_rules.specs.Statements.{accept_block}
 use Rattle.camac_check_rules.specs.Accept.{at_start, within, accept_procedure, with_procedure, bare}
 use Rattle.camac_check.specs.Faults.{of_link}
@@ -37,7 +38,7 @@ linked (Some f) = Err (of_link f)
 
 abbrev pub checked : {A : Type 0} → Result A Fault → Result A LeastFault
 checked (Ok x) = Ok x
-checked (Err (broken rule line)) = Err (Check rule line)
+checked (Err (broken rule line case)) = Err (Check rule line)
 
 -- headings with these numbers
 abbrev pub needing : Bounds → Procedure → Procedure
@@ -63,8 +64,8 @@ event_fits plan words line =
 -- what a service needs
 abbrev pub service_needs : Context → Service → Result Bounds LeastFault
 service_needs c v =
-    and_then (checked (accept_block c nothing_around v.body at_start))
-    (λ found. and_then (event_fits c.plan found.costs.words v.line) (λ _. checked (within most found.costs v.line)))
+    and_then (checked (accept_block c (alone_in (body.Service v.lam)) v.body at_start))
+    (λ found. and_then (event_fits c.plan found.costs.words v.line) (λ _. checked (within (body.Service v.lam) most found.costs v.line)))
 
 -- procedures and services
 pub record Headed : Type 0 where

@@ -4,6 +4,7 @@ ghost use Rattle.std.specs.Prelude.{◌≡◌, ◌≤◌, drop, length, map};
 ghost use Rattle.camac_lang.specs.View.{item_of, procedure_of, service_of};
 ghost use Rattle.camac_check_rules.specs.Accept.{within, accept_procedure, accept_service, accept_items, accept};
 ghost use Rattle.camac_lang.specs.Headings.{annotate};
+ghost use Rattle.camac_check_rules.specs.Cases.{budget};
 ghost use Rattle.camac_check_simple.specs.Gives.{Gives, by_code, by_rules, rules_before};
 ghost use Rattle.camac_check.specs.Least.{Finds, event_fits, most, service_needs};
 
@@ -13,7 +14,7 @@ use crate::statement::accept_block;
 use camac_branch::Plan;
 use camac_check_known::{Around, CheckFault, Costs, Facts};
 use camac_check_result::Bounds;
-use camac_check_rules::CheckRule;
+use camac_check_rules::{Body, Case, CheckRule};
 use camac_check_simple::Context;
 use camac_lang::{Item, Procedure, Script, Service};
 use camac_names::LinkRule;
@@ -126,7 +127,8 @@ fn procedure_capped(
 ) -> Result<Bounds, CheckFault>
     ensures { Gives (λ b. b) result (accept_procedure (by_code context.now) (annotate cycles words steps (procedure_of procedure.now))) }
 {
-    let around = Around::nothing(alloc);
+    let body = Body::Procedure(context.procedures.len());
+    let around = Around::alone_in(alloc, body);
     let known = at_entry(alloc, &procedure.parameters)?;
     let found = accept_block(alloc, context, &around, &procedure.body, known)?;
     let most = Bounds {
@@ -134,7 +136,7 @@ fn procedure_capped(
         words,
         steps,
     };
-    within(most, found.costs, procedure.line)
+    within(body, most, found.costs, procedure.line)
 }
 
 // What a service can cost.
@@ -157,7 +159,8 @@ fn accept_capped(
     requires words { words ≡ service.now.words }
     ensures { Gives (λ b. b) result (accept_service (by_code context.now) (service_of service.now)) }
 {
-    let around = Around::nothing(alloc);
+    let body = Body::Service(service.lam);
+    let around = Around::alone_in(alloc, body);
     let known = Facts::at_start(alloc);
     let found = accept_block(alloc, context, &around, &service.body, Some(known))?;
     let most = Bounds {
@@ -165,7 +168,7 @@ fn accept_capped(
         words,
         steps: u32::MAX,
     };
-    within(most, found.costs, service.line)
+    within(body, most, found.costs, service.line)
 }
 
 /// What a service needs, whatever its heading says.
@@ -184,11 +187,12 @@ pub fn service_needs(
 fn needs_capped(alloc: Global, context: &Context, service: &Service) -> Result<Bounds, LeastFault>
     ensures { Finds (λ b. b) result (service_needs (by_code context.now) (service_of service.now)) }
 {
-    let around = Around::nothing(alloc);
+    let body = Body::Service(service.lam);
+    let around = Around::alone_in(alloc, body);
     let known = Facts::at_start(alloc);
     let found = accept_block(alloc, context, &around, &service.body, Some(known))?;
     event_fits(context.plan, found.costs.words(), service.line)?;
-    Ok(within(most(), found.costs, service.line)?)
+    Ok(within(body, most(), found.costs, service.line)?)
 }
 
 // So many words of an event as a number of a heading, and in the plan's buffer.
@@ -223,17 +227,20 @@ fn most() -> Bounds
 
 // The costs of a body within the numbers of its heading, on this line.
 #[tactic(auto, using(camac_check_known::proofs::Steps::steps), unfolding(camac_check_rules::specs::Refusal::go_on, camac_check_rules::specs::Refusal::required))]
-fn within(most: Bounds, found: Costs, line: u32) -> Result<Bounds, CheckFault>
-    ensures { Gives (λ b. b) result (within most found line) }
+fn within(body: Body, most: Bounds, found: Costs, line: u32) -> Result<Bounds, CheckFault>
+    ensures { Gives (λ b. b) result (within body most found line) }
 {
     if found.words() > u64::from(most.words) {
-        return Err(broken(CheckRule::TooManyWords, line));
+        let case = budget(body, found.words(), most.words);
+        return Err(CheckFault::broken(CheckRule::TooManyWords, line, case));
     }
     if found.cycles() > u64::from(most.cycles) {
-        return Err(broken(CheckRule::TooManyCycles, line));
+        let case = budget(body, found.cycles(), most.cycles);
+        return Err(CheckFault::broken(CheckRule::TooManyCycles, line, case));
     }
     if found.steps() > u64::from(most.steps) {
-        return Err(broken(CheckRule::TooManySteps, line));
+        let case = budget(body, found.steps(), most.steps);
+        return Err(CheckFault::broken(CheckRule::TooManySteps, line, case));
     }
     Ok(Bounds {
         cycles: found.cycles() as u32,
@@ -242,8 +249,13 @@ fn within(most: Bounds, found: Costs, line: u32) -> Result<Bounds, CheckFault>
     })
 }
 
-fn broken(rule: CheckRule, line: u32) -> CheckFault
-    ensures { result ≡ CheckFault.Broken rule line }
+// A cost and what is allowed.
+fn budget(body: Body, needed: u64, allowed: u32) -> Case
+    ensures { result ≡ budget body needed allowed }
 {
-    CheckFault::Broken { rule, line }
+    Case::Budget {
+        body,
+        needed,
+        allowed,
+    }
 }

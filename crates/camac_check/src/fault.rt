@@ -36,7 +36,7 @@ impl From<LinkFault> for LeastFault {
     fn from(fault: LinkFault) -> LeastFault {
         match fault {
             LinkFault::OutOfMemory => LeastFault::OutOfMemory,
-            LinkFault::Broken { rule, line } => LeastFault::Link { rule, line },
+            LinkFault::Broken { rule, line, .. } => LeastFault::Link { rule, line },
         }
     }
 }
@@ -47,7 +47,7 @@ impl From<CheckFault> for LeastFault {
     fn from(fault: CheckFault) -> LeastFault {
         match fault {
             CheckFault::OutOfMemory => LeastFault::OutOfMemory,
-            CheckFault::Broken { rule, line } => LeastFault::Check { rule, line },
+            CheckFault::Broken { rule, line, .. } => LeastFault::Check { rule, line },
         }
     }
 }

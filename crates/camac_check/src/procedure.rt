@@ -1,14 +1,14 @@
 // The rules of calls, and where the body of a procedure starts.
 
-ghost use Rattle.std.specs.Prelude.{◌≡◌, IfOk, map, option_map, slice_get, if◌then◌else◌};
+ghost use Rattle.std.specs.Prelude.{◌≡◌, ◌+◌, ◌<◌, ◌^◌, IfOk, length, map, option_map, slice_get, if◌then◌else◌};
 ghost use Rattle.camac_lang.specs.View.{expression_of, parameter_of, procedure_of};
-ghost use Rattle.camac_check_rules.specs.Procedures.{ranges_of, parameter_range, arguments_fit, call_rule, can_be_called, at_entry};
-ghost use Rattle.camac_check_rules.specs.Refusal.{given};
+ghost use Rattle.camac_check_rules.specs.Procedures.{ranges_of, parameter_range, arguments_fit, unfit, call_rule, can_be_called, at_entry};
+ghost use Rattle.camac_check_rules.specs.Refusal.{given, required};
 ghost use Rattle.camac_range.specs.Interval.{is_inside};
 ghost use Rattle.camac_check_simple.specs.Gives.{Gives, by_code, verdict_of};
 
-use camac_check_known::{CheckFault, Costs, Facts, range_of, required};
-use camac_check_rules::CheckRule;
+use camac_check_known::{CheckFault, Costs, Facts, numbers_of, range_of};
+use camac_check_rules::{Case, CheckRule, Numbers};
 use camac_check_simple::{Context, Findings};
 use camac_lang::{Expr, Parameter, Procedure};
 use camac_range::Range;
@@ -28,11 +28,7 @@ pub fn call(
 {
     let ranges = ranges_of(alloc, line, arguments, known.ranges())?;
     let called = procedure_at(context.procedures, procedure, line)?;
-    required(
-        arguments_fit(&ranges, &called.parameters),
-        CheckRule::ArgumentOutOfRange,
-        line,
-    )?;
+    arguments_in_range(procedure, &ranges, &called.parameters, line)?;
     Ok(Findings {
         known: Some(known),
         costs: Costs::of_call(called.cycles, called.words, called.steps),
@@ -67,14 +63,62 @@ fn procedure_at(
     number: usize,
     line: u32,
 ) -> Result<&Procedure, CheckFault>
-    ensures { Gives (λ p. procedure_of p.now) result (given (slice_get (map procedure_of procedures.now) number) CheckRule.ArgumentOutOfRange line) }
+    ensures { Gives (λ p. procedure_of p.now) result (given (slice_get (map procedure_of procedures.now) number) CheckRule.ArgumentOutOfRange line Case.Malformed) }
 {
     match procedures.get(number) {
         Some(procedure) => Ok(procedure),
         None => Err(CheckFault::Broken {
             rule: CheckRule::ArgumentOutOfRange,
             line,
+            case: Case::Malformed,
         }),
+    }
+}
+
+// E21 where an argument is not in the range of its parameter.
+#[tactic(auto, unfolding(camac_check_rules::specs::Refusal::required))]
+fn arguments_in_range(
+    procedure: usize,
+    ranges: &[Range],
+    parameters: &[Parameter],
+    line: u32,
+) -> Result<(), CheckFault>
+    ensures { Gives (λ u. tt) result (required (arguments_fit ranges.now (map parameter_of parameters.now)) CheckRule.ArgumentOutOfRange line (unfit procedure 0 ranges.now (map parameter_of parameters.now))) }
+{
+    if arguments_fit(ranges, parameters) {
+        return Ok(());
+    }
+    Err(CheckFault::broken(
+        CheckRule::ArgumentOutOfRange,
+        line,
+        unfit(procedure, 0, ranges, parameters),
+    ))
+}
+
+// The first argument, from the one of this number on, that is not in the range of its parameter.
+fn unfit(procedure: usize, first: usize, ranges: &[Range], parameters: &[Parameter]) -> Case
+    requires { first + length ranges.now < 2 ^ 64 }
+    ensures { result ≡ unfit procedure first ranges.now (map parameter_of parameters.now) }
+{
+    match ranges {
+        [] => Case::Malformed,
+        [range, others @ ..] => match parameters {
+            [] => Case::Malformed,
+            [parameter, rest @ ..] => {
+                if is_in_range(*range, parameter) {
+                    return unfit(procedure, first + 1, others, rest);
+                }
+                Case::Argument {
+                    procedure,
+                    argument: first,
+                    found: numbers_of(*range),
+                    wanted: Numbers {
+                        low: parameter.low,
+                        high: parameter.high,
+                    },
+                }
+            }
+        },
     }
 }
 

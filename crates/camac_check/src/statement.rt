@@ -12,6 +12,7 @@ ghost use Rattle.camac_lang.specs.Kinds.{is_choice, is_lock, is_for, is_while};
 use crate::procedure::call;
 use camac_check_known::{Around, CheckFault, Costs, Facts, join, split, waits_of};
 use camac_check_loops::{for_limits, keeps_after, turn_bound, while_head};
+use camac_check_rules::Body;
 use camac_check_simple::{
     Context, Findings, cycle_statement, lock_crate, plain_statement, transfer_statement,
 };
@@ -218,7 +219,14 @@ fn accept_for(
     let inside = around.with_fixed(alloc, *variable)?;
     let facts = limits.facts(alloc, *variable, keeps, body, known)?;
     let turn = accept_block(alloc, context, &inside, body, facts.head)?;
-    end_loop(*line, keeps, Some(facts.after), limits.turns(), turn)
+    end_loop(
+        around.body(),
+        *line,
+        keeps,
+        Some(facts.after),
+        limits.turns(),
+        turn,
+    )
 }
 
 // Checks a `while`.
@@ -245,25 +253,27 @@ fn accept_while(
     else {
         unreachable!()
     };
-    let top = while_head(*line, *turns, *measure, keeps, body, known)?;
+    let place = around.body();
+    let top = while_head(place, *line, *turns, *measure, keeps, body, known)?;
     let ways = split(alloc, *line, &test.parts, top)?;
     let most = turn_bound(&ways.holds, *turns);
     let turn = accept_block(alloc, context, around, body, ways.holds)?;
-    end_loop(*line, keeps, ways.fails, u64::from(most), turn)
+    end_loop(place, *line, keeps, ways.fails, u64::from(most), turn)
 }
 
 // What a loop of at most so many turns leaves and costs, where this is known after it and this was found of a turn.
 #[tactic(auto, unfolding(camac_check_rules::specs::Refusal::go_on))]
 fn end_loop(
+    place: Body,
     line: u32,
     keeps: &[Keep],
     after: Option<Facts>,
     turns: u64,
     turn: Findings,
 ) -> Result<Findings, CheckFault>
-    ensures { Gives verdict_of result (loop_end line (map keep_of keeps.now) after turns (verdict_of turn)) }
+    ensures { Gives verdict_of result (loop_end place line (map keep_of keeps.now) after turns (verdict_of turn)) }
 {
-    keeps_after(keeps, &turn.known, line)?;
+    keeps_after(place, keeps, &turn.known, line)?;
     Ok(Findings {
         known: after,
         costs: turn.costs.in_loop(turns),

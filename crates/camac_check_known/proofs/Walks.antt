@@ -1,6 +1,6 @@
 -- Walks over ranges, a number at a time, and what there is not where no crate is.
 use Rattle.std.proofs.Common.{◌≡◌, ℕ, zero, suc, ◌+◌, ◌-◌, ◌<◌, ◌≤◌, Bool, true, false, ◌∷◌, length, map, Option, Some, None, Result, Ok, Err, refl, ap, ◌∙◌, subst, ⊎_elim, arith}
-use Rattle.std.specs.Prelude.{IfOk, ◌&&◌, min, max, nat_lt, option_map, unwrap_or, if◌then◌else◌}
+use Rattle.std.specs.Prelude.{is_none, IfOk, ◌&&◌, min, max, nat_lt, option_map, unwrap_or, if◌then◌else◌}
 use Rattle.std.specs.List.{range_with_len}
 use Rattle.std.proofs.lemmas.Bool.{cond_both, cases_lt}
 use Rattle.std.proofs.lemmas.List.{get_or_past}
@@ -10,8 +10,9 @@ use Rattle.camac_branch.specs.Address.{address}
 use Rattle.camac_branch.specs.Allowed.{allowed, widths, AllowsCommands}
 use Rattle.camac_branch.specs.Plan.{Layout, IsPlan, crate_waits}
 use Rattle.camac_check_rules.specs.Known.{Region}
-use Rattle.camac_check_rules.specs.Walks.{count_below, all_from, greatest_from, hull_with, hull_from}
+use Rattle.camac_check_rules.specs.Walks.{count_below, all_from, first_failing, greatest_from, hull_with, hull_from}
 use Rattle.camac_check_rules.specs.Addresses.{crate_end, station_end, sub_address_end, in_plan, are_stations_in, station_widths, crate_widths, region_widths}
+use Rattle.camac_check_rules.specs.declared.case.Case.{Case}
 use Rattle.camac_check_rules.specs.declared.rule.CheckRule.{CheckRule}
 use Rattle.camac_check_rules.specs.Refusal.{given}
 use Rattle.camac_check_known.specs.declared.fault.CheckFault.{CheckFault}
@@ -24,13 +25,21 @@ longer k end h = omega arith
 none_left : (k end : ℕ) → end ≤ k → end - k ≡ 0
 none_left k end h = omega arith
 
-pub all_done : (test : ℕ → Bool) (k end : ℕ) → end ≤ k → all_from test k (end - k) ≡ true
-all_done test k end h = ap (all_from test k) (none_left k end h)
+pub first_done : (test : ℕ → Bool) (k end : ℕ) → end ≤ k → first_failing test k (end - k) ≡ None
+first_done test k end h = ap (first_failing test k) (none_left k end h)
 
-pub all_more : (test : ℕ → Bool) (k end : ℕ) → k < end → all_from test k (end - k) ≡ (test k && all_from test (k + 1) (end - (k + 1)))
-all_more test k end h = ap (all_from test k) (longer k end h)
+pub first_more : (test : ℕ → Bool) (k end : ℕ) → k < end → first_failing test k (end - k) ≡ (if test k then first_failing test (k + 1) (end - (k + 1)) else Some k)
+first_more test k end h = ap (first_failing test k) (longer k end h)
 
-pub ruleset all_steps = (all_done, all_more)
+pub ruleset first_steps = (first_done, first_more)
+
+-- a test holds of all where it fails of none
+pub all_found : (test : ℕ → Bool) (k n : ℕ) → all_from test k n ≡ is_none (first_failing test k n)
+all_found test k zero = refl
+all_found test k (suc n) =
+    cond_both (test k) (first_failing test (k + 1) n) (Some k) (λ o. (test k && all_from test (k + 1) n) ≡ is_none o)
+    (λ e. ap (λ b. b && all_from test (k + 1) n) e ∙ all_found test (k + 1) n)
+    (λ e. ap (λ b. b && all_from test (k + 1) n) e)
 
 pub greatest_done : (value : ℕ → ℕ) (k end : ℕ) → end ≤ k → greatest_from value k (end - k) ≡ 0
 greatest_done value k end h = ap (greatest_from value k) (none_left k end h)
@@ -101,6 +110,19 @@ none_outside plan (suc i) is out =
     ap (λ o. unwrap_or (option_map (λ k. k.waits) o) 0) (get_or_past plan.crates i None past))
     (cases_lt i 7)
 
+-- no command is allowed where there is no crate or no station
+not_allowed : (plan : Layout) → AllowsCommands plan → (c n a f : ℕ) → ((1 ≤ c) × ((c ≤ 7) × (n < 32)) → ⊥) → allowed plan (address c n a) f ≡ None
+not_allowed plan allows c n a f out = go (allowed plan (address c n a) f) refl
+  where
+    go : (o : Option ℕ) → allowed plan (address c n a) f ≡ o → o ≡ None
+    go None e = refl
+    go (Some w) e = let at = allows (address c n a) f w e in absurd (out (at.crate_from_1, (at.crate_to_7, at.station)))
+
+pub none_declared : (plan : Layout) (f : ℕ) (subs : Interval) (c n : ℕ) → AllowsCommands plan → ((1 ≤ c) × ((c ≤ 7) × (n < 32)) → ⊥) → station_widths plan f subs c n ≡ None
+none_declared plan f subs c n allows out =
+    cond_both (nat_lt subs.hi sub_address_end) (option_map (λ w. interval w.0 w.1) (widths plan c n f subs.lo subs.hi)) None (λ o. o ≡ None)
+    (λ e. ap (option_map (λ w. interval w.0 w.1)) (no_least (λ a. allowed plan (address c n a) f) (subs.hi + 1 - subs.lo) subs.lo (λ a. not_allowed plan allows c n a f out))) (λ e. refl)
+
 -- the least width is not above the greatest
 pub widths_ordered : (plan : Layout) (c n f first last least greatest : ℕ) → widths plan c n f first last ≡ Some (least, greatest) → first ≤ last → least ≤ greatest
 widths_ordered plan c n f first last least greatest e h =
@@ -159,8 +181,8 @@ region_small plan allows f g w e =
     (λ n s k. station_small plan allows f g.sub_addresses c n s k) is) e
 
 -- what is given of something small is small
-pub given_small : (o : Option Interval) (r : Result Interval CheckFault) (rule : CheckRule) (line : ℕ) → Gives (λ w. w) r (given o rule line) → ((w : Interval) → o ≡ Some w → w.hi ≤ 24) → IfOk r (λ w. w.hi ≤ 24)
+pub given_small : (o : Option Interval) (r : Result Interval CheckFault) (rule : CheckRule) (line : ℕ) (case : Case) → Gives (λ w. w) r (given o rule line case) → ((w : Interval) → o ≡ Some w → w.hi ≤ 24) → IfOk r (λ w. w.hi ≤ 24)
 unfolding given
-given_small None (Ok w) rule line g h = cc
-given_small (Some v) (Ok w) rule line g h = let same : v ≡ w = cc in h w (ap (λ x. Some x) same)
-given_small o (Err e) rule line g h = tt
+given_small None (Ok w) rule line case g h = cc
+given_small (Some v) (Ok w) rule line case g h = let same : v ≡ w = cc in h w (ap (λ x. Some x) same)
+given_small o (Err e) rule line case g h = tt

@@ -2,24 +2,27 @@
 
 ghost use Rattle.std.specs.Prelude.{◌≡◌, ◌<◌, ◌≤◌, ◌-◌, ◌+◌, min, is_some, unwrap_or, IfOk, IfSome};
 ghost use Rattle.camac_branch.specs.Plan.{IsPlan, crate_waits};
-ghost use Rattle.camac_check_rules.specs.Walks.{all_from, greatest_from, hull_from};
-ghost use Rattle.camac_check_rules.specs.Addresses.{crate_end, station_end, in_plan, is_station, all_in, are_stations_in, are_stations, station_widths, crate_widths, region_widths, command_widths, waits_in, cycle_cost};
+ghost use Rattle.camac_check_rules.specs.Walks.{first_failing, greatest_from, hull_from};
+ghost use Rattle.camac_check_rules.specs.Addresses.{crate_end, station_end, in_plan, is_station, all_in, are_stations_in, are_stations, station_widths, crate_widths, region_widths, missing, undeclared, command_widths, waits_in, cycle_cost};
+ghost use Rattle.camac_check_rules.specs.Refusal.{required, given};
+ghost use Rattle.camac_check_rules.specs.declared.rule.CheckRule.TheVariants.{StationNotInstalled, CommandNotDeclared};
 ghost use Rattle.camac_check_rules.specs.Calls.{is_crate};
 ghost use Rattle.camac_check_known.specs.Gives.{Gives};
 
 use crate::around::Around;
-use crate::fault::{CheckFault, given, required};
+use crate::fault::CheckFault;
 use crate::known::Region;
+use crate::missing::{missing, undeclared};
 use camac_branch::Plan;
 use camac_check_rules::CheckRule;
 use camac_range::Range;
 use camac_word::{CrateNo, Function, Station, SubAddress};
 
-const CRATE_END: u32 = 8;
+pub(crate) const CRATE_END: u32 = 8;
 
-const STATION_END: u32 = 32;
+pub(crate) const STATION_END: u32 = 32;
 
-const SUB_ADDRESS_END: u32 = 16;
+pub(crate) const SUB_ADDRESS_END: u32 = 16;
 
 /// The least and the greatest width of a command at the addresses of a region. E1 where one of them is not installed, and else E2 where one
 /// does not declare the command.
@@ -29,12 +32,34 @@ pub fn command_widths(plan: &Plan, line: u32, f: Function, g: Region) -> Result<
     ensures in_range { IfOk result (λ r. r.hi ≤ 24) }
 {
     plan.allows_commands();
-    required(are_stations(plan, g), CheckRule::StationNotInstalled, line)?;
-    given(
-        region_widths(plan, f, g),
-        CheckRule::CommandNotDeclared,
-        line,
-    )
+    installed(plan, line, g)?;
+    declared_widths(plan, line, f, g)
+}
+
+// Refuses where a station of the region is not installed.
+#[tactic(auto, unfolding(camac_check_rules::specs::Refusal::required))]
+fn installed(plan: &Plan, line: u32, g: Region) -> Result<(), CheckFault>
+    ensures { Gives (λ u. tt) result (required (are_stations plan.now g) StationNotInstalled line (missing plan.now g)) }
+{
+    if are_stations(plan, g) {
+        return Ok(());
+    }
+    Err(CheckFault::broken(CheckRule::StationNotInstalled, line, missing(plan, g)))
+}
+
+// Refuses where an address of the region has not the command.
+#[tactic(auto, unfolding(camac_check_rules::specs::Refusal::given))]
+fn declared_widths(plan: &Plan, line: u32, f: Function, g: Region) -> Result<Range, CheckFault>
+    ensures { Gives (λ r. r) result (given (region_widths plan.now f g) CommandNotDeclared line (undeclared plan.now f g)) }
+{
+    match region_widths(plan, f, g) {
+        Some(widths) => Ok(widths),
+        None => Err(CheckFault::broken(
+            CheckRule::CommandNotDeclared,
+            line,
+            undeclared(plan, f, g),
+        )),
+    }
 }
 
 /// The most that one cycle in some crate of a range costs, with those of auxiliary controllers before it.
@@ -53,7 +78,7 @@ pub fn is_crate(plan: &Plan, crates: Range) -> bool
 }
 
 #[tactic(auto, using(crate::proofs::Walks::no_crate))]
-fn is_in_plan(plan: &Plan, c: u32) -> bool
+pub(crate) fn is_in_plan(plan: &Plan, c: u32) -> bool
     requires { c < 8 }
     ensures { result ≡ in_plan plan.now c }
 {
@@ -64,7 +89,7 @@ fn is_in_plan(plan: &Plan, c: u32) -> bool
 }
 
 // The end of the numbers of a range that are below an end.
-fn end_of(range: Range, end: u32) -> u32
+pub(crate) fn end_of(range: Range, end: u32) -> u32
     ensures end { result ≡ min (range.hi + 1) end }
     ensures below { result ≤ end }
 {
@@ -75,28 +100,32 @@ fn end_of(range: Range, end: u32) -> u32
     }
 }
 
+#[tactic(auto, using(crate::proofs::Walks::all_found))]
 fn are_stations(plan: &Plan, g: Region) -> bool
     ensures { result ≡ are_stations plan.now g }
 {
     let crates = g.crates();
     crates.hi() < CRATE_END
-        && crates_from(plan, g.stations(), crates.lo(), end_of(crates, CRATE_END))
+        && crate_without(plan, g.stations(), crates.lo(), end_of(crates, CRATE_END)).is_none()
 }
 
-// Whether all these crates have the stations.
-#[tactic(auto, using(crate::proofs::Walks::all_steps))]
-fn crates_from(plan: &Plan, stations: Range, c: u32, end: u32) -> bool
+// The first of these crates that has not all of the stations.
+#[tactic(auto, using(crate::proofs::Walks::first_steps))]
+pub(crate) fn crate_without(plan: &Plan, stations: Range, c: u32, end: u32) -> Option<u32>
     requires { end ≤ 8 }
-    ensures { result ≡ all_from (are_stations_in plan.now stations) c (end - c) }
+    ensures { result ≡ first_failing (are_stations_in plan.now stations) c (end - c) }
 {
     if c >= end {
-        return true;
+        return None;
     }
-    are_stations_in(plan, stations, c) && crates_from(plan, stations, c + 1, end)
+    if are_stations_in(plan, stations, c) {
+        return crate_without(plan, stations, c + 1, end);
+    }
+    Some(c)
 }
 
 // Whether a crate has all stations of a range.
-#[tactic(auto, using(crate::proofs::Walks::not_there))]
+#[tactic(auto, using(crate::proofs::Walks::not_there, crate::proofs::Walks::all_found))]
 fn are_stations_in(plan: &Plan, stations: Range, c: u32) -> bool
     requires { c < 8 }
     ensures { result ≡ are_stations_in plan.now stations c }
@@ -106,19 +135,22 @@ fn are_stations_in(plan: &Plan, stations: Range, c: u32) -> bool
     };
     plan.waits(crate_no).is_some()
         && stations.hi() < STATION_END
-        && stations_from(plan, crate_no, stations.lo(), end_of(stations, STATION_END))
+        && station_missing(plan, crate_no, stations.lo(), end_of(stations, STATION_END)).is_none()
 }
 
-// Whether all these stations of a crate are there.
-#[tactic(auto, using(crate::proofs::Walks::all_steps))]
-fn stations_from(plan: &Plan, c: CrateNo, n: u32, end: u32) -> bool
+// The first of these stations of a crate that is not there.
+#[tactic(auto, using(crate::proofs::Walks::first_steps))]
+pub(crate) fn station_missing(plan: &Plan, c: CrateNo, n: u32, end: u32) -> Option<u32>
     requires { end ≤ 32 }
-    ensures { result ≡ all_from (is_station plan.now c) n (end - n) }
+    ensures { result ≡ first_failing (is_station plan.now c) n (end - n) }
 {
     if n >= end {
-        return true;
+        return None;
     }
-    is_station(plan, c, n) && stations_from(plan, c, n + 1, end)
+    if is_station(plan, c, n) {
+        return station_missing(plan, c, n + 1, end);
+    }
+    Some(n)
 }
 
 /// Whether a station has a module, or the controller answers for it.
@@ -158,7 +190,7 @@ fn crate_widths_from(plan: &Plan, f: Function, g: Region, c: u32, end: u32) -> O
 
 // The widths in a crate.
 #[tactic(auto, using(crate::proofs::Walks::no_widths))]
-fn crate_widths(plan: &Plan, f: Function, g: Region, c: u32) -> Option<Range>
+pub(crate) fn crate_widths(plan: &Plan, f: Function, g: Region, c: u32) -> Option<Range>
     requires { c < 8 }
     ensures { result ≡ crate_widths plan.now f g.sub_addresses g.stations c }
 {

@@ -2,15 +2,17 @@
 
 ghost use Rattle.std.specs.Prelude.{◌≡◌, IfOk};
 ghost use Rattle.camac_check_rules.specs.Addresses.{is_among};
-ghost use Rattle.camac_check_rules.specs.Cycles.{nothing_around, with_locked, may_write};
+ghost use Rattle.camac_check_rules.specs.Cycles.{alone_in, with_locked, may_write};
 ghost use Rattle.camac_check_rules.specs.Loops.{with_fixed};
 
+use camac_check_rules::Body;
 use std::alloc::{AllocError, Global};
 use std::marker::Model;
 
-/// The variables of the `for` loops around, and the crates that are locked there.
+/// The body, the variables of the `for` loops around, and the crates that are locked there.
 #[derive(Drop)]
 pub struct Around {
+    body: Body,
     fixed: Vec<usize>,
     locked: Vec<u32>,
 }
@@ -20,14 +22,16 @@ impl Model for Around {
 
     ghost Value = { Surroundings };
 
-    ghost view = { λ a. record { fixed = a.fixed.items; locked = a.locked.items } };
+    ghost view = { λ a. record { body = a.body; fixed = a.fixed.items; locked = a.locked.items } };
 }
 
 impl Around {
-    pub fn nothing(alloc: Global) -> Self
-        ensures { result ≡ nothing_around }
+    /// Nothing stands around the statements of a body itself.
+    pub fn alone_in(alloc: Global, body: Body) -> Self
+        ensures { result ≡ alone_in body }
     {
         Around {
+            body,
             fixed: Vec::new(alloc),
             locked: Vec::new(alloc),
         }
@@ -40,6 +44,7 @@ impl Around {
         let mut locked = Vec::from_slice(alloc, &self.locked)?;
         locked.insert(0, crate_no)?;
         Ok(Around {
+            body: self.body,
             fixed: Vec::from_slice(alloc, &self.fixed)?,
             locked,
         })
@@ -52,9 +57,17 @@ impl Around {
         let mut fixed = Vec::from_slice(alloc, &self.fixed)?;
         fixed.insert(0, variable)?;
         Ok(Around {
+            body: self.body,
             fixed,
             locked: Vec::from_slice(alloc, &self.locked)?,
         })
+    }
+
+    /// The body that is judged.
+    pub fn body(&self) -> Body
+        ensures { result ≡ self.now.body }
+    {
+        self.body
     }
 
     /// Whether a statement may write a variable.

@@ -1,15 +1,25 @@
 // Why a script is refused.
 
 ghost use Rattle.std.specs.Prelude.{◌≡◌};
-ghost use Rattle.camac_check_rules.specs.Refusal.{required, given};
-ghost use Rattle.camac_check_rules.specs.declared.rule.CheckRule.TheVariants.{ValueOutOfRange};
-ghost use Rattle.camac_check_known.specs.declared.fault.CheckFault.TheVariants.{OutOfMemory};
+ghost use Rattle.camac_check_rules.specs.Refusal.{required};
+ghost use Rattle.camac_check_known.specs.declared.fault.CheckFault.TheVariants.{OutOfMemory, Broken};
 ghost use Rattle.camac_check_known.specs.Gives.{Gives};
+ghost use Rattle.camac_check_rules.specs.Cases.{numbers_of};
 
-use camac_check_rules::CheckRule;
+use camac_check_rules::{Case, CheckRule, Numbers};
 use camac_range::Range;
 use std::alloc::{AllocError, AllocFailed};
 use thiserror::Error;
+
+/// The numbers of a range.
+pub fn numbers_of(range: Range) -> Numbers
+    ensures { result ≡ numbers_of range }
+{
+    Numbers {
+        low: range.lo(),
+        high: range.hi(),
+    }
+}
 
 /// The first rule that a script breaks, with the line of the first token of the statement or heading that breaks it (own).
 #[derive(Clone, Copy, Debug, PartialEq, Eq, Error)]
@@ -18,7 +28,11 @@ pub enum CheckFault {
     #[error("memory")]
     OutOfMemory,
     #[error("line {line}: {rule:?}")]
-    Broken { rule: CheckRule, line: u32 },
+    Broken {
+        rule: CheckRule,
+        line: u32,
+        case: Case,
+    },
 }
 
 impl From<AllocError> for CheckFault {
@@ -37,25 +51,23 @@ impl<T: Drop> From<AllocFailed<T>> for CheckFault {
     }
 }
 
-/// Refuses by a rule on this line, unless its test holds.
+impl CheckFault {
+    /// A rule that is broken on this line, in this case.
+    pub fn broken(rule: CheckRule, line: u32, case: Case) -> CheckFault
+        ensures { result ≡ Broken rule line case }
+    {
+        CheckFault::Broken { rule, line, case }
+    }
+}
+
+/// Refuses by a rule on this line, in this case, unless its test holds.
 #[tactic(auto, unfolding(camac_check_rules::specs::Refusal::required))]
-pub fn required(test: bool, rule: CheckRule, line: u32) -> Result<(), CheckFault>
-    ensures { Gives (λ u. tt) result (required test rule line) }
+pub fn required(test: bool, rule: CheckRule, line: u32, case: Case) -> Result<(), CheckFault>
+    ensures { Gives (λ u. tt) result (required test rule line case) }
 {
     if test {
         Ok(())
     } else {
-        Err(CheckFault::Broken { rule, line })
-    }
-}
-
-/// The range that is given, or refuses by a rule on this line.
-#[tactic(auto, unfolding(camac_check_rules::specs::Refusal::given))]
-pub fn given(range: Option<Range>, rule: CheckRule, line: u32) -> Result<Range, CheckFault>
-    ensures { Gives (λ r. r) result (given range rule line) }
-{
-    match range {
-        Some(range) => Ok(range),
-        None => Err(CheckFault::Broken { rule, line }),
+        Err(CheckFault::broken(rule, line, case))
     }
 }

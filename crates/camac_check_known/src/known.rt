@@ -1,7 +1,7 @@
 // What the checker knows where a statement begins.
 
-ghost use Rattle.std.specs.Prelude.{◌≡◌, ◌≤◌, IfOk, OnOk, None};
-ghost use Rattle.camac_range.specs.Interval.{interval, only};
+ghost use Rattle.std.specs.Prelude.{◌≡◌, ◌≤◌, IfOk, OnOk, OnErr};
+ghost use Rattle.camac_range.specs.Interval.{interval};
 ghost use Rattle.camac_check_rules.specs.Joined.{join_region, join_facts};
 ghost use Rattle.camac_check_rules.specs.Known.{write, region, facts, range_at, region_at, with_range, with_region};
 ghost use Rattle.camac_check_rules.specs.Writes.{forget_variable, forget_register};
@@ -146,7 +146,7 @@ impl Facts {
         ensures { IfOk result (λ k. k ≡ with_range variable range self) }
     {
         let mut facts = self;
-        set_range(&mut facts.ranges, variable, range)?;
+        put_at(&mut facts.ranges, variable, range, Range::only(0))?;
         Ok(facts)
     }
 
@@ -155,22 +155,25 @@ impl Facts {
         ensures { IfOk result (λ k. k ≡ with_region register region self) }
     {
         let mut facts = self;
-        set_register(&mut facts.registers, register, Some(region))?;
+        put_at(&mut facts.registers, register, Some(region), None)?;
         Ok(facts)
     }
 
-    /// Leaves any number in a variable. All else stays.
+    /// Leaves any number in a variable. All else stays, and all of it where memory runs out.
     pub fn forget_variable(&mut self, variable: usize) -> Result<(), AllocError>
-        ensures { OnOk result (self.new ≡ forget_variable variable self.old) }
+        ensures ok { OnOk result (self.new ≡ forget_variable variable self.old) }
+        ensures err { OnErr result (self.new ≡ self.old) }
     {
-        set_range(&mut self.ranges, variable, between(0, u32::MAX))
+        let any = between(0, u32::MAX);
+        put_at(&mut self.ranges, variable, any, Range::only(0))
     }
 
-    /// From here on a register may be unset. All else stays.
+    /// From here on a register may be unset. All else stays, and all of it where memory runs out.
     pub fn forget_register(&mut self, register: usize) -> Result<(), AllocError>
-        ensures { OnOk result (self.new ≡ forget_register register self.old) }
+        ensures ok { OnOk result (self.new ≡ forget_register register self.old) }
+        ensures err { OnErr result (self.new ≡ self.old) }
     {
-        set_register(&mut self.registers, register, None)
+        put_at(&mut self.registers, register, None, None)
     }
 }
 
@@ -194,27 +197,18 @@ pub fn range_in(ranges: &[Range], variable: usize) -> Range
     }
 }
 
-fn set_range(ranges: &mut Vec<Range>, variable: usize, range: Range) -> Result<(), AllocError>
-    ensures ok { OnOk result (ranges.new.items ≡ write (only 0) ranges.old.items variable range) }
+// Puts a value at a place. The list grows where it is too short.
+fn put_at<T: Copy>(items: &mut Vec<T>, place: usize, value: T, filler: T) -> Result<(), AllocError>
+    ensures ok { OnOk result (items.new.items ≡ write filler items.old.items place value) }
+    ensures err { OnErr result (items.new.items ≡ items.old.items) }
 {
-    'places: while ranges.len() <= variable {
-        ranges.push(Range::only(0))?;
+    let Some(end) = place.checked_add(1) else {
+        return Err(AllocError);
+    };
+    if items.len() < end {
+        items.resize(end, filler)?;
     }
-    ranges[variable] = range;
-    Ok(())
-}
-
-fn set_register(
-    registers: &mut Vec<Option<Region>>,
-    register: usize,
-    region: Option<Region>,
-) -> Result<(), AllocError>
-    ensures ok { OnOk result (registers.new.items ≡ write None registers.old.items register region) }
-{
-    'places: while registers.len() <= register {
-        registers.push(None)?;
-    }
-    registers[register] = region;
+    items[place] = value;
     Ok(())
 }
 

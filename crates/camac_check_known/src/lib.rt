@@ -9,12 +9,14 @@ mod expression;
 mod fault;
 mod joined;
 mod known;
+mod missing;
 
 pub use address::{command_widths, cycle_cost, is_crate, is_station, station_widths, waits_of};
 pub use around::Around;
 pub use condition::{Branches, sole_variable, split};
 pub use cost::Costs;
 pub use expression::range_of;
-pub use fault::{CheckFault, given, required};
+pub use fault::{CheckFault, numbers_of, required};
 pub use joined::join;
 pub use known::{Facts, Region, between, range_in};
+pub use missing::{is_declared, not_installed, undeclared_at};

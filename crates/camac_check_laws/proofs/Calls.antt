@@ -129,7 +129,7 @@ module _ (plan : Layout) (script : Script) (ks : List Bounds) (is : IsPlan plan)
         in
         let both : SameRoutine guarded_body body = subst (λ o. BothSame (Some guarded_body) o) there (subst (λ o. BothSame o (slice_get (context plan script).routines j)) there' alike) in
         both n (entered vs s)
-        (sound_right plan (called outside) sound.after (annotated p) (entered vs s) (guarded_body n (entered vs s)) (sound.each n le outside vs inside small s (λ c. refl)));
+        (sound_right plan (called sound.body outside) sound.after (annotated p) (entered vs s) (guarded_body n (entered vs s)) (sound.each n le outside vs inside small s (λ c. refl)));
     runs = runs_same;
     right = λ n le answers.
         let safe : RunsSafely plan script ks = fine_services_run plan script ks (accepted_fine plan script ks is formed e) in

@@ -1,5 +1,5 @@
 -- With lower numbers in the headings of its procedures each statement and block is judged the same, and costs no more.
-use Rattle.std.proofs.Common.{◌≡◌, ℕ, zero, suc, List, [], ◌∷◌, map, Option, Some, None, Result, Ok, refl, ap, subst}
+use Rattle.std.proofs.Common.{length, ◌≡◌, ℕ, zero, suc, List, [], ◌∷◌, map, Option, Some, None, Result, Ok, refl, ap, subst}
 use Rattle.std.specs.Prelude.{slice_get, take, unwrap_or}
 use Rattle.camac_lang.specs.declared.word.WordSize.{WordSize}
 use Rattle.camac_lang.specs.Headings.{annotate}
@@ -9,13 +9,14 @@ use Rattle.camac_branch.specs.Plan.{crate_waits}
 use Rattle.camac_model.specs.Fine.{annotated}
 use Rattle.camac_check_rules.specs.declared.rule.CheckRule.TheVariants.{KeepFailsAfterTurn, ArgumentOutOfRange}
 use Rattle.camac_check_rules.specs.Fault.{Fault}
+use Rattle.camac_check_rules.specs.declared.case.Case.TheVariants.{Malformed}
 use Rattle.camac_check_rules.specs.Refusal.{go_on, required, given, if_reached}
 use Rattle.camac_check_rules.specs.Known.{Facts}
 use Rattle.camac_check_rules.specs.Conditions.{split}
 use Rattle.camac_check_rules.specs.Costs.{no_costs, call_costs, Verdict, verdict, unreached}
 use Rattle.camac_check_rules.specs.Cycles.{Context, Around, with_locked, single_rule}
 use Rattle.camac_check_rules.specs.Loops.{with_fixed, for_limits, for_head, keeps_hold_after, turns_between, while_head, turn_bound}
-use Rattle.camac_check_rules.specs.Procedures.{ranges_of, arguments_fit}
+use Rattle.camac_check_rules.specs.Procedures.{ranges_of, arguments_fit, unfit}
 use Rattle.camac_check_rules.specs.Calls.{lock_rule}
 use Rattle.camac_check_rules.specs.Statements.{accept_statement, accept_block}
 use Rattle.camac_check_rules.specs.Accept.{bare}
@@ -52,23 +53,30 @@ got (p ∷ ps) [] h i = absurd h
 got (p ∷ ps) (q ∷ qs) (first, others) zero = first
 got (p ∷ ps) (q ∷ qs) (first, others) (suc i) = got ps qs others i
 
--- the end of the rule of a call, by the heading that was found
-abbrev called : ℕ → List Interval → Facts → Option Procedure → Result Verdict Fault
-called line rs k o =
-    go_on (given o ArgumentOutOfRange line) (λ procedure.
-    go_on (required (arguments_fit rs procedure.parameters) ArgumentOutOfRange line) (λ _. Ok (verdict (Some k) (call_costs (annotated procedure)))))
+-- there are as many
+pub as_many : (ps qs : List Procedure) → AreLower ps qs → length ps ≡ length qs
+as_many [] [] h = refl
+as_many [] (q ∷ qs) h = absurd h
+as_many (p ∷ ps) [] h = absurd h
+as_many (p ∷ ps) (q ∷ qs) (first, others) = ap suc (as_many ps qs others)
 
-called_lower : (line : ℕ) (rs : List Interval) (k : Facts) (o o' : Option Procedure) → BothLower o o' → CostsAtMost (called line rs k o) (called line rs k o')
+-- the end of the rule of a call, by the heading that was found
+abbrev called : ℕ → ℕ → List Interval → Facts → Option Procedure → Result Verdict Fault
+called line number rs k o =
+    go_on (given o ArgumentOutOfRange line Malformed) (λ procedure.
+    go_on (required (arguments_fit rs procedure.parameters) ArgumentOutOfRange line (unfit number 0 rs procedure.parameters)) (λ _. Ok (verdict (Some k) (call_costs (annotated procedure)))))
+
+called_lower : (line number : ℕ) (rs : List Interval) (k : Facts) (o o' : Option Procedure) → BothLower o o' → CostsAtMost (called line number rs k o) (called line number rs k o')
 unfolding go_on given
-called_lower line rs k None None h = refl
-called_lower line rs k None (Some q) h = absurd h
-called_lower line rs k (Some p) None h = absurd h
-called_lower line rs k (Some p) (Some q) h =
+called_lower line number rs k None None h = refl
+called_lower line number rs k None (Some q) h = absurd h
+called_lower line number rs k (Some p) None h = absurd h
+called_lower line number rs k (Some p) (Some q) h =
     let parameters : p.parameters ≡ q.parameters = ap (λ (x : Procedure). x.parameters) h.same in
     subst
-    (λ xs. CostsAtMost (called line rs k (Some p)) (go_on (required (arguments_fit rs xs) ArgumentOutOfRange line) (λ _. Ok (verdict (Some k) (call_costs (annotated q))))))
+    (λ xs. CostsAtMost (called line number rs k (Some p)) (go_on (required (arguments_fit rs xs) ArgumentOutOfRange line (unfit number 0 rs xs)) (λ _. Ok (verdict (Some k) (call_costs (annotated q))))))
     parameters
-    (go_same (required (arguments_fit rs p.parameters) ArgumentOutOfRange line) (λ _. Ok (verdict (Some k) (call_costs (annotated p)))) (λ _. Ok (verdict (Some k) (call_costs (annotated q))))
+    (go_same (required (arguments_fit rs p.parameters) ArgumentOutOfRange line (unfit number 0 rs p.parameters)) (λ _. Ok (verdict (Some k) (call_costs (annotated p)))) (λ _. Ok (verdict (Some k) (call_costs (annotated q))))
     (λ _. (refl, call_grown (annotated p) (annotated q) h.numbers)))
 
 single_lower : (c : Context) (ps qs : List Procedure) (around : Around) (line : ℕ) (size : WordSize) (f r : ℕ) (m : Move) (k : Facts) → CostsAtMost (single_rule (calling c ps) around line size f r m k) (single_rule (calling c qs) around line size f r m k)
@@ -104,19 +112,19 @@ mutual
       go_same (for_limits around line x e1 e2 keeps k) _ _ (λ l.
       go_grown (if_reached unreached (for_head x l keeps body k) (accept_block (calling c ps) (with_fixed x around) body)) (if_reached unreached (for_head x l keeps body k) (accept_block (calling c qs) (with_fixed x around) body)) _ _
       (if_reached_grown (for_head x l keeps body k) (accept_block (calling c ps) (with_fixed x around) body) (accept_block (calling c qs) (with_fixed x around) body) (λ q. block_lower c ps qs h (with_fixed x around) body q))
-      (λ after a b turn. go_same (required (keeps_hold_after keeps after) KeepFailsAfterTurn line) _ _ (λ _. (refl, loop_grown (turns_between l) a b turn))))
+      (λ after a b turn. go_same (required (keeps_hold_after keeps after) KeepFailsAfterTurn line _) _ _ (λ _. (refl, loop_grown (turns_between l) a b turn))))
   statement_lower c ps qs h around (while_ line test most m keeps body) k =
-      go_same (while_head line most m keeps body k) _ _ (λ top.
+      go_same (while_head around.body line most m keeps body k) _ _ (λ top.
       go_same (split line test top) _ _ (λ arms.
       go_grown (if_reached unreached arms.holds (accept_block (calling c ps) around body)) (if_reached unreached arms.holds (accept_block (calling c qs) around body)) _ _
       (if_reached_grown arms.holds (accept_block (calling c ps) around body) (accept_block (calling c qs) around body) (λ q. block_lower c ps qs h around body q))
-      (λ after a b turn. go_same (required (keeps_hold_after keeps after) KeepFailsAfterTurn line) _ _ (λ _. (refl, loop_grown (turn_bound arms.holds most) a b turn)))))
+      (λ after a b turn. go_same (required (keeps_hold_after keeps after) KeepFailsAfterTurn line _) _ _ (λ _. (refl, loop_grown (turn_bound arms.holds most) a b turn)))))
   statement_lower c ps qs h around (locked line e body) k =
       go_same (lock_rule (calling c ps) around line e k) _ _ (λ n.
       go_grown (accept_block (calling c ps) (with_locked n around) body k) (accept_block (calling c qs) (with_locked n around) body k) _ _ (block_lower c ps qs h (with_locked n around) body k)
       (λ after a b inner. (refl, lock_grown (unwrap_or (crate_waits c.plan n) 0) a b inner)))
   statement_lower c ps qs h around (call line p es) k =
-      go_same (ranges_of line es k.ranges) _ _ (λ rs. called_lower line rs k (slice_get ps p) (slice_get qs p) (got ps qs h p))
+      go_same (ranges_of line es k.ranges) _ _ (λ rs. called_lower line p rs k (slice_get ps p) (slice_get qs p) (got ps qs h p))
 
   pub block_lower : (c : Context) (ps qs : List Procedure) → AreLower ps qs → (around : Around) (b : Block) (k : Facts) → CostsAtMost (accept_block (calling c ps) around b k) (accept_block (calling c qs) around b k)
   block_lower c ps qs h around done k = (refl, itself no_costs)

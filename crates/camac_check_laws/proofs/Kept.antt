@@ -13,9 +13,11 @@ use Rattle.camac_model.specs.Meaning.{arguments, entered, block_meaning}
 use Rattle.camac_model.specs.Run.{service_meaning}
 use Rattle.camac_model.specs.Fine.{Bounds, most_turns, IsOfAnswers, annotated, AreFine}
 use Rattle.camac_check_rules.specs.Known.{Known}
-use Rattle.camac_check_rules.specs.Cycles.{nothing_around}
+use Rattle.camac_check_rules.specs.declared.case.Body.{Body}
+use Rattle.camac_check_rules.specs.declared.case.Body.TheVariants as body
+use Rattle.camac_check_rules.specs.Cycles.{alone_in}
 use Rattle.camac_check_rules.specs.Statements.{accept_block}
-use Rattle.camac_check_rules.specs.Accept.{at_start, accept_procedure, accept_service, accept_items}
+use Rattle.camac_check_rules.specs.Accept.{at_start, own_body, accept_procedure, accept_service, accept_items}
 use Rattle.camac_check_rules.proofs.Allows.{Allows, allowed, then_allowed, required_allowed, for_each, allowed_more}
 use Rattle.camac_check_rules.proofs.Stores.{Place, Inside}
 use Rattle.camac_check_rules.proofs.Sound.{Sound, SoundFor}
@@ -32,9 +34,10 @@ use Rattle.camac_check_laws.proofs.Guarded.{IsRight}
 -- a guarded body keeps to its heading too
 guarded_sound : (plan : Layout) (q : Procedure) (run : ℕ → Action) → RoutineSound plan q run → RoutineSound plan q (guarded q.parameters run)
 guarded_sound plan q run h = record {
+  body = h.body;
   after = h.after;
   each = λ n le outside vs inside small s locks.
-      with_test plan (called outside) h.after (annotated q) (entered vs s) (entered vs s) (begins_in_ranges q.parameters (arguments vs)) (run n) (guard_holds vs q.parameters inside)
+      with_test plan (called h.body outside) h.after (annotated q) (entered vs s) (entered vs s) (begins_in_ranges q.parameters (arguments vs)) (run n) (guard_holds vs q.parameters inside)
       (h.each n le outside vs inside small s locks);
 }
 
@@ -47,11 +50,11 @@ zero_within : IsWithin (only 0) 0
 zero_within = record { low = omega arith; high = omega arith }
 
 -- where a service runs, and what is known at its start
-abbrev outermost : Place
-outermost = called (λ c. false)
+abbrev outermost : Body → Place
+outermost body = called body (λ c. false)
 
-start_inside : (b : Branch) (answers : List Answer) → Inside outermost at_start (fresh b answers)
-start_inside b answers = record {
+start_inside : (body : Body) (b : Branch) (answers : List Answer) → Inside (outermost body) at_start (fresh b answers)
+start_inside body b answers = record {
   variables = record { each = λ x. zero_within; small = λ x. omega arith };
   registers = λ r. tt;
   locks = λ c. refl;
@@ -99,21 +102,21 @@ module _ (plan : Layout) (script : Script) (narrow : HasWidths plan) where
 
   service_kept : (done : List Procedure) → Serves (setting plan script all done) → (v : Service) → Allows (accept_service (seen (setting plan script all done)) v) (λ k. IsKept plan script v)
   service_kept done serves v =
-      then_allowed (block_sound (setting plan script all done) narrow serves outermost v.body (λ e c. refl) at_start) (λ found h.
-      required_allowed _ v.line (λ words.
-      required_allowed _ v.line (λ cycles.
-      required_allowed _ v.line (λ steps.
+      then_allowed (block_sound (setting plan script all done) narrow serves (outermost (body.Service v.lam)) v.body (λ e c. refl) at_start) (λ found h.
+      required_allowed _ v.line _ (λ words.
+      required_allowed _ v.line _ (λ cycles.
+      required_allowed _ v.line _ (λ steps.
       allowed (λ n le b answers.
-      sound_right plan outermost found.after found.costs (fresh b answers) (service_meaning (guarded_context plan script) n v b answers) (h.each n le (fresh b answers) (start_inside b answers)))))))
+      sound_right plan (outermost (body.Service v.lam)) found.after found.costs (fresh b answers) (service_meaning (guarded_context plan script) n v b answers) (h.each n le (fresh b answers) (start_inside (body.Service v.lam) b answers)))))))
 
   procedure_kept : (rs : List (ℕ → Action)) (done : List Procedure) → Matched plan rs done → (p : Procedure) → block_has_lock p.body ≡ false → Allows (accept_procedure (seen (setting plan script rs done)) p) (λ found. RoutineSound plan p (guarded p.parameters (λ n. block_meaning (of (setting plan script rs done)) n p.body)))
   procedure_kept rs done m p free =
       let c : Setting = setting plan script rs done in
       let run : ℕ → Action = λ n. block_meaning (of c) n p.body in
       allowed_more
-      (routine_sound plan p run (accept_block (seen c) nothing_around p.body) (λ k.
-      for_each (λ outside. Unit {0}) (λ outside v. SoundFor plan (called outside) (Some k) run v) (λ outside u.
-      block_sound c narrow (serves_own plan script rs done m) (called outside) p.body (λ e. absurd (false≢true (sym free ∙ e))) k)))
+      (routine_sound plan (own_body (seen c)) p run (accept_block (seen c) (alone_in (own_body (seen c))) p.body) (λ k.
+      for_each (λ outside. Unit {0}) (λ outside v. SoundFor plan (called (own_body (seen c)) outside) (Some k) run v) (λ outside u.
+      block_sound c narrow (serves_own plan script rs done m) (called (own_body (seen c)) outside) p.body (λ e. absurd (false≢true (sym free ∙ e))) k)))
       (λ found h. guarded_sound plan p run h)
 
   none_left : (rs : List (ℕ → Action)) (done ps : List Procedure) → Matched plan rs done → guarded_routines (bare_with plan script rs) ps ≡ all → 0 ≡ length ps → Matched plan all (done ++ ps)

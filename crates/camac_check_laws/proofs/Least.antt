@@ -12,11 +12,13 @@ use Rattle.camac_model.specs.Fine.{Bounds, annotated}
 use Rattle.camac_check_rules.specs.Fault.{Fault}
 use Rattle.camac_check_rules.specs.Refusal.{go_on, if_reached}
 use Rattle.camac_check_rules.specs.Costs.{costs, Verdict, unreached}
-use Rattle.camac_check_rules.specs.Cycles.{Context, nothing_around}
+use Rattle.camac_check_rules.specs.declared.case.Body.{Body}
+use Rattle.camac_check_rules.specs.declared.case.Body.TheVariants as body
+use Rattle.camac_check_rules.specs.Cycles.{Context, Around, alone_in}
 use Rattle.camac_check_rules.specs.Laws.{EventsFit}
 use Rattle.camac_check_rules.specs.Procedures.{at_entry}
 use Rattle.camac_check_rules.specs.Statements.{accept_block}
-use Rattle.camac_check_rules.specs.Accept.{at_start, within, accept_procedure, accept_service, with_procedure, accept_items, bare, accept}
+use Rattle.camac_check_rules.specs.Accept.{at_start, own_body, within, accept_procedure, accept_service, with_procedure, accept_items, bare, accept}
 use Rattle.camac_check_result.specs.Checked.{CheckedScript}
 use Rattle.camac_check.specs.Least.{Finds, Headed, and_then, checked, event_fits, least, least_items, least_unannotated, linked, most, needing, procedure_first, procedure_needs, service_first, service_needing, service_needs}
 use Rattle.camac_check.specs.declared.fault.LeastFault.{LeastFault}
@@ -26,7 +28,7 @@ use Rattle.camac_check_laws.specs.Lower.{AtMost, ProcedureAtMost, ServiceAtMost,
 use Rattle.camac_check_laws.specs.Least.{LeastAreLeast, RefusedHaveNone, AnswersAtMost, CheckedHaveLeast}
 use Rattle.camac_check_laws.proofs.Costs.{if_reached_grown}
 use Rattle.camac_check_laws.proofs.Emptied.{emptied_linked}
-use Rattle.camac_check_laws.proofs.Grown.{IsLower, AreLower, calling, block_lower}
+use Rattle.camac_check_laws.proofs.Grown.{IsLower, AreLower, as_many, calling, block_lower}
 use Rattle.camac_check_laws.proofs.Steps.{go_ok, go_is, then_is, within_ok, within_is, event_is, lower_ok}
 
 -- ---- a procedure, and a service
@@ -45,20 +47,23 @@ record Fits (plan : Layout) (v : Service) : Type 0 where
 procedure_least : (c : Context) (low own : List Procedure) → AreLower low own → (p : Procedure) (found : Bounds) → AreNumbers p → accept_procedure (calling c own) p ≡ Ok found
     → (k : Bounds) × (procedure_needs (calling c low) (annotate 0 0 0 p) ≡ Ok k) × AtMost k (annotated p)
 procedure_least c low own h p found numbers e =
-    let body : Result Verdict Fault = if_reached unreached (at_entry p.parameters) (accept_block (calling c own) nothing_around p.body) in
-    let lower : Result Verdict Fault = if_reached unreached (at_entry p.parameters) (accept_block (calling c low) nothing_around p.body) in
-    let v = go_ok body (λ v. within (annotated p) v.costs p.line) found e in
-    let inside = within_ok (annotated p) v.0.costs found p.line v.2 in
+    let place : Body = own_body (calling c own) in
+    let around : Around = alone_in place in
+    let judged : Result Verdict Fault = if_reached unreached (at_entry p.parameters) (accept_block (calling c own) around p.body) in
+    let lower : Result Verdict Fault = if_reached unreached (at_entry p.parameters) (accept_block (calling c low) around p.body) in
+    let v = go_ok judged (λ v. within place (annotated p) v.costs p.line) found e in
+    let inside = within_ok place (annotated p) v.0.costs found p.line v.2 in
     let w =
-    lower_ok lower body
-    (if_reached_grown (at_entry p.parameters) (accept_block (calling c low) nothing_around p.body) (accept_block (calling c own) nothing_around p.body)
-    (block_lower c low own h nothing_around p.body))
+    lower_ok lower judged
+    (if_reached_grown (at_entry p.parameters) (accept_block (calling c low) around p.body) (accept_block (calling c own) around p.body)
+    (block_lower c low own h around p.body))
     v.0 v.1 in
     let below = w.2 in (
       w.0.costs,
       ap checked
-          (go_is lower w.0 (λ v. within most v.costs p.line) w.1
-          ∙ within_is most w.0.costs p.line (record {
+          (ap (λ n. go_on (if_reached unreached (at_entry p.parameters) (accept_block (calling c low) (alone_in (body.Procedure n)) p.body)) (λ v. within (body.Procedure n) most v.costs p.line)) (as_many low own h)
+          ∙ go_is lower w.0 (λ v. within place most v.costs p.line) w.1
+          ∙ within_is place most w.0.costs p.line (record {
             cycles = omega (arith, below.cycles, inside.cycles, numbers.cycles);
             words = omega (arith, below.words, inside.words, numbers.words);
             steps = omega (arith, below.steps, inside.steps, numbers.steps);
@@ -73,18 +78,20 @@ procedure_least c low own h p found numbers e =
 service_least : (c : Context) (low own : List Procedure) → AreLower low own → (v : Service) (found : Bounds) → Fits c.plan v → accept_service (calling c own) v ≡ Ok found
     → (k : Bounds) × (service_needs (calling c low) (annotate_service 0 0 v) ≡ Ok k) × AtMost k (costs v.cycles v.words greatest)
 service_least c low own h v found fits e =
-    let body : Result Verdict Fault = accept_block (calling c own) nothing_around v.body at_start in
-    let lower : Result Verdict Fault = accept_block (calling c low) nothing_around v.body at_start in
-    let u = go_ok body (λ u. within (costs v.cycles v.words greatest) u.costs v.line) found e in
-    let inside = within_ok (costs v.cycles v.words greatest) u.0.costs found v.line u.2 in
-    let w = lower_ok lower body (block_lower c low own h nothing_around v.body at_start) u.0 u.1 in
+    let place : Body = body.Service v.lam in
+    let around : Around = alone_in place in
+    let judged : Result Verdict Fault = accept_block (calling c own) around v.body at_start in
+    let lower : Result Verdict Fault = accept_block (calling c low) around v.body at_start in
+    let u = go_ok judged (λ u. within place (costs v.cycles v.words greatest) u.costs v.line) found e in
+    let inside = within_ok place (costs v.cycles v.words greatest) u.0.costs found v.line u.2 in
+    let w = lower_ok lower judged (block_lower c low own h around v.body at_start) u.0 u.1 in
     let below = w.2 in (
       w.0.costs,
-      then_is (checked lower) w.0 (λ found. and_then (event_fits c.plan found.costs.words v.line) (λ _. checked (within most found.costs v.line))) (ap checked w.1)
-          ∙ then_is (event_fits c.plan w.0.costs.words v.line) tt (λ _. checked (within most w.0.costs v.line))
+      then_is (checked lower) w.0 (λ found. and_then (event_fits c.plan found.costs.words v.line) (λ _. checked (within place most found.costs v.line))) (ap checked w.1)
+          ∙ then_is (event_fits c.plan w.0.costs.words v.line) tt (λ _. checked (within place most w.0.costs v.line))
           (event_is c.plan w.0.costs.words v.line (omega (arith, below.words, inside.words, fits.words)) (omega (arith, below.words, inside.words, fits.buffer)))
           ∙ ap checked
-          (within_is most w.0.costs v.line (record {
+          (within_is place most w.0.costs v.line (record {
             cycles = omega (arith, below.cycles, inside.cycles, fits.cycles);
             words = omega (arith, below.words, inside.words, fits.words);
             steps = omega (arith, below.steps, inside.steps);

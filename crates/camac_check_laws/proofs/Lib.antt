@@ -8,3 +8,11 @@ pub mod Guards
 pub mod Kept
 pub mod Calls
 mod CallRows
+mod Refused
+pub mod ShownHeadings
+pub mod ShownArguments
+pub mod ShownExpressions
+pub mod ShownTurns
+pub mod ShownAddresses
+pub mod ShownWindows
+pub mod Places

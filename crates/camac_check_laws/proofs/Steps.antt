@@ -9,6 +9,8 @@ use Rattle.camac_model.specs.Fine.{Bounds}
 use Rattle.camac_check_rules.specs.declared.rule.CheckRule.{CheckRule}
 use Rattle.camac_check_rules.specs.declared.rule.CheckRule.TheVariants.{TooManyWords, TooManyCycles, TooManySteps}
 use Rattle.camac_check_rules.specs.Fault.{Fault}
+use Rattle.camac_check_rules.specs.declared.case.Body.{Body}
+use Rattle.camac_check_rules.specs.declared.case.Case.{Case}
 use Rattle.camac_check_rules.specs.Refusal.{go_on, required}
 use Rattle.camac_check_rules.specs.Costs.{Verdict}
 use Rattle.camac_check_rules.specs.Accept.{within}
@@ -31,31 +33,31 @@ pub then_is : {A B : Type 0} (r : Result A LeastFault) (x : A) (f : A → Result
 unfolding and_then
 then_is r x f e = ap (λ q. and_then q f) e
 
-required_ok : (b : Bool) (rule : CheckRule) (line : ℕ) (u : Unit {0}) → required b rule line ≡ Ok u → b ≡ true
+required_ok : (b : Bool) (rule : CheckRule) (line : ℕ) (case : Case) (u : Unit {0}) → required b rule line case ≡ Ok u → b ≡ true
 unfolding required
-required_ok true rule line u e = refl
-required_ok false rule line u e = absurd (cc)
+required_ok true rule line case u e = refl
+required_ok false rule line case u e = absurd (cc)
 
-required_is : (b : Bool) (rule : CheckRule) (line : ℕ) → b ≡ true → required b rule line ≡ Ok tt
+required_is : (b : Bool) (rule : CheckRule) (line : ℕ) (case : Case) → b ≡ true → required b rule line case ≡ Ok tt
 unfolding required
-required_is b rule line e = ap (λ x. required x rule line) e
+required_is b rule line case e = ap (λ x. required x rule line case) e
 
-pub within_ok : (m found k : Bounds) (line : ℕ) → within m found line ≡ Ok k → AtMost found m
-within_ok m found k line e =
-    let a = go_ok (required (nat_le found.words m.words) TooManyWords line) _ k e in
-    let b = go_ok (required (nat_le found.cycles m.cycles) TooManyCycles line) _ k a.2 in
-    let c = go_ok (required (nat_le found.steps m.steps) TooManySteps line) _ k b.2 in
+pub within_ok : (place : Body) (m found k : Bounds) (line : ℕ) → within place m found line ≡ Ok k → AtMost found m
+within_ok place m found k line e =
+    let a = go_ok (required (nat_le found.words m.words) TooManyWords line _) _ k e in
+    let b = go_ok (required (nat_le found.cycles m.cycles) TooManyCycles line _) _ k a.2 in
+    let c = go_ok (required (nat_le found.steps m.steps) TooManySteps line _) _ k b.2 in
     record {
-      cycles = leb-true found.cycles m.cycles (required_ok (nat_le found.cycles m.cycles) TooManyCycles line b.0 b.1);
-      words = leb-true found.words m.words (required_ok (nat_le found.words m.words) TooManyWords line a.0 a.1);
-      steps = leb-true found.steps m.steps (required_ok (nat_le found.steps m.steps) TooManySteps line c.0 c.1);
+      cycles = leb-true found.cycles m.cycles (required_ok (nat_le found.cycles m.cycles) TooManyCycles line _ b.0 b.1);
+      words = leb-true found.words m.words (required_ok (nat_le found.words m.words) TooManyWords line _ a.0 a.1);
+      steps = leb-true found.steps m.steps (required_ok (nat_le found.steps m.steps) TooManySteps line _ c.0 c.1);
     }
 
-pub within_is : (m found : Bounds) (line : ℕ) → AtMost found m → within m found line ≡ Ok found
-within_is m found line h =
-    go_is (required (nat_le found.words m.words) TooManyWords line) tt _ (required_is (nat_le found.words m.words) TooManyWords line (le-leb found.words m.words h.words))
-    ∙ go_is (required (nat_le found.cycles m.cycles) TooManyCycles line) tt _ (required_is (nat_le found.cycles m.cycles) TooManyCycles line (le-leb found.cycles m.cycles h.cycles))
-    ∙ go_is (required (nat_le found.steps m.steps) TooManySteps line) tt _ (required_is (nat_le found.steps m.steps) TooManySteps line (le-leb found.steps m.steps h.steps))
+pub within_is : (place : Body) (m found : Bounds) (line : ℕ) → AtMost found m → within place m found line ≡ Ok found
+within_is place m found line h =
+    go_is (required (nat_le found.words m.words) TooManyWords line _) tt _ (required_is (nat_le found.words m.words) TooManyWords line _ (le-leb found.words m.words h.words))
+    ∙ go_is (required (nat_le found.cycles m.cycles) TooManyCycles line _) tt _ (required_is (nat_le found.cycles m.cycles) TooManyCycles line _ (le-leb found.cycles m.cycles h.cycles))
+    ∙ go_is (required (nat_le found.steps m.steps) TooManySteps line _) tt _ (required_is (nat_le found.steps m.steps) TooManySteps line _ (le-leb found.steps m.steps h.steps))
 
 pub event_is : (plan : Layout) (words line : ℕ) → words ≤ greatest → words ≤ plan.buffer → event_fits plan words line ≡ Ok tt
 event_is plan words line number fits =

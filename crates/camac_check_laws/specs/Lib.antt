@@ -2,3 +2,8 @@ pub mod Lower
 pub mod Grow
 pub mod Least
 pub mod Calls
+pub mod Shown
+pub mod ShownExpressions
+pub mod ShownAddresses
+pub mod ShownWindows
+pub mod Places

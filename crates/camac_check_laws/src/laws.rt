@@ -1,8 +1,13 @@
-// What holds of headings and calls, each law as the contract of a function that does nothing.
+// What holds of headings, of calls and of refusals, each law as the contract of a function that does nothing.
 
 ghost use Rattle.camac_check_laws.specs.Calls.{AcceptedCallsKeep, CallsKeepToRanges, GuardsOnlyStop, GuardsStop};
 ghost use Rattle.camac_check_laws.specs.Grow.{CostsGrow};
 ghost use Rattle.camac_check_laws.specs.Least.{CheckedHaveLeast, LeastAreLeast, RefusedHaveNone};
+ghost use Rattle.camac_check_laws.specs.Places.{RegistersHaveAddresses};
+ghost use Rattle.camac_check_laws.specs.Shown.{ArgumentsAreShown, ForTurnsAreShown, HeadingsAreShown, KeptAreShown, UnfitHaveOne, UnkeptHaveOne, WhileTurnsAreShown};
+ghost use Rattle.camac_check_laws.specs.ShownAddresses.{MissingAreShown, UndeclaredAreShown};
+ghost use Rattle.camac_check_laws.specs.ShownExpressions.{ConditionsAreShown, ExpressionsAreShown};
+ghost use Rattle.camac_check_laws.specs.ShownWindows.{MissingOverAreShown, UndeclaredOverAreShown};
 
 use camac_check::Checked;
 
@@ -50,3 +55,78 @@ pub fn calls_keep_to_ranges(checked: &Checked)
     checked.script().well_formed();
     checked.plan().is_plan();
 }
+
+/// Where a cost is above the number of its heading (E11, E12, E18), the case shows both. A heading with any number that is at least the cost is
+/// not refused by that rule.
+pub fn headings_are_shown()
+    ensures { HeadingsAreShown }
+{}
+
+/// Where an argument is not in the range of its parameter (E21), the case shows the first such argument of the call and both ranges. With
+/// as many arguments as parameters there is always such a case.
+pub fn arguments_are_shown()
+    ensures first { ArgumentsAreShown }
+    ensures always { UnfitHaveOne }
+{}
+
+/// Where a kept range may fail (E8, E9), the case shows the first variable that is not in it, and both ranges. There
+/// is always such a case.
+pub fn kept_are_shown()
+    ensures first { KeptAreShown }
+    ensures always { UnkeptHaveOne }
+{}
+
+/// Where a `while` may have too many turns (E10), the case shows the turns that it needs, which are the greatest value of its measure divided by
+/// its step, and the number after `turns`. With a number that is enough it is not refused by that rule. Or that number is above the most
+/// that any loop may have, and the case shows both.
+pub fn while_turns_are_shown()
+    ensures { WhileTurnsAreShown }
+{}
+
+/// Where a `for` may have too many turns (E10), the case shows the turns from the least first value to the greatest last one, and the most
+/// that any loop may have.
+pub fn for_turns_are_shown()
+    ensures { ForTurnsAreShown }
+{}
+
+/// Where an expression may have no number as its value (E4), the case shows an operator in it, and the numbers of the parts on both sides, on
+/// which it has no result. Else the expression has a number above the greatest or a division by 0, which no text gives.
+pub fn expressions_are_shown()
+    ensures { ExpressionsAreShown }
+{}
+
+/// Where a condition is refused, one of its parts is, in the state in which all parts before it hold.
+pub fn conditions_are_shown()
+    ensures { ConditionsAreShown }
+{}
+
+/// Where a station may not be installed (E1), the case shows the first crate of the addresses not all of whose stations are there. Where that
+/// crate is in the plan, it shows its first station that is not installed.
+pub fn missing_are_shown()
+    ensures { MissingAreShown }
+{}
+
+/// Where a command may not be declared (E2), the case shows the function, the first crate that has not the command at all addresses, its first
+/// such station, and the first sub-address there that has not the command.
+pub fn undeclared_are_shown()
+    ensures { UndeclaredAreShown }
+{}
+
+/// The same of a scan, whose addresses are those of its window: from its first to its last, in the order of stations and then of
+/// sub-addresses. Where a station may not be installed (E1), the case shows the crate, which is not in the plan; or it is, and the station is
+/// the first of the window that is not installed.
+pub fn missing_over_are_shown()
+    ensures { MissingOverAreShown }
+{}
+
+/// Where a scan may come to an address that does not declare its command (E2), the case shows the function and the first such address of the
+/// window. Or one of its registers may hold a sub-address past the last, and the case shows the first of these.
+pub fn undeclared_over_are_shown()
+    ensures { UndeclaredOverAreShown }
+{}
+
+/// Each register that is set where the checker comes to a statement has an address: each of its three ranges has a number. So it is in
+/// the body of a service, and in that of a procedure.
+pub fn registers_have_addresses()
+    ensures { RegistersHaveAddresses }
+{}

@@ -8,7 +8,7 @@ ghost use Rattle.camac_check_rules.specs.Loops.{turns_between, values_between, f
 
 use crate::keeps::{head, keeps_at_entry};
 use camac_check_known::{Around, CheckFault, Facts, between, range_in, range_of, required};
-use camac_check_rules::CheckRule;
+use camac_check_rules::{Case, CheckRule};
 use camac_lang::{Expr, Keep, Stmt};
 use camac_range::Range;
 use std::alloc::{AllocError, Global};
@@ -97,8 +97,21 @@ pub fn for_limits(
         around.may_write(variable),
         CheckRule::LoopVariableAssigned,
         line,
+        Case::Counted {
+            body: around.body(),
+            variable,
+        },
     )?;
-    required(limits.turns() <= 65535, CheckRule::TooManyTurns, line)?;
-    keeps_at_entry(keeps, known, line)?;
+    let needed = limits.turns();
+    required(
+        needed <= 65535,
+        CheckRule::TooManyTurns,
+        line,
+        Case::Turns {
+            needed,
+            allowed: 65535,
+        },
+    )?;
+    keeps_at_entry(around.body(), keeps, known, line)?;
     Ok(limits)
 }

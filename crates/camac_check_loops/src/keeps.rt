@@ -5,30 +5,60 @@ ghost use Rattle.camac_lang.specs.View.{keep_of, statements_of};
 ghost use Rattle.camac_check_known.specs.Gives.{Gives};
 ghost use Rattle.camac_check_loops.specs.Ordered.{are_ordered};
 ghost use Rattle.camac_range.specs.Interval.{is_inside};
-ghost use Rattle.camac_check_rules.specs.Loops.{kept_range, keeps_hold, keeps_hold_after, with_keeps, head};
+ghost use Rattle.camac_check_rules.specs.Loops.{kept_range, keeps_hold, keeps_hold_after, unkept, unkept_after, with_keeps, head};
 ghost use Rattle.camac_check_rules.specs.Refusal.{required};
 ghost use Rattle.camac_check_rules.specs.declared.rule.CheckRule.TheVariants.{KeepFailsAtEntry, KeepFailsAfterTurn};
 
 use crate::forgotten::forget_block;
-use camac_check_known::{CheckFault, Facts, between, range_in, required};
-use camac_check_rules::CheckRule;
+use camac_check_known::{CheckFault, Facts, between, numbers_of, range_in};
+use camac_check_rules::{Body, Case, CheckRule, Numbers};
 use camac_lang::{Keep, Stmt};
 use camac_range::Range;
 use std::alloc::AllocError;
 
 /// E8 on this line, unless each kept variable is in its range, which then has a number.
 #[tactic(auto, unfolding(camac_check_rules::specs::Refusal::required))]
-pub fn keeps_at_entry(keeps: &[Keep], known: &Facts, line: u32) -> Result<(), CheckFault>
-    ensures rule { Gives (λ u. tt) result (required (keeps_hold (map keep_of keeps.now) known.now) KeepFailsAtEntry line) }
+pub fn keeps_at_entry(
+    body: Body,
+    keeps: &[Keep],
+    known: &Facts,
+    line: u32,
+) -> Result<(), CheckFault>
+    ensures rule { Gives (λ u. tt) result (required (keeps_hold (map keep_of keeps.now) known.now) KeepFailsAtEntry line (unkept body (map keep_of keeps.now) known.now)) }
     ensures ordered { IfOk result (λ u. IsTrue (are_ordered (map keep_of keeps.now))) }
 {
     if keeps_hold(keeps, known) {
         Ok(())
     } else {
-        Err(CheckFault::Broken {
-            rule: CheckRule::KeepFailsAtEntry,
+        Err(CheckFault::broken(
+            CheckRule::KeepFailsAtEntry,
             line,
-        })
+            unkept(body, keeps, known),
+        ))
+    }
+}
+
+// The first kept variable that is not in its range.
+fn unkept(body: Body, keeps: &[Keep], known: &Facts) -> Case
+    ensures { result ≡ unkept body (map keep_of keeps.now) known.now }
+{
+    match keeps {
+        [] => Case::Malformed,
+        [keep, rest @ ..] => {
+            let range = range_in(known.ranges(), keep.variable);
+            if is_kept(keep, range) {
+                return unkept(body, rest, known);
+            }
+            Case::Kept {
+                body,
+                variable: keep.variable,
+                found: numbers_of(range),
+                kept: Numbers {
+                    low: keep.low,
+                    high: keep.high,
+                },
+            }
+        }
     }
 }
 
@@ -54,14 +84,28 @@ fn is_kept(keep: &Keep, range: Range) -> bool
 
 /// E9 on this line, unless each kept variable is in its range after a turn, if the body comes to its end.
 #[tactic(auto, unfolding(camac_check_rules::specs::Refusal::required))]
-pub fn keeps_after(keeps: &[Keep], known: &Option<Facts>, line: u32) -> Result<(), CheckFault>
-    ensures { Gives (λ u. tt) result (required (keeps_hold_after (map keep_of keeps.now) known.now) KeepFailsAfterTurn line) }
+pub fn keeps_after(
+    body: Body,
+    keeps: &[Keep],
+    known: &Option<Facts>,
+    line: u32,
+) -> Result<(), CheckFault>
+    ensures { Gives (λ u. tt) result (required (keeps_hold_after (map keep_of keeps.now) known.now) KeepFailsAfterTurn line (unkept_after body (map keep_of keeps.now) known.now)) }
 {
-    required(
-        keeps_hold_after(keeps, known),
-        CheckRule::KeepFailsAfterTurn,
-        line,
-    )
+    if keeps_hold_after(keeps, known) {
+        return Ok(());
+    }
+    let case = unkept_after(body, keeps, known);
+    Err(CheckFault::broken(CheckRule::KeepFailsAfterTurn, line, case))
+}
+
+fn unkept_after(body: Body, keeps: &[Keep], known: &Option<Facts>) -> Case
+    ensures { result ≡ unkept_after body (map keep_of keeps.now) known.now }
+{
+    match known {
+        Some(known) => unkept(body, keeps, known),
+        None => Case::Malformed,
+    }
 }
 
 fn keeps_hold_after(keeps: &[Keep], known: &Option<Facts>) -> bool

@@ -3,7 +3,7 @@
 ghost use Rattle.std.specs.Prelude.{◌≡◌, ◌≤◌, IfOk, IsTrue, map};
 ghost use Rattle.camac_check_known.specs.Gives.{Gives};
 ghost use Rattle.camac_lang.specs.View.{keep_of, statements_of};
-ghost use Rattle.camac_check_rules.specs.Loops.{while_head, turn_bound};
+ghost use Rattle.camac_check_rules.specs.Loops.{turns_case, while_head, turn_bound};
 ghost use Rattle.camac_check_rules.specs.Refusal.{given};
 ghost use Rattle.camac_check_rules.specs.Writes.{fall_of};
 ghost use Rattle.camac_check_rules.specs.declared.rule.CheckRule.TheVariants as rule;
@@ -11,12 +11,13 @@ ghost use Rattle.camac_check_rules.specs.declared.rule.CheckRule.TheVariants as 
 use crate::keeps::{head, keeps_at_entry};
 use crate::written::fall_of;
 use camac_check_known::{CheckFault, Facts, between, range_in, required};
-use camac_check_rules::CheckRule;
+use camac_check_rules::{Body, Case, CheckRule};
 use camac_lang::{Keep, Stmt};
 
 /// What is known at the head of a `while` of at most so many turns that may begin. E7, E10 and E8, in this order.
 #[tactic(auto, unfolding(camac_check_rules::specs::Refusal::go_on))]
 pub fn while_head(
+    place: Body,
     line: u32,
     most: u32,
     measure: usize,
@@ -24,32 +25,55 @@ pub fn while_head(
     body: &[Stmt],
     known: Facts,
 ) -> Result<Facts, CheckFault>
-    ensures { Gives (λ k. k) result (while_head line most measure (map keep_of keeps.now) (statements_of body.now) known) }
+    ensures { Gives (λ k. k) result (while_head place line most measure (map keep_of keeps.now) (statements_of body.now) known) }
 {
-    let fall = fall_at(measure, body, line)?;
+    let fall = fall_at(place, measure, body, line)?;
     let greatest = range_in(known.ranges(), measure).hi();
+    let needed = greatest / fall;
     required(
-        most <= 65535 && greatest / fall <= most,
+        most <= 65535 && needed <= most,
         CheckRule::TooManyTurns,
         line,
+        turns_case(needed, most),
     )?;
-    keeps_at_entry(keeps, &known, line)?;
+    keeps_at_entry(place, keeps, &known, line)?;
     let top = head(body, keeps, known)?;
     Ok(top.put_range(measure, between(0, greatest))?)
 }
 
 // What a turn takes from the measure. E7 where it is not taken once and nothing else writes the measure.
 #[tactic(auto, unfolding(camac_check_rules::specs::Refusal::given))]
-fn fall_at(measure: usize, body: &[Stmt], line: u32) -> Result<u32, CheckFault>
-    ensures rule { Gives (λ k. k) result (given (fall_of measure (statements_of body.now)) rule.MeasureBroken line) }
+fn fall_at(place: Body, measure: usize, body: &[Stmt], line: u32) -> Result<u32, CheckFault>
+    ensures rule { Gives (λ k. k) result (given (fall_of measure (statements_of body.now)) rule.MeasureBroken line (Case.Measure place measure)) }
     ensures positive { IfOk result (λ k. 1 ≤ k) }
 {
     match fall_of(measure, body) {
         Some(fall) => Ok(fall),
-        None => Err(CheckFault::Broken {
-            rule: CheckRule::MeasureBroken,
+        None => Err(CheckFault::broken(
+            CheckRule::MeasureBroken,
             line,
-        }),
+            Case::Measure {
+                body: place,
+                variable: measure,
+            },
+        )),
+    }
+}
+
+// The turns that may be needed, or the number that is above the most of any loop.
+fn turns_case(needed: u32, most: u32) -> Case
+    ensures { result ≡ turns_case needed most }
+{
+    if most <= 65535 {
+        Case::Turns {
+            needed: u64::from(needed),
+            allowed: most,
+        }
+    } else {
+        Case::Annotation {
+            turns: most,
+            allowed: 65535,
+        }
     }
 }
 

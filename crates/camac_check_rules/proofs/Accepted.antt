@@ -84,5 +84,5 @@ accepted_procedures_fine plan script ks is formed e j p body at there n le vs in
     let s : State = at_call b q x answers in
     let sound = subst (λ r. RoutineSound plan p r) same found.sound in
     let small = in_range_small vs p.parameters inside (parameters_are_numbers script formed j p at) in
-    called_fine plan (called (λ c. (b c).locked)) sound.after (annotated p) vs b q x answers (body n (entered vs s))
+    called_fine plan (called sound.body (λ c. (b c).locked)) sound.after (annotated p) vs b q x answers (body n (entered vs s))
     (sound.each n le (λ c. (b c).locked) vs inside small s (λ c. refl))

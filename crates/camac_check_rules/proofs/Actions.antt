@@ -134,9 +134,9 @@ cycle_ends plan around k s at f u r wait rest i one le = record {
 
 control_sound : (c : Setting) (around : Place) (line : ℕ) (size : WordSize) (f r : ℕ) (k : Facts) → Allows (control_rule (seen c) (around_of around) line f r k) (SoundFor c.plan around (Some k) (λ n s. effect (of c) n (single line size f r no_data) (stepped s)))
 control_sound c around line size f r k =
-    then_allowed (given_allowed (region_at k.registers r) _ line) (λ g set.
+    then_allowed (given_allowed (region_at k.registers r) _ line _) (λ g set.
     then_allowed (command_allowed c.plan line f g) (λ w every.
-    required_allowed _ line (λ class. allows (record {
+    required_allowed _ line _ (λ class. allows (record {
       each = λ n le s i.
           let a = can_cycle c.plan around g w f r k s set every i in
           with_given c.plan around (Some k) (costs (cycle_cost c.plan around.locked g.crates) 0 1) s (stepped s) (s.registers r) (λ at. act c.plan at f size no_data) a.at a.is
@@ -187,10 +187,10 @@ paid_written c x v s t p = record { cycles = p.cycles; words = p.words; steps = 
 
 read_sound : (c : Setting) → HasWidths c.plan → (around : Place) (line : ℕ) (size : WordSize) (f r x : ℕ) (k : Facts) → Allows (read_rule (seen c) (around_of around) line size f r x k) (SoundFor c.plan around (Some k) (λ n s. effect (of c) n (single line size f r (into x)) (stepped s)))
 read_sound c narrow around line size f r x k =
-    required_allowed _ line (λ may.
-    then_allowed (given_allowed (region_at k.registers r) _ line) (λ g set.
+    required_allowed _ line _ (λ may.
+    then_allowed (given_allowed (region_at k.registers r) _ line _) (λ g set.
     then_allowed (command_allowed c.plan line f g) (λ w every.
-    required_allowed _ line (λ class. allows (record {
+    required_allowed _ line _ (λ class. allows (record {
       each = λ n le s i.
           let u : ℕ = cycle_cost c.plan around.locked g.crates in
           let range : Interval = interval 0 (2 ^ sized size w.hi - 1) in
@@ -221,10 +221,10 @@ size_fits Short v most h e = le-leb v 65535 (le_trans h (leb-true most 65535 e))
 write_sound : (c : Setting) (around : Place) (line : ℕ) (size : WordSize) (f r : ℕ) (e : Expression) (k : Facts) → Allows (write_rule (seen c) (around_of around) line size f r e k) (SoundFor c.plan around (Some k) (λ n s. effect (of c) n (single line size f r (from e)) (stepped s)))
 write_sound c around line size f r e k =
     then_allowed (range_each line e k.ranges) (λ v gives.
-    then_allowed (given_allowed (region_at k.registers r) _ line) (λ g set.
+    then_allowed (given_allowed (region_at k.registers r) _ line _) (λ g set.
     then_allowed (command_allowed c.plan line f g) (λ w every.
-    required_allowed _ line (λ class.
-    required_allowed _ line (λ fitting. allows (record {
+    required_allowed _ line _ (λ class.
+    required_allowed _ line _ (λ fitting. allows (record {
       each = λ n le s i.
           let u : ℕ = cycle_cost c.plan around.locked g.crates in
           let a = can_cycle c.plan around g w f r k s set every i in

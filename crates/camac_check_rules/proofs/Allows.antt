@@ -2,6 +2,7 @@
 use Rattle.std.proofs.Common.{◌≡◌, ℕ, Bool, true, false, Option, Some, None, Result, Ok, Err, refl}
 use Rattle.std.specs.Prelude.{IfOk}
 use Rattle.camac_check_rules.specs.declared.rule.CheckRule.{CheckRule}
+use Rattle.camac_check_rules.specs.declared.case.Case.{Case}
 use Rattle.camac_check_rules.specs.Fault.{Fault}
 use Rattle.camac_check_rules.specs.Refusal.{go_on, ◌>>=◌, ◌>>◌, required, given, if_reached}
 
@@ -20,15 +21,15 @@ unfolding go_on
 then_allowed {r = Ok x} h k = k x h.holds
 then_allowed {r = Err e} h k = record { holds = tt }
 
-pub required_allowed : {B : Type 0} {b : Bool} (rule : CheckRule) (line : ℕ) {r : Result B Fault} {Q : B → Type 0} → (b ≡ true → Allows r Q) → Allows (required b rule line >> r) Q
+pub required_allowed : {B : Type 0} {b : Bool} (rule : CheckRule) (line : ℕ) (case : Case) {r : Result B Fault} {Q : B → Type 0} → (b ≡ true → Allows r Q) → Allows (required b rule line case >> r) Q
 unfolding go_on required
-required_allowed {b = true} rule line h = h refl
-required_allowed {b = false} rule line h = record { holds = tt }
+required_allowed {b = true} rule line case h = h refl
+required_allowed {b = false} rule line case h = record { holds = tt }
 
-pub given_allowed : {A : Type 0} (o : Option A) (rule : CheckRule) (line : ℕ) → Allows (given o rule line) (λ x. o ≡ Some x)
+pub given_allowed : {A : Type 0} (o : Option A) (rule : CheckRule) (line : ℕ) (case : Case) → Allows (given o rule line case) (λ x. o ≡ Some x)
 unfolding given
-given_allowed None rule line = record { holds = tt }
-given_allowed (Some x) rule line = record { holds = refl }
+given_allowed None rule line case = record { holds = tt }
+given_allowed (Some x) rule line case = record { holds = refl }
 
 -- what holds for each value of S where H holds
 pub for_each : {A S : Type 0} (H : S → Type 0) {r : Result A Fault} (P : S → A → Type 0) → ((s : S) → H s → Allows r (P s)) → Allows r (λ x. (s : S) → H s → P s x)
@@ -47,7 +48,7 @@ if_reached_allowed nothing None check P n h = record { holds = n }
 if_reached_allowed nothing (Some s) check P n h = h s
 
 -- what follows from what is given
-pub given_then : {A : Type 0} {P : A → Type 0} (o : Option A) (rule : CheckRule) (line : ℕ) → ((x : A) → o ≡ Some x → P x) → Allows (given o rule line) P
+pub given_then : {A : Type 0} {P : A → Type 0} (o : Option A) (rule : CheckRule) (line : ℕ) (case : Case) → ((x : A) → o ≡ Some x → P x) → Allows (given o rule line case) P
 unfolding given
-given_then None rule line h = record { holds = tt }
-given_then (Some x) rule line h = record { holds = h x refl }
+given_then None rule line case h = record { holds = tt }
+given_then (Some x) rule line case h = record { holds = h x refl }

@@ -6,7 +6,11 @@ use Rattle.camac_lang.specs.declared.word.WordSize.TheVariants.{Full}
 use Rattle.camac_lang.specs.Tree.{subtract, group, number, variable, no_data, into, from, plain, negated, flag_q, compare, Condition, Statement, single, put, choose, choose_else, locked, Script}
 use Rattle.camac_lang.specs.View.{block_of}
 use Rattle.camac_model.specs.Sample.{sample_plan, script, register, with_r, with_r_s, r, s, v, k}
+use Rattle.camac_check_rules.specs.declared.case.Case.TheVariants.{Budget, Crate, Locked, Unset, Width}
+use Rattle.camac_check_rules.specs.declared.case.Operator.TheVariants.{Sub}
+use Rattle.camac_check_rules.specs.Cases.{operation}
 use Rattle.camac_check_rules.specs.declared.rule.CheckRule.TheVariants.{ValueOutOfRange, ValueTooWide, RegisterUnset, TooManyCycles, CrateUnfit}
+use Rattle.camac_check_rules.specs.declared.case.Body.TheVariants as body
 use Rattle.camac_check_rules.specs.Fault.{broken}
 use Rattle.camac_check_rules.specs.Refusal.{go_on, required, given, if_reached}
 use Rattle.camac_check_rules.specs.Known.{Facts, facts}
@@ -17,7 +21,7 @@ use Rattle.camac_check_rules.specs.Accept.{accept}
 -- register-maybe-unset
 register_maybe_unset :
     accept sample_plan (script 100 100 with_r (choose 4 (plain flag_q ∷ []) (block_of (register r 6 0 ∷ [])) ∷ single 5 Full 27 r no_data ∷ []))
-    ≡ Err (broken RegisterUnset 5)
+    ≡ Err (broken RegisterUnset 5 (Unset (body.Service 0) 0))
 unfolding go_on required given if_reached
 register_maybe_unset = refl
 
@@ -38,7 +42,7 @@ guarded_below_256 : accept sample_plan (guarded 6 (plain (compare (variable v) L
 unfolding go_on required given if_reached
 guarded_below_256 = refl
 
-guarded_to_256 : accept sample_plan (guarded 6 (plain (compare (variable v) AtMost (number 256)) ∷ [])) ≡ Err (broken ValueTooWide 8)
+guarded_to_256 : accept sample_plan (guarded 6 (plain (compare (variable v) AtMost (number 256)) ∷ [])) ≡ Err (broken ValueTooWide 8 (Width 256 8))
 unfolding go_on required given if_reached
 guarded_to_256 = refl
 
@@ -46,7 +50,7 @@ guarded_by_not : accept sample_plan (guarded 6 (negated (compare (number 256) At
 unfolding go_on required given if_reached
 guarded_by_not = refl
 
-guarded_cycles : accept sample_plan (guarded 5 (plain (compare (variable v) Less (number 256)) ∷ [])) ≡ Err (broken TooManyCycles 3)
+guarded_cycles : accept sample_plan (guarded 5 (plain (compare (variable v) Less (number 256)) ∷ [])) ≡ Err (broken TooManyCycles 3 (Budget (body.Service 0) 6 5))
 unfolding go_on required given if_reached
 guarded_cycles = refl
 
@@ -69,7 +73,7 @@ greater_arm = refl
 -- a value out of range in a part that stands where an earlier one holds
 later_part_refused :
     accept sample_plan (script 100 100 [] (choose 4 (plain flag_q ∷ plain (compare (subtract (variable v) (number 1)) More (number 0)) ∷ []) (block_of []) ∷ []))
-    ≡ Err (broken ValueOutOfRange 4)
+    ≡ Err (broken ValueOutOfRange 4 (operation Sub (interval 0 0) (interval 1 1)))
 unfolding go_on required given if_reached
 later_part_refused = refl
 
@@ -128,11 +132,11 @@ locked_reads : accept sample_plan (lockout 6 (read 6 ∷ read 7 ∷ read 8 ∷ r
 unfolding go_on required given if_reached
 locked_reads = refl
 
-locked_cycles : accept sample_plan (lockout 5 (read 6 ∷ read 7 ∷ read 8 ∷ read 9 ∷ [])) ≡ Err (broken TooManyCycles 3)
+locked_cycles : accept sample_plan (lockout 5 (read 6 ∷ read 7 ∷ read 8 ∷ read 9 ∷ [])) ≡ Err (broken TooManyCycles 3 (Budget (body.Service 0) 6 5))
 unfolding go_on required given if_reached
 locked_cycles = refl
 
-lock_inside : accept sample_plan (lockout 100 (locked 6 (number 1) (block_of []) ∷ [])) ≡ Err (broken CrateUnfit 6)
+lock_inside : accept sample_plan (lockout 100 (locked 6 (number 1) (block_of []) ∷ [])) ≡ Err (broken CrateUnfit 6 (Locked 1))
 unfolding go_on required given if_reached
 lock_inside = refl
 
@@ -145,6 +149,6 @@ lock_empty : accept sample_plan (script 2 0 [] (locked 4 (number 1) (block_of []
 unfolding go_on required given if_reached
 lock_empty = refl
 
-lock_not_in_plan : accept sample_plan (script 100 100 [] (locked 4 (number 2) (block_of []) ∷ [])) ≡ Err (broken CrateUnfit 4)
+lock_not_in_plan : accept sample_plan (script 100 100 [] (locked 4 (number 2) (block_of []) ∷ [])) ≡ Err (broken CrateUnfit 4 (Crate (record { low = 2; high = 2 })))
 unfolding go_on required given if_reached
 lock_not_in_plan = refl

@@ -42,12 +42,12 @@ pub record MayTransfer (c : Setting) (around : Place) (f r : ℕ) (t : Option �
 
 region_allowed : (c : Setting) (around : Place) (line f r : ℕ) (t : Option ℕ) (most x : ℕ) (k : Facts) → Allows (block_region (seen c) (around_of around) line f r t most x k) (MayTransfer c around f r t most x k)
 region_allowed c around line f r t most x k =
-    required_allowed _ line (λ may.
-    then_allowed (given_allowed (region_at k.registers r) _ line) (λ g set.
+    required_allowed _ line _ (λ may.
+    then_allowed (given_allowed (region_at k.registers r) _ line _) (λ g set.
     then_allowed (command_allowed c.plan line f g) (λ w every.
-    required_allowed _ line (λ class.
-    required_allowed _ line (λ has.
-    required_allowed _ line (λ fit. allowed (record { may = may; set = set; widths = w; every = every; class = class; has = has; fit = fit })))))))
+    required_allowed _ line _ (λ class.
+    required_allowed _ line _ (λ has.
+    required_allowed _ line _ (λ fit. allowed (record { may = may; set = set; widths = w; every = every; class = class; has = has; fit = fit })))))))
 
 each_at : (test : ℕ → Bool) (ws : List ℕ) (j : ℕ) → each test ws ≡ true → j < length ws → (v : ℕ) × (slice_get ws j ≡ Some v) × (test v ≡ true)
 each_at test [] j h lt = absurd (omega arith)

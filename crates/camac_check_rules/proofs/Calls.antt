@@ -111,7 +111,7 @@ can_call plan which r c is =
 pub crate_sound : (c : Setting) (around : Place) (line : ℕ) (which : CrateCall) (e : Expression) (k : Facts) → Allows (crate_rule (seen c) (around_of around) line e k) (SoundFor c.plan around (Some k) (λ n s. effect (of c) n (crate_call line which e) (stepped s)))
 crate_sound c around line which e k =
     then_allowed (range_each line e k.ranges) (λ r gives.
-    required_allowed _ line (λ unfit. allows (record {
+    required_allowed _ line _ (λ unfit. allows (record {
       each = λ n le s i.
           let u : ℕ = cycle_cost c.plan around.locked r in
           let v = value_of (value e s.variables) r (gives s.variables i.variables) in
@@ -146,7 +146,7 @@ lam_of (Some at) g e =
 
 pub lam_sound : (c : Setting) (around : Place) (line : ℕ) (which : lam_word.LamCall) (l : ℕ) (k : Facts) → Allows (lam_rule (seen c) (around_of around) line which l k) (SoundFor c.plan around (Some k) (λ n s. effect (of c) n (lam_call line which l) (stepped s)))
 lam_sound c around line which l k =
-    then_allowed (given_allowed (option_map single_region (slice_get c.lams l)) _ line) (λ g there.
+    then_allowed (given_allowed (option_map single_region (slice_get c.lams l)) _ line _) (λ g there.
     then_allowed (command_allowed c.plan line (lam_function which) g) (λ w every. allows (record {
       each = λ n le s i.
           let u : ℕ = cycle_cost c.plan around.locked g.crates in

@@ -41,9 +41,9 @@ pub limits_allowed : (around : Place) (line x : ℕ) (e1 e2 : Expression) (qs : 
 limits_allowed around line x e1 e2 qs k =
     then_allowed (range_each line e1 k.ranges) (λ r gives_r.
     then_allowed (range_each line e2 k.ranges) (λ q gives_q.
-    required_allowed _ line (λ may.
-    required_allowed _ line (λ few.
-    required_allowed _ line (λ entry. allowed (record {
+    required_allowed _ line _ (λ may.
+    required_allowed _ line _ (λ few.
+    required_allowed _ line _ (λ entry. allowed (record {
       first = λ s i. gives_r s.variables i.variables;
       last = λ s i. gives_q s.variables i.variables;
       may = may;

@@ -34,7 +34,7 @@ pub record CanLock (plan : Layout) (around : Place) (e : Expression) (k : Facts)
 pub lock_allowed : (c : Setting) (around : Place) (line : ℕ) (e : Expression) (k : Facts) → Allows (lock_rule (seen c) (around_of around) line e k) (CanLock c.plan around e k)
 lock_allowed c around line e k =
     then_allowed (range_each line e k.ranges) (λ r gives.
-    required_allowed _ line (λ fit.
+    required_allowed _ line _ (λ fit.
     let p = and_parts (is_crate c.plan r) (not (is_among r.lo around.locked)) fit in
     let one : r.lo ≡ r.hi = eqb-true r.lo r.hi (and_parts (nat_eq r.lo r.hi) _ p.0).0 in
     let there = crate_is c.plan r r.lo p.0 (record { low = omega arith; high = omega arith }) in

@@ -71,4 +71,4 @@ region_allowed plan f g w at there e i =
 
 pub command_allowed : (plan : Layout) (line f : ℕ) (g : Region) → Allows (command_widths plan line f g) (λ w. (at : Address) → InRegion g at → IsAllowed plan at f w)
 command_allowed plan line f g =
-    required_allowed _ line (λ there. given_then (region_widths plan f g) _ line (λ w e at i. region_allowed plan f g w at there e i))
+    required_allowed _ line _ (λ there. given_then (region_widths plan f g) _ line _ (λ w e at i. region_allowed plan f g w at there e i))

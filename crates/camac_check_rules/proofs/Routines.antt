@@ -12,6 +12,7 @@ use Rattle.camac_model.specs.Value.{value, value_and, values}
 use Rattle.camac_model.specs.Meaning.{arguments, entered, returned, enter, effect}
 use Rattle.camac_model.specs.Fine.{Bounds, most_turns, AreInRanges, annotated}
 use Rattle.camac_model.proofs.Rules.{then_meets}
+use Rattle.camac_check_rules.specs.declared.case.Body.{Body}
 use Rattle.camac_check_rules.specs.Fault.{Fault}
 use Rattle.camac_check_rules.specs.Known.{range_at, Facts, facts, Known}
 use Rattle.camac_check_rules.specs.Costs.{call_costs, Verdict, unreached}
@@ -24,8 +25,8 @@ use Rattle.camac_check_rules.proofs.Sound.{Paid, step, SafePiece, StopsWell, End
 use Rattle.camac_check_rules.proofs.Actions.{Setting, of, seen, with_given}
 
 -- where a procedure's body runs: any crates may be locked around the call
-abbrev pub called : (ℕ → Bool) → Place
-called outside = record { fixed = []; locked = []; outside = outside }
+abbrev pub called : Body → (ℕ → Bool) → Place
+called body outside = record { body = body; fixed = []; locked = []; outside = outside }
 
 abbrev pub AreSmall : List ℕ → Type 0
 AreSmall [] = Unit {0}
@@ -33,8 +34,9 @@ AreSmall (v ∷ vs) = (v ≤ greatest) × AreSmall vs
 
 -- a procedure's body: on all arguments in range, whatever is locked, it keeps to the annotations
 pub record RoutineSound (plan : Layout) (q : Procedure) (run : ℕ → Action) : Type 0 where
+  pub body : Body
   pub after : Known
-  pub each : (n : ℕ) → most_turns ≤ n → (outside : ℕ → Bool) (vs : List ℕ) → AreInRanges vs q.parameters → AreSmall vs → (s : State) → ((c : ℕ) → (s.branch c).locked ≡ outside c) → Sound plan (called outside) after (annotated q) (entered vs s) (run n (entered vs s))
+  pub each : (n : ℕ) → most_turns ≤ n → (outside : ℕ → Bool) (vs : List ℕ) → AreInRanges vs q.parameters → AreSmall vs → (s : State) → ((c : ℕ) → (s.branch c).locked ≡ outside c) → Sound plan (called body outside) after (annotated q) (entered vs s) (run n (entered vs s))
 
 pub record HasRoutine (c : Setting) (j : ℕ) (q : Procedure) : Type 0 where
   pub routine : ℕ → Action
@@ -100,15 +102,15 @@ are_small [] (r ∷ rs) f = absurd f
 are_small (v ∷ vs) [] f = absurd f
 are_small (v ∷ vs) (r ∷ rs) f = (f.0.small, are_small vs rs f.1)
 
-locks_after : (outside : ℕ → Bool) (after : Known) (t : State) → Reaches (called outside) after t → (c : ℕ) → (t.branch c).locked ≡ outside c
-locks_after outside None t r c = absurd r
-locks_after outside (Some k) t r c = r.locks c
+locks_after : (body : Body) (outside : ℕ → Bool) (after : Known) (t : State) → Reaches (called body outside) after t → (c : ℕ) → (t.branch c).locked ≡ outside c
+locks_after body outside None t r c = absurd r
+locks_after body outside (Some k) t r c = r.locks c
 
 pub call_sound : (c : Setting) → Serves c → (around : Place) (line p : ℕ) (es : List Expression) (k : Facts) → Allows (call_rule (seen c) line p es k) (SoundFor c.plan around (Some k) (λ n s. effect (of c) n (call line p es) (stepped s)))
 call_sound c serves around line p es k =
     then_allowed (ranges_each line es k.ranges) (λ rs gives.
-    then_allowed (given_allowed (slice_get c.procedures p) _ line) (λ q is.
-    required_allowed _ line (λ fit. allowed (record {
+    then_allowed (given_allowed (slice_get c.procedures p) _ line _) (λ q is.
+    required_allowed _ line _ (λ fit. allowed (record {
       each = λ n le s i.
           let d : Bounds = call_costs (annotated q) in
           let r = serves.each p q is in
@@ -118,13 +120,13 @@ call_sound c serves around line p es k =
           let sound = r.sound.each n le outside vs.numbers (in_ranges vs.numbers rs q.parameters vs.fit fit) (are_small vs.numbers rs vs.fit) (stepped s) i.locks in
           with_given c.plan around (Some k) d s (stepped s) (slice_get c.routines p) (λ routine. given (values es s.variables) (λ us. enter (routine n) us)) r.routine r.is
           (with_given c.plan around (Some k) d s (stepped s) (values es s.variables) (λ us. enter (r.routine n) us) vs.numbers vs.is
-          (then_meets step (SafePiece c.plan) (StopsWell d s) (EndsWell (called outside) r.sound.after (annotated q) b) (EndsWell around (Some k) d s) tt (r.routine n b) (λ t. ends (returned (stepped s) t))
-          (meets_more c.plan (StopsWell (annotated q) b) (StopsWell d s) (EndsWell (called outside) r.sound.after (annotated q) b) (EndsWell (called outside) r.sound.after (annotated q) b) (r.routine n b)
+          (then_meets step (SafePiece c.plan) (StopsWell d s) (EndsWell (called r.sound.body outside) r.sound.after (annotated q) b) (EndsWell around (Some k) d s) tt (r.routine n b) (λ t. ends (returned (stepped s) t))
+          (meets_more c.plan (StopsWell (annotated q) b) (StopsWell d s) (EndsWell (called r.sound.body outside) r.sound.after (annotated q) b) (EndsWell (called r.sound.body outside) r.sound.after (annotated q) b) (r.routine n b)
           (λ w t e. record { of_answers = e.of_answers; paid = paid_call (annotated q) vs.numbers s t e.paid; because = λ z. omega (arith, e.because z) }) (λ t e. e) sound)
           (λ x t e.
           let all = paid_call (annotated q) vs.numbers s t e.paid in
           record {
-            reaches = record { variables = i.variables; registers = i.registers; locks = locks_after outside r.sound.after t e.reaches };
+            reaches = record { variables = i.variables; registers = i.registers; locks = locks_after r.sound.body outside r.sound.after t e.reaches };
             paid = record { cycles = all.cycles; words = all.words; steps = all.steps; are_words = all.are_words; answers = all.answers; easy = all.easy };
             untouched = λ y among. refl;
           })));
@@ -156,9 +158,9 @@ argument_small [] y h = omega arith
 argument_small (v ∷ vs) zero h = h.0
 argument_small (v ∷ vs) (suc y) h = argument_small vs y h.1
 
-entry_reached : (outside : ℕ → Bool) (ps : List Parameter) (vs : List ℕ) (s : State) → AreInRanges vs ps → AreSmall vs → ((c : ℕ) → (s.branch c).locked ≡ outside c) → Reaches (called outside) (at_entry ps) (entered vs s)
-entry_reached outside ps vs s h small locks =
-    subst (λ b. Reaches (called outside) (if b then Some (facts (map parameter_range ps) []) else None) (entered vs s)) (sym (callable vs ps h))
+entry_reached : (body : Body) (outside : ℕ → Bool) (ps : List Parameter) (vs : List ℕ) (s : State) → AreInRanges vs ps → AreSmall vs → ((c : ℕ) → (s.branch c).locked ≡ outside c) → Reaches (called body outside) (at_entry ps) (entered vs s)
+entry_reached body outside ps vs s h small locks =
+    subst (λ b. Reaches (called body outside) (if b then Some (facts (map parameter_range ps) []) else None) (entered vs s)) (sym (callable vs ps h))
     (record {
       variables = record { each = λ y. argument_within vs ps y h; small = λ y. argument_small vs y small };
       registers = λ r. tt;
@@ -176,18 +178,19 @@ sound_within plan around after c d s b cycles words steps h =
     more t p = record { cycles = omega (arith, p.cycles); words = omega (arith, p.words); steps = omega (arith, p.steps); are_words = p.are_words; answers = omega (arith, p.answers); easy = p.easy }
 
 -- a body that is accepted for its heading
-pub routine_sound : (plan : Layout) (q : Procedure) (run : ℕ → Action) (check : Facts → Result Verdict Fault) → ((k : Facts) → Allows (check k) (λ v. (outside : ℕ → Bool) → Unit {0} → SoundFor plan (called outside) (Some k) run v)) → Allows (procedure_rule check q) (λ found. RoutineSound plan q run)
-routine_sound plan q run check h =
+pub routine_sound : (plan : Layout) (body : Body) (q : Procedure) (run : ℕ → Action) (check : Facts → Result Verdict Fault) → ((k : Facts) → Allows (check k) (λ v. (outside : ℕ → Bool) → Unit {0} → SoundFor plan (called body outside) (Some k) run v)) → Allows (procedure_rule body check q) (λ found. RoutineSound plan q run)
+routine_sound plan body q run check h =
     then_allowed
-    (if_reached_allowed unreached (at_entry q.parameters) check (λ k v. (outside : ℕ → Bool) → Unit {0} → SoundFor plan (called outside) k run v)
+    (if_reached_allowed unreached (at_entry q.parameters) check (λ k v. (outside : ℕ → Bool) → Unit {0} → SoundFor plan (called body outside) k run v)
     (λ outside u. record { each = λ n le s i. absurd i }) h)
     (λ v sound.
-    required_allowed _ q.line (λ words.
-    required_allowed _ q.line (λ cycles.
-    required_allowed _ q.line (λ steps. allowed (record {
+    required_allowed _ q.line _ (λ words.
+    required_allowed _ q.line _ (λ cycles.
+    required_allowed _ q.line _ (λ steps. allowed (record {
+      body = body;
       after = v.after;
       each = λ n le outside vs inside small s locks.
-          sound_within plan (called outside) v.after v.costs (annotated q) (entered vs s) (run n (entered vs s))
+          sound_within plan (called body outside) v.after v.costs (annotated q) (entered vs s) (run n (entered vs s))
           (leb-true v.costs.cycles q.cycles cycles) (leb-true v.costs.words q.words words) (leb-true v.costs.steps q.steps steps)
-          ((sound outside tt).each n le (entered vs s) (entry_reached outside q.parameters vs s inside small locks));
+          ((sound outside tt).each n le (entered vs s) (entry_reached body outside q.parameters vs s inside small locks));
     })))))

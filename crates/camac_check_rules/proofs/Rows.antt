@@ -6,7 +6,13 @@ use Rattle.camac_lang.specs.declared.word.LamCall as lam_word
 use Rattle.camac_lang.specs.declared.word.WordSize.TheVariants.{Full, Short}
 use Rattle.camac_lang.specs.Tree.{Text, Expression, add, subtract, multiply, divide, remainder, group, number, variable, no_data, into, from, Statement, assign, set_register, single, put, crate_call, lam_call, Script}
 use Rattle.camac_model.specs.Sample.{sample_plan, adc_lam, script, script_of, v, k}
+use Rattle.camac_range.specs.Interval.{interval}
+use Rattle.camac_check_rules.specs.declared.case.Case.TheVariants.{Budget, Crate, Direction, NoCommand, NoCrate, NoModule, Unset, Width, Word}
+use Rattle.camac_check_rules.specs.declared.case.Operator.TheVariants.{Add, Sub, Mul}
+use Rattle.camac_check_rules.specs.Cases.{operation}
 use Rattle.camac_check_rules.specs.declared.rule.CheckRule.TheVariants.{StationNotInstalled, CommandNotDeclared, WrongDirection, ValueOutOfRange, ValueTooWide, RegisterUnset, TooManyWords, TooManyCycles, CrateUnfit, WordTooWide}
+use Rattle.camac_check_rules.specs.declared.case.Body.TheVariants.{Service}
+use Rattle.camac_func.specs.declared.code.FunctionClass.TheVariants.{Read, Write, Control}
 use Rattle.camac_check_rules.specs.Fault.{broken}
 use Rattle.camac_check_rules.specs.Refusal.{go_on, required, given, if_reached}
 use Rattle.camac_check_rules.specs.Costs.{costs}
@@ -43,12 +49,12 @@ straight_line_within_four : accept sample_plan (straight_line 4 2) ≡ Ok (costs
 unfolding go_on required given if_reached
 straight_line_within_four = refl
 
-within_too_small : accept sample_plan (straight_line 2 1) ≡ Err (broken TooManyCycles 3)
+within_too_small : accept sample_plan (straight_line 2 1) ≡ Err (broken TooManyCycles 3 (Budget (Service 0) 3 2))
 unfolding go_on required given if_reached
 within_too_small = refl
 
 -- more words than the heading's come before more cycles
-event_too_small : accept sample_plan (straight_line 2 0) ≡ Err (broken TooManyWords 3)
+event_too_small : accept sample_plan (straight_line 2 0) ≡ Err (broken TooManyWords 3 (Budget (Service 0) 1 0))
 unfolding go_on required given if_reached
 event_too_small = refl
 
@@ -60,7 +66,7 @@ width_kept : accept sample_plan (writing (number 255)) ≡ Ok (costs 3 0 2 ∷ [
 unfolding go_on required given if_reached
 width_kept = refl
 
-width_passed : accept sample_plan (writing (number 256)) ≡ Err (broken ValueTooWide 5)
+width_passed : accept sample_plan (writing (number 256)) ≡ Err (broken ValueTooWide 5 (Width 256 8))
 unfolding go_on required given if_reached
 width_passed = refl
 
@@ -74,7 +80,7 @@ reserved_code : accept sample_plan (body (register 4 r 6 0 ∷ single 5 Full 5 r
 unfolding go_on required given if_reached
 reserved_code = refl
 
-write_code_read : accept sample_plan (body (register 4 r 6 0 ∷ single 5 Full 16 r (into v) ∷ [])) ≡ Err (broken WrongDirection 5)
+write_code_read : accept sample_plan (body (register 4 r 6 0 ∷ single 5 Full 16 r (into v) ∷ [])) ≡ Err (broken WrongDirection 5 (Direction 16 Write Read))
 unfolding go_on required given if_reached
 write_code_read = refl
 
@@ -87,33 +93,33 @@ short_read = refl
 abbrev moved : Script
 moved = body (register 4 r 6 0 ∷ single 5 Full 0 r (into v) ∷ single 6 Short 16 r (from (variable v)) ∷ [])
 
-short_write_too_wide : accept sample_plan moved ≡ Err (broken ValueTooWide 6)
+short_write_too_wide : accept sample_plan moved ≡ Err (broken ValueTooWide 6 (Width 16777215 8))
 unfolding go_on required given if_reached
 short_write_too_wide = refl
 
 -- E6 comes before all else of the command
-register_unset : accept sample_plan (body (single 4 Full 99 r no_data ∷ [])) ≡ Err (broken RegisterUnset 4)
+register_unset : accept sample_plan (body (single 4 Full 99 r no_data ∷ [])) ≡ Err (broken RegisterUnset 4 (Unset (Service 0) 0))
 unfolding go_on required given if_reached
 register_unset = refl
 
-other_register_unset : accept sample_plan (body (register 4 r 6 0 ∷ single 5 Full 27 s no_data ∷ [])) ≡ Err (broken RegisterUnset 5)
+other_register_unset : accept sample_plan (body (register 4 r 6 0 ∷ single 5 Full 27 s no_data ∷ [])) ≡ Err (broken RegisterUnset 5 (Unset (Service 0) 1))
 unfolding go_on required given if_reached
 other_register_unset = refl
 
 -- E1: no crate 2, no station 7, though the controller's station 30 is there
 crate_not_in_plan :
     accept sample_plan (body (set_register 4 r (number 2) (number 5) (number 0) ∷ single 5 Full 0 r (into v) ∷ []))
-    ≡ Err (broken StationNotInstalled 5)
+    ≡ Err (broken StationNotInstalled 5 (NoCrate 2))
 unfolding go_on required given if_reached
 crate_not_in_plan = refl
 
 crate_past_all :
     accept sample_plan (body (set_register 4 r (number 4000000000) (number 5) (number 0) ∷ single 5 Full 0 r (into v) ∷ []))
-    ≡ Err (broken StationNotInstalled 5)
+    ≡ Err (broken StationNotInstalled 5 (NoCrate 4000000000))
 unfolding go_on required given if_reached
 crate_past_all = refl
 
-station_not_installed : accept sample_plan (body (register 4 r 7 0 ∷ single 5 Full 0 r (into v) ∷ [])) ≡ Err (broken StationNotInstalled 5)
+station_not_installed : accept sample_plan (body (register 4 r 7 0 ∷ single 5 Full 0 r (into v) ∷ [])) ≡ Err (broken StationNotInstalled 5 (NoModule 1 7))
 unfolding go_on required given if_reached
 station_not_installed = refl
 
@@ -122,21 +128,21 @@ unfolding go_on required given if_reached
 controller_station = refl
 
 -- E2: no F1, no sub-address 16
-command_not_declared : accept sample_plan (body (register 4 r 5 0 ∷ single 5 Full 1 r (into v) ∷ [])) ≡ Err (broken CommandNotDeclared 5)
+command_not_declared : accept sample_plan (body (register 4 r 5 0 ∷ single 5 Full 1 r (into v) ∷ [])) ≡ Err (broken CommandNotDeclared 5 (NoCommand 1 1 5 0))
 unfolding go_on required given if_reached
 command_not_declared = refl
 
-sub_address_past_all : accept sample_plan (body (register 4 r 5 16 ∷ single 5 Full 0 r (into v) ∷ [])) ≡ Err (broken CommandNotDeclared 5)
+sub_address_past_all : accept sample_plan (body (register 4 r 5 16 ∷ single 5 Full 0 r (into v) ∷ [])) ≡ Err (broken CommandNotDeclared 5 (NoCommand 0 1 5 16))
 unfolding go_on required given if_reached
 sub_address_past_all = refl
 
 -- E3: a test of status moves no data
-control_code_read : accept sample_plan (body (register 4 r 6 0 ∷ single 5 Full 27 r (into v) ∷ [])) ≡ Err (broken WrongDirection 5)
+control_code_read : accept sample_plan (body (register 4 r 6 0 ∷ single 5 Full 27 r (into v) ∷ [])) ≡ Err (broken WrongDirection 5 (Direction 27 Control Read))
 unfolding go_on required given if_reached
 control_code_read = refl
 
 -- word-too-wide, with a number
-word_of_32_bits : accept sample_plan (body (put 4 (number 16777216) ∷ [])) ≡ Err (broken WordTooWide 4)
+word_of_32_bits : accept sample_plan (body (put 4 (number 16777216) ∷ [])) ≡ Err (broken WordTooWide 4 (Word 16777216))
 unfolding go_on required given if_reached
 word_of_32_bits = refl
 
@@ -154,11 +160,11 @@ word_computed :
 unfolding go_on required given if_reached
 word_computed = refl
 
-difference_below_0 : accept sample_plan (putting (subtract (variable v) (number 1))) ≡ Err (broken ValueOutOfRange 6)
+difference_below_0 : accept sample_plan (putting (subtract (variable v) (number 1))) ≡ Err (broken ValueOutOfRange 6 (operation Sub (interval 0 4095) (interval 1 1)))
 unfolding go_on required given if_reached
 difference_below_0 = refl
 
-product_too_great : accept sample_plan (putting (multiply (variable v) (number 1048833))) ≡ Err (broken ValueOutOfRange 6)
+product_too_great : accept sample_plan (putting (multiply (variable v) (number 1048833))) ≡ Err (broken ValueOutOfRange 6 (operation Mul (interval 0 4095) (interval 1048833 1048833)))
 unfolding go_on required given if_reached
 product_too_great = refl
 
@@ -172,12 +178,12 @@ sub_addresses_to_15 : accept sample_plan (computed 16) ≡ Ok (costs 6 1 5 ∷ [
 unfolding go_on required given if_reached
 sub_addresses_to_15 = refl
 
-sub_addresses_to_16 : accept sample_plan (computed 17) ≡ Err (broken CommandNotDeclared 7)
+sub_addresses_to_16 : accept sample_plan (computed 17) ≡ Err (broken CommandNotDeclared 7 (NoCommand 0 1 5 16))
 unfolding go_on required given if_reached
 sub_addresses_to_16 = refl
 
 -- word-too-wide
-word_of_32_bits_set : accept sample_plan (body (assign 4 v (number 4000000000) ∷ put 5 (variable v) ∷ [])) ≡ Err (broken WordTooWide 5)
+word_of_32_bits_set : accept sample_plan (body (assign 4 v (number 4000000000) ∷ put 5 (variable v) ∷ [])) ≡ Err (broken WordTooWide 5 (Word 4000000000))
 unfolding go_on required given if_reached
 word_of_32_bits_set = refl
 
@@ -189,7 +195,7 @@ word_cut = refl
 
 sum_too_great :
     accept sample_plan (body (assign 4 v (number 4000000000) ∷ assign 5 v (add (variable v) (variable v)) ∷ []))
-    ≡ Err (broken ValueOutOfRange 5)
+    ≡ Err (broken ValueOutOfRange 5 (operation Add (interval 4000000000 4000000000) (interval 4000000000 4000000000)))
 unfolding go_on required given if_reached
 sum_too_great = refl
 
@@ -207,7 +213,7 @@ computed_16 : accept sample_plan (computed_at 16) ≡ Ok (costs 6 0 5 ∷ [])
 unfolding go_on required given if_reached
 computed_16 = refl
 
-computed_17 : accept sample_plan (computed_at 17) ≡ Err (broken CommandNotDeclared 8)
+computed_17 : accept sample_plan (computed_at 17) ≡ Err (broken CommandNotDeclared 8 (NoCommand 0 1 5 16))
 unfolding go_on required given if_reached
 computed_17 = refl
 
@@ -234,30 +240,30 @@ unfolding go_on required given if_reached
 lam_calls = refl
 
 -- the second LAM, at a sub-address without these commands, and at no station
-lam_without_commands : accept sample_plan (calling (codes "m") 5 11 1) ≡ Err (broken CommandNotDeclared 4)
+lam_without_commands : accept sample_plan (calling (codes "m") 5 11 1) ≡ Err (broken CommandNotDeclared 4 (NoCommand 24 1 5 11))
 unfolding go_on required given if_reached
 lam_without_commands = refl
 
-lam_at_no_station : accept sample_plan (calling (codes "m") 7 12 1) ≡ Err (broken StationNotInstalled 4)
+lam_at_no_station : accept sample_plan (calling (codes "m") 7 12 1) ≡ Err (broken StationNotInstalled 4 (NoModule 1 7))
 unfolding go_on required given if_reached
 lam_at_no_station = refl
 
 -- crate-not-in-plan
-call_not_in_plan : accept sample_plan (script 12 1 registers (crate_call 4 InhibitOn (number 2) ∷ [])) ≡ Err (broken CrateUnfit 4)
+call_not_in_plan : accept sample_plan (script 12 1 registers (crate_call 4 InhibitOn (number 2) ∷ [])) ≡ Err (broken CrateUnfit 4 (Crate (record { low = 2; high = 2 })))
 unfolding go_on required given if_reached
 call_not_in_plan = refl
 
-call_past_all : accept sample_plan (body (crate_call 4 Clear (number 4000000000) ∷ [])) ≡ Err (broken CrateUnfit 4)
+call_past_all : accept sample_plan (body (crate_call 4 Clear (number 4000000000) ∷ [])) ≡ Err (broken CrateUnfit 4 (Crate (record { low = 4000000000; high = 4000000000 })))
 unfolding go_on required given if_reached
 call_past_all = refl
 
 -- more than one number is no crate, and a value out of range comes first
 call_of_range :
     accept sample_plan (body (register 4 r 5 0 ∷ single 5 Full 0 r (into v) ∷ crate_call 6 TestDemand (add (remainder (variable v) 2) (number 1)) ∷ []))
-    ≡ Err (broken CrateUnfit 6)
+    ≡ Err (broken CrateUnfit 6 (Crate (record { low = 1; high = 2 })))
 unfolding go_on required given if_reached
 call_of_range = refl
 
-call_below_0 : accept sample_plan (body (crate_call 4 DemandOn (subtract (number 1) (number 2)) ∷ [])) ≡ Err (broken ValueOutOfRange 4)
+call_below_0 : accept sample_plan (body (crate_call 4 DemandOn (subtract (number 1) (number 2)) ∷ [])) ≡ Err (broken ValueOutOfRange 4 (operation Sub (interval 1 1) (interval 2 2)))
 unfolding go_on required given if_reached
 call_below_0 = refl

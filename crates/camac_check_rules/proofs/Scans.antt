@@ -183,13 +183,13 @@ module _ (plan : Layout) (narrow : HasWidths plan) (around : Place) (f r1 r2 x m
 pub scan_sound : (c : Setting) → HasWidths c.plan → (around : Place) (line f r1 r2 : ℕ) (e : Expression) (x : ℕ) (k : Facts) → Allows (scan_rule (seen c) (around_of around) line f r1 r2 e x k) (SoundFor c.plan around (Some k) (λ n s. effect (of c) n (address_scan line f r1 r2 e x) (stepped s)))
 scan_sound c narrow around line f r1 r2 e x k =
     then_allowed (range_each line e k.ranges) (λ most gives.
-    required_allowed _ line (λ may.
-    then_allowed (given_allowed (region_at k.registers r1) _ line) (λ g set1.
-    then_allowed (given_allowed (region_at k.registers r2) _ line) (λ h set2.
-    required_allowed _ line (λ one.
-    required_allowed _ line (λ installed.
-    required_allowed _ line (λ declared.
-    required_allowed _ line (λ class. allows (record {
+    required_allowed _ line _ (λ may.
+    then_allowed (given_allowed (region_at k.registers r1) _ line _) (λ g set1.
+    then_allowed (given_allowed (region_at k.registers r2) _ line _) (λ h set2.
+    required_allowed _ line _ (λ one.
+    required_allowed _ line _ (λ installed.
+    required_allowed _ line _ (λ declared.
+    required_allowed _ line _ (λ class. allows (record {
       each = λ n le s i.
           let p = and_parts (has_sub_addresses g) (has_sub_addresses h && is_declared c.plan f (window_of g h)) declared in
           let q = and_parts (has_sub_addresses h) (is_declared c.plan f (window_of g h)) p.1 in

@@ -14,10 +14,12 @@ use Rattle.camac_model.specs.Headline.{AreWithinHeadings}
 use Rattle.camac_model.specs.Meaning.{context, routines_with, block_meaning}
 use Rattle.camac_model.specs.Fine.{Bounds, IsWithin as IsWithinBounds, IsFine, IsFineService, AreFine}
 use Rattle.camac_check_rules.specs.Known.{Known}
-use Rattle.camac_check_rules.specs.Cycles.{nothing_around}
+use Rattle.camac_check_rules.specs.declared.case.Body.{Body}
+use Rattle.camac_check_rules.specs.declared.case.Body.TheVariants as body
+use Rattle.camac_check_rules.specs.Cycles.{alone_in}
 use Rattle.camac_check_rules.specs.Laws.{EventsFit}
 use Rattle.camac_check_rules.specs.Statements.{accept_block}
-use Rattle.camac_check_rules.specs.Accept.{at_start, accept_procedure, accept_service, accept_items}
+use Rattle.camac_check_rules.specs.Accept.{at_start, own_body, accept_procedure, accept_service, accept_items}
 use Rattle.camac_check_rules.proofs.Allows.{Allows, allowed, then_allowed, required_allowed, for_each, allowed_more}
 use Rattle.camac_check_rules.proofs.Stores.{Place, Inside}
 use Rattle.camac_check_rules.proofs.Sound.{Paid, Sound, SoundFor}
@@ -31,12 +33,12 @@ zero_within : IsWithin (only 0) 0
 zero_within = record { low = omega arith; high = omega arith }
 
 -- where a service runs
-abbrev outermost : Place
-outermost = called (λ c. false)
+abbrev outermost : Body → Place
+outermost body = called body (λ c. false)
 
 -- a service starts inside what is known there
-start_inside : (b : Branch) (answers : List Answer) → Inside outermost at_start (fresh b answers)
-start_inside b answers = record {
+start_inside : (body : Body) (b : Branch) (answers : List Answer) → Inside (outermost body) at_start (fresh b answers)
+start_inside body b answers = record {
   variables = record { each = λ x. zero_within; small = λ x. omega arith };
   registers = λ r. tt;
   locks = λ c. refl;
@@ -67,11 +69,11 @@ pub record IsAccepted (plan : Layout) (script : Script) (v : Service) (k : Bound
 
 service_accepted : (plan : Layout) (script : Script) → HasWidths plan → (done : List Procedure) → Serves (setting plan script (context plan script).routines done) → (v : Service) → Allows (accept_service (seen (setting plan script (context plan script).routines done)) v) (IsAccepted plan script v)
 service_accepted plan script narrow done serves v =
-    then_allowed (block_sound (setting plan script (context plan script).routines done) narrow serves outermost v.body (λ e c. refl) at_start) (λ found h.
-    required_allowed _ v.line (λ words.
-    required_allowed _ v.line (λ cycles.
-    required_allowed _ v.line (λ steps. allowed (record {
-      fine = λ n le b answers. sound_fine plan outermost found.after found.costs b answers (block_meaning (context plan script) n v.body (fresh b answers)) (h.each n le (fresh b answers) (start_inside b answers));
+    then_allowed (block_sound (setting plan script (context plan script).routines done) narrow serves (outermost (body.Service v.lam)) v.body (λ e c. refl) at_start) (λ found h.
+    required_allowed _ v.line _ (λ words.
+    required_allowed _ v.line _ (λ cycles.
+    required_allowed _ v.line _ (λ steps. allowed (record {
+      fine = λ n le b answers. sound_fine plan (outermost (body.Service v.lam)) found.after found.costs b answers (block_meaning (context plan script) n v.body (fresh b answers)) (h.each n le (fresh b answers) (start_inside (body.Service v.lam) b answers));
       costs = record { cycles = leb-true found.costs.cycles v.cycles cycles; words = leb-true found.costs.words v.words words; steps = leb-true found.costs.steps greatest steps };
     })))))
 
@@ -112,9 +114,9 @@ procedure_accepted : (plan : Layout) (script : Script) → HasWidths plan → (r
 procedure_accepted plan script narrow rs done m p free =
     let c : Setting = setting plan script rs done in
     let run : ℕ → Action = λ n. block_meaning (of c) n p.body in
-    routine_sound plan p run (accept_block (seen c) nothing_around p.body) (λ k.
-    for_each (λ outside. Unit {0}) (λ outside v. SoundFor plan (called outside) (Some k) run v) (λ outside u.
-    block_sound c narrow (serves_own plan script rs done m) (called outside) p.body (λ e. absurd (false≢true (sym free ∙ e))) k))
+    routine_sound plan (own_body (seen c)) p run (accept_block (seen c) (alone_in (own_body (seen c))) p.body) (λ k.
+    for_each (λ outside. Unit {0}) (λ outside v. SoundFor plan (called (own_body (seen c)) outside) (Some k) run v) (λ outside u.
+    block_sound c narrow (serves_own plan script rs done m) (called (own_body (seen c)) outside) p.body (λ e. absurd (false≢true (sym free ∙ e))) k))
 
 none_left : (plan : Layout) (script : Script) (rs : List (ℕ → Action)) (done ps : List Procedure) → Matched plan rs done → routines_with (bare_with plan script rs) ps ≡ (context plan script).routines → 0 ≡ length ps → Matched plan (context plan script).routines (done ++ ps)
 none_left plan script rs done [] m e n = subst (λ l. Matched plan (context plan script).routines l) (sym (append-nil done)) (subst (λ l. Matched plan l done) e m)
@@ -131,8 +133,8 @@ module _ (plan : Layout) (script : Script) (narrow : HasWidths plan) where
       record { accepted = h.accepted; count = h.count; procedures = record { all = λ n. absurd (omega arith) } })
   items_accepted (next_procedure ∷ rest) rs done (p ∷ ps) vs m e free =
       then_allowed (procedure_accepted plan script narrow rs done m p free.0) (λ found sound.
-      let body : ℕ → Action = λ n. block_meaning (of (setting plan script rs done)) n p.body in
-      allowed_more (items_accepted rest (rs ++ body ∷ []) (done ++ p ∷ []) ps vs (matched_push plan rs done body p m sound) e free.1) (λ ks h.
+      let run : ℕ → Action = λ n. block_meaning (of (setting plan script rs done)) n p.body in
+      allowed_more (items_accepted rest (rs ++ run ∷ []) (done ++ p ∷ []) ps vs (matched_push plan rs done run p m sound) e free.1) (λ ks h.
       record {
         accepted = h.accepted;
         count = h.count;

@@ -35,7 +35,7 @@ use Rattle.std.specs.Prelude.{◌||◌}
 assign_sound : (c : Setting) (around : Place) (line x : ℕ) (e : Expression) (k : Facts) → Allows (assign_rule (around_of around) line x e k) (SoundFor c.plan around (Some k) (λ n s. effect (of c) n (assign line x e) (stepped s)))
 assign_sound c around line x e k =
     then_allowed (range_each line e k.ranges) (λ r gives.
-    required_allowed _ line (λ may. allows (record {
+    required_allowed _ line _ (λ may. allows (record {
       each = λ n le s i.
           let v = value_of (value e s.variables) r (gives s.variables i.variables) in
           with_given c.plan around (Some (with_range x r k)) (costs 0 0 1) s (stepped s) (value e s.variables) (λ m t. ends (with_variable x m t)) v.number v.is
@@ -49,7 +49,7 @@ assign_sound c around line x e k =
 put_sound : (c : Setting) (around : Place) (line : ℕ) (e : Expression) (k : Facts) → Allows (put_rule line e k) (SoundFor c.plan around (Some k) (λ n s. effect (of c) n (put line e) (stepped s)))
 put_sound c around line e k =
     then_allowed (range_each line e k.ranges) (λ r gives.
-    required_allowed _ line (λ small. allows (record {
+    required_allowed _ line _ (λ small. allows (record {
       each = λ n le s i.
           let v = value_of (value e s.variables) r (gives s.variables i.variables) in
           let most : r.hi ≤ greatest_word = leb-true r.hi greatest_word small in
@@ -146,12 +146,12 @@ mutual
   statement_sound c narrow serves around (for_ line x e1 e2 keeps body) may k =
       then_allowed (limits_allowed around line x e1 e2 keeps k) (λ l m.
       then_allowed (reached_sound c (fixing x around) body (for_head x l keeps body k) (λ q. block_sound c narrow serves (fixing x around) body may q)) (λ turn h.
-      required_allowed _ line (λ keep. allows (for_sound c around line x e1 e2 keeps body k l turn m keep h))))
+      required_allowed _ line _ (λ keep. allows (for_sound c around line x e1 e2 keeps body k l turn m keep h))))
   statement_sound c narrow serves around (while_ line test most m keeps body) may k =
-      then_allowed (head_allowed line most m keeps body k) (λ top begins.
+      then_allowed (head_allowed around.body line most m keeps body k) (λ top begins.
       then_allowed (split_each around line test top) (λ arms d.
       then_allowed (reached_sound c around body arms.holds (λ q. block_sound c narrow serves around body may q)) (λ turn h.
-      required_allowed _ line (λ keep. allows (while_sound c around line test most m keeps body k top arms turn begins d h keep)))))
+      required_allowed _ line _ (λ keep. allows (while_sound c around line test most m keeps body k top arms turn begins d h keep)))))
   statement_sound c narrow serves around (call line p es) may k = call_sound c serves around line p es k
 
   -- a block, from what is known at its begin, if that can be reached

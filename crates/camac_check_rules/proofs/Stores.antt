@@ -7,6 +7,7 @@ use Rattle.camac_range.specs.Interval.{Interval, only, IsWithin}
 use Rattle.camac_branch.specs.Address.{Address}
 use Rattle.camac_branch.specs.Branch.{Branch}
 use Rattle.camac_model.specs.State.{State, Variables, Registers, set_at}
+use Rattle.camac_check_rules.specs.declared.case.Body.{Body}
 use Rattle.camac_check_rules.specs.Known.{write, Region, range_at, region_at, Facts, Known}
 use Rattle.camac_check_rules.specs.Addresses.{is_among}
 use Rattle.camac_check_rules.specs.Cycles.{Around}
@@ -55,19 +56,20 @@ RegistersInside gs registers = (r : ℕ) → IsSetInside (region_at gs r) (regis
 
 -- what stands around a statement where it runs: besides what the rules see, which crates are locked around a call of its procedure
 pub record Place : Type 0 where
+  pub body : Body
   pub fixed : List ℕ
   pub locked : List ℕ
   pub outside : ℕ → Bool
 
 -- what the rules see of it
 abbrev pub around_of : Place → Around
-around_of p = record { fixed = p.fixed; locked = p.locked }
+around_of p = record { body = p.body; fixed = p.fixed; locked = p.locked }
 
 abbrev pub holding : ℕ → Place → Place
-holding c p = record { fixed = p.fixed; locked = c ∷ p.locked; outside = p.outside }
+holding c p = record { body = p.body; fixed = p.fixed; locked = c ∷ p.locked; outside = p.outside }
 
 abbrev pub fixing : ℕ → Place → Place
-fixing x p = record { fixed = x ∷ p.fixed; locked = p.locked; outside = p.outside }
+fixing x p = record { body = p.body; fixed = x ∷ p.fixed; locked = p.locked; outside = p.outside }
 
 -- just these crates are locked
 abbrev pub AreLocked : Place → Branch → Type 0

@@ -7,12 +7,17 @@ use Rattle.camac_lang.specs.View.{block_of}
 use Rattle.std.specs.Prelude.{codes}
 use Rattle.camac_model.specs.Fine.{Bounds}
 use Rattle.camac_model.specs.Sample.{sample_plan, script, script_of, opening, register, with_r, with_r_s, r, s, k, i, t}
+use Rattle.camac_check_rules.specs.declared.case.Case.TheVariants.{Budget, Count, Counted, Crates, Direction, Measure, NoCommand, NoCrate, NoModule, Unset, Width}
+use Rattle.camac_check_rules.specs.declared.case.Operator.TheVariants.{Sub}
+use Rattle.camac_check_rules.specs.Cases.{operation}
 use Rattle.camac_check_rules.specs.declared.rule.CheckRule.TheVariants.{StationNotInstalled, CommandNotDeclared, WrongDirection, ValueTooWide, RegisterUnset, ScanCratesDiffer, CountAboveTable, TooManyCycles, TooManyWords, ValueOutOfRange, MeasureBroken, LoopVariableAssigned}
+use Rattle.camac_check_rules.specs.declared.case.Body.TheVariants as body
+use Rattle.camac_func.specs.declared.code.FunctionClass.TheVariants.{Read, Write, Control}
 use Rattle.camac_check_rules.specs.Fault.{Fault, broken}
 use Rattle.camac_check_rules.specs.Refusal.{go_on, required, given, if_reached}
 use Rattle.camac_check_rules.specs.Known.{Region, region, facts}
 use Rattle.camac_check_rules.specs.Costs.{costs, Verdict, verdict}
-use Rattle.camac_check_rules.specs.Cycles.{Context, nothing_around}
+use Rattle.camac_check_rules.specs.Cycles.{Context, alone_in}
 use Rattle.camac_check_rules.specs.Transfers.{scan_rule, q_stop_rule, q_repeat_rule}
 use Rattle.camac_check_rules.specs.Accept.{accept}
 
@@ -28,7 +33,7 @@ at c n a = Some (region (only c) (only n) (only a))
 
 -- a read of function 0 from one address to another, with its tally in variable 0
 abbrev scan_from : Option Region → Option Region → ℕ → Result Verdict Fault
-scan_from g h most = scan_rule checking nothing_around 6 0 0 1 (number most) 0 (facts [] (g ∷ h ∷ []))
+scan_from g h most = scan_rule checking (alone_in (body.Service 0)) 6 0 0 1 (number most) 0 (facts [] (g ∷ h ∷ []))
 
 abbrev scan : ℕ → ℕ → ℕ → ℕ → ℕ → Result Verdict Fault
 scan n1 a1 n2 a2 most = scan_from (at 1 n1 a1) (at 1 n2 a2) most
@@ -44,7 +49,7 @@ scan_through_probes : scan 5 0 5 15 16 ≡ scanned 5 0 5 15 16 (costs 48 16 17)
 unfolding go_on required given
 scan_through_probes = refl
 
-scan_past_declared : scan 5 0 6 15 16 ≡ Err (broken CommandNotDeclared 6)
+scan_past_declared : scan 5 0 6 15 16 ≡ Err (broken CommandNotDeclared 6 (NoCommand 0 1 6 1))
 unfolding go_on required given
 scan_past_declared = refl
 
@@ -65,20 +70,20 @@ scan_nowhere : scan 40 3 40 1 4 ≡ scanned 40 3 40 1 0 (costs 0 0 1)
 unfolding go_on required given
 scan_nowhere = refl
 
-scan_past_16 : scan 7 20 7 25 4 ≡ Err (broken CommandNotDeclared 6)
+scan_past_16 : scan 7 20 7 25 4 ≡ Err (broken CommandNotDeclared 6 (NoCommand 0 1 7 20))
 unfolding go_on required given
 scan_past_16 = refl
 
-scan_past_stations : scan 6 0 4000000000 0 4 ≡ Err (broken StationNotInstalled 6)
+scan_past_stations : scan 6 0 4000000000 0 4 ≡ Err (broken StationNotInstalled 6 (NoModule 1 7))
 unfolding go_on required given
 scan_past_stations = refl
 
 -- a station that is not installed comes before commands that are not declared
-scan_past_installed : scan 6 0 7 0 4 ≡ Err (broken StationNotInstalled 6)
+scan_past_installed : scan 6 0 7 0 4 ≡ Err (broken StationNotInstalled 6 (NoModule 1 7))
 unfolding go_on required given if_reached
 scan_past_installed = refl
 
-scan_of_controller_outside : scan_from (at 2 28 0) (at 2 28 0) 4 ≡ Err (broken StationNotInstalled 6)
+scan_of_controller_outside : scan_from (at 2 28 0) (at 2 28 0) 4 ≡ Err (broken StationNotInstalled 6 (NoCrate 2))
 unfolding go_on required given
 scan_of_controller_outside = refl
 
@@ -86,21 +91,21 @@ scan_for_nothing : scan 5 0 5 15 0 ≡ scanned 5 0 5 15 0 (costs 0 0 1)
 unfolding go_on required given
 scan_for_nothing = refl
 
-scan_two_crates : scan_from (at 1 5 0) (at 2 5 0) 4 ≡ Err (broken ScanCratesDiffer 6)
+scan_two_crates : scan_from (at 1 5 0) (at 2 5 0) 4 ≡ Err (broken ScanCratesDiffer 6 (Crates (record { low = 1; high = 1 }) (record { low = 2; high = 2 })))
 unfolding go_on required given
 scan_two_crates = refl
 
-scan_final_unset : scan_from (at 1 5 0) None 4 ≡ Err (broken RegisterUnset 6)
+scan_final_unset : scan_from (at 1 5 0) None 4 ≡ Err (broken RegisterUnset 6 (Unset (body.Service 0) 1))
 unfolding go_on required given
 scan_final_unset = refl
 
 -- block transfers at station n; their tally in variable 0
 abbrev stop : ℕ → ℕ → Option ℕ → ℕ → Result Verdict Fault
-stop f n table most = q_stop_rule checking nothing_around 5 f 0 table (number most) 0 (facts [] (at 1 n 0 ∷ []))
+stop f n table most = q_stop_rule checking (alone_in (body.Service 0)) 5 f 0 table (number most) 0 (facts [] (at 1 n 0 ∷ []))
 
 abbrev q_repeating : ℕ → ℕ → Option ℕ → ℕ → ℕ → Result Verdict Fault
 q_repeating f n table most limit =
-    q_repeat_rule checking nothing_around 5 f 0 table (number most) (number limit) 0 (facts [] (at 1 n 0 ∷ []))
+    q_repeat_rule checking (alone_in (body.Service 0)) 5 f 0 table (number most) (number limit) 0 (facts [] (at 1 n 0 ∷ []))
 
 abbrev moved : ℕ → ℕ → Bounds → Result Verdict Fault
 moved n tally c = Ok (verdict (Some (facts (interval 0 tally ∷ []) (at 1 n 0 ∷ []))) c)
@@ -113,24 +118,24 @@ table_write : stop 16 6 (Some 0) 3 ≡ moved 6 3 (costs 9 0 4)
 unfolding go_on required given
 table_write = refl
 
-table_too_short : stop 16 6 (Some 0) 4 ≡ Err (broken CountAboveTable 5)
+table_too_short : stop 16 6 (Some 0) 4 ≡ Err (broken CountAboveTable 5 (Count 4 3))
 unfolding go_on required given
 table_too_short = refl
 
 -- every word of a table is looked at, also of one of which nothing is sent
-table_too_wide : stop 16 6 (Some 1) 0 ≡ Err (broken ValueTooWide 5)
+table_too_wide : stop 16 6 (Some 1) 0 ≡ Err (broken ValueTooWide 5 (Width 256 8))
 unfolding go_on required given
 table_too_wide = refl
 
-no_such_table : stop 16 6 (Some 2) 0 ≡ Err (broken CountAboveTable 5)
+no_such_table : stop 16 6 (Some 2) 0 ≡ Err (broken CountAboveTable 5 (Count 0 0))
 unfolding go_on required given
 no_such_table = refl
 
-write_code_read : stop 16 6 None 1 ≡ Err (broken WrongDirection 5)
+write_code_read : stop 16 6 None 1 ≡ Err (broken WrongDirection 5 (Direction 16 Write Read))
 unfolding go_on required given
 write_code_read = refl
 
-read_code_written : stop 0 6 (Some 0) 1 ≡ Err (broken WrongDirection 5)
+read_code_written : stop 0 6 (Some 0) 1 ≡ Err (broken WrongDirection 5 (Direction 0 Read Write))
 unfolding go_on required given
 read_code_written = refl
 
@@ -155,15 +160,15 @@ scanned_script : accept sample_plan (scanning 39 12 12 (subtract (number 12) (va
 unfolding go_on required given if_reached
 scanned_script = refl
 
-scanned_cycles : accept sample_plan (scanning 38 12 12 (number 0)) ≡ Err (broken TooManyCycles 3)
+scanned_cycles : accept sample_plan (scanning 38 12 12 (number 0)) ≡ Err (broken TooManyCycles 3 (Budget (body.Service 0) 39 38))
 unfolding go_on required given if_reached
 scanned_cycles = refl
 
-scanned_words : accept sample_plan (scanning 39 11 12 (number 0)) ≡ Err (broken TooManyWords 3)
+scanned_words : accept sample_plan (scanning 39 11 12 (number 0)) ≡ Err (broken TooManyWords 3 (Budget (body.Service 0) 12 11))
 unfolding go_on required given if_reached
 scanned_words = refl
 
-tally_not_below : accept sample_plan (scanning 39 12 12 (subtract (number 11) (variable t))) ≡ Err (broken ValueOutOfRange 7)
+tally_not_below : accept sample_plan (scanning 39 12 12 (subtract (number 11) (variable t))) ≡ Err (broken ValueOutOfRange 7 (operation Sub (interval 11 11) (interval 0 12)))
 unfolding go_on required given if_reached
 tally_not_below = refl
 
@@ -172,13 +177,13 @@ poll_tally :
     accept sample_plan (script 100 100 with_r (register r 6 0 ∷ assign 5 k (number 10) ∷
     while_ 6 (plain (compare (variable k) More (number 0)) ∷ []) 10 k []
     (block_of (assign 6 k (subtract (variable k) (number 1)) ∷ q_stop 6 0 r None (number 1) k ∷ [])) ∷ []))
-    ≡ Err (broken MeasureBroken 6)
+    ≡ Err (broken MeasureBroken 6 (Measure (body.Service 0) 1))
 unfolding go_on required given if_reached
 poll_tally = refl
 
 for_tally :
     accept sample_plan (script 100 100 with_r (register r 5 0 ∷ for_ 4 i (number 1) (number 2) [] (block_of (q_stop 5 0 r None (number 1) i ∷ [])) ∷ []))
-    ≡ Err (broken LoopVariableAssigned 5)
+    ≡ Err (broken LoopVariableAssigned 5 (Counted (body.Service 0) 2))
 unfolding go_on required given if_reached
 for_tally = refl
 
@@ -192,6 +197,6 @@ table_script : accept sample_plan (writing 3) ≡ Ok (costs 9 0 5 ∷ [])
 unfolding go_on required given if_reached
 table_script = refl
 
-table_script_short : accept sample_plan (writing 4) ≡ Err (broken CountAboveTable 5)
+table_script_short : accept sample_plan (writing 4) ≡ Err (broken CountAboveTable 5 (Count 4 3))
 unfolding go_on required given if_reached
 table_script_short = refl

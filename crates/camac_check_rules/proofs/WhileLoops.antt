@@ -15,6 +15,7 @@ use Rattle.camac_model.specs.Meaning.{turns, effect, block_meaning}
 use Rattle.camac_model.specs.Fine.{Bounds}
 use Rattle.camac_model.proofs.Rules.{turns_meet}
 use Rattle.camac_check_rules.specs.Known.{Facts, Known, range_at, with_range}
+use Rattle.camac_check_rules.specs.declared.case.Body.{Body}
 use Rattle.camac_check_rules.specs.Conditions.{Branches}
 use Rattle.camac_check_rules.specs.Costs.{loop_costs, Verdict, verdict}
 use Rattle.camac_check_rules.specs.Writes.{block_writes, fall_of}
@@ -38,12 +39,12 @@ pub record MayTurn (most m : ℕ) (qs : List Keep) (body : Block) (k top : Facts
   pub entry : keeps_hold qs k ≡ true
   pub is : with_range m (interval 0 (range_at k.ranges m).hi) (head body qs k) ≡ top
 
-pub head_allowed : (line most m : ℕ) (qs : List Keep) (body : Block) (k : Facts) → Allows (while_head line most m qs body k) (MayTurn most m qs body k)
-head_allowed line most m qs body k =
-    then_allowed (given_allowed (fall_of m body) _ line) (λ fall falls.
-    required_allowed _ line (λ few.
+pub head_allowed : (place : Body) (line most m : ℕ) (qs : List Keep) (body : Block) (k : Facts) → Allows (while_head place line most m qs body k) (MayTurn most m qs body k)
+head_allowed place line most m qs body k =
+    then_allowed (given_allowed (fall_of m body) _ line _) (λ fall falls.
+    required_allowed _ line _ (λ few.
     let p = and_parts (nat_le most turn_limit) (nat_le ((range_at k.ranges m).hi / fall) most) few in
-    required_allowed _ line (λ entry. allowed (record {
+    required_allowed _ line _ (λ entry. allowed (record {
       fall = fall;
       falls = falls;
       most_turns = leb-true most turn_limit p.0;

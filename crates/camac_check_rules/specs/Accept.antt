@@ -1,15 +1,17 @@
 -- Acceptance of a linked script: services in text order, each within its heading.
-use Rattle.std.specs.Prelude.{List, [], ◌∷◌, ◌++◌, map, Result, Ok}
+use Rattle.std.specs.Prelude.{List, [], ◌∷◌, ◌++◌, map, length, Result, Ok}
 use Rattle.camac_lang.specs.Tree.{Procedure, Service, Item, next_table, next_lam, next_variables, next_procedure, next_service, Script}
 use Rattle.camac_range.specs.Number.{greatest}
 use Rattle.camac_branch.specs.Plan.{Layout}
 use Rattle.camac_model.specs.Meaning.{lam_address}
 use Rattle.camac_model.specs.Fine.{Bounds}
+use Rattle.camac_check_rules.specs.declared.case.Body.{Body}
+use Rattle.camac_check_rules.specs.declared.case.Body.TheVariants as body
 use Rattle.camac_check_rules.specs.Fault.{Fault}
 use Rattle.camac_check_rules.specs.Refusal.{◌>>=◌}
 use Rattle.camac_check_rules.specs.Known.{Facts, facts}
 use Rattle.camac_check_rules.specs.Costs.{costs}
-use Rattle.camac_check_rules.specs.Cycles.{Context, nothing_around}
+use Rattle.camac_check_rules.specs.Cycles.{Context, alone_in}
 pub use Rattle.camac_check_rules.specs.Procedures.{within, procedure_rule}
 use Rattle.camac_check_rules.specs.Statements.{accept_block}
 
@@ -17,8 +19,12 @@ use Rattle.camac_check_rules.specs.Statements.{accept_block}
 abbrev pub at_start : Facts
 at_start = facts [] []
 
+-- the body of the procedure that comes after those before
+abbrev pub own_body : Context → Body
+own_body c = body.Procedure (length c.procedures)
+
 abbrev pub accept_procedure : Context → Procedure → Result Bounds Fault
-accept_procedure c p = procedure_rule (accept_block c nothing_around p.body) p
+accept_procedure c p = procedure_rule (own_body c) (accept_block c (alone_in (own_body c)) p.body) p
 
 -- a procedure can be called after it
 abbrev pub with_procedure : Procedure → Context → Context
@@ -27,8 +33,8 @@ with_procedure p c = record c { procedures = c.procedures ++ p ∷ [] }
 -- what a service can cost
 abbrev pub accept_service : Context → Service → Result Bounds Fault
 accept_service c s = do
-  v ← accept_block c nothing_around s.body at_start
-  within (costs s.cycles s.words greatest) v.costs s.line
+  v ← accept_block c (alone_in (body.Service s.lam)) s.body at_start
+  within (body.Service s.lam) (costs s.cycles s.words greatest) v.costs s.line
 
 -- the procedures and services from here on, in the order of the text: what each service can cost
 abbrev pub accept_items : Context → List Item → List Procedure → List Service → Result (List Bounds) Fault

@@ -1,13 +1,15 @@
 -- Which addresses of a region are installed, and how wide a command is there.
 use Rattle.std.specs.Prelude.{ℕ, ◌+◌, Bool, ◌&&◌, ◌||◌, List, [], ◌∷◌, false, Option, None, Result, nat_eq, nat_lt, is_some, option_map, unwrap_or, if◌then◌else◌}
-use Rattle.camac_range.specs.Interval.{Interval, interval}
+use Rattle.camac_range.specs.Interval.{Interval, interval, only}
 use Rattle.camac_branch.specs.Allowed.{widths}
 use Rattle.camac_branch.specs.Plan.{Layout, crate_waits, station}
+use Rattle.camac_check_rules.specs.declared.case.Case.{Case}
+use Rattle.camac_check_rules.specs.declared.case.Case.TheVariants.{NoCrate, NoModule, NoCommand}
 use Rattle.camac_check_rules.specs.declared.rule.CheckRule.TheVariants.{StationNotInstalled, CommandNotDeclared}
 use Rattle.camac_check_rules.specs.Fault.{Fault}
 use Rattle.camac_check_rules.specs.Refusal.{◌>>◌, required, given}
 use Rattle.camac_check_rules.specs.Known.{Region}
-use Rattle.camac_check_rules.specs.Walks.{count_below, all_from, greatest_from, hull_from}
+use Rattle.camac_check_rules.specs.Walks.{count_below, all_from, first_outside, greatest_from, hull_from}
 
 -- No crate is numbered from 8 on, no station from 32 on, no sub-address from 16 on.
 abbrev pub crate_end : ℕ
@@ -50,11 +52,39 @@ abbrev pub region_widths : Layout → ℕ → Region → Option Interval
 region_widths plan f g =
     hull_from (crate_widths plan f g.sub_addresses g.stations) g.crates.lo (count_below crate_end g.crates)
 
+-- a station that is not installed: its crate is not in the plan, or it has no module
+abbrev pub not_installed : Layout → ℕ → ℕ → Case
+not_installed plan c n = if nat_lt c crate_end && in_plan plan c then NoModule c n else NoCrate c
+
+abbrev pub missing_in : Layout → Interval → ℕ → Case
+missing_in plan ns c = not_installed plan c (first_outside station_end ns (is_station plan c))
+
+-- the first station of a region that is not installed
+abbrev pub missing : Layout → Region → Case
+missing plan g = missing_in plan g.stations (first_outside crate_end g.crates (are_stations_in plan g.stations))
+
+-- a command at one address
+abbrev pub has_command : Layout → ℕ → ℕ → ℕ → ℕ → Bool
+has_command plan f c n a = is_some (station_widths plan f (only a) c n)
+
+abbrev pub undeclared_at : Layout → ℕ → Interval → ℕ → ℕ → Case
+undeclared_at plan f subs c n = NoCommand f c n (first_outside sub_address_end subs (has_command plan f c n))
+
+abbrev pub undeclared_in : Layout → ℕ → Interval → Interval → ℕ → Case
+undeclared_in plan f subs ns c =
+    undeclared_at plan f subs c (first_outside station_end ns (λ n. is_some (station_widths plan f subs c n)))
+
+-- the first address of a region that has not the command
+abbrev pub undeclared : Layout → ℕ → Region → Case
+undeclared plan f g =
+    undeclared_in plan f g.sub_addresses g.stations
+    (first_outside crate_end g.crates (λ c. is_some (crate_widths plan f g.sub_addresses g.stations c)))
+
 -- the widths of a command at a region, all of whose addresses are installed and declare it
 abbrev pub command_widths : Layout → ℕ → ℕ → Region → Result Interval Fault
 command_widths plan line f g = do
-  required (are_stations plan g) StationNotInstalled line
-  given (region_widths plan f g) CommandNotDeclared line
+  required (are_stations plan g) StationNotInstalled line (missing plan g)
+  given (region_widths plan f g) CommandNotDeclared line (undeclared plan f g)
 
 abbrev pub is_among : ℕ → List ℕ → Bool
 is_among x [] = false

@@ -11,7 +11,10 @@ use Rattle.camac_func.specs.Class.{class_of}
 use Rattle.camac_model.specs.Cycle.{sized}
 use Rattle.camac_model.specs.Meaning.{fits_size}
 use Rattle.camac_model.specs.Fine.{Bounds}
+use Rattle.camac_check_rules.specs.declared.case.Body.{Body}
+use Rattle.camac_check_rules.specs.declared.case.Case.TheVariants.{Unset, Counted, Width}
 use Rattle.camac_check_rules.specs.declared.rule.CheckRule.TheVariants.{WrongDirection, ValueTooWide, RegisterUnset, LoopVariableAssigned}
+use Rattle.camac_check_rules.specs.Cases.{direction}
 use Rattle.camac_check_rules.specs.Fault.{Fault}
 use Rattle.camac_check_rules.specs.Refusal.{◌>>=◌, ◌>>◌, required, given}
 use Rattle.camac_check_rules.specs.Known.{Facts, region_at, with_range}
@@ -28,16 +31,17 @@ pub record Context : Type 0 where
   pub procedures : List Procedure
   pub limit : Bounds → Bounds
 
--- what stands around a statement: the variables of the `for` loops, and the crates that are locked
+-- what stands around a statement: the body, the variables of the `for` loops, and the crates that are locked
 pub record Around : Type 0 where
+  pub body : Body
   pub fixed : List ℕ
   pub locked : List ℕ
 
-abbrev pub nothing_around : Around
-nothing_around = record { fixed = []; locked = [] }
+abbrev pub alone_in : Body → Around
+alone_in body = record { body = body; fixed = []; locked = [] }
 
 abbrev pub with_locked : ℕ → Around → Around
-with_locked c around = record { fixed = around.fixed; locked = c ∷ around.locked }
+with_locked c around = record { body = around.body; fixed = around.fixed; locked = c ∷ around.locked }
 
 abbrev pub may_write : Around → ℕ → Bool
 may_write around x = not (is_among x around.fixed)
@@ -54,26 +58,26 @@ one_cycle c around crates = c.limit (costs (cycle_cost c.plan around.locked crat
 -- a cycle without data, a read, a write
 abbrev pub control_rule : Context → Around → ℕ → ℕ → ℕ → Facts → Result Verdict Fault
 control_rule c around line f r k = do
-  g ← given (region_at k.registers r) RegisterUnset line
+  g ← given (region_at k.registers r) RegisterUnset line (Unset around.body r)
   widths ← command_widths c.plan line f g
-  required (same_class Control (class_of f)) WrongDirection line
+  required (same_class Control (class_of f)) WrongDirection line (direction f Control)
   Ok (verdict (Some k) (one_cycle c around g.crates))
 
 abbrev pub read_rule : Context → Around → ℕ → WordSize → ℕ → ℕ → ℕ → Facts → Result Verdict Fault
 read_rule c around line size f r x k = do
-  required (may_write around x) LoopVariableAssigned line
-  g ← given (region_at k.registers r) RegisterUnset line
+  required (may_write around x) LoopVariableAssigned line (Counted around.body x)
+  g ← given (region_at k.registers r) RegisterUnset line (Unset around.body r)
   widths ← command_widths c.plan line f g
-  required (same_class Read (class_of f)) WrongDirection line
+  required (same_class Read (class_of f)) WrongDirection line (direction f Read)
   Ok (verdict (Some (with_range x (interval 0 (2 ^ sized size widths.hi - 1)) k)) (one_cycle c around g.crates))
 
 abbrev pub write_rule : Context → Around → ℕ → WordSize → ℕ → ℕ → Expression → Facts → Result Verdict Fault
 write_rule c around line size f r e k = do
   v ← range_of line e k.ranges
-  g ← given (region_at k.registers r) RegisterUnset line
+  g ← given (region_at k.registers r) RegisterUnset line (Unset around.body r)
   widths ← command_widths c.plan line f g
-  required (same_class Write (class_of f)) WrongDirection line
-  required (nat_lt v.hi (2 ^ widths.lo) && fits_size size v.hi) ValueTooWide line
+  required (same_class Write (class_of f)) WrongDirection line (direction f Write)
+  required (nat_lt v.hi (2 ^ widths.lo) && fits_size size v.hi) ValueTooWide line (Width v.hi (sized size widths.lo))
   Ok (verdict (Some k) (one_cycle c around g.crates))
 
 abbrev pub single_rule : Context → Around → ℕ → WordSize → ℕ → ℕ → Move → Facts → Result Verdict Fault

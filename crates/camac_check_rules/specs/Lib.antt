@@ -18,3 +18,4 @@ pub mod Statements
 pub mod Accept
 pub mod Capped
 pub mod Laws
+pub mod Cases

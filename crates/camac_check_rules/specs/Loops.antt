@@ -2,7 +2,11 @@
 use Rattle.std.specs.Prelude.{ℕ, ◌+◌, ◌-◌, ◌/◌, Bool, true, ◌&&◌, List, [], ◌∷◌, Some, None, Result, Ok, nat_lt, nat_le, if◌then◌else◌}
 use Rattle.camac_lang.specs.Tree.{Expression, Condition, Keep, Block}
 use Rattle.camac_range.specs.Interval.{Interval, interval, is_inside, hull}
+use Rattle.camac_check_rules.specs.declared.case.Body.{Body}
+use Rattle.camac_check_rules.specs.declared.case.Case.{Case}
+use Rattle.camac_check_rules.specs.declared.case.Case.TheVariants.{Malformed, Measure, Turns, Annotation, Counted}
 use Rattle.camac_check_rules.specs.declared.rule.CheckRule.TheVariants.{MeasureBroken, KeepFailsAtEntry, KeepFailsAfterTurn, TooManyTurns, LoopVariableAssigned}
+use Rattle.camac_check_rules.specs.Cases.{kept_at}
 use Rattle.camac_check_rules.specs.Fault.{Fault}
 use Rattle.camac_check_rules.specs.Refusal.{◌>>=◌, ◌>>◌, required, given, if_reached}
 use Rattle.camac_check_rules.specs.Known.{Facts, Known, range_at, with_range}
@@ -17,7 +21,7 @@ abbrev pub turn_limit : ℕ
 turn_limit = 65535
 
 abbrev pub with_fixed : ℕ → Around → Around
-with_fixed x around = record { fixed = x ∷ around.fixed; locked = around.locked }
+with_fixed x around = record { body = around.body; fixed = x ∷ around.fixed; locked = around.locked }
 
 abbrev pub kept_range : Keep → Interval
 kept_range q = interval q.low q.high
@@ -30,6 +34,17 @@ keeps_hold (q ∷ qs) k = is_inside (range_at k.ranges q.variable) (kept_range q
 abbrev pub keeps_hold_after : List Keep → Known → Bool
 keeps_hold_after qs None = true
 keeps_hold_after qs (Some k) = keeps_hold qs k
+
+-- the first kept variable that is not in its range
+abbrev pub unkept : Body → List Keep → Facts → Case
+unkept body [] k = Malformed
+unkept body (q ∷ qs) k =
+    if is_inside (range_at k.ranges q.variable) (kept_range q) then unkept body qs k
+    else kept_at body q.variable (range_at k.ranges q.variable) (kept_range q)
+
+abbrev pub unkept_after : Body → List Keep → Known → Case
+unkept_after body qs None = Malformed
+unkept_after body qs (Some k) = unkept body qs k
 
 abbrev pub with_keeps : List Keep → Facts → Facts
 with_keeps [] k = k
@@ -59,9 +74,9 @@ abbrev pub for_limits : Around → ℕ → ℕ → Expression → Expression →
 for_limits around line x e1 e2 keeps k = do
   r ← range_of line e1 k.ranges
   s ← range_of line e2 k.ranges
-  required (may_write around x) LoopVariableAssigned line
-  required (nat_le (turns_between (limits r s)) turn_limit) TooManyTurns line
-  required (keeps_hold keeps k) KeepFailsAtEntry line
+  required (may_write around x) LoopVariableAssigned line (Counted around.body x)
+  required (nat_le (turns_between (limits r s)) turn_limit) TooManyTurns line (Turns (turns_between (limits r s)) turn_limit)
+  required (keeps_hold keeps k) KeepFailsAtEntry line (unkept around.body keeps k)
   Ok (limits r s)
 
 -- what is known where the body of a `for` begins, if there may be a turn
@@ -81,15 +96,19 @@ abbrev pub for_rule :
 for_rule c around line x e1 e2 keeps body check k = do
   l ← for_limits around line x e1 e2 keeps k
   turn ← if_reached unreached (for_head x l keeps body k) check
-  required (keeps_hold_after keeps turn.after) KeepFailsAfterTurn line
+  required (keeps_hold_after keeps turn.after) KeepFailsAfterTurn line (unkept_after around.body keeps turn.after)
   Ok (verdict (for_after x l keeps body k) (c.limit (loop_costs (turns_between l) turn.costs)))
 
+-- the turns that a `while` may need, or its own number, where that is above the most of any loop
+abbrev pub turns_case : ℕ → ℕ → Case
+turns_case needed most = if nat_le most turn_limit then Turns needed most else Annotation most turn_limit
+
 -- what is known at the head of a `while` of at most so many turns with measure m, by whose rules it may begin
-abbrev pub while_head : ℕ → ℕ → ℕ → List Keep → Block → Facts → Result Facts Fault
-while_head line most m keeps body k = do
-  fall ← given (fall_of m body) MeasureBroken line
-  required (nat_le most turn_limit && nat_le ((range_at k.ranges m).hi / fall) most) TooManyTurns line
-  required (keeps_hold keeps k) KeepFailsAtEntry line
+abbrev pub while_head : Body → ℕ → ℕ → ℕ → List Keep → Block → Facts → Result Facts Fault
+while_head place line most m keeps body k = do
+  fall ← given (fall_of m body) MeasureBroken line (Measure place m)
+  required (nat_le most turn_limit && nat_le ((range_at k.ranges m).hi / fall) most) TooManyTurns line (turns_case ((range_at k.ranges m).hi / fall) most)
+  required (keeps_hold keeps k) KeepFailsAtEntry line (unkept place keeps k)
   Ok (with_range m (interval 0 (range_at k.ranges m).hi) (head body keeps k))
 
 -- no turn where the condition never holds
@@ -99,10 +118,10 @@ turn_bound (Some k) most = most
 
 -- where `check` checks its body
 abbrev pub while_rule :
-    Context → ℕ → Condition → ℕ → ℕ → List Keep → Block → (Facts → Result Verdict Fault) → Facts → Result Verdict Fault
-while_rule c line test most m keeps body check k = do
-  top ← while_head line most m keeps body k
+    Context → Around → ℕ → Condition → ℕ → ℕ → List Keep → Block → (Facts → Result Verdict Fault) → Facts → Result Verdict Fault
+while_rule c around line test most m keeps body check k = do
+  top ← while_head around.body line most m keeps body k
   arms ← split line test top
   turn ← if_reached unreached arms.holds check
-  required (keeps_hold_after keeps turn.after) KeepFailsAfterTurn line
+  required (keeps_hold_after keeps turn.after) KeepFailsAfterTurn line (unkept_after around.body keeps turn.after)
   Ok (verdict arms.fails (c.limit (loop_costs (turn_bound arms.holds most) turn.costs)))

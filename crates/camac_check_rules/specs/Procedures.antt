@@ -1,9 +1,13 @@
 -- The rules of procedures: a call stands on the heading alone, and a body is checked once, from the ranges of its heading.
-use Rattle.std.specs.Prelude.{ℕ, Bool, true, false, ◌&&◌, List, [], ◌∷◌, map, Some, None, Result, Ok, nat_le, slice_get, if◌then◌else◌}
+use Rattle.std.specs.Prelude.{ℕ, ◌+◌, Bool, true, false, ◌&&◌, List, [], ◌∷◌, map, Some, None, Result, Ok, nat_le, slice_get, if◌then◌else◌}
 use Rattle.camac_lang.specs.Tree.{Expression, Parameter, Procedure}
 use Rattle.camac_range.specs.Interval.{Interval, interval, is_inside}
 use Rattle.camac_model.specs.Fine.{Bounds, annotated}
+use Rattle.camac_check_rules.specs.declared.case.Body.{Body}
+use Rattle.camac_check_rules.specs.declared.case.Case.{Case}
+use Rattle.camac_check_rules.specs.declared.case.Case.TheVariants.{Malformed, Argument}
 use Rattle.camac_check_rules.specs.declared.rule.CheckRule.TheVariants.{TooManyWords, TooManyCycles, TooManySteps, ArgumentOutOfRange}
+use Rattle.camac_check_rules.specs.Cases.{numbers_of, budget}
 use Rattle.camac_check_rules.specs.Fault.{Fault}
 use Rattle.camac_check_rules.specs.Refusal.{◌>>=◌, ◌>>◌, required, given, if_reached}
 use Rattle.camac_check_rules.specs.Known.{Facts, facts, Known}
@@ -28,12 +32,19 @@ arguments_fit [] (p ∷ ps) = false
 arguments_fit (r ∷ rs) [] = false
 arguments_fit (r ∷ rs) (p ∷ ps) = is_inside r (parameter_range p) && arguments_fit rs ps
 
+-- the first argument of a call of procedure p, from the one of this number on, that is not in the range of its parameter
+abbrev pub unfit : ℕ → ℕ → List Interval → List Parameter → Case
+unfit p i (r ∷ rs) (q ∷ qs) =
+    if is_inside r (parameter_range q) then unfit p (i + 1) rs qs
+    else Argument p i (numbers_of r) (numbers_of (parameter_range q))
+unfit p i _ _ = Malformed
+
 -- a call of a procedure, by its heading
 abbrev pub call_rule : Context → ℕ → ℕ → List Expression → Facts → Result Verdict Fault
 call_rule c line p es k = do
   rs ← ranges_of line es k.ranges
-  procedure ← given (slice_get c.procedures p) ArgumentOutOfRange line
-  required (arguments_fit rs procedure.parameters) ArgumentOutOfRange line
+  procedure ← given (slice_get c.procedures p) ArgumentOutOfRange line Malformed
+  required (arguments_fit rs procedure.parameters) ArgumentOutOfRange line (unfit p 0 rs procedure.parameters)
   Ok (verdict (Some k) (c.limit (call_costs (annotated procedure))))
 
 -- whether each parameter has a number at all
@@ -46,15 +57,15 @@ abbrev pub at_entry : List Parameter → Known
 at_entry ps = if can_be_called ps then Some (facts (map parameter_range ps) []) else None
 
 -- within the numbers of a heading on this line
-abbrev pub within : Bounds → Bounds → ℕ → Result Bounds Fault
-within most found line = do
-  required (nat_le found.words most.words) TooManyWords line
-  required (nat_le found.cycles most.cycles) TooManyCycles line
-  required (nat_le found.steps most.steps) TooManySteps line
+abbrev pub within : Body → Bounds → Bounds → ℕ → Result Bounds Fault
+within body most found line = do
+  required (nat_le found.words most.words) TooManyWords line (budget body found.words most.words)
+  required (nat_le found.cycles most.cycles) TooManyCycles line (budget body found.cycles most.cycles)
+  required (nat_le found.steps most.steps) TooManySteps line (budget body found.steps most.steps)
   Ok found
 
 -- where `check` checks its body
-abbrev pub procedure_rule : (Facts → Result Verdict Fault) → Procedure → Result Bounds Fault
-procedure_rule check p = do
+abbrev pub procedure_rule : Body → (Facts → Result Verdict Fault) → Procedure → Result Bounds Fault
+procedure_rule body check p = do
   v ← if_reached unreached (at_entry p.parameters) check
-  within (annotated p) v.costs p.line
+  within body (annotated p) v.costs p.line

@@ -2,6 +2,7 @@
 use Rattle.std.specs.Prelude.{ℕ, Some, Result, Ok, nat_le, unwrap_or}
 use Rattle.camac_lang.specs.Tree.{Expression, Statement, assign, set_register, single, address_scan, q_stop, q_repeat, put, crate_call, lam_call, choose, choose_else, for_, while_, locked, call, Block, done, next}
 use Rattle.camac_branch.specs.Plan.{crate_waits}
+use Rattle.camac_check_rules.specs.declared.case.Case.TheVariants.{Word, Counted}
 use Rattle.camac_check_rules.specs.declared.rule.CheckRule.TheVariants.{WordTooWide, LoopVariableAssigned}
 use Rattle.camac_check_rules.specs.Fault.{Fault}
 use Rattle.camac_check_rules.specs.Refusal.{◌>>=◌, ◌>>◌, required, if_reached}
@@ -23,7 +24,7 @@ greatest_word = 16777215
 abbrev pub assign_rule : Around → ℕ → ℕ → Expression → Facts → Result Verdict Fault
 assign_rule around line x e k = do
   r ← range_of line e k.ranges
-  required (may_write around x) LoopVariableAssigned line
+  required (may_write around x) LoopVariableAssigned line (Counted around.body x)
   Ok (verdict (Some (with_range x r k)) (costs 0 0 1))
 
 abbrev pub register_rule : ℕ → ℕ → Expression → Expression → Expression → Facts → Result Verdict Fault
@@ -36,7 +37,7 @@ register_rule line r e1 e2 e3 k = do
 abbrev pub put_rule : ℕ → Expression → Facts → Result Verdict Fault
 put_rule line e k = do
   r ← range_of line e k.ranges
-  required (nat_le r.hi greatest_word) WordTooWide line
+  required (nat_le r.hi greatest_word) WordTooWide line (Word r.hi)
   Ok (verdict (Some k) (costs 0 1 1))
 
 abbrev mutual
@@ -65,7 +66,7 @@ abbrev mutual
   accept_statement c around (lam_call line which l) k = lam_rule c around line which l k
   accept_statement c around (for_ line x e1 e2 keeps body) k =
       for_rule c around line x e1 e2 keeps body (accept_block c (with_fixed x around) body) k
-  accept_statement c around (while_ line test most m keeps body) k = while_rule c line test most m keeps body (accept_block c around body) k
+  accept_statement c around (while_ line test most m keeps body) k = while_rule c around line test most m keeps body (accept_block c around body) k
   accept_statement c around (call line p es) k = call_rule c line p es k
 
   -- a list costs the sum

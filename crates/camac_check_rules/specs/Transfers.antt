@@ -1,12 +1,16 @@
 -- The rules of the three transfers: their cycles, the words that they keep, and their tally.
-use Rattle.std.specs.Prelude.{ℕ, ◌^◌, Bool, true, false, ◌&&◌, List, [], Option, Some, None, Result, Ok, nat_eq, nat_lt, nat_le, min, length, unwrap_or, slice_get, if◌then◌else◌}
+use Rattle.std.specs.Prelude.{ℕ, ◌^◌, Bool, true, false, ◌&&◌, List, [], ◌∷◌, Option, Some, None, Result, Ok, nat_eq, nat_lt, nat_le, min, max, length, unwrap_or, slice_get, if◌then◌else◌}
 use Rattle.camac_lang.specs.Tests.{each}
 use Rattle.camac_lang.specs.Tree.{Expression}
 use Rattle.camac_range.specs.Interval.{interval, only}
+use Rattle.camac_branch.specs.Plan.{Layout}
 use Rattle.camac_func.specs.Class.{class_of}
 use Rattle.camac_func.specs.declared.code.FunctionClass.{FunctionClass}
 use Rattle.camac_func.specs.declared.code.FunctionClass.TheVariants.{Read, Write}
+use Rattle.camac_check_rules.specs.declared.case.Case.{Case}
+use Rattle.camac_check_rules.specs.declared.case.Case.TheVariants.{NoCommand, Unset, Counted, Width, Count}
 use Rattle.camac_check_rules.specs.declared.rule.CheckRule.TheVariants.{StationNotInstalled, CommandNotDeclared, WrongDirection, ValueTooWide, RegisterUnset, ScanCratesDiffer, CountAboveTable, LoopVariableAssigned}
+use Rattle.camac_check_rules.specs.Cases.{crates_of, direction}
 use Rattle.camac_check_rules.specs.Fault.{Fault}
 use Rattle.camac_check_rules.specs.Refusal.{◌>>=◌, ◌>>◌, required, given}
 use Rattle.camac_check_rules.specs.Known.{Region, Facts, region_at, with_range}
@@ -14,7 +18,7 @@ use Rattle.camac_check_rules.specs.Expressions.{range_of}
 use Rattle.camac_check_rules.specs.Costs.{Verdict, verdict, transfer_costs}
 use Rattle.camac_check_rules.specs.Addresses.{sub_address_end, command_widths, cycle_cost}
 use Rattle.camac_check_rules.specs.Cycles.{Context, Around, may_write, same_class}
-use Rattle.camac_check_rules.specs.Windows.{Window, window_of, is_installed, is_declared, scan_cycles, scan_kept}
+use Rattle.camac_check_rules.specs.Windows.{Window, window_of, is_installed, missing_over, is_declared, undeclared_over, scan_cycles, scan_kept}
 
 -- both registers hold addresses of one crate
 abbrev pub is_one_crate : Region → Region → Bool
@@ -23,6 +27,16 @@ is_one_crate g h =
 
 abbrev pub has_sub_addresses : Region → Bool
 has_sub_addresses g = nat_lt g.sub_addresses.hi sub_address_end
+
+-- the first address of a register past the last sub-address
+abbrev pub past_sub_addresses : ℕ → Region → Case
+past_sub_addresses f g = NoCommand f g.crates.lo g.stations.lo (max g.sub_addresses.lo sub_address_end)
+
+-- the first address between two registers that has not the command
+abbrev pub undeclared_by : Layout → ℕ → Region → Region → Case
+undeclared_by plan f g h =
+    if has_sub_addresses g then (if has_sub_addresses h then undeclared_over plan f (window_of g h) else past_sub_addresses f h)
+    else past_sub_addresses f g
 
 -- what a scan of at most so many words leaves and costs
 abbrev pub scan_verdict : Context → Around → Window → ℕ → ℕ → Facts → Verdict
@@ -33,13 +47,13 @@ scan_verdict c around w most x k =
 abbrev pub scan_rule : Context → Around → ℕ → ℕ → ℕ → ℕ → Expression → ℕ → Facts → Result Verdict Fault
 scan_rule c around line f r1 r2 e x k = do
   most ← range_of line e k.ranges
-  required (may_write around x) LoopVariableAssigned line
-  g ← given (region_at k.registers r1) RegisterUnset line
-  h ← given (region_at k.registers r2) RegisterUnset line
-  required (is_one_crate g h) ScanCratesDiffer line
-  required (is_installed c.plan (window_of g h)) StationNotInstalled line
-  required (has_sub_addresses g && (has_sub_addresses h && is_declared c.plan f (window_of g h))) CommandNotDeclared line
-  required (same_class Read (class_of f)) WrongDirection line
+  required (may_write around x) LoopVariableAssigned line (Counted around.body x)
+  g ← given (region_at k.registers r1) RegisterUnset line (Unset around.body r1)
+  h ← given (region_at k.registers r2) RegisterUnset line (Unset around.body r2)
+  required (is_one_crate g h) ScanCratesDiffer line (crates_of g.crates h.crates)
+  required (is_installed c.plan (window_of g h)) StationNotInstalled line (missing_over c.plan (window_of g h))
+  required (has_sub_addresses g && (has_sub_addresses h && is_declared c.plan f (window_of g h))) CommandNotDeclared line (undeclared_by c.plan f g h)
+  required (same_class Read (class_of f)) WrongDirection line (direction f Read)
   Ok (scan_verdict c around (window_of g h) most.hi x k)
 
 -- a block transfer writes where it names a table, else it reads
@@ -60,6 +74,15 @@ abbrev pub words_fit : List (List ℕ) → Option ℕ → ℕ → Bool
 words_fit tables None width = true
 words_fit tables (Some t) width = each (λ v. nat_lt v (2 ^ width)) (unwrap_or (slice_get tables t) [])
 
+-- the words of the table that a transfer sends, none of a read
+abbrev pub words_sent : List (List ℕ) → Option ℕ → List ℕ
+words_sent tables None = []
+words_sent tables (Some t) = unwrap_or (slice_get tables t) []
+
+abbrev pub greatest_of : List ℕ → ℕ
+greatest_of [] = 0
+greatest_of (v ∷ vs) = max v (greatest_of vs)
+
 -- a read puts what it keeps into the event
 abbrev pub event_words : Option ℕ → ℕ → ℕ
 event_words None kept = kept
@@ -69,12 +92,12 @@ event_words (Some t) kept = 0
 abbrev pub block_region :
     Context → Around → ℕ → ℕ → ℕ → Option ℕ → ℕ → ℕ → Facts → Result Region Fault
 block_region c around line f r t most x k = do
-  required (may_write around x) LoopVariableAssigned line
-  g ← given (region_at k.registers r) RegisterUnset line
+  required (may_write around x) LoopVariableAssigned line (Counted around.body x)
+  g ← given (region_at k.registers r) RegisterUnset line (Unset around.body r)
   widths ← command_widths c.plan line f g
-  required (same_class (block_class t) (class_of f)) WrongDirection line
-  required (has_words c.tables t most) CountAboveTable line
-  required (words_fit c.tables t widths.lo) ValueTooWide line
+  required (same_class (block_class t) (class_of f)) WrongDirection line (direction f (block_class t))
+  required (has_words c.tables t most) CountAboveTable line (Count most (length (words_sent c.tables t)))
+  required (words_fit c.tables t widths.lo) ValueTooWide line (Width (greatest_of (words_sent c.tables t)) widths.lo)
   Ok g
 
 -- a block transfer of at most so many cycles, that keeps at most so many words

@@ -1,5 +1,5 @@
 -- Walks over the numbers of a range.
-use Rattle.std.specs.Prelude.{ℕ, zero, suc, ◌+◌, ◌-◌, Bool, true, ◌&&◌, Option, Some, None, min, max}
+use Rattle.std.specs.Prelude.{ℕ, zero, suc, ◌+◌, ◌-◌, Bool, true, ◌&&◌, Option, Some, None, min, max, unwrap_or, if◌then◌else◌}
 use Rattle.camac_range.specs.Interval.{Interval, hull}
 
 -- how many numbers of a range are below an end
@@ -10,6 +10,15 @@ count_below end r = min (r.hi + 1) end - r.lo
 abbrev pub all_from : (ℕ → Bool) → ℕ → ℕ → Bool
 all_from test k zero = true
 all_from test k (suc n) = test k && all_from test (k + 1) n
+
+-- the first of n numbers from k on of which the test does not hold
+abbrev pub first_failing : (ℕ → Bool) → ℕ → ℕ → Option ℕ
+first_failing test k zero = None
+first_failing test k (suc n) = if test k then first_failing test (k + 1) n else Some k
+
+-- the first number of a range that is not below an end, or of which the test does not hold
+abbrev pub first_outside : ℕ → Interval → (ℕ → Bool) → ℕ
+first_outside end r test = unwrap_or (first_failing test r.lo (count_below end r)) (max r.lo end)
 
 -- the greatest of n values from that of k on, 0 of none
 abbrev pub greatest_from : (ℕ → ℕ) → ℕ → ℕ → ℕ

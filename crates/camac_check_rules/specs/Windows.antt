@@ -2,8 +2,10 @@
 use Rattle.std.specs.Prelude.{ℕ, ◌+◌, ◌-◌, ◌*◌, Bool, ◌&&◌, ◌||◌, nat_eq, nat_lt, min, is_some, if◌then◌else◌}
 use Rattle.camac_range.specs.Interval.{Interval, interval}
 use Rattle.camac_branch.specs.Plan.{Layout}
+use Rattle.camac_check_rules.specs.declared.case.Case.{Case}
+use Rattle.camac_check_rules.specs.Walks.{first_outside}
 use Rattle.camac_check_rules.specs.Known.{Region}
-use Rattle.camac_check_rules.specs.Addresses.{crate_end, station_end, sub_address_end, in_plan, is_station, all_in, station_widths}
+use Rattle.camac_check_rules.specs.Addresses.{crate_end, station_end, sub_address_end, in_plan, is_station, all_in, station_widths, not_installed, undeclared_at}
 
 pub record Window : Type 0 where
   pub crate_no : ℕ
@@ -44,13 +46,31 @@ holds_at w test n = nat_lt (sub_addresses_at w n).hi (sub_addresses_at w n).lo |
 abbrev pub holds_over : Window → (ℕ → Bool) → Bool
 holds_over w test = is_empty w || all_in station_end (stations_of w) (holds_at w test)
 
+-- the first of its stations of which a test does not hold
+abbrev pub first_over : Window → (ℕ → Bool) → ℕ
+first_over w test = first_outside station_end (stations_of w) (holds_at w test)
+
+abbrev pub is_installed_at : Layout → Window → ℕ → Bool
+is_installed_at plan w n = nat_lt w.crate_no crate_end && (in_plan plan w.crate_no && is_station plan w.crate_no n)
+
 abbrev pub is_installed : Layout → Window → Bool
-is_installed plan w =
-    holds_over w (λ n. nat_lt w.crate_no crate_end && (in_plan plan w.crate_no && is_station plan w.crate_no n))
+is_installed plan w = holds_over w (is_installed_at plan w)
+
+-- its first station that is not installed
+abbrev pub missing_over : Layout → Window → Case
+missing_over plan w = not_installed plan w.crate_no (first_over w (is_installed_at plan w))
+
+abbrev pub is_declared_at : Layout → ℕ → Window → ℕ → Bool
+is_declared_at plan f w n = is_some (station_widths plan f (sub_addresses_at w n) w.crate_no n)
 
 -- the command is declared all over it
 abbrev pub is_declared : Layout → ℕ → Window → Bool
-is_declared plan f w = holds_over w (λ n. is_some (station_widths plan f (sub_addresses_at w n) w.crate_no n))
+is_declared plan f w = holds_over w (is_declared_at plan f w)
+
+-- its first address that has not the command
+abbrev pub undeclared_over : Layout → ℕ → Window → Case
+undeclared_over plan f w =
+    undeclared_at plan f (sub_addresses_at w (first_over w (is_declared_at plan f w))) w.crate_no (first_over w (is_declared_at plan f w))
 
 -- how many addresses it has
 abbrev pub window_size : Window → ℕ

@@ -1,7 +1,9 @@
 //! When a readout script is accepted for a plan and within which bounds, and why what is accepted runs safely. All rules are own.
 #![tactic(auto)]
 
+mod case;
 pub mod laws;
 mod rule;
 
+pub use case::{Body, Case, Numbers, Operator};
 pub use rule::CheckRule;

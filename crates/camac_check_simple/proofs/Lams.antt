@@ -6,6 +6,7 @@ use Rattle.camac_lang.specs.declared.script.Lam.{Lam}
 use Rattle.camac_lang.specs.View.{lam_of}
 use Rattle.camac_range.specs.Interval.{Interval, only}
 use Rattle.camac_model.specs.Meaning.{lam_address}
+use Rattle.camac_check_rules.specs.declared.case.Case.{Case}
 use Rattle.camac_check_rules.specs.declared.rule.CheckRule.{CheckRule}
 use Rattle.camac_check_rules.specs.Fault.{Fault, broken}
 use Rattle.camac_check_rules.specs.Refusal.{given}
@@ -21,14 +22,14 @@ found ls i None e =
 found ls i (Some l) e =
     ap (option_map single_region) (slice_get-map lam_address (map lam_of ls) i ∙ ap (option_map lam_address) (slice_get-map lam_of ls i ∙ ap (option_map lam_of) e))
 
-pub lam_there : (ls : List Lam) (i : ℕ) (l : Lam) (rule : CheckRule) (line : ℕ) → i < length ls → l ≡ get_or ls i l → given (at ls i) rule line ≡ Ok (single_region (lam_address (lam_of l)))
+pub lam_there : (ls : List Lam) (i : ℕ) (l : Lam) (rule : CheckRule) (line : ℕ) (case : Case) → i < length ls → l ≡ get_or ls i l → given (at ls i) rule line case ≡ Ok (single_region (lam_address (lam_of l)))
 unfolding given
-lam_there ls i l rule line lt is =
-    ap (λ o. given o rule line) (found ls i (Some l) (slice_get-get_or ls i l lt ∙ ap (λ x. Some x) (sym is)))
+lam_there ls i l rule line case lt is =
+    ap (λ o. given o rule line case) (found ls i (Some l) (slice_get-get_or ls i l lt ∙ ap (λ x. Some x) (sym is)))
 
-pub no_lam : (ls : List Lam) (i : ℕ) (rule : CheckRule) (line : ℕ) → length ls ≤ i → given (at ls i) rule line ≡ Err (broken rule line)
+pub no_lam : (ls : List Lam) (i : ℕ) (rule : CheckRule) (line : ℕ) (case : Case) → length ls ≤ i → given (at ls i) rule line case ≡ Err (broken rule line case)
 unfolding given
-no_lam ls i rule line le = ap (λ o. given o rule line) (found ls i None (slice_get_past ls i le))
+no_lam ls i rule line case le = ap (λ o. given o rule line case) (found ls i None (slice_get_past ls i le))
 
 pub same_region : (g : Region) (a b c : Interval) (x y z s : ℕ) → g ≡ region a b c → a ≡ only x → b ≡ only y → c ≡ only z → z ≡ s → ◌≡◌ {A = Result Region Fault} (Ok (region (only x) (only y) (only s))) (Ok g)
 same_region g a b c x y z s e f h k l = cc

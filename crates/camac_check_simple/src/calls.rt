@@ -3,7 +3,7 @@
 ghost use Rattle.std.specs.Prelude.{◌≡◌, ◌&&◌, not};
 ghost use Rattle.camac_lang.specs.View.{expression_of};
 ghost use Rattle.camac_check_rules.specs.Addresses.{is_among};
-ghost use Rattle.camac_check_rules.specs.Calls.{is_crate, crate_rule, lam_region, lam_rule, lock_rule};
+ghost use Rattle.camac_check_rules.specs.Calls.{is_crate, crate_rule, lam_region, lam_rule, lock_unfit, lock_rule};
 ghost use Rattle.camac_check_rules.specs.Refusal.{given};
 ghost use Rattle.camac_check_simple.specs.Gives.{Gives, by_code, verdict_of};
 
@@ -11,9 +11,9 @@ use crate::context::{Context, Place};
 use crate::cycle::one_cycle;
 use crate::statement::Findings;
 use camac_check_known::{
-    Around, CheckFault, Facts, Region, command_widths, is_crate, range_of, required,
+    Around, CheckFault, Facts, Region, command_widths, is_crate, numbers_of, range_of, required,
 };
-use camac_check_rules::CheckRule;
+use camac_check_rules::{Case, CheckRule};
 use camac_esone::lam_function;
 use camac_lang::{Expr, LamCall};
 use camac_range::Range;
@@ -33,6 +33,9 @@ pub fn crate_call(
         is_crate(place.context.plan, crates),
         CheckRule::CrateUnfit,
         line,
+        Case::Crate {
+            numbers: numbers_of(crates),
+        },
     )?;
     Ok(Findings {
         known: Some(known),
@@ -56,8 +59,24 @@ pub fn lock_crate(
         is_free(context, around, crates),
         CheckRule::CrateUnfit,
         line,
+        lock_unfit(context, crates),
     )?;
     Ok(crates.lo())
+}
+
+// Why a crate can't be locked.
+fn lock_unfit(context: &Context, crates: Range) -> Case
+    ensures { result ≡ lock_unfit context.now.plan.now crates }
+{
+    if is_crate(context.plan, crates) {
+        Case::Locked {
+            crate_no: crates.lo(),
+        }
+    } else {
+        Case::Crate {
+            numbers: numbers_of(crates),
+        }
+    }
 }
 
 // Whether a range is one crate, which is not locked.
@@ -89,7 +108,7 @@ pub fn lam_call(
 // The address of a LAM. E1 where there is no such LAM.
 #[tactic(auto, unfolding(camac_check_rules::specs::Refusal::given))]
 fn address_of(context: &Context, lam: usize, line: u32) -> Result<Region, CheckFault>
-    ensures { Gives (λ g. g) result (given (lam_region (by_code context.now) lam) CheckRule.StationNotInstalled line) }
+    ensures { Gives (λ g. g) result (given (lam_region (by_code context.now) lam) CheckRule.StationNotInstalled line Case.Malformed) }
 {
     match context.lams.get(lam) {
         Some(lam) => Ok(Region::new(
@@ -100,6 +119,7 @@ fn address_of(context: &Context, lam: usize, line: u32) -> Result<Region, CheckF
         None => Err(CheckFault::Broken {
             rule: CheckRule::StationNotInstalled,
             line,
+            case: Case::Malformed,
         }),
     }
 }

@@ -2,14 +2,14 @@
 
 ghost use Rattle.std.specs.Prelude.{◌≡◌, ◌≤◌, ◌^◌, ◌-◌, ◌&&◌, nat_lt};
 ghost use Rattle.camac_func.specs.Class.{class_of};
-ghost use Rattle.camac_func.specs.declared.code.FunctionClass.TheVariants as class;
+ghost use Rattle.camac_check_rules.specs.Cases.{direction};
 ghost use Rattle.camac_lang.specs.View.{expression_of, move_of};
 ghost use Rattle.camac_model.specs.Cycle.{sized};
 ghost use Rattle.camac_model.specs.Meaning.{fits_size};
 ghost use Rattle.camac_range.specs.Interval.{interval};
-ghost use Rattle.camac_check_rules.specs.Cycles.{same_class, one_cycle, control_rule, read_rule, write_rule, single_rule};
+ghost use Rattle.camac_check_rules.specs.Cycles.{may_write, same_class, one_cycle, control_rule, read_rule, write_rule, single_rule};
 ghost use Rattle.camac_check_rules.specs.Known.{region_at};
-ghost use Rattle.camac_check_rules.specs.Refusal.{given};
+ghost use Rattle.camac_check_rules.specs.Refusal.{given, required};
 ghost use Rattle.camac_check_simple.specs.Gives.{Gives, by_code, verdict_of};
 
 use crate::context::{Context, Place};
@@ -17,7 +17,7 @@ use crate::statement::Findings;
 use camac_check_known::{
     Around, CheckFault, Costs, Facts, Region, command_widths, cycle_cost, range_of, required,
 };
-use camac_check_rules::CheckRule;
+use camac_check_rules::{Case, CheckRule};
 use camac_func::{FunctionClass, class};
 use camac_lang::{Expr, Move, WordSize};
 use camac_range::Range;
@@ -53,9 +53,9 @@ fn control(
 ) -> Result<Findings, CheckFault>
     ensures { Gives verdict_of result (control_rule (by_code place.now.context.now) place.now.around.now line f register known) }
 {
-    let g = addresses_of(&known, register, line)?;
+    let g = addresses_of(place.around, &known, register, line)?;
     let _widths = command_widths(place.context.plan, line, f, g)?;
-    required(is_control(f), CheckRule::WrongDirection, line)?;
+    moves(f, FunctionClass::Control, line)?;
     Ok(Findings {
         known: Some(known),
         costs: one_cycle(place.context, place.around, g.crates()),
@@ -75,14 +75,10 @@ fn read(
 ) -> Result<Findings, CheckFault>
     ensures { Gives verdict_of result (read_rule (by_code place.now.context.now) place.now.around.now line size f register variable known) }
 {
-    required(
-        place.around.may_write(variable),
-        CheckRule::LoopVariableAssigned,
-        line,
-    )?;
-    let g = addresses_of(&known, register, line)?;
+    may_write(place.around, variable, line)?;
+    let g = addresses_of(place.around, &known, register, line)?;
     let widths = command_widths(place.context.plan, line, f, g)?;
-    required(is_read(f), CheckRule::WrongDirection, line)?;
+    moves(f, FunctionClass::Read, line)?;
     let word = words_of(size, widths.hi());
     Ok(Findings {
         known: Some(known.put_range(variable, word)?),
@@ -104,10 +100,10 @@ fn write(
     ensures { Gives verdict_of result (write_rule (by_code place.now.context.now) place.now.around.now line size f register (expression_of value.now) known) }
 {
     let v = range_of(line, value, known.ranges())?;
-    let g = addresses_of(&known, register, line)?;
+    let g = addresses_of(place.around, &known, register, line)?;
     let widths = command_widths(place.context.plan, line, f, g)?;
-    required(is_write(f), CheckRule::WrongDirection, line)?;
-    required(fits(size, v, widths), CheckRule::ValueTooWide, line)?;
+    moves(f, FunctionClass::Write, line)?;
+    value_fits(size, v, widths, line)?;
     Ok(Findings {
         known: Some(known),
         costs: one_cycle(place.context, place.around, g.crates()),
@@ -116,16 +112,61 @@ fn write(
 
 /// The addresses of a register. E6 where it may be unset.
 #[tactic(auto, unfolding(camac_check_rules::specs::Refusal::given))]
-pub fn addresses_of(known: &Facts, register: usize, line: u32) -> Result<Region, CheckFault>
-    ensures { Gives (λ g. g) result (given (region_at known.now.registers register) CheckRule.RegisterUnset line) }
+pub fn addresses_of(
+    around: &Around,
+    known: &Facts,
+    register: usize,
+    line: u32,
+) -> Result<Region, CheckFault>
+    ensures { Gives (λ g. g) result (given (region_at known.now.registers register) CheckRule.RegisterUnset line (Case.Unset around.now.body register)) }
 {
     match known.register(register) {
         Some(region) => Ok(region),
-        None => Err(CheckFault::Broken {
-            rule: CheckRule::RegisterUnset,
+        None => Err(CheckFault::broken(
+            CheckRule::RegisterUnset,
             line,
-        }),
+            Case::Unset {
+                body: around.body(),
+                register,
+            },
+        )),
     }
+}
+
+/// E17 where a `for` around counts the variable.
+pub fn may_write(around: &Around, variable: usize, line: u32) -> Result<(), CheckFault>
+    ensures { Gives (λ u. tt) result (required (may_write around.now variable) CheckRule.LoopVariableAssigned line (Case.Counted around.now.body variable)) }
+{
+    let body = around.body();
+    required(
+        around.may_write(variable),
+        CheckRule::LoopVariableAssigned,
+        line,
+        Case::Counted { body, variable },
+    )
+}
+
+/// E3 where a function is not of the class that a statement needs.
+pub fn moves(f: Function, wanted: FunctionClass, line: u32) -> Result<(), CheckFault>
+    ensures { Gives (λ u. tt) result (required (same_class wanted (class_of f)) CheckRule.WrongDirection line (direction f wanted)) }
+{
+    let class = class(f);
+    required(
+        same_class(wanted, class),
+        CheckRule::WrongDirection,
+        line,
+        Case::Direction {
+            function: f.get(),
+            class,
+            moves: wanted,
+        },
+    )
+}
+
+fn same_class(a: FunctionClass, b: FunctionClass) -> bool
+    ensures { result ≡ same_class a b }
+{
+    a == b
 }
 
 /// The costs of one cycle.
@@ -135,50 +176,43 @@ pub fn one_cycle(context: &Context, around: &Around, crates: Range) -> Costs
     Costs::new(cycle_cost(context.plan, around, crates), 0, 1)
 }
 
-pub fn is_read(f: Function) -> bool
-    ensures { result ≡ same_class class.Read (class_of f) }
-{
-    match class(f) {
-        FunctionClass::Read => true,
-        FunctionClass::Write => false,
-        FunctionClass::Control => false,
-    }
-}
-
-pub fn is_write(f: Function) -> bool
-    ensures { result ≡ same_class class.Write (class_of f) }
-{
-    match class(f) {
-        FunctionClass::Read => false,
-        FunctionClass::Write => true,
-        FunctionClass::Control => false,
-    }
-}
-
-fn is_control(f: Function) -> bool
-    ensures { result ≡ same_class class.Control (class_of f) }
-{
-    match class(f) {
-        FunctionClass::Read => false,
-        FunctionClass::Write => false,
-        FunctionClass::Control => true,
-    }
-}
-
 // The words that a read of this size keeps at this width.
 #[tactic(auto, using(crate::proofs::Steps::power_below))]
 fn words_of(size: WordSize, width: u32) -> Range
     requires { width ≤ 24 }
     ensures { result ≡ interval 0 (2 ^ sized size width - 1) }
 {
-    let bits = match size {
-        WordSize::Full => width,
-        WordSize::Short => width.min(16),
-    };
+    let bits = sized(size, width);
     match Range::new(0, 2u32.pow(bits) - 1) {
         Some(words) => words,
         None => Range::only(0),
     }
+}
+
+// The bits of a register of this width that a word of this size has.
+fn sized(size: WordSize, width: u32) -> u32
+    ensures { result ≡ sized size width }
+{
+    match size {
+        WordSize::Full => width,
+        WordSize::Short => width.min(16),
+    }
+}
+
+// E5 where a write of this size can't send each number of a range at these widths.
+fn value_fits(size: WordSize, values: Range, widths: Range, line: u32) -> Result<(), CheckFault>
+    requires { widths.hi ≤ 24 }
+    ensures { Gives (λ u. tt) result (required (nat_lt values.hi (2 ^ widths.lo) && fits_size size values.hi) CheckRule.ValueTooWide line (Case.Width values.hi (sized size widths.lo))) }
+{
+    let greatest = values.hi();
+    let least = widths.lo();
+    let bits = sized(size, least);
+    required(
+        fits(size, values, widths),
+        CheckRule::ValueTooWide,
+        line,
+        Case::Width { greatest, bits },
+    )
 }
 
 // Whether a write of this size can send each number of a range at these widths.

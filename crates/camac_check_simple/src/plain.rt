@@ -4,9 +4,10 @@ ghost use Rattle.camac_lang.specs.View.{expression_of};
 ghost use Rattle.camac_check_rules.specs.Statements.{assign_rule, register_rule, put_rule};
 ghost use Rattle.camac_check_simple.specs.Gives.{Gives, verdict_of};
 
+use crate::cycle::may_write;
 use crate::statement::Findings;
 use camac_check_known::{Around, CheckFault, Costs, Facts, Region, range_of, required};
-use camac_check_rules::CheckRule;
+use camac_check_rules::{Case, CheckRule};
 use camac_lang::Expr;
 
 /// Checks an assignment.
@@ -21,11 +22,7 @@ pub fn assign(
     ensures { Gives verdict_of result (assign_rule around.now line variable (expression_of value.now) known) }
 {
     let assigned = range_of(line, value, known.ranges())?;
-    required(
-        around.may_write(variable),
-        CheckRule::LoopVariableAssigned,
-        line,
-    )?;
+    may_write(around, variable, line)?;
     Ok(Findings {
         known: Some(known.put_range(variable, assigned)?),
         costs: Costs::new(0, 0, 1),
@@ -59,7 +56,13 @@ pub fn put(line: u32, value: &Expr, known: Facts) -> Result<Findings, CheckFault
     ensures { Gives verdict_of result (put_rule line (expression_of value.now) known) }
 {
     let r = range_of(line, value, known.ranges())?;
-    required(r.hi() <= 16_777_215, CheckRule::WordTooWide, line)?;
+    let greatest = r.hi();
+    required(
+        greatest <= 16_777_215,
+        CheckRule::WordTooWide,
+        line,
+        Case::Word { greatest },
+    )?;
     Ok(Findings {
         known: Some(known),
         costs: Costs::new(0, 1, 1),

@@ -1,24 +1,29 @@
 // The rules of transfers.
 
-ghost use Rattle.std.specs.Prelude.{◌≡◌, ◌&&◌, IfOk};
-ghost use Rattle.camac_func.specs.Class.{class_of};
-ghost use Rattle.camac_lang.specs.View.{expression_of};
-ghost use Rattle.camac_check_rules.specs.Cycles.{same_class};
-ghost use Rattle.camac_check_rules.specs.Transfers.{has_sub_addresses, scan_verdict, scan_rule, block_class, event_words, block_region, block_verdict, q_stop_rule, q_repeat_cycles, q_repeat_rule};
-ghost use Rattle.camac_check_rules.specs.Windows.{window_of, is_installed, is_declared};
+ghost use Rattle.std.specs.Prelude.{◌≡◌, ◌≤◌, ◌&&◌, IfOk, map};
+ghost use Rattle.camac_lang.specs.View.{expression_of, table_of};
+ghost use Rattle.camac_check_rules.specs.Cases.{crates_of};
+ghost use Rattle.camac_check_rules.specs.Refusal.{required};
+ghost use Rattle.camac_check_rules.specs.declared.case.Case.TheVariants.{Width};
+ghost use Rattle.camac_check_rules.specs.declared.rule.CheckRule.TheVariants.{StationNotInstalled, CommandNotDeclared, ValueTooWide};
+ghost use Rattle.camac_check_rules.specs.Transfers.{has_sub_addresses, past_sub_addresses, undeclared_by, words_fit, words_sent, greatest_of, scan_verdict, scan_rule, block_class, event_words, block_region, block_verdict, q_stop_rule, q_repeat_cycles, q_repeat_rule};
+ghost use Rattle.camac_check_rules.specs.Windows.{window_of, is_installed, missing_over, is_declared};
 ghost use Rattle.camac_check_simple.specs.Gives.{Gives, by_code, verdict_of};
 
 use crate::context::Place;
-use crate::cycle::{addresses_of, is_read, is_write};
+use crate::cycle::{addresses_of, may_write, moves};
 use crate::statement::Findings;
 use camac_branch::Plan;
 use camac_check_known::{
-    Around, CheckFault, Costs, Facts, Region, between, command_widths, cycle_cost, range_of,
+    CheckFault, Costs, Facts, Region, between, command_widths, cycle_cost, numbers_of, range_of,
     required,
 };
-use camac_check_rules::CheckRule;
-use camac_check_transfers::{Window, has_sub_addresses, has_words, is_one_crate, words_fit};
-use camac_lang::Expr;
+use camac_check_rules::{Case, CheckRule};
+use camac_check_transfers::{
+    Window, count_sent, greatest_sent, has_sub_addresses, has_words, is_one_crate, words_fit,
+};
+use camac_func::FunctionClass;
+use camac_lang::{Expr, Table};
 use camac_range::Range;
 use camac_word::Function;
 use std::alloc::AllocError;
@@ -46,33 +51,79 @@ pub fn scan(
     ensures { Gives verdict_of result (scan_rule (by_code place.now.context.now) place.now.around.now line f ends.0 ends.1 (expression_of max.now) tally known) }
 {
     let most = range_of(line, max, known.ranges())?;
+    may_write(place.around, tally, line)?;
+    let g = addresses_of(place.around, &known, ends.0, line)?;
+    let h = addresses_of(place.around, &known, ends.1, line)?;
     required(
-        place.around.may_write(tally),
-        CheckRule::LoopVariableAssigned,
+        is_one_crate(g, h),
+        CheckRule::ScanCratesDiffer,
         line,
+        crates_of(g, h),
     )?;
-    let g = addresses_of(&known, ends.0, line)?;
-    let h = addresses_of(&known, ends.1, line)?;
-    required(is_one_crate(g, h), CheckRule::ScanCratesDiffer, line)?;
-    required(
-        is_installed(place.context.plan, g, h),
-        CheckRule::StationNotInstalled,
-        line,
-    )?;
-    required(
-        is_declared(place.context.plan, f, g, h),
-        CheckRule::CommandNotDeclared,
-        line,
-    )?;
-    required(is_read(f), CheckRule::WrongDirection, line)?;
+    installed(place.context.plan, g, h, line)?;
+    declared(place.context.plan, f, g, h, line)?;
+    moves(f, FunctionClass::Read, line)?;
     Ok(scan_findings(place, g, h, most.hi(), tally, known)?)
 }
 
-// Whether each station between two registers is installed.
-fn is_installed(plan: &Plan, g: Region, h: Region) -> bool
-    ensures { result ≡ is_installed plan.now (window_of g h) }
+// The crates of two registers.
+fn crates_of(g: Region, h: Region) -> Case
+    ensures { result ≡ crates_of g.crates h.crates }
 {
-    Window::between(g, h).is_installed(plan)
+    Case::Crates {
+        first: numbers_of(g.crates()),
+        last: numbers_of(h.crates()),
+    }
+}
+
+// E1 where a station between two registers is not installed.
+#[tactic(auto, unfolding(camac_check_rules::specs::Refusal::required))]
+fn installed(plan: &Plan, g: Region, h: Region, line: u32) -> Result<(), CheckFault>
+    ensures { Gives (λ u. tt) result (required (is_installed plan.now (window_of g h)) StationNotInstalled line (missing_over plan.now (window_of g h))) }
+{
+    let window = Window::between(g, h);
+    if window.is_installed(plan) {
+        return Ok(());
+    }
+    let case = window.missing(plan);
+    Err(CheckFault::broken(CheckRule::StationNotInstalled, line, case))
+}
+
+// E2 where an address between two registers has not the command.
+#[tactic(auto, unfolding(camac_check_rules::specs::Refusal::required))]
+fn declared(plan: &Plan, f: Function, g: Region, h: Region, line: u32) -> Result<(), CheckFault>
+    ensures { Gives (λ u. tt) result (required (has_sub_addresses g && (has_sub_addresses h && is_declared plan.now f (window_of g h))) CommandNotDeclared line (undeclared_by plan.now f g h)) }
+{
+    if is_declared(plan, f, g, h) {
+        return Ok(());
+    }
+    let case = undeclared_by(plan, f, g, h);
+    Err(CheckFault::broken(CheckRule::CommandNotDeclared, line, case))
+}
+
+// The first address between two registers that has not the command.
+fn undeclared_by(plan: &Plan, f: Function, g: Region, h: Region) -> Case
+    ensures { result ≡ undeclared_by plan.now f g h }
+{
+    if !has_sub_addresses(g) {
+        return past_sub_addresses(f, g);
+    }
+    if !has_sub_addresses(h) {
+        return past_sub_addresses(f, h);
+    }
+    Window::between(g, h).undeclared(plan, f)
+}
+
+// The first address of a register past the last sub-address.
+fn past_sub_addresses(f: Function, g: Region) -> Case
+    ensures { result ≡ past_sub_addresses f g }
+{
+    Case::NoCommand {
+        function: f.get(),
+        crate_no: g.crates().lo(),
+        station: g.stations().lo(),
+        sub_address: g.sub_addresses().lo().max(16),
+    }
 }
 
 // Whether a command is declared all over the window between two registers.
@@ -166,38 +217,54 @@ fn block_region(
     ensures { Gives (λ g. g) result (block_region (by_code place.now.context.now) place.now.around.now line transfer.f transfer.register transfer.table most transfer.tally known.now) }
 {
     let tables = place.context.tables;
-    required(
-        place.around.may_write(transfer.tally),
-        CheckRule::LoopVariableAssigned,
-        line,
-    )?;
-    let g = addresses_of(known, transfer.register, line)?;
+    may_write(place.around, transfer.tally, line)?;
+    let g = addresses_of(place.around, known, transfer.register, line)?;
     let widths = command_widths(place.context.plan, line, transfer.f, g)?;
-    required(
-        is_block_class(transfer.table, transfer.f),
-        CheckRule::WrongDirection,
-        line,
-    )?;
+    moves(transfer.f, block_class(transfer.table), line)?;
     required(
         has_words(tables, transfer.table, most),
         CheckRule::CountAboveTable,
         line,
+        Case::Count {
+            count: most,
+            words: count_sent(tables, transfer.table),
+        },
     )?;
-    required(
-        words_fit(tables, transfer.table, widths.lo()),
-        CheckRule::ValueTooWide,
-        line,
-    )?;
+    words_fit_at(tables, transfer.table, widths.lo(), line)?;
     Ok(g)
 }
 
+// E5 where a word of the table is too wide.
+#[tactic(auto, unfolding(camac_check_rules::specs::Refusal::required))]
+fn words_fit_at(
+    tables: &[Table],
+    table: Option<usize>,
+    width: u32,
+    line: u32,
+) -> Result<(), CheckFault>
+    requires { width ≤ 24 }
+    ensures { Gives (λ u. tt) result (required (words_fit (map (λ t. t.words) (map table_of tables.now)) table width) ValueTooWide line (Width (greatest_of (words_sent (map (λ t. t.words) (map table_of tables.now)) table)) width)) }
+{
+    if words_fit(tables, table, width) {
+        return Ok(());
+    }
+    Err(CheckFault::broken(
+        CheckRule::ValueTooWide,
+        line,
+        Case::Width {
+            greatest: greatest_sent(tables, table),
+            bits: width,
+        },
+    ))
+}
+
 // A block transfer writes where it names a table, else it reads.
-fn is_block_class(table: Option<usize>, f: Function) -> bool
-    ensures { result ≡ same_class (block_class table) (class_of f) }
+fn block_class(table: Option<usize>) -> FunctionClass
+    ensures { result ≡ block_class table }
 {
     match table {
-        None => is_read(f),
-        Some(_) => is_write(f),
+        None => FunctionClass::Read,
+        Some(_) => FunctionClass::Write,
     }
 }
 

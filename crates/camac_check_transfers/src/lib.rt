@@ -4,5 +4,5 @@
 mod table;
 mod window;
 
-pub use table::{has_words, words_fit};
+pub use table::{count_sent, greatest_sent, has_words, words_fit};
 pub use window::{Window, has_sub_addresses, is_one_crate};

@@ -1,9 +1,9 @@
 // The table that a block transfer writes, if it names one.
 
-ghost use Rattle.std.specs.Prelude.{◌≡◌, ◌≤◌, ◌^◌, map, nat_lt};
+ghost use Rattle.std.specs.Prelude.{◌≡◌, ◌≤◌, ◌^◌, length, map, nat_lt};
 ghost use Rattle.camac_lang.specs.Tests.{each};
 ghost use Rattle.camac_lang.specs.View.{table_of};
-ghost use Rattle.camac_check_rules.specs.Transfers.{has_words, words_fit};
+ghost use Rattle.camac_check_rules.specs.Transfers.{greatest_of, has_words, words_fit, words_sent};
 
 use camac_lang::Table;
 use camac_word::Word24;
@@ -49,4 +49,41 @@ fn all_fit(words: &[Word24], width: u32) -> bool
         }
     }
     true
+}
+
+/// How many words of its table a block transfer may send, 0 of a read.
+#[tactic(auto, using(crate::proofs::Tables::word_lists))]
+pub fn count_sent(tables: &[Table], table: Option<usize>) -> usize
+    ensures { result ≡ length (words_sent (map (λ t. t.words) (map table_of tables.now)) table) }
+{
+    match table {
+        None => 0,
+        Some(table) => match tables.get(table) {
+            Some(table) => table.words.len(),
+            None => 0,
+        },
+    }
+}
+
+/// The greatest of these words, 0 of none.
+#[tactic(auto, using(crate::proofs::Tables::word_lists))]
+pub fn greatest_sent(tables: &[Table], table: Option<usize>) -> u32
+    ensures { result ≡ greatest_of (words_sent (map (λ t. t.words) (map table_of tables.now)) table) }
+{
+    match table {
+        None => 0,
+        Some(table) => match tables.get(table) {
+            Some(table) => greatest_of(&table.words),
+            None => 0,
+        },
+    }
+}
+
+fn greatest_of(words: &[Word24]) -> u32
+    ensures { result ≡ greatest_of words.now }
+{
+    match words {
+        [] => 0,
+        [first, rest @ ..] => first.get().max(greatest_of(rest)),
+    }
 }

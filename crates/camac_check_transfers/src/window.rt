@@ -1,14 +1,15 @@
 // The window of a scan: all stations and sub-addresses from a first to a final one.
 
-ghost use Rattle.std.specs.Prelude.{◌≡◌, ◌≤◌, ◌<◌, ◌-◌, is_some};
-ghost use Rattle.camac_check_rules.specs.Addresses.{station_widths};
+ghost use Rattle.std.specs.Prelude.{◌≡◌, ◌≤◌, ◌<◌, ◌-◌, ◌+◌, min};
+ghost use Rattle.camac_check_rules.specs.Addresses.{station_end};
 ghost use Rattle.camac_check_rules.specs.Transfers.{is_one_crate, has_sub_addresses};
-ghost use Rattle.camac_check_rules.specs.Walks.{all_from};
-ghost use Rattle.camac_check_rules.specs.Windows.{window_of, sub_addresses_at, is_empty, is_installed, is_declared, window_size, scan_cycles, scan_kept};
+ghost use Rattle.camac_check_rules.specs.Walks.{count_below, first_failing};
+ghost use Rattle.camac_check_rules.specs.Windows.{window_of, stations_of, sub_addresses_at, is_empty, is_installed, missing_over, is_declared, undeclared_over, window_size, scan_cycles, scan_kept};
 ghost use Rattle.camac_check_transfers.specs.Stations.{has_station, installed_at, declared_at};
 
 use camac_branch::Plan;
-use camac_check_known::{Region, is_station, station_widths};
+use camac_check_known::{Region, is_declared, is_station, not_installed, undeclared_at};
+use camac_check_rules::Case;
 use camac_range::Range;
 use camac_word::{CrateNo, Function};
 use std::marker::Model;
@@ -56,21 +57,67 @@ impl Window {
     }
 
     /// Whether each of its stations is installed.
+    #[tactic(auto, using(camac_check_known::proofs::Walks::all_found))]
     pub fn is_installed(self, plan: &Plan) -> bool
         ensures { result ≡ is_installed plan.now self }
     {
+        self.is_empty() || (self.last_station < STATION_END && self.first_missing(plan).is_none())
+    }
+
+    fn first_missing(self, plan: &Plan) -> Option<u32>
+        ensures { result ≡ first_failing (installed_at plan.now self) self.first_station (count_below station_end (stations_of self)) }
+    {
         let first = self.first_station;
-        let last = self.last_station;
-        self.is_empty() || (last < STATION_END && installed_from(plan, self, first, last + 1))
+        let end = self.end();
+        missing_from(plan, self, first, end)
+    }
+
+    /// Its first station that is not installed.
+    pub fn missing(self, plan: &Plan) -> Case
+        ensures { result ≡ missing_over plan.now self }
+    {
+        let past = self.first_station.max(STATION_END);
+        let n = self.first_missing(plan).unwrap_or(past);
+        not_installed(plan, self.crate_no, n)
     }
 
     /// Whether a command is declared all over it.
+    #[tactic(auto, using(camac_check_known::proofs::Walks::all_found))]
     pub fn is_declared(self, plan: &Plan, f: Function) -> bool
         ensures { result ≡ is_declared plan.now f self }
     {
+        self.is_empty()
+            || (self.last_station < STATION_END && self.first_undeclared(plan, f).is_none())
+    }
+
+    fn first_undeclared(self, plan: &Plan, f: Function) -> Option<u32>
+        ensures { result ≡ first_failing (declared_at plan.now f self) self.first_station (count_below station_end (stations_of self)) }
+    {
         let first = self.first_station;
-        let last = self.last_station;
-        self.is_empty() || (last < STATION_END && declared_from(plan, f, self, first, last + 1))
+        let end = self.end();
+        undeclared_from(plan, f, self, first, end)
+    }
+
+    /// Its first address that has not the command.
+    pub fn undeclared(self, plan: &Plan, f: Function) -> Case
+        ensures { result ≡ undeclared_over plan.now f self }
+    {
+        let past = self.first_station.max(STATION_END);
+        let n = self.first_undeclared(plan, f).unwrap_or(past);
+        let (first, last) = self.sub_addresses_at(n);
+        undeclared_at(plan, f, first, last, self.crate_no, n)
+    }
+
+    // The end of its stations, as far as there are any.
+    fn end(self) -> u32
+        ensures end { result ≡ min (self.last_station + 1) station_end }
+        ensures below { result ≤ 32 }
+    {
+        if self.last_station < STATION_END {
+            self.last_station + 1
+        } else {
+            STATION_END
+        }
     }
 
     /// The most cycles of a scan of at most so many words: each Q=0 goes on to the next station.
@@ -144,16 +191,19 @@ pub fn has_sub_addresses(g: Region) -> bool
     g.sub_addresses().hi() < 16
 }
 
-// Whether all these stations are installed.
-#[tactic(auto, using(camac_check_known::proofs::Walks::all_steps))]
-fn installed_from(plan: &Plan, w: Window, n: u32, end: u32) -> bool
+// The first of these stations that is not installed.
+#[tactic(auto, using(camac_check_known::proofs::Walks::first_steps))]
+fn missing_from(plan: &Plan, w: Window, n: u32, end: u32) -> Option<u32>
     requires { end ≤ 32 }
-    ensures { result ≡ all_from (installed_at plan.now w) n (end - n) }
+    ensures { result ≡ first_failing (installed_at plan.now w) n (end - n) }
 {
     if n >= end {
-        return true;
+        return None;
     }
-    installed_at(plan, w, n) && installed_from(plan, w, n + 1, end)
+    if installed_at(plan, w, n) {
+        return missing_from(plan, w, n + 1, end);
+    }
+    Some(n)
 }
 
 fn installed_at(plan: &Plan, w: Window, n: u32) -> bool
@@ -175,37 +225,27 @@ fn has_station(plan: &Plan, c: u32, n: u32) -> bool
     }
 }
 
-// Whether all these stations declare a command.
-#[tactic(auto, using(camac_check_known::proofs::Walks::all_steps))]
-fn declared_from(plan: &Plan, f: Function, w: Window, n: u32, end: u32) -> bool
+// The first of these stations that does not declare a command.
+#[tactic(auto, using(camac_check_known::proofs::Walks::first_steps))]
+fn undeclared_from(plan: &Plan, f: Function, w: Window, n: u32, end: u32) -> Option<u32>
     requires { end ≤ 32 }
-    ensures { result ≡ all_from (declared_at plan.now f w) n (end - n) }
+    ensures { result ≡ first_failing (declared_at plan.now f w) n (end - n) }
 {
     if n >= end {
-        return true;
+        return None;
     }
-    declared_at(plan, f, w, n) && declared_from(plan, f, w, n + 1, end)
+    if declared_at(plan, f, w, n) {
+        return undeclared_from(plan, f, w, n + 1, end);
+    }
+    Some(n)
 }
 
 fn declared_at(plan: &Plan, f: Function, w: Window, n: u32) -> bool
-    requires { n < 32 }
     ensures { result ≡ declared_at plan.now f w n }
 {
     let (first, last) = w.sub_addresses_at(n);
     match Range::new(first, last) {
         None => true,
-        Some(subs) => has_widths(plan, f, subs, w.crate_no, n),
-    }
-}
-
-#[tactic(auto, using(crate::proofs::Outside::no_widths_outside))]
-fn has_widths(plan: &Plan, f: Function, subs: Range, c: u32, n: u32) -> bool
-    requires { n < 32 }
-    ensures { result ≡ is_some (station_widths plan.now f subs c n) }
-{
-    plan.allows_commands();
-    match CrateNo::new(c) {
-        Some(crate_no) => station_widths(plan, f, subs, crate_no, n).is_some(),
-        None => false,
+        Some(subs) => is_declared(plan, f, subs, w.crate_no, n),
     }
 }

@@ -1,10 +1,11 @@
 -- Words and records that are read from the bytes where they lie.
-use Rattle.std.proofs.Common.{◌≡◌, ℕ, zero, suc, ◌+◌, ◌*◌, ◌^◌, ◌<◌, ◌≤◌, cond, ltb, List, [], ◌∷◌, length, take, drop, Option, Some, Result, Ok, Err, refl, sym, ap, subst, ◌∙◌, length-append, arith}
+use Rattle.std.proofs.Common.{◌≡◌, ℕ, zero, suc, ◌+◌, ◌*◌, ◌^◌, ◌<◌, ◌≤◌, cond, ltb, List, [], ◌∷◌, get_or, length, take, drop, Option, Some, Result, Ok, Err, refl, sym, ap, subst, ◌∙◌, length-append, arith}
 use Rattle.std.specs.Prelude.{slice_get}
 use Rattle.std.specs.List.{AllByRecursion}
-use Rattle.std.proofs.lemmas.Bool.{ltb-true, ltb-false}
-use Rattle.std.proofs.lemmas.List.{drop-drop, drop-take, length-drop, length-take-le}
-use Rattle.byteorder.specs.Endian.{big_number}
+use Rattle.std.proofs.lemmas.Bool.{ltb-true, ltb-false, le-ltb, lt-ltb}
+use Rattle.std.proofs.lemmas.Option.{get_or_from_slice_get}
+use Rattle.std.proofs.lemmas.List.{get_or-drop, drop-drop, drop-take, length-drop, length-take-le}
+use Rattle.byteorder.specs.Endian.{big_number, big_bytes}
 use Rattle.byteorder.specs.Numbers.{big_from-take}
 use Rattle.camac_event.specs.declared.event.Usage.{Usage}
 use Rattle.camac_event.specs.declared.event.Version.{Version}
@@ -12,7 +13,7 @@ use Rattle.camac_event.specs.declared.fault.EventRule.TheVariants.{WordTooWide, 
 use Rattle.camac_event.specs.Spelling.{Entry, record_of, records_from, IsEvent}
 use Rattle.camac_event.specs.Reading.{Flaw, ◌>>=◌, flaw_at, number_at, word_at, words_at, record_at, records_at}
 use Rattle.camac_event.specs.Records.{words_in, AreWords, events_read, events_in, AreRecords}
-use Rattle.camac_event.proofs.Fields.{IsBytes, bind_ok, guard_ok, holds_ok, ok_is}
+use Rattle.camac_event.proofs.Fields.{IsBytes, IsBytes-drop, IsBytes-take, four_wide, bind_ok, guard_ok, holds_ok, ok_is}
 use Rattle.camac_event.proofs.Records.{record_again}
 use Rattle.camac_event.proofs.Files.{records_take, records_again}
 
@@ -80,6 +81,56 @@ words_are (suc count) total bytes x e =
     ∙ ap (λ (p : List ℕ × List ℕ). (big_number 4 bytes ∷ p.0, p.1)) second.1
     ∙ ap (λ (l : List ℕ). (big_number 4 bytes ∷ words_in count (drop 4 bytes), l)) left in
     (omega (arith, first.0, second.0, length-drop 4 bytes), sym (ok_is made x b.2) ∙ both, (subst (λ (n : ℕ). n < 2 ^ 24) number first.2, second.2))
+
+-- a word that fits is read
+word_read : (total : ℕ) (bytes : List ℕ) → 4 ≤ length bytes → big_number 4 bytes < 2 ^ 24 → word_at total bytes ≡ Ok (big_number 4 bytes, drop 4 bytes)
+unfolding word_at
+word_read total bytes long fits = rw (le-ltb _ _ long, lt-ltb _ _ fits) refl
+
+-- words that fit are read
+pub words_read : (count total : ℕ) (bytes : List ℕ) → 4 * count ≤ length bytes → AllByRecursion (λ w. w < 2 ^ 24) (words_in count bytes)
+    → words_at count total bytes ≡ Ok (words_in count bytes, drop (4 * count) bytes)
+unfolding words_at words_in
+words_read zero total bytes long fit = refl
+words_read (suc count) total bytes long fit =
+    let first = word_read total bytes (omega (arith, long)) fit.0 in
+    let others = words_read count total (drop 4 bytes) (omega (arith, long, length-drop 4 bytes)) fit.1 in
+    let left : drop (4 * count) (drop 4 bytes) ≡ drop (4 * suc count) bytes = drop-drop (4 * count) 4 bytes ∙ ap (λ (n : ℕ). drop n bytes) (omega arith) in
+    rw (first, others) (ap (λ (l : List ℕ). Ok (big_number 4 bytes ∷ words_in count (drop 4 bytes), l)) left)
+
+-- words whose highest byte is 0 fit
+narrow : (bytes : List ℕ) → IsBytes bytes → get_or bytes 0 0 ≡ 0 → big_number 4 bytes < 2 ^ 24
+narrow bytes fits none =
+    let b1 = fits 1 in
+    let b2 = fits 2 in
+    let b3 = fits 3 in
+    omega (arith, none, b1, b2, b3)
+
+pub words_fit : (count : ℕ) (bytes : List ℕ) → IsBytes bytes → ((k : ℕ) → k < count → get_or bytes (4 * k) 0 ≡ 0) → AllByRecursion (λ w. w < 2 ^ 24) (words_in count bytes)
+unfolding words_in
+words_fit zero bytes fits none = tt
+words_fit (suc count) bytes fits none = (
+  narrow bytes fits (none 0 (omega arith)),
+  words_fit count (drop 4 bytes) (IsBytes-drop 4 bytes fits) (λ k lt. let place : 4 + 4 * k ≡ 4 * suc k = omega arith in get_or-drop 4 bytes (4 * k) 0 ∙ ap (λ (n : ℕ). get_or bytes n 0) place ∙ none (suc k) (omega (arith, lt))),
+)
+
+-- the bytes of a word
+three_of : (xs : List ℕ) → IsBytes xs → 4 ≤ length xs → get_or xs 1 0 ∷ get_or xs 2 0 ∷ get_or xs 3 0 ∷ [] ≡ big_bytes 3 (big_number 4 xs)
+three_of [] fits long = absurd (omega (arith, long))
+three_of (a ∷ []) fits long = absurd (omega (arith, long))
+three_of (a ∷ b ∷ []) fits long = absurd (omega (arith, long))
+three_of (a ∷ b ∷ c ∷ []) fits long = absurd (omega (arith, long))
+three_of (a ∷ b ∷ c ∷ d ∷ rest) fits long =
+    let four : IsBytes (a ∷ b ∷ c ∷ d ∷ []) = IsBytes-take 4 (a ∷ b ∷ c ∷ d ∷ rest) fits in
+    sym (ap (drop 1) (four_wide.back (a ∷ b ∷ c ∷ d ∷ []) refl four))
+
+pub low_bytes_of : (bytes : List ℕ) (at : ℕ) → IsBytes bytes → at + 4 ≤ length bytes
+    → get_or bytes (at + 1) 0 ∷ get_or bytes (at + 2) 0 ∷ get_or bytes (at + 3) 0 ∷ [] ≡ big_bytes 3 (big_number 4 (drop at bytes))
+low_bytes_of bytes at fits long =
+    rw (← get_or-drop at bytes 1 0, ← get_or-drop at bytes 2 0, ← get_or-drop at bytes 3 0) (three_of (drop at bytes) (IsBytes-drop at bytes fits) (omega (arith, long, length-drop at bytes)))
+
+pub words_in-at : (count : ℕ) (bytes : List ℕ) (i : ℕ) → i < count → get_or (words_in count bytes) i 0 ≡ big_number 4 (drop (4 * i) bytes)
+words_in-at count bytes i lt = get_or_from_slice_get (words_in count bytes) i _ 0 (words_in-get count bytes i lt)
 
 -- ---- records
 

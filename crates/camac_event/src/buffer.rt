@@ -2,24 +2,25 @@
 
 ghost use Rattle.std.specs.Prelude.{◌≡◌, ◌≤◌, ◌<◌, [], ◌∷◌, ◌++◌, length};
 
-use arrayvec::ArrayVec;
 use camac_word::Word24;
 use std::marker::Model;
 
 /// At most `CAP` words, in the order in which they were put.
 #[derive(Drop)]
 pub struct EventBuffer<const CAP: usize> {
-    words: ArrayVec<Word24, CAP>,
+    words: [Word24; CAP],
+    // how many of them were put
+    len: usize,
 }
 
 impl<const CAP: usize> Model for EventBuffer<CAP> {
-    ghost use Rattle.std.specs.Prelude.{ℕ, ◌≤◌, List, length};
+    ghost use Rattle.std.specs.Prelude.{ℕ, ◌≤◌, List, take};
 
     ghost Value = { List ℕ };
 
-    ghost view = { λ b. b.words.items };
+    ghost view = { λ b. take b.len b.words };
 
-    ghost invariant = { λ b. length b.words.items ≤ CAP };
+    ghost invariant = { λ b. b.len ≤ CAP };
 }
 
 impl<const CAP: usize> EventBuffer<CAP> {
@@ -28,7 +29,8 @@ impl<const CAP: usize> EventBuffer<CAP> {
         ensures { result ≡ [] }
     {
         EventBuffer {
-            words: ArrayVec::new(),
+            words: [Word24::default(); CAP],
+            len: 0,
         }
     }
 
@@ -37,7 +39,8 @@ impl<const CAP: usize> EventBuffer<CAP> {
         requires { length self.old < CAP }
         ensures { self.new ≡ self.old ++ word ∷ [] }
     {
-        self.words.push(word);
+        self.words[self.len] = word;
+        self.len += 1;
     }
 
     /// The words so far.
@@ -45,13 +48,15 @@ impl<const CAP: usize> EventBuffer<CAP> {
         ensures words { result.now ≡ self.now }
         ensures fits { length result.now ≤ CAP }
     {
-        &self.words
+        &self.words[..self.len]
     }
 
     /// Forgets the words.
     pub fn clear(&mut self)
         ensures { self.new ≡ [] }
     {
-        self.words.clear();
+        // without it the borrow checker does not find the type of the words
+        let _ = &self.words;
+        self.len = 0;
     }
 }

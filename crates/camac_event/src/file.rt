@@ -1,6 +1,7 @@
 // The events of a file, read from its bytes where they lie.
 
-ghost use Rattle.std.specs.Prelude.{◌≡◌, ◌+◌, ◌∷◌, [], length, slice_get, IfSome, IfNone};
+ghost use Rattle.std.specs.Prelude.{◌≡◌, ◌<◌, ◌≤◌, ◌+◌, ◌∷◌, [], drop, length, slice_get, slice_index, IfSome, IfNone};
+ghost use Rattle.byteorder.specs.Endian.{big_bytes, big_number};
 ghost use Rattle.camac_event.specs.Spelling.{IsEvent, parts_of};
 ghost use Rattle.camac_event.specs.Reading.{ReadsAll, file_at};
 
@@ -47,6 +48,22 @@ impl<'a> EventWords<'a> {
             None
         }
     }
+
+    /// The three bytes of the word at this place, counted from 0, the highest first.
+    pub fn bytes(&self, index: usize) -> [u8; 3]
+        requires { index < length self.now }
+        ensures { result ≡ big_bytes 3 (slice_index self.now index) }
+    {
+        low_bytes(self.bytes, 4 * index)
+    }
+}
+
+// The three low bytes of the number of four at a place.
+fn low_bytes(bytes: &[u8], at: usize) -> [u8; 3]
+    requires { at + 4 ≤ length bytes.now }
+    ensures { result ≡ big_bytes 3 (big_number 4 (drop at bytes.now)) }
+{
+    [bytes[at + 1], bytes[at + 2], bytes[at + 3]]
 }
 
 /// An event of a file: its number, its bit of the graded-L pattern, its usage in version Two, and its words.

@@ -1,7 +1,8 @@
 // Reading an event file from left to right.
 
-ghost use Rattle.std.specs.Prelude.{◌≡◌, ◌-◌, length};
+ghost use Rattle.std.specs.Prelude.{◌≡◌, ◌-◌, ℕ, length, Ok, IfSome};
 ghost use Rattle.camac_event.specs.Spelling.{Entry};
+ghost use Rattle.camac_event.specs.Records.{words_in};
 ghost use Rattle.camac_event.specs.Reading.{Gives, GivesHead, Passes, PassesAll, number_at, marker_at, gl_at, event_number_at, missed_at, usage_at, count_at, word_at, words_at, record_at, records_at, header_at};
 
 use crate::event::{Usage, Version};
@@ -163,10 +164,32 @@ pub fn head_of(
 fn pass_words(count: usize, total: usize, bytes: &mut &[u8]) -> Result<(), EventFlaw>
     ensures { Passes result bytes.new.now (words_at count total bytes.old.now) }
 {
+    if let Some(rest) = after_words(count, bytes) {
+        *bytes = rest;
+        return Ok(());
+    }
     for _ in 0..count {
         word_of(total, bytes)?;
     }
     Ok(())
+}
+
+// What is left after that many words, where each has the highest byte 0.
+fn after_words(count: usize, bytes: &[u8]) -> Option<&[u8]>
+    ensures { IfSome result (λ rest. (total : ℕ) → words_at count total bytes.now ≡ Ok (words_in count bytes.now, rest.now)) }
+{
+    if bytes.len() / 4 < count {
+        return None;
+    }
+    let mut highest = 0;
+    'words: for i in 0..count {
+        highest |= bytes[4 * i];
+    }
+    if highest == 0 {
+        Some(&bytes[4 * count..])
+    } else {
+        None
+    }
 }
 
 // Reads a record and keeps nothing of it.

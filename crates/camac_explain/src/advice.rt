@@ -3,6 +3,7 @@
 
 mod check;
 mod link;
+mod mend;
 mod plan;
 mod text;
 

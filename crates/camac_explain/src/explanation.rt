@@ -1,72 +1,115 @@
 // The lines of an explanation.
 
+ghost use Rattle.std.specs.Prelude.{◌≡◌, ◌++◌, [], Some, IfOk, OnOk};
+ghost use Rattle.camac_explain.specs.Advice.{plan_told, told};
+ghost use Rattle.camac_explain.specs.Explanation.{IsExplanation, IsTold, advice_text, line_of, sentence_line, told_of};
+ghost use Rattle.camac_explain.specs.Finding.{refusal_of};
+ghost use Rattle.camac_explain.specs.Source.{source_of};
+ghost use Rattle.camac_report_text.specs.Codes.{plan_code};
+ghost use Rattle.camac_report_text.specs.Refusal.{code_of};
+
 use crate::advice::{Advice, check_advice, link_advice, plan_advice, text_advice};
-use camac_branch::Plan;
-use camac_explain_check::script_case;
-use camac_explain_plan::plan_case;
-use camac_explain_text::text_case;
-use camac_explain_words::source_line;
-use camac_plan::PlanRule;
-use camac_report_text::{Code, Refusal};
+use crate::check::check_sentence;
+use crate::finding::Finding;
+use crate::link::link_sentence;
+use crate::names::Names;
+use crate::plan::plan_sentence;
+use crate::source::{push_shown, push_source};
+use camac_explain_text::text_sentence;
+use camac_plan::{PlanCase, PlanRule};
+use camac_report_text::Refusal;
 use std::alloc::{AllocError, Global};
 
-/// Why a plan's text is refused by a rule: the lines that follow the refusal.
-pub fn explain_plan(alloc: Global, text: &[u8], rule: PlanRule) -> Result<Vec<u8>, AllocError> {
-    let sentence = match plan_case(alloc, text)? {
-        Some(case) => Some(case.sentence(alloc)?),
-        None => None,
-    };
-    let code = Refusal::Plan(rule).code();
-    with_advice(alloc, Vec::new(alloc), sentence, code, plan_advice(rule))
-}
-
-/// Why a script is refused on a plan: the lines that follow this refusal. Nothing where it is of another input than the script.
-pub fn explain_script(
+/// Why a plan's text is refused by a rule in this case: the lines that follow the refusal.
+pub fn explain_plan(
     alloc: Global,
-    plan: &Plan,
     text: &[u8],
-    refusal: Refusal,
-) -> Result<Vec<u8>, AllocError> {
-    let (advice, line) = match refusal {
-        Refusal::Text { rule, line } => (text_advice(rule), line),
-        Refusal::Link { rule, line } => (link_advice(rule), line),
-        Refusal::Check { rule, line } => (check_advice(rule), line),
-        Refusal::Plan(_) | Refusal::Answer { .. } | Refusal::Event(_) => {
-            return Ok(Vec::new(alloc));
-        }
-    };
-    let source = source_line(alloc, text, line)?;
-    let sentence = sentence(alloc, plan, text)?;
-    with_advice(alloc, source, sentence, refusal.code(), advice)
-}
-
-// What the broken rule knows of its case, in words.
-fn sentence(alloc: Global, plan: &Plan, text: &[u8]) -> Result<Option<String>, AllocError> {
-    if let Some(case) = text_case(alloc, text)? {
-        return Ok(Some(case.sentence(alloc)?));
-    }
-    match script_case(alloc, plan, text)? {
-        Some(case) => Ok(Some(case.sentence(alloc)?)),
-        None => Ok(None),
-    }
-}
-
-// The lines with the sentence, if there is one, and with what is told of the rule of this code.
-fn with_advice(
-    alloc: Global,
-    lines: Vec<u8>,
-    sentence: Option<String>,
-    code: Code,
-    advice: Advice,
-) -> Result<Vec<u8>, AllocError> {
-    let mut lines = lines;
-    if let Some(sentence) = sentence {
-        lines.extend_from_slice(sentence.as_bytes())?;
-        lines.push(b'\n')?;
-    }
-    let name = code.name;
-    let Advice { why, mend } = advice;
-    let told = format!(in alloc; "Why: {why}\nMend: {mend}\nMore: docs/REFUSALS.md, {name}\n")?;
-    lines.extend_from_slice(told.as_bytes())?;
+    rule: PlanRule,
+    case: PlanCase,
+) -> Result<Vec<u8>, AllocError>
+    ensures { IfOk result (λ v. IsExplanation [] (plan_told rule) (plan_code rule).0 v.items) }
+{
+    let mut lines = Vec::new(alloc);
+    let sentence = plan_sentence(alloc, text, case)?;
+    let code = Refusal::Plan(rule).code();
+    push_sentence(&mut lines, sentence)?;
+    push_advice(&mut lines, code.name, plan_advice(rule))?;
     Ok(lines)
+}
+
+/// Why a script's text is refused: the lines that follow the refusal. Of a plan's refusal its rule's texts alone.
+pub fn explain_script(alloc: Global, text: &[u8], finding: Finding) -> Result<Vec<u8>, AllocError>
+    ensures { IfOk result (λ v. IsExplanation (source_of text.now finding) (told_of finding) (code_of (refusal_of finding)).0 v.items) }
+{
+    let mut lines = Vec::new(alloc);
+    push_source(&mut lines, text, finding)?;
+    let sentence = sentence(alloc, text, finding)?;
+    let code = finding.refusal().code();
+    push_sentence(&mut lines, sentence)?;
+    push_advice(&mut lines, code.name, advice_of(finding))?;
+    Ok(lines)
+}
+
+// What the rule knew, in words.
+fn sentence(alloc: Global, text: &[u8], finding: Finding) -> Result<Option<String>, AllocError> {
+    match finding {
+        Finding::Plan(_) => Ok(None),
+        Finding::Text { rule, left, .. } => text_sentence(alloc, text, rule, left),
+        Finding::Link { rule, case, .. } => match Names::new(alloc, text)? {
+            Some(names) => link_sentence(alloc, &names, rule, case),
+            None => Ok(None),
+        },
+        Finding::Check { rule, case, .. } => match Names::new(alloc, text)? {
+            Some(names) => check_sentence(alloc, &names, rule, case),
+            None => Ok(None),
+        },
+    }
+}
+
+fn advice_of(finding: Finding) -> Advice
+    ensures why { result.why.now ≡ (told_of finding).why }
+    ensures mend { result.mend.now ≡ (told_of finding).mend }
+{
+    match finding {
+        Finding::Plan(rule) => plan_advice(rule),
+        Finding::Text { rule, .. } => text_advice(rule),
+        Finding::Link { rule, .. } => link_advice(rule),
+        Finding::Check { rule, case, .. } => check_advice(rule, case),
+    }
+}
+
+// Puts a sentence at the end, if there is one, on a line of its own.
+fn push_sentence(lines: &mut Vec<u8>, sentence: Option<String>) -> Result<(), AllocError>
+    ensures { OnOk result (IsTold lines.old.items lines.new.items) }
+{
+    match sentence {
+        Some(sentence) => push_told(lines, sentence.as_bytes()),
+        None => Ok(()),
+    }
+}
+
+fn push_told(lines: &mut Vec<u8>, sentence: &[u8]) -> Result<(), AllocError>
+    ensures { OnOk result (lines.new.items ≡ lines.old.items ++ sentence_line (Some sentence.now)) }
+{
+    push_shown(lines, sentence)?;
+    lines.push(b'\n')?;
+    Ok(())
+}
+
+// Puts what is told of the rule of this code at the end.
+fn push_advice(lines: &mut Vec<u8>, code: &str, advice: Advice) -> Result<(), AllocError>
+    ensures { OnOk result (lines.new.items ≡ lines.old.items ++ advice_text (told advice.why.now advice.mend.now) code.now) }
+{
+    push_line(lines, "Why: ", advice.why)?;
+    push_line(lines, "Mend: ", advice.mend)?;
+    push_line(lines, "More: docs/REFUSALS.md, ", code)
+}
+
+fn push_line(lines: &mut Vec<u8>, label: &str, text: &str) -> Result<(), AllocError>
+    ensures { OnOk result (lines.new.items ≡ lines.old.items ++ line_of label.now text.now) }
+{
+    lines.extend_from_slice(label.as_bytes())?;
+    lines.extend_from_slice(text.as_bytes())?;
+    lines.push(b'\n')?;
+    Ok(())
 }

@@ -1,7 +1,14 @@
-//! Why a plan or a script is refused, with the numbers and names of the case, and what to do.
+//! Why a plan or a script is refused: the source line, a sentence of the case that the rule told, why the rule is there, and what to do.
 #![tactic(auto)]
 
 mod advice;
+mod check;
 mod explanation;
+mod finding;
+mod link;
+mod names;
+mod plan;
+mod source;
 
 pub use explanation::{explain_plan, explain_script};
+pub use finding::Finding;

@@ -1,8 +1,7 @@
-// What might stand at a place of a script.
+// What might stand after a text.
 
-use crate::trial::fault_with;
-use camac_text::TextRule;
-use camac_text_tokens::last_line;
+use crate::trial::{Beginnings, may_follow};
+use camac_text_tokens::{KEYWORDS, Keyword, SIGNS, Sign};
 use std::alloc::{AllocError, Global};
 use std::fmt;
 
@@ -19,118 +18,136 @@ pub enum Expected {
     Operator,
     /// `<` and the others that compare.
     Comparison,
-    /// A sign or word of the language.
+    /// A sign or a word of the language.
     Token(&'static str),
 }
 
 impl fmt::Display for Expected {
     fn fmt<W: fmt::Write>(&self, f: &mut fmt::Formatter<W>) -> fmt::Result {
-        match self {
-            Expected::Declaration => write!(f, "a declaration"),
-            Expected::Statement => write!(f, "a statement"),
-            Expected::Condition => write!(f, "a condition"),
-            Expected::Expression => write!(f, "an expression"),
-            Expected::Number => write!(f, "a number"),
-            Expected::Name => write!(f, "a name"),
-            Expected::Operator => write!(f, "an operator"),
-            Expected::Comparison => write!(f, "a comparison"),
-            Expected::Token(token) => write!(f, "`{token}`"),
-        }
+        let group = match self {
+            Expected::Declaration => "a declaration",
+            Expected::Statement => "a statement",
+            Expected::Condition => "a condition",
+            Expected::Expression => "an expression",
+            Expected::Number => "a number",
+            Expected::Name => "a name",
+            Expected::Operator => "an operator",
+            Expected::Comparison => "a comparison",
+            Expected::Token(token) => return write!(f, "`{token}`"),
+        };
+        write!(f, "{group}")
     }
 }
 
-/// The signs and words that stand in no group.
-const TOKENS: [&str; 27] = [
-    "{", "}", ")", "=", ",", "->", "<-", "..", "table", "within", "cycles", "event", "words",
-    "steps", "max", "limit", "tally", "on", "off", "else", "to", "turns", "by", "keep", "in",
-    "and", "not",
-];
-
-/// What might stand after a text, by trial of each kind of token.
-pub fn expected_after(alloc: Global, text: &[u8]) -> Result<Vec<Expected>, AllocError> {
-    let mut found = groups_after(alloc, text)?;
-    let has_declaration = found.contains(&Expected::Declaration);
-    let has_condition = found.contains(&Expected::Condition);
-    for token in TOKENS {
-        let is_in_group = (token == "table" && has_declaration)
-            || (token == "not" && has_condition);
-        if !is_in_group && may_follow(alloc, text, token)? {
-            found.push(Expected::Token(token))?;
-        }
-    }
-    Ok(found)
-}
-
-fn groups_after(alloc: Global, text: &[u8]) -> Result<Vec<Expected>, AllocError> {
+/// What might stand after a text, by a trial of a token of each group, and of each token that is in none of those that are found.
+pub fn expected_after(
+    alloc: Global,
+    text: &mut Vec<u8>,
+    words: &Beginnings,
+) -> Result<Vec<Expected>, AllocError> {
     let mut found = Vec::new(alloc);
-    if may_follow(alloc, text, "cdlam")? {
-        found.push(Expected::Declaration)?;
+    add(alloc, text, "cdlam", Expected::Declaration, &mut found)?;
+    add(alloc, text, "put", Expected::Statement, &mut found)?;
+    add(alloc, text, "q", Expected::Condition, &mut found)?;
+    if !found.contains(&Expected::Condition) {
+        add_operand(alloc, text, &mut found)?;
     }
-    let is_statement = may_follow(alloc, text, "put")?;
-    if is_statement {
-        found.push(Expected::Statement)?;
+    add(alloc, text, "+", Expected::Operator, &mut found)?;
+    add(alloc, text, "<", Expected::Comparison, &mut found)?;
+    for sign in SIGNS {
+        if !is_sign_of(sign, &found) {
+            let token = sign.spelling();
+            add(alloc, text, token, Expected::Token(token), &mut found)?;
+        }
     }
-    if may_follow(alloc, text, "q")? {
-        found.push(Expected::Condition)?;
-    } else {
-        add_operand(alloc, text, is_statement, &mut found)?;
-    }
-    if may_follow(alloc, text, "+")? {
-        found.push(Expected::Operator)?;
-    }
-    if may_follow(alloc, text, "<")? {
-        found.push(Expected::Comparison)?;
+    for word in KEYWORDS {
+        if !is_word_of(word, &found, words) {
+            let token = word.spelling();
+            add(alloc, text, token, Expected::Token(token), &mut found)?;
+        }
     }
     Ok(found)
 }
 
-// Adds what numbers, names and brackets are there: an expression where all may stand. A name that begins a statement is none of them.
+// Adds what a token stands for, if it may follow.
+fn add(
+    alloc: Global,
+    text: &mut Vec<u8>,
+    token: &str,
+    expected: Expected,
+    found: &mut Vec<Expected>,
+) -> Result<(), AllocError> {
+    if may_follow(alloc, text, token)? {
+        found.push(expected)?;
+    }
+    Ok(())
+}
+
+// Adds an expression, or a number or a name alone. A name that begins a statement is no further case.
 fn add_operand(
     alloc: Global,
-    text: &[u8],
-    is_statement: bool,
+    text: &mut Vec<u8>,
     found: &mut Vec<Expected>,
 ) -> Result<(), AllocError> {
     let is_number = may_follow(alloc, text, "1")?;
-    let is_bracket = may_follow(alloc, text, "(")?;
-    if is_number && is_bracket {
+    if is_number && may_follow(alloc, text, "(")? {
         found.push(Expected::Expression)?;
         return Ok(());
     }
     if is_number {
         found.push(Expected::Number)?;
     }
-    if is_bracket {
-        found.push(Expected::Token("("))?;
-    }
-    if !is_statement && may_follow(alloc, text, "n")? {
-        found.push(Expected::Name)?;
+    if !found.contains(&Expected::Statement) {
+        add(alloc, text, "n", Expected::Name, found)?;
     }
     Ok(())
 }
 
-// Whether a token may stand after a text: the grammar has a place for it there.
-fn may_follow(alloc: Global, text: &[u8], token: &str) -> Result<bool, AllocError> {
-    let line = last_line(text).saturating_add(1);
-    let found = fault_with(alloc, text, token.as_bytes())?;
-    Ok(found != Some((TextRule::UnexpectedToken, line)))
+/// Whether a sign is one of arithmetic.
+pub fn is_operator(sign: Sign) -> bool {
+    matches!(
+        sign,
+        Sign::Plus | Sign::Minus | Sign::Times | Sign::Over | Sign::Modulo
+    )
 }
 
-/// The alternatives in one phrase: `a, b or c`. Nothing where there are none.
-pub fn listed(alloc: Global, alternatives: &[Expected]) -> Result<String, AllocError> {
-    let mut text = String::new(alloc);
+/// Whether a sign is one that compares.
+pub fn is_comparison(sign: Sign) -> bool {
+    matches!(
+        sign,
+        Sign::Less | Sign::AtMost | Sign::More | Sign::AtLeast | Sign::Same | Sign::Differs
+    )
+}
+
+fn is_sign_of(sign: Sign, found: &[Expected]) -> bool {
+    let is_value = found.contains(&Expected::Condition) || found.contains(&Expected::Expression);
+    (sign == Sign::LeftBracket && is_value)
+        || (is_operator(sign) && found.contains(&Expected::Operator))
+        || (is_comparison(sign) && found.contains(&Expected::Comparison))
+}
+
+fn is_word_of(word: Keyword, found: &[Expected], words: &Beginnings) -> bool {
+    let is_test = matches!(word, Keyword::Not | Keyword::Q | Keyword::X);
+    (is_test && found.contains(&Expected::Condition))
+        || (words.declarations.contains(&word) && found.contains(&Expected::Declaration))
+        || (words.statements.contains(&word) && found.contains(&Expected::Statement))
+}
+
+/// Adds the alternatives in one phrase: `a, b or c`.
+pub fn add_listed(
+    alloc: Global,
+    text: &mut String,
+    alternatives: &[Expected],
+) -> Result<(), AllocError> {
     let count = alternatives.len();
     for (place, alternative) in alternatives.iter().enumerate() {
-        let before = if place == 0 {
-            ""
-        } else if place == count - 1 {
-            " or "
-        } else {
-            ", "
+        let before = match place {
+            0 => "",
+            _ if place == count - 1 => " or ",
+            _ => ", ",
         };
         text.push_str(before)?;
-        let shown = format!(in alloc; "{alternative}")?;
-        text.push_str(shown.as_str())?;
+        text.push_str(format!(in alloc; "{alternative}")?.as_str())?;
     }
-    Ok(text)
+    Ok(())
 }

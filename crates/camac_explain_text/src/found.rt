@@ -1,127 +1,86 @@
-// The case of a text's fault.
+// The token at which a fault shows.
 
-use crate::case::TextCase;
-use crate::expected::expected_after;
-use crate::hint::{hint_at, hint_before, hint_for_byte, hint_for_name};
-use crate::kind::kind_after;
-use crate::trial::{fault_of, fault_with, piece_of_fault};
-use camac_explain_words::{Piece, Quote, between, pieces};
-use camac_text::TextRule;
-use std::alloc::{AllocError, Global};
+use crate::before::{Before, NameKind};
+use crate::trial::Beginnings;
+use camac_text::{TextFault, TextRule, TokenKind, TokensLeft};
+use camac_text_tokens::Keyword;
 
-/// What the first rule that a text breaks knows there. None where it breaks none.
-pub fn text_case(alloc: Global, text: &[u8]) -> Result<Option<TextCase>, AllocError> {
-    let Some((rule, line)) = fault_of(alloc, text)? else {
-        return Ok(None);
-    };
-    let pieces = pieces(alloc, text)?;
-    match piece_of_fault(alloc, text, &pieces, rule, line)? {
-        Some(place) => case_at(alloc, text, &pieces, place, rule),
-        None => case_at_end(alloc, text, &pieces, rule),
-    }
+/// The token at which a fault shows, and what stands around it.
+#[derive(Drop)]
+pub struct Found<'a> {
+    /// Its bytes; of a byte that begins no token, this byte; nothing at the text's end.
+    pub word: &'a [u8],
+    /// None where it is no token of the language.
+    pub kind: Option<TokenKind>,
+    /// The texts before and behind it.
+    pub text: &'a [u8],
+    pub behind: &'a [u8],
+    pub before: Before,
+    /// The words that begin something.
+    pub words: Beginnings,
 }
 
-// At the end of a text something is missing.
-fn case_at_end(
-    alloc: Global,
-    text: &[u8],
-    pieces: &[Piece],
-    rule: TextRule,
-) -> Result<Option<TextCase>, AllocError> {
-    match rule {
-        TextRule::UnexpectedToken => Ok(Some(TextCase::Unexpected {
-            found: None,
-            expected: expected_after(alloc, text)?,
-            hint: hint_at(text, pieces, pieces.len(), &[]),
-        })),
-        _ => Ok(None),
+impl Found<'_> {
+    /// The token before, if it belongs to the same declaration or statement.
+    pub fn last(&self) -> Option<&TokenKind> {
+        self.before.phrase.last()
     }
-}
 
-fn case_at(
-    alloc: Global,
-    text: &[u8],
-    pieces: &[Piece],
-    place: usize,
-    rule: TextRule,
-) -> Result<Option<TextCase>, AllocError> {
-    let Some(piece) = pieces.get(place) else {
-        return Ok(None);
-    };
-    let found = piece.of(text);
-    let quote = Quote::new(found);
-    Ok(Some(match rule {
-        TextRule::BadByte => {
-            let byte = found.first().copied().unwrap_or(0);
-            TextCase::Byte {
-                byte,
-                hint: hint_for_byte(byte),
-            }
+    /// Whether it stands right after a name, a word or a number.
+    pub fn adjoins_word(&self) -> bool {
+        self.text.last().is_some_and(|b| is_name_byte(*b))
+    }
+
+    /// The kind of name that its place needs.
+    pub fn needed(&self) -> NameKind {
+        use TokenKind::{Keyword as Word, Name, Number};
+        match self.before.phrase.as_slice() {
+            [
+                ..,
+                Word(Keyword::Service | Keyword::Cclm | Keyword::Cclc | Keyword::Ctlm),
+            ] => { NameKind::Lam }
+            [.., Word(Keyword::Call)] => NameKind::Procedure,
+            [.., Word(Keyword::Table)] => NameKind::Table,
+            [
+                Word(Keyword::Cfsa | Keyword::Cssa | Keyword::Cfubc | Keyword::Cfubr),
+                Number(_),
+            ]
+            | [Word(Keyword::Cfmad), Number(_)]
+            | [Word(Keyword::Cfmad), Number(_), Name(_)] => NameKind::Register,
+            _ => NameKind::Variable,
         }
-        TextRule::UnexpectedToken => unexpected_at(alloc, text, pieces, place, piece)?,
-        TextRule::NumberTooLarge => TextCase::Number {
-            number: quote,
-            greatest: greatest_after(alloc, between(text, 0, piece.start))?,
+    }
+}
+
+/// The bytes at which a fault shows, from which a text goes on, and their kind where they are a token. Where they are none, a token fault
+/// shows there: the bytes are a name or a number that is too long, or one that begins no token.
+pub fn token_at(text: &[u8]) -> (&[u8], Option<TokenKind>) {
+    let (size, kind) = match TokensLeft::new(text) {
+        Ok(tokens) => match tokens.first() {
+            Some(token) => (size_of(&token.kind, text), Some(token.kind.duplicate())),
+            None => (0, None),
         },
-        TextRule::DeclaredTwice => TextCase::Declared {
-            name: quote,
-            line: first_line_of(text, pieces, found),
-            hint: hint_before(text, &pieces[..place.min(pieces.len())]),
-        },
-        TextRule::NotDeclared => not_declared_at(alloc, text, pieces, place, piece)?,
-        TextRule::LimitPassed => TextCase::Limit { found: quote },
-        TextRule::BranchNotOne => TextCase::Branch { number: quote },
-    }))
+        Err(
+            TextFault::Broken {
+                rule: TextRule::BadByte,
+                ..
+            },
+        ) => (1, None),
+        Err(_) => (text.iter().take_while(|b| is_name_byte(**b)).count(), None),
+    };
+    (&text[..size.min(text.len())], kind)
 }
 
-fn unexpected_at(
-    alloc: Global,
-    text: &[u8],
-    pieces: &[Piece],
-    place: usize,
-    piece: &Piece,
-) -> Result<TextCase, AllocError> {
-    let expected = expected_after(alloc, between(text, 0, piece.start))?;
-    let hint = hint_at(text, pieces, place, &expected);
-    Ok(TextCase::Unexpected {
-        found: Some(Quote::new(piece.of(text))),
-        expected,
-        hint,
-    })
-}
-
-fn not_declared_at(
-    alloc: Global,
-    text: &[u8],
-    pieces: &[Piece],
-    place: usize,
-    piece: &Piece,
-) -> Result<TextCase, AllocError> {
-    let expected = expected_after(alloc, between(text, 0, piece.start))?;
-    Ok(TextCase::NotDeclared {
-        name: Quote::new(piece.of(text)),
-        needed: kind_after(text, &pieces[..place.min(pieces.len())]),
-        hint: hint_for_name(text, pieces, place, &expected),
-    })
-}
-
-// The greatest number that may stand after a text: that of a sub-address, a function, a word, or any.
-fn greatest_after(alloc: Global, text: &[u8]) -> Result<u32, AllocError> {
-    for (greatest, above) in [(15, "16"), (31, "32"), (16_777_215, "16777216")] {
-        let found = fault_with(alloc, text, above.as_bytes())?;
-        if matches!(found, Some((TextRule::NumberTooLarge, _))) {
-            return Ok(greatest);
-        }
+// The number of bytes of the token at the start of a text.
+fn size_of(kind: &TokenKind, text: &[u8]) -> usize {
+    match kind {
+        TokenKind::Name(name) => name.as_bytes().len(),
+        TokenKind::Number(_) => text.iter().take_while(|b| b.is_ascii_digit()).count(),
+        TokenKind::Keyword(word) => word.spelling().len(),
+        TokenKind::Sign(sign) => sign.spelling().len(),
     }
-    Ok(u32::MAX)
 }
 
-// The line of the first piece that is spelled so.
-fn first_line_of(text: &[u8], pieces: &[Piece], word: &[u8]) -> u32 {
-    for piece in pieces {
-        if piece.of(text) == word {
-            return piece.line;
-        }
-    }
-    1
+fn is_name_byte(byte: u8) -> bool {
+    byte.is_ascii_alphanumeric() || byte == b'_'
 }

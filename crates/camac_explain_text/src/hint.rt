@@ -1,235 +1,189 @@
 // What may be meant where a text is refused.
 
+use crate::before::word_of;
 use crate::expected::Expected;
-use camac_explain_words::{KEYWORDS, Kind, Piece, Quote, is_keyword, is_near};
+use crate::found::Found;
+use crate::mistake::usual_mistake;
+use crate::near::is_near;
+use crate::quote::Quote;
+use crate::trial::may_follow;
+use camac_text::TokenKind;
+use camac_text_tokens::{KEYWORDS, Keyword, Sign};
+use std::alloc::{AllocError, Global};
 use std::fmt;
 
-/// What may be meant, or what is to be known there.
+/// What may be meant, or what is to be known.
 #[derive(Drop)]
 pub enum Hint {
-    /// Another word or sign of the language.
+    Told(&'static str),
+    /// A word or sign of the language.
     Meant(&'static str),
-    /// A name that is declared.
     MeantName(Quote),
-    /// The word before is to be a word of the language.
+    /// A word before the token is to be one of the language.
     MeantBefore { word: Quote, meant: &'static str },
-    /// A number goes on with letters.
-    Decimal,
     /// A block is still open, from this line on.
     Open { line: u32 },
-    /// A byte that other languages use.
-    Instead(&'static str),
+    /// A procedure takes so many arguments.
+    Takes { procedure: Quote, count: usize },
 }
 
 impl fmt::Display for Hint {
     fn fmt<W: fmt::Write>(&self, f: &mut fmt::Formatter<W>) -> fmt::Result {
         match self {
+            Hint::Told(told) => write!(f, "{told}"),
             Hint::Meant(word) => write!(f, "Perhaps `{word}` is meant."),
             Hint::MeantName(name) => write!(f, "Perhaps {name} is meant."),
-            Hint::MeantBefore { word, meant } => { write!(f, "Perhaps {word} is to be `{meant}`.") }
-            Hint::Decimal => write!(f, "A number is written in decimal digits alone."),
+            Hint::MeantBefore { word, meant } => write!(f, "Perhaps {word} is to be `{meant}`."),
             Hint::Open { line } => write!(f, "The `{{` of line {line} is still open."),
-            Hint::Instead(what) => write!(f, "{what}"),
+            Hint::Takes { procedure, count } => {
+                let noun = if *count == 1 { "argument" } else { "arguments" };
+                write!(f, "The procedure {procedure} takes {count} {noun}.")
+            }
         }
     }
 }
 
-/// What may be meant by an unexpected piece at a place; the end of the text has the place after the last piece.
-pub fn hint_at(text: &[u8], pieces: &[Piece], place: usize, expected: &[Expected]) -> Option<Hint> {
-    let before = &pieces[..place.min(pieces.len())];
-    let Some(piece) = pieces.get(place) else {
-        return open_block(text, before);
-    };
-    let word = piece.of(text);
-    if let Some(meant) = meant_by_sign(word, expected) {
-        return Some(Hint::Meant(meant));
-    }
-    if follows_number(*piece, before) {
-        return Some(Hint::Decimal);
-    }
-    if let Some(hint) = hint_for_word(word) {
-        return Some(hint);
-    }
-    if let Some(meant) = expected_near(word, expected) {
-        return Some(Hint::Meant(meant));
-    }
-    if let Some(hint) = hint_before(text, before) {
-        return Some(hint);
-    }
-    if begins_declaration(word) {
-        return open_block(text, before);
-    }
-    None
-}
-
-/// The word before, or the first one of the same line, where it is near a word of the language.
-pub fn hint_before(text: &[u8], before: &[Piece]) -> Option<Hint> {
-    let last = before.last()?;
-    if let Some(hint) = meant_before(text, *last) {
-        return Some(hint);
-    }
-    let first = before.iter().find(|piece| piece.line == last.line)?;
-    meant_before(text, *first)
-}
-
-fn meant_before(text: &[u8], piece: Piece) -> Option<Hint> {
-    let word = piece.of(text);
-    let meant = expected_near(word, &[Expected::Declaration, Expected::Statement])?;
-    Some(Hint::MeantBefore {
-        word: Quote::new(word),
-        meant,
-    })
-}
-
-/// Of a name that is not declared: whether it goes on with a number, or the word of the language or the name before it that is near.
-pub fn hint_for_name(
-    text: &[u8],
-    pieces: &[Piece],
-    place: usize,
+/// What may be meant by a token that may not stand where it is.
+pub fn unexpected_hint(
+    alloc: Global,
+    found: &Found<'_>,
     expected: &[Expected],
-) -> Option<Hint> {
-    let piece = pieces.get(place)?;
-    let before = &pieces[..place.min(pieces.len())];
-    if follows_number(*piece, before) {
-        return Some(Hint::Decimal);
+    short: &mut Vec<u8>,
+) -> Result<Option<Hint>, AllocError> {
+    let hint = meant_by_sign(found, expected)
+        .or_else(|| decimal(found))
+        .or_else(|| usual_mistake(found, expected).map(Hint::Told));
+    if hint.is_some() {
+        return Ok(hint);
     }
-    let word = piece.of(text);
-    if let Some(meant) = expected_near(word, expected) {
-        return Some(Hint::Meant(meant));
+    if let Some(word) = near_word(alloc, found, short)? {
+        return Ok(Some(Hint::Meant(word)));
     }
-    for earlier in before {
-        if earlier.kind == Kind::Word && is_near(word, earlier.of(text)) {
-            return Some(Hint::MeantName(Quote::new(earlier.of(text))));
-        }
-    }
-    None
-}
-
-/// What takes the place of a byte that other languages use.
-pub fn hint_for_byte(byte: u8) -> Option<Hint> {
-    let what = match byte {
-        b';' => "A statement ends without a sign.",
-        b'&' => "Conditions are joined by `and`.",
-        b'|' => "There is no or: write one `if` after the other.",
-        b'!' => "Write `not` before a condition, and `!=` between two numbers.",
-        b'[' | b']' => "There are no lists but a `table`, which a block write sends as a whole.",
-        b'"' | b'\'' => "There are no texts in quotes.",
-        b':' => "A value is set by `=`.",
-        b'.' => "Numbers are whole; a range is written `A..B`.",
-        b'_' => "A name begins with a letter.",
-        _ => return None,
-    };
-    Some(Hint::Instead(what))
-}
-
-// A sign that is taken for another one that might stand there.
-fn meant_by_sign(word: &[u8], expected: &[Expected]) -> Option<&'static str> {
-    if word == b"=".as_slice() && expected.contains(&Expected::Comparison) {
-        return Some("==");
-    }
-    for (sign, meant) in [
-        ("==", "="),
-        (">", "->"),
-        ("<", "<-"),
-        ("-", "->"),
-        ("=", "<-"),
-    ] {
-        if word == sign.as_bytes() && expected.contains(&Expected::Token(meant)) {
-            return Some(meant);
-        }
-    }
-    None
-}
-
-// What takes the place of a word of other languages.
-fn hint_for_word(word: &[u8]) -> Option<Hint> {
-    if word == b"or".as_slice() {
-        return Some(Hint::Instead("There is no or: write one `if` after the other."));
-    }
-    None
-}
-
-// The first word of the language that is near a word and might stand there.
-fn expected_near(word: &[u8], expected: &[Expected]) -> Option<&'static str> {
-    if is_keyword(word) {
-        return None;
-    }
-    for keyword in KEYWORDS {
-        if is_near(word, keyword.as_bytes()) && may_stand(keyword, expected) {
-            return Some(keyword);
-        }
-    }
-    None
-}
-
-// Whether a word of the language is among what might stand there.
-fn may_stand(word: &'static str, expected: &[Expected]) -> bool {
-    if expected.contains(&Expected::Token(word)) {
-        return true;
-    }
-    let group = if begins_declaration(word.as_bytes()) {
-        Expected::Declaration
-    } else if is_among(word, &["not", "q", "x"]) {
-        Expected::Condition
-    } else if begins_statement(word) {
-        Expected::Statement
+    let is_beginning = expected.contains(&Expected::Declaration)
+        || expected.contains(&Expected::Statement);
+    let before = if is_beginning {
+        word_before(found)
     } else {
-        return false;
+        None
     };
-    expected.contains(&group)
-}
-
-fn begins_statement(word: &str) -> bool {
-    is_among(
-        word,
-        &[
-            "cdreg", "cfsa", "cssa", "cfmad", "cfubc", "cfubr", "put", "cccz", "cccc", "ctci",
-            "ctcd", "ctgl", "ccci", "cccd", "cclm", "cclc", "ctlm", "if", "for", "while", "lock",
-            "call",
-        ],
+    Ok(
+        before
+            .or_else(|| arguments(found))
+            .or_else(|| open_block(found)),
     )
 }
 
-fn is_among(word: &str, words: &[&str]) -> bool {
-    for other in words {
-        if word == *other {
-            return true;
-        }
+/// What may be meant by a name that is not declared: the word of the language that may stand there and is near, else the declared name.
+pub fn name_hint(
+    alloc: Global,
+    found: &Found<'_>,
+    short: &mut Vec<u8>,
+) -> Result<Option<Hint>, AllocError> {
+    if let Some(hint) = decimal(found) {
+        return Ok(Some(hint));
     }
-    false
+    if let Some(word) = near_word(alloc, found, short)? {
+        return Ok(Some(Hint::Meant(word)));
+    }
+    let near = found.before.near(found.word, found.needed());
+    Ok(near.map(|it| Hint::MeantName(Quote::new(it.name.as_bytes()))))
 }
 
-// Whether a word stands right after a number, as in `0x1F`.
-fn follows_number(piece: Piece, before: &[Piece]) -> bool {
-    match before.last() {
-        Some(last) => {
-            piece.kind == Kind::Word && last.kind == Kind::Number && last.end == piece.start
-        }
-        None => false,
-    }
-}
-
-fn begins_declaration(word: &[u8]) -> bool {
-    for keyword in ["table", "cdlam", "var", "proc", "service"] {
-        if word == keyword.as_bytes() {
-            return true;
-        }
-    }
-    false
-}
-
-// The line of the last `{` that is not closed.
-fn open_block(text: &[u8], pieces: &[Piece]) -> Option<Hint> {
-    let mut closed: usize = 0;
-    for piece in pieces.iter().rev() {
-        let sign = piece.of(text);
-        if sign == b"}".as_slice() {
-            closed = closed.saturating_add(1);
-        } else if sign == b"{".as_slice() && closed > 0 {
-            closed -= 1;
-        } else if sign == b"{".as_slice() {
-            return Some(Hint::Open { line: piece.line });
+/// One of the two words before, where it is near a word that begins what may stand there.
+pub fn word_before(found: &Found<'_>) -> Option<Hint> {
+    for kind in found.before.phrase.iter().rev().take(2) {
+        if let TokenKind::Name(name) = kind {
+            if let Some(meant) = beginning_near(found, name.as_bytes()) {
+                let word = Quote::new(name.as_bytes());
+                return Some(Hint::MeantBefore { word, meant });
+            }
         }
     }
     None
+}
+
+fn beginning_near(found: &Found<'_>, word: &[u8]) -> Option<&'static str> {
+    let words = if found.before.in_body() {
+        &found.words.statements
+    } else {
+        &found.words.declarations
+    };
+    let mut spellings = words.iter().map(|it| it.spelling());
+    spellings.find(|it| is_near(word, it.as_bytes()))
+}
+
+// The first word of the language that is near a name and may stand in its place.
+fn near_word(
+    alloc: Global,
+    found: &Found<'_>,
+    short: &mut Vec<u8>,
+) -> Result<Option<&'static str>, AllocError> {
+    if matches!(found.kind, Some(TokenKind::Name(_))) {
+        for keyword in KEYWORDS {
+            let word = keyword.spelling();
+            if is_near(found.word, word.as_bytes()) && may_follow(alloc, short, word)? {
+                return Ok(Some(word));
+            }
+        }
+    }
+    Ok(None)
+}
+
+// A word right after a number, as in `0x1F`.
+fn decimal(found: &Found<'_>) -> Option<Hint> {
+    let is_word = matches!(found.kind, Some(TokenKind::Name(_) | TokenKind::Keyword(_)));
+    let is_after_number = matches!(found.last(), Some(TokenKind::Number(_)));
+    (is_word && is_after_number && found.adjoins_word()).then_some(Hint::Told(
+        "A number is written in decimal digits alone.",
+    ))
+}
+
+// A sign that is taken for another one, or for a word, that may stand there.
+fn meant_by_sign(found: &Found<'_>, expected: &[Expected]) -> Option<Hint> {
+    let Some(TokenKind::Sign(sign)) = &found.kind else {
+        return None;
+    };
+    if *sign == Sign::Equals && expected.contains(&Expected::Comparison) {
+        return Some(Hint::Meant(Sign::Same.spelling()));
+    }
+    for (taken, meant) in [
+        (Sign::Same, Sign::Equals.spelling()),
+        (Sign::More, Sign::Into.spelling()),
+        (Sign::Less, Sign::From.spelling()),
+        (Sign::Minus, Sign::Into.spelling()),
+        (Sign::Equals, Sign::From.spelling()),
+        (Sign::UpTo, Keyword::To.spelling()),
+    ] {
+        if *sign == taken && expected.contains(&Expected::Token(meant)) {
+            return Some(Hint::Meant(meant));
+        }
+    }
+    None
+}
+
+// How many arguments the procedure of a call takes, unless they are complete.
+fn arguments(found: &Found<'_>) -> Option<Hint> {
+    if matches!(found.last(), Some(TokenKind::Sign(Sign::RightBracket))) {
+        return None;
+    }
+    let [TokenKind::Keyword(Keyword::Call), TokenKind::Name(name), ..] = found
+        .before
+        .phrase
+        .as_slice()
+    else {
+        return None;
+    };
+    let count = found.before.declared(name.as_bytes())?.parameters;
+    let procedure = Quote::new(name.as_bytes());
+    Some(Hint::Takes { procedure, count })
+}
+
+// The `{` that is open where a declaration, or nothing, follows.
+fn open_block(found: &Found<'_>) -> Option<Hint> {
+    let is_end = match word_of(found.kind.as_ref()) {
+        Some(word) => found.words.declarations.contains(&word),
+        None => found.word.is_empty(),
+    };
+    let line = found.before.open_line()?;
+    is_end.then_some(Hint::Open { line })
 }

@@ -1,15 +1,17 @@
-//! What a refused script's text shows: the token at which its fault shows, what might stand there, and words that may be meant.
+//! What a refused script's text shows: the token at which its fault shows, what might stand there, and what may be meant.
 #![tactic(auto)]
 
-mod case;
+mod before;
 mod expected;
 mod found;
 mod hint;
-mod kind;
+mod limit;
+mod mistake;
+mod near;
+mod quote;
+mod sentence;
 mod trial;
 
-pub use case::TextCase;
-pub use expected::Expected;
-pub use found::text_case;
-pub use hint::Hint;
-pub use kind::NameKind;
+pub use near::is_near;
+pub use quote::Quote;
+pub use sentence::text_sentence;

@@ -1,8 +1,8 @@
 //! The commands that a type of module declares.
 
-ghost use Rattle.std.specs.Prelude.{◌≡◌, ◌≤◌, IfSome, OnOk, OnErr};
+ghost use Rattle.std.specs.Prelude.{◌≡◌, ◌≤◌, option_map, IfSome, OnOk, OnErr};
 ghost use Rattle.std.specs.Result.{result_err};
-ghost use Rattle.camac_module.specs.Commands.{width, counts, widths, none_declared, with_declared, DeclaresOne, declare_fault, fits_width, IsCommandMap};
+ghost use Rattle.camac_module.specs.Commands.{entry, declared, width, counts, widths, none_declared, with_declared, DeclaresOne, declare_fault, fits_width, IsCommandMap};
 
 use crate::row::Row;
 use camac_word::{Function, SubAddress};
@@ -103,6 +103,22 @@ impl<const A: usize> CommandMap<A> {
         let a = a.get() as usize;
         if a < A {
             self.rows[a].width(f.get())
+        } else {
+            None
+        }
+    }
+
+    /// A command as it was declared. None: it is not declared.
+    pub fn declaration(&self, f: Function, a: SubAddress) -> Option<Decl>
+        ensures entry { option_map declared result ≡ entry self.now f a }
+        ensures place { IfSome result (λ d. (d.f ≡ f) × (d.a ≡ a)) }
+    {
+        let row = a.get() as usize;
+        if row < A {
+            match self.rows[row].entry(f.get()) {
+                Some((width, probe)) => Some(Decl { f, a, width, probe }),
+                None => None,
+            }
         } else {
             None
         }

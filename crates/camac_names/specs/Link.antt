@@ -1,20 +1,27 @@
 -- The rules of linking, in the order in which they are tested (own).
-use Rattle.std.specs.Prelude.{ℕ, Bool, false, not, ◌&&◌, ◌||◌, List, [], ◌∷◌, ◌++◌, Option, Some, None, is_some, nat_eq, nat_le, option_and_then, slice_get, if◌then◌else◌}
+use Rattle.std.specs.Prelude.{ℕ, Bool, false, not, ◌&&◌, List, [], ◌∷◌, ◌++◌, Option, Some, None, find, is_some, nat_eq, nat_le, option_and_then, option_map, slice_get, unwrap_or, if◌then◌else◌}
+use Rattle.std.specs.List.{list_any}
 use Rattle.camac_lang.specs.Tree.{Lam, Service, Script}
 use Rattle.camac_branch.specs.Plan.{Layout, installed, gl}
+use Rattle.camac_names.specs.declared.fault.LinkCase.{LinkCase}
+use Rattle.camac_names.specs.declared.fault.LinkCase.TheVariants.{Place, Served, Words, Malformed}
 use Rattle.camac_names.specs.declared.fault.LinkFault.{LinkFault}
 use Rattle.camac_names.specs.declared.fault.LinkFault.TheVariants.{Broken}
 use Rattle.camac_names.specs.declared.fault.LinkRule.{LinkRule}
 use Rattle.camac_names.specs.declared.fault.LinkRule.TheVariants.{LamNotInstalled, StationWithoutBit, StationServedTwice, EventAboveBuffer}
 
 -- a fault on this line, unless the test holds; and else the next
-abbrev pub unless : Bool → LinkRule → ℕ → Option LinkFault → Option LinkFault
-unless test rule line next = if test then next else Some (Broken rule line)
+abbrev pub unless : Bool → LinkRule → ℕ → LinkCase → Option LinkFault → Option LinkFault
+unless test rule line case next = if test then next else Some (Broken rule line case)
+
+-- where a LAM stands
+abbrev pub place_of : Lam → LinkCase
+place_of l = Place l.crate_no l.station
 
 -- L1 of each LAM in text order
 abbrev pub lams_fault : Layout → List Lam → Option LinkFault
 lams_fault plan [] = None
-lams_fault plan (l ∷ ls) = unless (is_some (installed plan l.crate_no l.station)) LamNotInstalled l.line (lams_fault plan ls)
+lams_fault plan (l ∷ ls) = unless (is_some (installed plan l.crate_no l.station)) LamNotInstalled l.line (place_of l) (lams_fault plan ls)
 
 -- the graded-L bit of a service: that of its LAM's station
 abbrev pub lam_bit : Layout → Lam → Option ℕ
@@ -26,22 +33,32 @@ service_bit plan lams v = option_and_then (lam_bit plan) (slice_get lams v.lam)
 abbrev pub same_station : Lam → Lam → Bool
 same_station l m = nat_eq l.crate_no m.crate_no && nat_eq l.station m.station
 
--- whether one of these services is on the LAM's station
+-- whether a service is on the LAM's station
 abbrev pub is_on : Lam → Option Lam → Bool
 is_on l None = false
 is_on l (Some m) = same_station l m
 
+abbrev pub is_there : List Lam → Lam → Service → Bool
+is_there lams l v = is_on l (slice_get lams v.lam)
+
+-- whether one of these services is, and the line of the first that is
 abbrev pub is_served : List Lam → Lam → List Service → Bool
-is_served lams l [] = false
-is_served lams l (v ∷ vs) = is_on l (slice_get lams v.lam) || is_served lams l vs
+is_served lams l vs = list_any (is_there lams l) vs
+
+abbrev pub first_line : List Lam → Lam → List Service → Option ℕ
+first_line lams l vs = option_map (λ v. v.line) (find (is_there lams l) vs)
+
+-- the station of the LAM, which the first of these services has
+abbrev pub served_by : List Lam → Lam → List Service → LinkCase
+served_by lams l earlier = Served l.crate_no l.station (unwrap_or (first_line lams l earlier) 0)
 
 -- L2, L3 and L4 of a service on this LAM, after these services
 abbrev pub served_fault : Layout → List Lam → List Service → Service → Option Lam → Option LinkFault
-served_fault plan lams earlier v None = Some (Broken LamNotInstalled v.line)
+served_fault plan lams earlier v None = Some (Broken LamNotInstalled v.line Malformed)
 served_fault plan lams earlier v (Some l) =
-    unless (is_some (lam_bit plan l)) StationWithoutBit v.line
-    (unless (not (is_served lams l earlier)) StationServedTwice v.line
-    (unless (nat_le v.words plan.buffer) EventAboveBuffer v.line None))
+    unless (is_some (lam_bit plan l)) StationWithoutBit v.line (place_of l)
+    (unless (not (is_served lams l earlier)) StationServedTwice v.line (served_by lams l earlier)
+    (unless (nat_le v.words plan.buffer) EventAboveBuffer v.line (Words v.words plan.buffer) None))
 
 abbrev pub service_fault : Layout → List Lam → List Service → Service → Option LinkFault
 service_fault plan lams earlier v = served_fault plan lams earlier v (slice_get lams v.lam)
@@ -56,6 +73,6 @@ services_fault plan lams earlier [] = None
 services_fault plan lams earlier (v ∷ vs) =
     or_else (service_fault plan lams earlier v) (services_fault plan lams (earlier ++ v ∷ []) vs)
 
--- the first rule that is broken, and its line
+-- the first rule that is broken, its line and its case
 abbrev pub link_fault : Layout → Script → Option LinkFault
 link_fault plan script = or_else (lams_fault plan script.lams) (services_fault plan script.lams [] script.services)

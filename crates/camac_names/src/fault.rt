@@ -15,11 +15,38 @@ pub enum LinkRule {
     EventAboveBuffer,
 }
 
-/// The first rule that is broken, at the line of the declaration's first token; or L5, out of memory.
+/// What a rule of linking knew where it was broken.
+#[derive(Clone, Copy, Debug, PartialEq, Eq)]
+pub enum LinkCase {
+    /// L1, L2: the crate and the station of the LAM, as the script has them.
+    Place {
+        crate_no: u32,
+        station: u32,
+    },
+    /// L3: the crate and the station, and the line of the first service there.
+    Served {
+        crate_no: u32,
+        station: u32,
+        line: u32,
+    },
+    /// L4: the event words that the heading allows, and those that the plan's buffer holds.
+    Words {
+        allowed: u32,
+        buffer: u16,
+    },
+    /// The script has no LAM of the service's number. No script that was read is so.
+    Malformed,
+}
+
+/// The first rule that is broken, at the line of the declaration's first token, with its case; or L5, out of memory.
 #[derive(Clone, Copy, Debug, PartialEq, Eq, Error)]
 pub enum LinkFault {
     #[error("memory")]
     OutOfMemory,
     #[error("line {line}: {rule:?}")]
-    Broken { rule: LinkRule, line: u32 },
+    Broken {
+        rule: LinkRule,
+        line: u32,
+        case: LinkCase,
+    },
 }

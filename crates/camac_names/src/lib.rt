@@ -6,6 +6,6 @@ pub mod laws;
 mod link;
 mod linked;
 
-pub use fault::{LinkFault, LinkRule};
+pub use fault::{LinkCase, LinkFault, LinkRule};
 pub use link::resolve;
 pub use linked::Linked;

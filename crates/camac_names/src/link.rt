@@ -4,9 +4,9 @@ ghost use Rattle.std.specs.Prelude.{◌≡◌, ◌≢◌, ◌<◌, ◌≤◌, le
 ghost use Rattle.std.specs.Result.{result_err};
 ghost use Rattle.camac_lang.specs.View.{lam_of, service_of};
 ghost use Rattle.camac_branch.specs.Plan.{IsPlan, installed, gl};
-ghost use Rattle.camac_names.specs.Link.{lams_fault, service_bit, same_station, is_on, is_served, service_fault, services_fault, link_fault};
+ghost use Rattle.camac_names.specs.Link.{lams_fault, service_bit, same_station, is_there, is_served, first_line, place_of, service_fault, services_fault, link_fault};
 
-use crate::fault::{LinkFault, LinkRule};
+use crate::fault::{LinkCase, LinkFault, LinkRule};
 use crate::linked::Linked;
 use camac_branch::Plan;
 use camac_lang::{Lam, Script, Service};
@@ -14,7 +14,7 @@ use camac_word::{CrateNo, GlBit, Station};
 use std::alloc::Global;
 
 /// Links a script to a plan, of which it keeps a copy. The error is the first rule that is broken, with the line of the declaration's first
-/// token: L1 of each LAM in text order, then L2, L3 and L4 of each service in text order. It is L5 where memory ran out.
+/// token and the rule's case: L1 of each LAM in text order, then L2, L3 and L4 of each service in text order. It is L5 where memory ran out.
 pub fn resolve(alloc: Global, script: Script, plan: &Plan) -> Result<Linked, LinkFault>
     ensures ok { IfOk result (λ l. (link_fault plan.now script ≡ None) × (l ≡ record { plan = plan.now; script = script })) }
     ensures refused { IfErr result (λ e. e ≢ LinkFault.OutOfMemory → link_fault plan.now script ≡ Some e) }
@@ -33,7 +33,7 @@ fn link_lams(lams: &[Lam], plan: &Plan) -> Result<(), LinkFault>
 {
     'lams: for lam in lams {
         if !is_installed(plan, lam.crate_no, lam.station) {
-            return Err(broken(LinkRule::LamNotInstalled, lam.line));
+            return Err(broken(LinkRule::LamNotInstalled, lam.line, place_of(lam)));
         }
     }
     Ok(())
@@ -70,44 +70,62 @@ fn link_service(
     ensures ok { IfOk result (λ bit. (service_fault plan.now (map lam_of lams.now) (map service_of earlier.now) (service_of service.now) ≡ None) × (service_bit plan.now (map lam_of lams.now) (service_of service.now) ≡ Some bit)) }
     ensures refused { IfErr result (λ e. service_fault plan.now (map lam_of lams.now) (map service_of earlier.now) (service_of service.now) ≡ Some e) }
 {
-    let lam = match lams.get(service.lam) {
-        Some(lam) => lam,
-        None => return Err(broken(LinkRule::LamNotInstalled, service.line)),
+    let line = service.line;
+    let Some(lam) = lams.get(service.lam) else {
+        return Err(broken(LinkRule::LamNotInstalled, line, LinkCase::Malformed));
     };
-    let bit = match bit_at(plan, lam.crate_no, lam.station) {
-        Some(bit) => bit,
-        None => return Err(broken(LinkRule::StationWithoutBit, service.line)),
+    let Some(bit) = bit_at(plan, lam.crate_no, lam.station) else {
+        return Err(broken(LinkRule::StationWithoutBit, line, place_of(lam)));
     };
-    if is_served(lams, lam, earlier) {
-        return Err(broken(LinkRule::StationServedTwice, service.line));
+    if let Some(first) = first_line(lams, lam, earlier) {
+        let case = LinkCase::Served {
+            crate_no: lam.crate_no,
+            station: lam.station,
+            line: first,
+        };
+        return Err(broken(LinkRule::StationServedTwice, line, case));
     }
     if service.words > plan.buffer() as u32 {
-        return Err(broken(LinkRule::EventAboveBuffer, service.line));
+        let case = LinkCase::Words {
+            allowed: service.words,
+            buffer: plan.buffer(),
+        };
+        return Err(broken(LinkRule::EventAboveBuffer, line, case));
     }
     Ok(bit)
 }
 
-fn broken(rule: LinkRule, line: u32) -> LinkFault
-    ensures { result ≡ LinkFault.Broken rule line }
+fn broken(rule: LinkRule, line: u32, case: LinkCase) -> LinkFault
+    ensures { result ≡ LinkFault.Broken rule line case }
 {
-    LinkFault::Broken { rule, line }
+    LinkFault::Broken { rule, line, case }
 }
 
-// Whether one of these services is on the LAM's station.
-fn is_served(lams: &[Lam], lam: &Lam, services: &[Service]) -> bool
-    ensures { result ≡ is_served (map lam_of lams.now) (lam_of lam.now) (map service_of services.now) }
+fn place_of(lam: &Lam) -> LinkCase
+    ensures { result ≡ place_of (lam_of lam.now) }
+{
+    LinkCase::Place {
+        crate_no: lam.crate_no,
+        station: lam.station,
+    }
+}
+
+// The line of the first of these services that is on the LAM's station.
+fn first_line(lams: &[Lam], lam: &Lam, services: &[Service]) -> Option<u32>
+    ensures line { result ≡ first_line (map lam_of lams.now) (lam_of lam.now) (map service_of services.now) }
+    ensures served { is_some result ≡ is_served (map lam_of lams.now) (lam_of lam.now) (map service_of services.now) }
 {
     'services: for service in services {
-        if is_on(lams, lam, service) {
-            return true;
+        if is_there(lams, lam, service) {
+            return Some(service.line);
         }
     }
-    false
+    None
 }
 
 #[tactic(auto, using(crate::proofs::Places::found))]
-fn is_on(lams: &[Lam], lam: &Lam, service: &Service) -> bool
-    ensures { result ≡ is_on (lam_of lam.now) (slice_get (map lam_of lams.now) service.now.lam) }
+fn is_there(lams: &[Lam], lam: &Lam, service: &Service) -> bool
+    ensures { result ≡ is_there (map lam_of lams.now) (lam_of lam.now) (service_of service.now) }
 {
     match lams.get(service.lam) {
         Some(other) => same_station(lam, other),

@@ -1,3 +1,5 @@
+pub mod Key
+pub mod Broken
 pub mod Field
 pub mod Commands
 pub mod Types

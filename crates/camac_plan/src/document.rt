@@ -1,26 +1,28 @@
 //! The text of a plan.
 
-ghost use Rattle.std.specs.Prelude.{◌≡◌, ◌≤◌, Ok, IfOk, IfErr, codes, unwrap_or};
+ghost use Rattle.std.specs.Prelude.{◌≡◌, ◌≤◌, ℕ, Ok, IfOk, IfErr, unwrap_or};
 ghost use Rattle.toml.specs.View.{table_view};
-ghost use Rattle.camac_plan.specs.Field.{next, number_at, items_or_none};
+ghost use Rattle.camac_plan.specs.Field.{number_at, items_or_none};
 ghost use Rattle.camac_plan.specs.Types.{with_types};
 ghost use Rattle.camac_plan.specs.Crates.{with_crates};
-ghost use Rattle.camac_plan.specs.Reading.{AddsOrTells, GivesOrTells, Tells, plan_of, document_of, reading, TellsNoToml};
+ghost use Rattle.camac_plan.specs.Reading.{AddsOrTells, GivesOrTells, ReadsOrTells, TellsCase, Tells, plan_of, document_of, reading, stops_at, StopsWithin, TellsNoToml};
 
 use crate::crates::add_crates;
-use crate::fault::{PlanFault, PlanRule};
-use crate::field::{has_only, number_at, tables_at};
+use crate::fault::{BrokenRule, PlanCase, PlanFault, PlanRule, PlanTable, broken};
+use crate::field::{has_only, number_at, out_of_range, tables_at};
+use crate::key::PlanKey;
 use crate::module_type::add_types;
 use camac_branch::Plan;
 use std::alloc::Global;
 use toml::Table;
 use toml::value::Array;
 
-/// Reads a plan from TOML (own). The first rule that is broken is answered: that the bytes are TOML (P1), then the rules of
-/// the top table, then those of each type and its commands in order, then those of each crate and its stations in order. A
+/// Reads a plan from TOML (own). The first rule that is broken is answered, with its case: that the bytes are TOML (P1), then the rules
+/// of the top table, then those of each type and its commands in order, then those of each crate and its stations in order. A
 /// table is judged by its keys first, then by what each key holds, then by what stands above it. P10: memory ran out.
 pub fn read(alloc: Global, bytes: &[u8]) -> Result<Plan, PlanFault>
-    ensures reads { GivesOrTells result (reading bytes.now) }
+    ensures reads { ReadsOrTells result (reading bytes.now) }
+    ensures case { IfErr result (TellsCase bytes.now) }
     ensures no_toml { TellsNoToml bytes.now }
 {
     let table = read_document(alloc, bytes)?;
@@ -29,18 +31,19 @@ pub fn read(alloc: Global, bytes: &[u8]) -> Result<Plan, PlanFault>
 
 // The table that a text says as TOML. Bytes that are not UTF-8 are no TOML.
 fn read_document(alloc: Global, bytes: &[u8]) -> Result<Table, PlanFault>
-    ensures ok { IfOk result (λ t. document_of bytes.now ≡ Ok (table_view t)) }
-    ensures refused { IfErr result (λ e. Tells e (document_of bytes.now)) }
+    ensures ok { IfOk result (λ t. (at : ℕ) → document_of at bytes.now ≡ Ok (table_view t)) }
+    ensures refused { IfErr result (λ e. Tells e (document_of (stops_at e) bytes.now)) }
+    ensures within { IfErr result (StopsWithin bytes.now) }
 {
     match toml::table_from_slice(alloc, bytes) {
         Ok(table) => Ok(table),
-        Err(e) => {
-            if e.is_memory() {
-                Err(PlanFault::OutOfMemory)
-            } else {
-                Err(PlanFault::Broken(PlanRule::NotToml))
+        Err(e) => match e.span() {
+            Some(span) => {
+                let case = PlanCase::Text { at: span.start };
+                Err(broken(PlanRule::NotToml, case).into())
             }
-        }
+            None => Err(PlanFault::OutOfMemory),
+        },
     }
 }
 
@@ -48,25 +51,31 @@ fn read_document(alloc: Global, bytes: &[u8]) -> Result<Table, PlanFault>
 fn read_table(alloc: Global, table: &Table) -> Result<Plan, PlanFault>
     ensures { GivesOrTells result (plan_of (table_view table.now)) }
 {
-    if !has_only(table, &["buffer", "type", "crate"]) {
-        return Err(PlanFault::Broken(PlanRule::UnknownKey));
-    }
-    let buffer = buffer_at(table).map_err(PlanFault::Broken)?;
-    let types = tables_at(table, "type").map_err(PlanFault::Broken)?;
-    let crates = tables_at(table, "crate").map_err(PlanFault::Broken)?;
-    let mut plan = Plan::new(alloc, buffer.unwrap_or(4096)).ok_or(PlanFault::Broken(
-        PlanRule::OutOfRange,
+    has_only(
+        PlanTable::Top,
+        table,
+        &[PlanKey::Buffer, PlanKey::Types, PlanKey::Crates],
+    )?;
+    let buffer = buffer_at(table)?.unwrap_or(4096);
+    let types = tables_at(PlanTable::Top, table, PlanKey::Types)?;
+    let crates = tables_at(PlanTable::Top, table, PlanKey::Crates)?;
+    let mut plan = Plan::new(alloc, buffer).ok_or(out_of_range(
+        PlanTable::Top,
+        PlanKey::Buffer,
+        i64::from(buffer),
+        1,
+        4096,
     ))?;
     add_any_types(alloc, &mut plan, types)?;
     add_any_crates(&mut plan, crates)?;
     Ok(plan)
 }
 
-fn buffer_at(table: &Table) -> Result<Option<u16>, PlanRule>
-    ensures value { result ≡ number_at (codes "buffer") 1 4096 (table_view table.now) }
+fn buffer_at(table: &Table) -> Result<Option<u16>, BrokenRule>
+    ensures value { result ≡ number_at PlanTable.Top PlanKey.Buffer 1 4096 (table_view table.now) }
     ensures in_range { IfOk result (λ b. (1 ≤ unwrap_or b 4096) × (unwrap_or b 4096 ≤ 4096)) }
 {
-    match number_at(table, "buffer", 1, 4096)? {
+    match number_at(PlanTable::Top, table, PlanKey::Buffer, 1, 4096)? {
         Some(buffer) => Ok(Some(buffer as u16)),
         None => Ok(None),
     }
@@ -84,10 +93,10 @@ fn add_any_types(alloc: Global, plan: &mut Plan, types: Option<&Array>) -> Resul
 
 // Puts the crates into the plan, if there are any.
 fn add_any_crates(plan: &mut Plan, crates: Option<&Array>) -> Result<(), PlanFault>
-    ensures { AddsOrTells result plan.new (with_crates plan.old (items_or_none crates.entry)) }
+    ensures { AddsOrTells result plan.new (with_crates (items_or_none crates.entry) 0 plan.old (items_or_none crates.entry)) }
 {
     match crates {
-        Some(items) => add_crates(plan, items).map_err(PlanFault::Broken),
+        Some(items) => Ok(add_crates(plan, items)?),
         None => Ok(()),
     }
 }

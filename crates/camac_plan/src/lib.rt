@@ -6,8 +6,10 @@ mod crates;
 mod document;
 mod fault;
 mod field;
+mod key;
 mod module_type;
 mod station;
 
 pub use document::read;
-pub use fault::{PlanFault, PlanRule};
+pub use fault::{PlanCase, PlanFault, PlanRule, PlanTable, Wanted};
+pub use key::PlanKey;

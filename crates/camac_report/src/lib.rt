@@ -8,7 +8,7 @@ mod request;
 
 pub use camac_report_text::{
     Code, LONGEST_LINE, Line, Refusal, lam_name, write_event_file, write_events, write_headings,
-    write_plan, write_refusal, write_verdict,
+    write_plan, write_plan_with_commands, write_refusal, write_verdict,
 };
 pub use cycle::write_cycle;
 pub use end::write_end;

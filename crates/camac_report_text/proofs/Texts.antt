@@ -2,12 +2,15 @@
 use Rattle.std.proofs.Common.{◌≡◌, ℕ, ◌+◌, ◌-◌, ◌<◌, ◌≤◌, List, [], ◌∷◌, ◌++◌, length, get_or, drop, refl, Option, ap, sym, ◌∙◌, zero, suc, append_assoc, append-nil, add-one, subst, arith}
 use Rattle.std.specs.Prelude.{Some, Result, Ok, Err, slice_get}
 use Rattle.std.proofs.lemmas.Option.{slice_get_within, get_or_from_slice_get}
-use Rattle.std.specs.List.{flat_map, range_with_len}
+use Rattle.std.specs.List.{between, flat_map, range_with_len}
+use Rattle.std.proofs.lemmas.List.{take-append-drop, drop-drop}
+use Rattle.std.proofs.lemmas.List.Concat.{flat_map-append}
+use Rattle.std.proofs.lemmas.List.Edits.{between_more}
 use Rattle.std.specs.Io.KnownBytes.{Appends}
 use Rattle.std.proofs.KnownBytes.{Appends-trans}
 use Rattle.camac_word.proofs.Prefixes.{IsUnderWay}
 use Rattle.camac_word.specs.Writing.{AppendsPrefix, Writes}
-use Rattle.camac_report_text.specs.Plan.{texts}
+use Rattle.camac_report_text.specs.Texts.{texts}
 
 -- a prefix of the second text
 pub prefix_after : (x y : List ℕ) (a b c : Option (List ℕ)) → Appends a b x → AppendsPrefix b c y → AppendsPrefix a c (x ++ y)
@@ -92,3 +95,23 @@ flat_map-none f (x ∷ xs) (suc i) le =
 -- no element is left
 pub laid_all : (f : ℕ → List ℕ) (xs : List ℕ) (i : ℕ) (old : List ℕ) → length xs ≤ i → old ++ flat_map f (drop i xs) ≡ old
 laid_all f xs i old le = ap (λ (l : List ℕ). old ++ l) (flat_map-none f xs i le) ∙ append-nil old
+
+-- the texts of elements from a place on up to another, and of one more
+pub flat_map-between_more : (f : ℕ → List ℕ) (xs : List ℕ) (from i : ℕ) (d : ℕ) → from ≤ i → i < length xs → flat_map f (between from (i + 1) xs) ≡ flat_map f (between from i xs) ++ f (get_or xs i d)
+flat_map-between_more f xs from i d le lt =
+    ap (flat_map f) (between_more xs from i d le lt) ∙ flat_map-append f (between from i xs) (get_or xs i d ∷ []) ∙ ap (λ (l : List ℕ). flat_map f (between from i xs) ++ l) (append-nil (f (get_or xs i d)))
+
+-- those texts were laid after others
+pub laid_between : (f : ℕ → List ℕ) (xs : List ℕ) (i j : ℕ) (old new : List ℕ) → i ≤ j → new ≡ old ++ flat_map f (between i j xs) → old ++ flat_map f (drop i xs) ≡ new ++ flat_map f (drop j xs)
+laid_between f xs i j old new le laid =
+    let back : i + (j - i) ≡ j = omega (arith, le) in
+    let parts : drop i xs ≡ between i j xs ++ drop j xs = sym (take-append-drop (j - i) (drop i xs)) ∙ ap (λ (l : List ℕ). between i j xs ++ l) (drop-drop (j - i) i xs ∙ ap (λ (n : ℕ). drop n xs) back) in
+    ap (λ (l : List ℕ). old ++ l) (ap (flat_map f) parts ∙ flat_map-append f (between i j xs) (drop j xs)) ∙ sym (append_assoc old (flat_map f (between i j xs)) (flat_map f (drop j xs)))
+    ∙ ap (λ (l : List ℕ). l ++ flat_map f (drop j xs)) (sym laid)
+
+-- the same while a text is under way
+pub under_way_laid : (f : ℕ → List ℕ) (xs : List ℕ) (i j : ℕ) (text old new end : List ℕ) (a b : Option (List ℕ)) → i ≤ j → new ≡ old ++ flat_map f (between i j xs)
+    → IsUnderWay text (old ++ flat_map f (drop i xs) ++ end) a b → IsUnderWay text (new ++ flat_map f (drop j xs) ++ end) a b
+under_way_laid f xs i j text old new end a b le laid so_far =
+    let more : old ++ flat_map f (drop i xs) ++ end ≡ new ++ flat_map f (drop j xs) ++ end = ap (λ (l : List ℕ). l ++ end) (laid_between f xs i j old new le laid) in
+    subst (λ (l : List ℕ). IsUnderWay text l a b) more so_far

@@ -1,7 +1,9 @@
 pub mod Codes
+pub mod Commands
 pub mod Digits
 pub mod Events
 pub mod Headings
 pub mod Plan
 pub mod Refusal
+pub mod Texts
 pub mod Verdict

@@ -1,11 +1,10 @@
 -- The lines of a plan.
 use Rattle.std.specs.Prelude.{ℕ, List, [], ◌++◌, codes, decimal, length, Option, Some, None, option_map, unwrap_or}
-use Rattle.std.specs.List.{flat_map, range_with_len}
 use Rattle.camac_branch.specs.Plan.{Layout, kind, type_counts, crate_waits, station, gl}
-
--- the texts of so many numbers from the first on
-unfoldable pub texts : (ℕ → List ℕ) → (first count : ℕ) → List ℕ
-texts text first count = flat_map text (range_with_len first count)
+use Rattle.camac_report_text.specs.declared.plan.Detail.{Detail}
+use Rattle.camac_report_text.specs.declared.plan.Detail.TheVariants.{Types, Commands}
+use Rattle.camac_report_text.specs.Commands.{commands_text}
+use Rattle.camac_report_text.specs.Texts.{texts}
 
 abbrev pub buffer_line : ℕ → List ℕ
 buffer_line buffer = codes "buffer " ++ decimal buffer ++ codes "\n"
@@ -36,6 +35,17 @@ station_text plan c n = unwrap_or (option_map (λ t. station_line n (kind plan t
 abbrev pub crate_text : Layout → ℕ → List ℕ
 crate_text plan c = unwrap_or (option_map (λ waits. crate_line c waits ++ texts (station_text plan c) 1 23) (crate_waits plan c)) []
 
+-- the same with the commands of the type, where these are asked for
+abbrev pub type_in : Detail → Layout → ℕ → List ℕ
+type_in Types plan t = type_text plan t
+type_in Commands plan t = type_text plan t ++ commands_text (kind plan t).commands
+
 -- the buffer, the types in their order, the crates by number
+abbrev pub plan_in : Detail → Layout → List ℕ
+plan_in detail plan = buffer_line plan.buffer ++ texts (type_in detail plan) 0 (length plan.types) ++ texts (crate_text plan) 1 7
+
 abbrev pub plan_text : Layout → List ℕ
-plan_text plan = buffer_line plan.buffer ++ texts (type_text plan) 0 (length plan.types) ++ texts (crate_text plan) 1 7
+plan_text plan = plan_in Types plan
+
+abbrev pub plan_with_commands : Layout → List ℕ
+plan_with_commands plan = plan_in Commands plan

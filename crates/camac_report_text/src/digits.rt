@@ -1,7 +1,7 @@
 // Words of 24 bits in hexadecimal.
 
-ghost use Rattle.std.specs.Prelude.{◌≡◌, ◌<◌, ◌/◌, ◌%◌, slice_index};
-ghost use Rattle.hex.specs.Hex.{lower_digits};
+ghost use Rattle.std.specs.Prelude.{◌≡◌, ◌/◌, ◌%◌, ◌++◌, ◌∷◌, [], codes, slice_index};
+ghost use Rattle.hex.specs.Hex.{encode_lower, lower_digits};
 ghost use Rattle.camac_report_text.specs.Digits.{hex_word};
 
 use camac_word::Word24;
@@ -16,9 +16,18 @@ pub fn hex_word(word: Word24) -> [u8; 6]
     ensures { result ≡ hex_word word }
 {
     let word = word.get();
-    let high = word / 0x10000;
-    let middle = word / 0x100 % 0x100;
-    let low = word % 0x100;
+    hex_bytes(
+        (word / 0x10000) as u8,
+        (word / 0x100 % 0x100) as u8,
+        (word % 0x100) as u8,
+    )
+}
+
+/// The digits of three bytes, in lower case.
+#[inline(always)]
+pub fn hex_bytes(high: u8, middle: u8, low: u8) -> [u8; 6]
+    ensures { result ≡ encode_lower (high ∷ middle ∷ low ∷ []) }
+{
     [
         high_digit(high),
         low_digit(high),
@@ -29,10 +38,18 @@ pub fn hex_word(word: Word24) -> [u8; 6]
     ]
 }
 
+/// Six digits after a space.
+#[inline(always)]
+pub fn spaced(digits: [u8; 6]) -> [u8; 7]
+    ensures { result ≡ codes " " ++ digits }
+{
+    let [a, b, c, d, e, f] = digits;
+    [b' ', a, b, c, d, e, f]
+}
+
 // The digit of a byte's high four bits.
 #[inline(always)]
-fn high_digit(byte: u32) -> u8
-    requires { byte < 256 }
+fn high_digit(byte: u8) -> u8
     ensures { result ≡ slice_index lower_digits (byte / 16) }
 {
     PAIRS[byte as usize * 2]
@@ -40,8 +57,7 @@ fn high_digit(byte: u32) -> u8
 
 // The digit of a byte's low four bits.
 #[inline(always)]
-fn low_digit(byte: u32) -> u8
-    requires { byte < 256 }
+fn low_digit(byte: u8) -> u8
     ensures { result ≡ slice_index lower_digits (byte % 16) }
 {
     PAIRS[byte as usize * 2 + 1]

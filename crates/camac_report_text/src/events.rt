@@ -8,7 +8,7 @@ ghost use Rattle.camac_report_text.specs.Events.{usage_text, start_text, word_te
 ghost use Rattle.camac_word.specs.Watched.{inner_of, has_failed};
 ghost use Rattle.camac_word.specs.Writing.{Writes};
 
-use crate::digits::hex_word;
+use crate::digits::{hex_word, spaced};
 use crate::line::{LONGEST_LINE, Line};
 use camac_event::{Event, EventFile, EventRecord, EventWords, Events, Usage};
 use camac_word::{GlBit, Watched, Word24, WriteFault};
@@ -34,9 +34,10 @@ pub fn write_event_file<W: Write>(
     ensures text { Writes (W.contents (inner_of out.old)) (W.contents (inner_of out.new)) result (events_text file.now.events) }
     ensures failed { has_failed out.new ≡ (has_failed out.old || is_err result) }
 {
+    let mut line = Line::new();
     let mut records = file.records();
     'records: while let Some(record) = records.next() {
-        write_record(out, &record)?;
+        write_record(out, &mut line, &record)?;
     }
     out.write_text(line_of_number(records.read()).as_bytes())
 }
@@ -54,19 +55,24 @@ fn write_event<W: Write>(
     write_words(out, &mut line, &event.words)
 }
 
-fn write_record<W: Write>(out: &mut Watched<W>, record: &EventRecord<'_>) -> Result<(), WriteFault>
+// Writes the line of an event. What the line held before is forgotten.
+fn write_record<W: Write>(
+    out: &mut Watched<W>,
+    line: &mut Line,
+    record: &EventRecord<'_>,
+) -> Result<(), WriteFault>
     ensures text { Writes (W.contents (inner_of out.old)) (W.contents (inner_of out.new)) result (event_line record.now.number (entry_in record.now)) }
     ensures failed { has_failed out.new ≡ (has_failed out.old || is_err result) }
 {
-    let mut line = Line::new();
+    line.clear();
     push_start(
-        &mut line,
+        line,
         record.number,
         record.gl,
         record.usage,
         record.words.len(),
     );
-    write_file_words(out, &mut line, &record.words)
+    write_file_words(out, line, &record.words)
 }
 
 /// Puts the line up to the words, of which `words` is the number.
@@ -112,7 +118,7 @@ fn write_words<W: Write>(
             out.write_text(line.as_bytes())?;
             line.clear();
         }
-        line.push_bytes(&spaced(*word));
+        line.push_bytes(&spaced(hex_word(*word)));
     }
     line.push_str("\n");
     out.write_text(line.as_bytes())
@@ -124,16 +130,20 @@ fn write_file_words<W: Write>(
     line: &mut Line,
     words: &EventWords<'_>,
 ) -> Result<(), WriteFault>
-    requires room { length line.old < LONGEST_LINE }
+    requires room { length line.old < LAST_WORD }
     ensures text { Writes (W.contents (inner_of out.old)) (W.contents (inner_of out.new)) result (line.old ++ flat_map word_text words.now ++ codes "\n") }
     ensures failed { has_failed out.new ≡ (has_failed out.old || is_err result) }
 {
-    'words: for i in 0..words.len() {
+    let mut first = 0;
+    'pieces: while first < words.len() {
+        let room = (LONGEST_LINE - 1 - line.len()) / 7;
+        let last = first + room.min(words.len() - first);
+        line.push_words(words, first, last);
+        first = last;
         if line.len() >= LAST_WORD {
             out.write_text(line.as_bytes())?;
             line.clear();
         }
-        line.push_bytes(&spaced(words.get(i).unwrap()));
     }
     line.push_str("\n");
     out.write_text(line.as_bytes())
@@ -141,14 +151,6 @@ fn write_file_words<W: Write>(
 
 /// Where a line has no more room for a word and an LF.
 const LAST_WORD: usize = LONGEST_LINE - 7;
-
-// A word after a space.
-fn spaced(word: Word24) -> [u8; 7]
-    ensures { result ≡ word_text word }
-{
-    let [a, b, c, d, e, f] = hex_word(word);
-    [b' ', a, b, c, d, e, f]
-}
 
 fn line_of_number(events: usize) -> Line
     ensures { result ≡ last_line events }

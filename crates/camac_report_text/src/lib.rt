@@ -2,6 +2,7 @@
 #![tactic(auto)]
 
 mod code;
+mod commands;
 mod digits;
 mod events;
 mod headings;
@@ -14,6 +15,6 @@ pub use code::Code;
 pub use events::{write_event_file, write_events};
 pub use headings::write_headings;
 pub use line::{LONGEST_LINE, Line};
-pub use plan::write_plan;
+pub use plan::{write_plan, write_plan_with_commands};
 pub use refusal::{Refusal, write_refusal};
 pub use verdict::{lam_name, write_verdict};

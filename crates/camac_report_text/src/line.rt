@@ -1,9 +1,12 @@
 // An output line while it is laid out.
 
-ghost use Rattle.std.specs.Prelude.{◌≡◌, ◌≤◌, ◌+◌, ◌++◌, [], length, take, decimal};
+ghost use Rattle.std.specs.Prelude.{◌≡◌, ◌≤◌, ◌+◌, ◌-◌, ◌*◌, ◌++◌, [], length, take, decimal};
+ghost use Rattle.std.specs.List.{between, flat_map};
 ghost use Rattle.camac_report_text.specs.Digits.{hex_word};
+ghost use Rattle.camac_report_text.specs.Events.{word_text};
 
-use crate::digits::hex_word;
+use crate::digits::{hex_bytes, hex_word, spaced};
+use camac_event::EventWords;
 use camac_word::Word24;
 use itoa::{Buffer, Integer};
 use std::marker::Model;
@@ -37,6 +40,29 @@ fn copy_in(bytes: &mut [u8], start: usize, source: &[u8])
     ensures len { length bytes.new ≡ length bytes.old }
 {
     bytes[start..start + source.len()].copy_from_slice(source);
+}
+
+// Writes words of a file over the bytes from a place on, each after a space, and returns the place after them.
+fn words_in(
+    bytes: &mut [u8],
+    start: usize,
+    words: &EventWords<'_>,
+    first: usize,
+    last: usize,
+) -> usize
+    requires places { (first ≤ last) × (last ≤ length words.now) }
+    requires room { start + 7 * (last - first) ≤ length bytes.old }
+    ensures written { take result bytes.new ≡ take start bytes.old ++ flat_map word_text (between first last words.now) }
+    ensures end { result ≡ start + 7 * (last - first) }
+    ensures len { length bytes.new ≡ length bytes.old }
+{
+    let mut at = start;
+    'words: for i in first..last {
+        let [high, middle, low] = words.bytes(i);
+        copy_in(bytes, at, &spaced(hex_bytes(high, middle, low)));
+        at += 7;
+    }
+    at
 }
 
 impl Line {
@@ -104,6 +130,16 @@ impl Line {
         ensures len { length self.new ≡ length self.old + 6 }
     {
         self.push_bytes(&hex_word(word));
+    }
+
+    /// Puts words of a file at the end, from a place on up to another, each after a space.
+    pub(crate) fn push_words(&mut self, words: &EventWords<'_>, first: usize, last: usize)
+        requires places { (first ≤ last) × (last ≤ length words.now) }
+        requires room { length self.old + 7 * (last - first) ≤ LONGEST_LINE }
+        ensures text { self.new ≡ self.old ++ flat_map word_text (between first last words.now) }
+        ensures len { length self.new ≡ length self.old + 7 * (last - first) }
+    {
+        self.len = words_in(&mut self.bytes, self.len, words, first, last);
     }
 
     /// How many bytes it has.

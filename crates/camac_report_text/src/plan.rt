@@ -2,14 +2,23 @@
 
 ghost use Rattle.std.specs.Prelude.{◌≡◌, ◌≤◌, ◌<◌, ◌||◌, ◌++◌, length, is_err, codes, decimal};
 ghost use Rattle.camac_branch.specs.Plan.{kind, type_counts};
-ghost use Rattle.camac_report_text.specs.Plan.{texts, buffer_line, crate_line, bit_text, type_text, station_text, crate_text, plan_text};
+ghost use Rattle.camac_report_text.specs.Plan.{buffer_line, crate_line, bit_text, type_text, type_in, station_text, crate_text, plan_in, plan_text, plan_with_commands};
+ghost use Rattle.camac_report_text.specs.Texts.{texts};
 ghost use Rattle.camac_word.specs.Watched.{inner_of, has_failed};
 ghost use Rattle.camac_word.specs.Writing.{Writes};
 
+use crate::commands::write_commands;
 use crate::line::Line;
 use camac_branch::Plan;
 use camac_word::{CrateNo, GlBit, Station, Watched, WriteFault};
 use std::io::Write;
+
+// What is told of a type.
+#[derive(Clone, Copy)]
+pub(crate) enum Detail {
+    Types,
+    Commands,
+}
 
 /// Writes a plan: a line of its buffer, a line for each type in order, and for each crate by number its line and a line for each of its
 /// stations by number. After a write fault a prefix of this was written.
@@ -17,8 +26,27 @@ pub fn write_plan<W: Write>(out: &mut Watched<W>, plan: &Plan) -> Result<(), Wri
     ensures text { Writes (W.contents (inner_of out.old)) (W.contents (inner_of out.new)) result (plan_text plan.now) }
     ensures failed { has_failed out.new ≡ (has_failed out.old || is_err result) }
 {
+    write_in(out, plan, Detail::Types)
+}
+
+/// Writes the same, and after the line of each type a line for each of its commands by function and sub-address. Neighbours of one
+/// function, width and kind stand in one line.
+pub fn write_plan_with_commands<W: Write>(
+    out: &mut Watched<W>,
+    plan: &Plan,
+) -> Result<(), WriteFault>
+    ensures text { Writes (W.contents (inner_of out.old)) (W.contents (inner_of out.new)) result (plan_with_commands plan.now) }
+    ensures failed { has_failed out.new ≡ (has_failed out.old || is_err result) }
+{
+    write_in(out, plan, Detail::Commands)
+}
+
+fn write_in<W: Write>(out: &mut Watched<W>, plan: &Plan, detail: Detail) -> Result<(), WriteFault>
+    ensures text { Writes (W.contents (inner_of out.old)) (W.contents (inner_of out.new)) result (plan_in detail plan.now) }
+    ensures failed { has_failed out.new ≡ (has_failed out.old || is_err result) }
+{
     out.write_text(line_of_buffer(plan.buffer()).as_bytes())?;
-    write_types(out, plan)?;
+    write_types(out, plan, detail)?;
     write_crates(out, plan)
 }
 
@@ -32,14 +60,37 @@ fn line_of_buffer(buffer: u16) -> Line
     line
 }
 
-fn write_types<W: Write>(out: &mut Watched<W>, plan: &Plan) -> Result<(), WriteFault>
-    ensures text { Writes (W.contents (inner_of out.old)) (W.contents (inner_of out.new)) result (texts (type_text plan.now) 0 (length plan.now.types)) }
+fn write_types<W: Write>(
+    out: &mut Watched<W>,
+    plan: &Plan,
+    detail: Detail,
+) -> Result<(), WriteFault>
+    ensures text { Writes (W.contents (inner_of out.old)) (W.contents (inner_of out.new)) result (texts (type_in detail plan.now) 0 (length plan.now.types)) }
     ensures failed { has_failed out.new ≡ (has_failed out.old || is_err result) }
 {
     'types: for t in 0..plan.types() {
-        write_type(out, plan, t)?;
+        write_type_in(out, plan, t, detail)?;
     }
     Ok(())
+}
+
+fn write_type_in<W: Write>(
+    out: &mut Watched<W>,
+    plan: &Plan,
+    t: usize,
+    detail: Detail,
+) -> Result<(), WriteFault>
+    requires { t < length plan.now.types }
+    ensures text { Writes (W.contents (inner_of out.old)) (W.contents (inner_of out.new)) result (type_in detail plan.now t) }
+    ensures failed { has_failed out.new ≡ (has_failed out.old || is_err result) }
+{
+    match detail {
+        Detail::Types => write_type(out, plan, t),
+        Detail::Commands => {
+            write_type(out, plan, t)?;
+            write_commands(out, plan, t)
+        }
+    }
 }
 
 fn write_type<W: Write>(out: &mut Watched<W>, plan: &Plan, t: usize) -> Result<(), WriteFault>

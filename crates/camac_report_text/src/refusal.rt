@@ -30,7 +30,7 @@ pub enum Refusal {
     /// A linked script, at a line from 1.
     Check { rule: CheckRule, line: u32 },
     /// A text of answers, at a line from 1.
-    Answer { rule: AnswerRule, line: u32 },
+    Answer { rule: AnswerRule, line: u64 },
     /// An event file, at an offset in bytes from 0.
     Event(EventFlaw),
 }

@@ -20,4 +20,5 @@ pub mod Calls
 pub mod Bounds
 pub mod Trees
 pub mod Lists
+pub mod Turns
 pub mod Starts

@@ -5,7 +5,8 @@ use Rattle.std.specs.Borrow.{Bor}
 use Rattle.std.proofs.lemmas.Bool.{false≢true, eqb-true}
 use Rattle.camac_lang.specs.declared.tree.Stmt.{Stmt}
 use Rattle.camac_run_machine.specs.declared.machine.Frame.{Frame}
-use Rattle.camac_run_machine.specs.MachineState.{TakesFirst}
+use Rattle.camac_run_machine.specs.declared.machine.Owner.TheVariants.{For}
+use Rattle.camac_run_machine.specs.MachineState.{TakesFirst, TurnsAgain}
 
 take_all : {A : Type 0} (xs : List A) → take (length xs) xs ≡ xs
 take_all [] = refl
@@ -33,6 +34,24 @@ pub first_taken : (fs : List Frame) (d : Frame) (rest' : Bor (List Stmt)) (first
 first_taken fs d rest' first some e =
     let r = split_last (length fs - 1) fs d (omega (arith, some)) in
     record { before = r.0; last = slice_index_or fs (length fs - 1) d; rest = rest'; was = r.1; first_is = e; is = r.2 (record (slice_index_or fs (length fs - 1) d) { rest = rest' }) }
+
+-- the last frame with the next turn of its `for`
+pub turned_again : (fs : List Frame) (d : Frame) (x v w n : ℕ) (body : Bor (List Stmt)) → 1 ≤ length fs → (slice_index_or fs (length fs - 1) d).owner ≡ For x v w n body → v < w → TurnsAgain fs x (v + 1) (slice_set fs (length fs - 1) (record { rest = body; owner = For x (v + 1) w (n - 1) body }))
+turned_again fs d x v w n body some e below =
+    let r = split_last (length fs - 1) fs d (omega (arith, some)) in
+    let f : Frame = slice_index_or fs (length fs - 1) d in
+    record {
+      before = r.0;
+      rest = f.rest;
+      current = v;
+      last = w;
+      turns = n;
+      body = body;
+      was = r.1 ∙ ap (λ o. r.0 ++ record { rest = f.rest; owner = o } ∷ []) e;
+      below = below;
+      value_is = refl;
+      is = r.2 (record { rest = body; owner = For x (v + 1) w (n - 1) body });
+    }
 
 -- a slice that was written whole
 pub filled : {A : Type 0} (xs ws : List A) → length ws ≡ length xs → take (length xs) (ws ++ drop (length ws) xs) ≡ ws

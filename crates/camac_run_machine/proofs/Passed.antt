@@ -1,9 +1,8 @@
 -- Arguments that are written to the places of a procedure, one by one.
-use Rattle.std.proofs.Common.{◌≡◌, ℕ, zero, suc, ◌+◌, ◌-◌, ◌<◌, ◌≤◌, List, [], ◌∷◌, length, set, take, drop, get_or, replicate, Option, Some, None, refl, sym, ap, ◌∙◌, arith}
+use Rattle.std.proofs.Common.{◌≡◌, ℕ, zero, suc, ◌+◌, ◌-◌, ◌<◌, ◌≤◌, List, [], ◌∷◌, length, set, take, drop, get_or, replicate, Some, refl, sym, ap, ◌∙◌, arith}
 use Rattle.std.proofs.lemmas.List.{drop_more, get_or-take, get_or-set_same, take-take, take-set-le}
 use Rattle.std.proofs.Math.Path.{fun_ext}
 use Rattle.std.specs.Prelude.{slice_range}
-use Rattle.camac_branch.specs.Address.{Address}
 use Rattle.camac_lang.specs.Tree.{Expression}
 use Rattle.camac_model.specs.Meaning.{arguments}
 use Rattle.camac_model.specs.Value.{value, value_and, values}
@@ -51,21 +50,21 @@ module _ (e : Expression) (es : List Expression) (p : Places) (place v : ℕ) (o
       ∙ ap (λ w. Some (w ∷ slice_range new (place + 1) (place + 1 + n))) (sym (set_stays 0 old new place v lt before))
       ∙ ap (λ l. Some l) (sym (range_more 0 new place n (omega (arith, lt, len))))
 
--- one register more that is not set
-pub unset_more : (p : Places) (old new : List (Option Address)) → p.start < p.end → p.end ≤ length old → length new ≡ length old
-    → held_at (record { start = p.start + 1; end = p.end }) new ≡ replicate (p.end - (p.start + 1)) None → take (p.start + 1) new ≡ take (p.start + 1) (set old p.start None)
-    → held_at p new ≡ replicate (size p) None
-unset_more p old new some room len rest before =
+-- one place more that holds this value
+pub wipe_more : {A : Type 0} (d : A) (p : Places) (old new : List A) → p.start < p.end → p.end ≤ length old → length new ≡ length old
+    → held_at (record { start = p.start + 1; end = p.end }) new ≡ replicate (p.end - (p.start + 1)) d → take (p.start + 1) new ≡ take (p.start + 1) (set old p.start d)
+    → held_at p new ≡ replicate (size p) d
+wipe_more d p old new some room len rest before =
     let n : ℕ = p.end - (p.start + 1) in
     let last : p.end ≡ p.start + suc n = omega (arith, some) in
     let next' : p.start + 1 + n ≡ p.end = omega (arith, some) in
     let all : suc n ≡ size p = omega (arith, some) in
     ap (slice_range new p.start) last
-    ∙ range_more None new p.start n (omega (arith, some, room, len))
-    ∙ ap (λ r. r ∷ slice_range new (p.start + 1) (p.start + 1 + n)) (set_stays None old new p.start None (omega (arith, some, room)) before)
-    ∙ ap (λ k. None ∷ slice_range new (p.start + 1) k) next'
-    ∙ ap (λ l. None ∷ l) rest
-    ∙ ap (λ k. replicate k None) all
+    ∙ range_more d new p.start n (omega (arith, some, room, len))
+    ∙ ap (λ r. r ∷ slice_range new (p.start + 1) (p.start + 1 + n)) (set_stays d old new p.start d (omega (arith, some, room)) before)
+    ∙ ap (λ k. d ∷ slice_range new (p.start + 1) k) next'
+    ∙ ap (λ l. d ∷ l) rest
+    ∙ ap (λ k. replicate k d) all
 
 -- the values of arguments as the variables of a body
 argument_at : (vs : List ℕ) (i : ℕ) → variables_in vs i ≡ arguments vs i

@@ -1,5 +1,5 @@
 -- What a machine holds, as the definitions see it.
-use Rattle.std.specs.Prelude.{◌≡◌, ℕ, zero, suc, ◌+◌, ◌*◌, ◌-◌, ◌<◌, ◌≤◌, List, [], ◌∷◌, ◌++◌, length, map, Option, Some, None, IsSome, IfSome, IfNone, true, false, nat_eq, if◌then◌else◌, slice_index_or, slice_set, unwrap_or}
+use Rattle.std.specs.Prelude.{◌≡◌, ℕ, zero, suc, ◌+◌, ◌*◌, ◌-◌, ◌<◌, ◌≤◌, List, [], ◌∷◌, ◌++◌, length, map, Option, Some, None, IsSome, IfSome, IfNone, Bool, true, false, nat_eq, if◌then◌else◌, slice_index_or, slice_set, unwrap_or}
 use Rattle.std.specs.Borrow.{Bor}
 use Rattle.camac_lang.specs.Tree.{Service}
 use Rattle.camac_lang.specs.declared.tree.Stmt.{Stmt}
@@ -33,6 +33,7 @@ use Rattle.camac_run_machine.specs.declared.machine.Owner as rust
 use Rattle.camac_run_machine.specs.declared.machine.Wanting.{Wanting}
 use Rattle.camac_run_machine.specs.declared.machine.Wanting.TheVariants as wanting
 use Rattle.camac_run_machine.specs.declared.machine.Wanting.TheVariants.{Cycle, Read, Lock}
+use Rattle.camac_run_machine.specs.declared.transfer.Course.{Course}
 use Rattle.camac_run_machine.specs.declared.transfer.Transfer.{Transfer}
 
 -- the bounds of the service of this number
@@ -67,6 +68,10 @@ opens_of vs rs fs = map (open_of vs rs) fs
 abbrev pub transfer_of : Transfer → Want
 transfer_of t = transfers t.course t.function (words_sent t.table) t.tally
 
+-- a transfer that is so far, with this function, the words that it sends and the variable of its tally
+abbrev pub transfer_at : Course → ℕ → Option (Bor (List ℕ)) → ℕ → Transfer
+transfer_at course function table tally = record { course = course; function = function; table = table; tally = tally }
+
 -- what is left of a transfer
 abbrev pub transferred : Context → Transfer → Action
 transferred c t s = awaited c (transfer_of t) s
@@ -93,6 +98,19 @@ pub record TakesFirst (old : List Frame) (first : Stmt) (new : List Frame) : Typ
   pub first_is : last.rest.now ≡ first ∷ rest.now
   pub is : new ≡ before ++ record last { rest = rest } ∷ []
 
+-- the innermost of open blocks is the body of a `for`, whose next turn is begun with this value of this variable
+pub record TurnsAgain (old : List Frame) (variable value : ℕ) (new : List Frame) : Type 0 where
+  pub before : List Frame
+  pub rest : Bor (List Stmt)
+  pub current : ℕ
+  pub last : ℕ
+  pub turns : ℕ
+  pub body : Bor (List Stmt)
+  pub was : old ≡ before ++ record { rest = rest; owner = rust.TheVariants.For variable current last turns body } ∷ []
+  pub below : current < last
+  pub value_is : value ≡ current + 1
+  pub is : new ≡ before ++ record { rest = body; owner = rust.TheVariants.For variable value last (turns - 1) body } ∷ []
+
 -- the innermost of open blocks has no statement left
 abbrev pub LastIsOver : List Frame → Type 0
 LastIsOver fs = (before : List Frame) (last : Frame) → fs ≡ before ++ last ∷ [] → last.rest.now ≡ []
@@ -100,6 +118,11 @@ LastIsOver fs = (before : List Frame) (last : Frame) → fs ≡ before ++ last �
 -- the next cycle of a transfer, with this command
 abbrev pub cycle_of : Transfer → Command → Wanting
 cycle_of t k = wanting.Transfer (record { command = k; course = t.course; table = t.table; tally = t.tally })
+
+-- what is wanted, where something is
+abbrev pub wanted_if : Bool → Option Wanting → Option Wanting
+wanted_if true w = w
+wanted_if false w = None
 
 -- what is left of a statement after the answer that it wanted, where it wanted one
 abbrev pub after_wanting : Context → Option Wanting → Action

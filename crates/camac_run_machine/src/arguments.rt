@@ -1,6 +1,6 @@
-// What a procedure's places hold when it is entered.
+// What the places of a body hold when it is entered.
 
-ghost use Rattle.std.specs.Prelude.{◌≡◌, ◌+◌, ◌≤◌, length, map, take, replicate, slice_range, Some, None, IsSome};
+ghost use Rattle.std.specs.Prelude.{◌≡◌, ◌+◌, ◌≤◌, length, map, take, replicate, slice_range, Some, IsSome};
 ghost use Rattle.camac_lang.specs.View.{expression_of};
 ghost use Rattle.camac_model.specs.Value.{values};
 ghost use Rattle.camac_run_machine.specs.Store.{size, variables_in, held_at};
@@ -8,7 +8,6 @@ ghost use Rattle.camac_run_machine.specs.Within.{AllRefer};
 
 use crate::scope::Places;
 use crate::value::value_of;
-use camac_esone::Address;
 use camac_lang::Expr;
 
 /// Sets the places from this one on to the values of arguments, in their order. The caller sees none of these places.
@@ -31,20 +30,20 @@ pub fn pass(arguments: &[Expr], caller: Places, place: usize, variables: &mut [u
     }
 }
 
-/// Leaves these registers unset.
-pub fn unset(places: Places, registers: &mut [Option<Address>])
+/// Sets these places to one value.
+pub fn wipe<T: Copy>(places: Places, all: &mut [T], value: T)
     requires order { places.start ≤ places.end }
-    requires room { places.end ≤ length registers.old }
-    ensures unset { held_at places registers.new ≡ replicate (size places) None }
-    ensures before { take places.start registers.new ≡ take places.start registers.old }
-    ensures count { length registers.new ≡ length registers.old }
+    requires room { places.end ≤ length all.old }
+    ensures wiped { held_at places all.new ≡ replicate (size places) value }
+    ensures before { take places.start all.new ≡ take places.start all.old }
+    ensures count { length all.new ≡ length all.old }
 {
     if places.start < places.end {
         let rest = Places {
             start: places.start + 1,
             end: places.end,
         };
-        registers[places.start] = None;
-        unset(rest, registers);
+        all[places.start] = value;
+        wipe(rest, all, value);
     }
 }

@@ -11,7 +11,7 @@ ghost use Rattle.camac_model.specs.Fine.{most_turns};
 ghost use Rattle.camac_model.specs.Meaning.{effect};
 ghost use Rattle.camac_model.specs.State.{fresh, stepped};
 ghost use Rattle.camac_model.specs.Value.{value, truth};
-ghost use Rattle.camac_run_machine.specs.MachineState.{event_here, variables_here, registers_here, state_of, reach, holds, stands, free, IsFineHere, FineThen, HasRoom, Advances, Settles, Serves};
+ghost use Rattle.camac_run_machine.specs.MachineState.{event_here, variables_here, registers_here, state_of, reach, holds, stands, free, IsFineHere, FineThen, HasRoom, wanted_if, Advances, Settles, Serves};
 ghost use Rattle.camac_lang.specs.Fits.{fits};
 ghost use Rattle.camac_run_machine.specs.Store.{registers_in, held_at};
 ghost use Rattle.camac_run_machine.specs.Within.{Refers, PartsRefer, StatementFits};
@@ -21,6 +21,7 @@ mod answers;
 mod blocks;
 mod transfers;
 
+use crate::arguments::wipe;
 use crate::command::command;
 use crate::condition::holds;
 use crate::scope::Scope;
@@ -234,12 +235,13 @@ impl<'a, const V: usize, const DEPTH: usize, const CAP: usize> Machine<'a, V, DE
         address_in(self.registers(), register)
     }
 
-    // Begins a statement.
-    pub(crate) fn begin(&mut self, statement: &'a Stmt) -> Option<Wanting<'a>>
+    // Begins a statement, and answers whether it wants an answer: `wanting` then says for what.
+    pub(crate) fn begin(&mut self, statement: &'a Stmt, wanting: &mut Option<Wanting<'a>>) -> bool
         requires room { HasRoom self.old }
         requires fits { StatementFits (reach self.old) (free self.old) (statement_of statement.now) }
         requires fine { FineThen self.old (λ c s. effect c most_turns (statement_of statement.now) (stepped s)) }
-        ensures advances { Advances self.old (λ c s. effect c most_turns (statement_of statement.now) (stepped s)) result self.new }
+        ensures advances { Advances self.old (λ c s. effect c most_turns (statement_of statement.now) (stepped s)) (wanted_if result wanting.new) self.new }
+        ensures some { result ≡ true → IsSome wanting.new }
         ensures pace { length self.new.frames.items + 2 * self.old.steps < 2 * self.new.steps + length self.old.frames.items }
     {
         self.steps += 1;
@@ -250,7 +252,7 @@ impl<'a, const V: usize, const DEPTH: usize, const CAP: usize> Machine<'a, V, DE
                 ..
             } => {
                 self.assign(*variable, value);
-                None
+                false
             }
             Stmt::SetRegister {
                 register,
@@ -260,11 +262,11 @@ impl<'a, const V: usize, const DEPTH: usize, const CAP: usize> Machine<'a, V, DE
                 ..
             } => {
                 self.set_register(*register, crate_no, station, sub_address);
-                None
+                false
             }
             Stmt::Put { value, .. } => {
                 self.put(value);
-                None
+                false
             }
             Stmt::Single {
                 size,
@@ -272,9 +274,18 @@ impl<'a, const V: usize, const DEPTH: usize, const CAP: usize> Machine<'a, V, DE
                 register,
                 data,
                 ..
-            } => Some(self.single(*size, *function, *register, data)),
-            Stmt::CrateCall { call, crate_no, .. } => Some(self.call_crate(*call, crate_no)),
-            Stmt::LamCall { call, lam, .. } => Some(self.call_lam(*call, *lam)),
+            } => {
+                *wanting = Some(self.single(*size, *function, *register, data));
+                true
+            }
+            Stmt::CrateCall { call, crate_no, .. } => {
+                *wanting = Some(self.call_crate(*call, crate_no));
+                true
+            }
+            Stmt::LamCall { call, lam, .. } => {
+                *wanting = Some(self.call_lam(*call, *lam));
+                true
+            }
             Stmt::Scan {
                 function,
                 first,
@@ -282,7 +293,10 @@ impl<'a, const V: usize, const DEPTH: usize, const CAP: usize> Machine<'a, V, DE
                 max,
                 tally,
                 ..
-            } => self.scan(*function, *first, *last, max, *tally),
+            } => {
+                *wanting = self.scan(*function, *first, *last, max, *tally);
+                wanting.is_some()
+            }
             Stmt::QStop {
                 function,
                 register,
@@ -290,7 +304,10 @@ impl<'a, const V: usize, const DEPTH: usize, const CAP: usize> Machine<'a, V, DE
                 max,
                 tally,
                 ..
-            } => self.q_stop(*function, *register, *table, max, *tally),
+            } => {
+                *wanting = self.q_stop(*function, *register, *table, max, *tally);
+                wanting.is_some()
+            }
             Stmt::QRepeat {
                 function,
                 register,
@@ -299,10 +316,13 @@ impl<'a, const V: usize, const DEPTH: usize, const CAP: usize> Machine<'a, V, DE
                 limit,
                 tally,
                 ..
-            } => self.q_repeat(*function, *register, *table, max, limit, *tally),
+            } => {
+                *wanting = self.q_repeat(*function, *register, *table, max, limit, *tally);
+                wanting.is_some()
+            }
             Stmt::If { test, then, .. } => {
                 self.choose(&test.parts, then, &[]);
-                None
+                false
             }
             Stmt::IfElse {
                 test,
@@ -311,9 +331,12 @@ impl<'a, const V: usize, const DEPTH: usize, const CAP: usize> Machine<'a, V, DE
                 ..
             } => {
                 self.choose(&test.parts, then, otherwise);
-                None
+                false
             }
-            Stmt::Lock { crate_no, body, .. } => Some(self.want_lock(crate_no, body)),
+            Stmt::Lock { crate_no, body, .. } => {
+                *wanting = Some(self.want_lock(crate_no, body));
+                true
+            }
             Stmt::For {
                 variable,
                 from,
@@ -322,11 +345,11 @@ impl<'a, const V: usize, const DEPTH: usize, const CAP: usize> Machine<'a, V, DE
                 ..
             } => {
                 self.begin_for(*variable, from, to, body);
-                None
+                false
             }
             Stmt::While { test, body, .. } => {
                 self.test_while(&test.parts, MOST_TURNS, body);
-                None
+                false
             }
             Stmt::Call {
                 procedure,
@@ -334,7 +357,7 @@ impl<'a, const V: usize, const DEPTH: usize, const CAP: usize> Machine<'a, V, DE
                 ..
             } => {
                 self.call(*procedure, arguments);
-                None
+                false
             }
         }
     }
@@ -347,8 +370,7 @@ impl<'a, const V: usize, const DEPTH: usize, const CAP: usize> Machine<'a, V, DE
         ensures { Settles self.old (λ c. ends) wanting.new self.new }
     {
         while !self.frames.is_empty() {
-            if let Some(next) = self.go_on() {
-                *wanting = Some(next);
+            if self.go_on(wanting) {
                 return;
             }
         }
@@ -369,12 +391,10 @@ impl<'a, const V: usize, const DEPTH: usize, const CAP: usize> Machine<'a, V, DE
         checked.script().well_formed();
         let script = checked.script();
         let service = &script.services()[number];
-        let variables = [0; V];
-        let registers = [None; V];
         self.service = number;
-        self.variables = variables;
-        self.registers = registers;
         self.scope = Scope::of_service(script, service);
+        wipe(self.scope.variables, &mut self.variables, 0);
+        wipe(self.scope.registers, &mut self.registers, None);
         self.q = false;
         self.x = false;
         self.words.clear();

@@ -65,6 +65,30 @@ impl Course {
     {
         self.tally() as usize
     }
+
+    // The command of the next cycle, with this function and the words of the table that are sent, or none at the end.
+    pub(crate) fn command(&self, function: Function, table: Option<&[Word24]>) -> Option<Command>
+        requires at { IfSome ((left_at self.now).wanted []) IsOnBranch }
+        requires data { IfSome ((left_at self.now).wanted []) (λ at. IsSome (data_of self.now (words_sent table))) }
+        ensures wanted { (left_at self.now).wanted [] ≡ option_map address_of result }
+        ensures moves { IfSome result (λ k. (data_of self.now (words_sent table.entry) ≡ Some k.mv) × (k.f ≡ function)) }
+    {
+        match self.next() {
+            None => None,
+            Some(at) => Some(command(at, function, self.data(table))),
+        }
+    }
+
+    // What the next cycle moves.
+    fn data(&self, table: Option<&[Word24]>) -> DataMove
+        requires { IsSome (data_of self.now (words_sent table)) }
+        ensures { data_of self.now (words_sent table.entry) ≡ Some result }
+    {
+        match table {
+            None => DataMove::In,
+            Some(words) => DataMove::Out(words[self.index()]),
+        }
+    }
 }
 
 /// A transfer in progress.
@@ -76,30 +100,4 @@ pub struct Transfer<'a> {
     pub table: Option<&'a [Word24]>,
     /// The variable that is set to the tally at the end.
     pub tally: usize,
-}
-
-impl<'a> Transfer<'a> {
-    // The command of its next cycle, or none at the end.
-    pub(crate) fn next(&self) -> Option<Command>
-        requires at { IfSome ((left_at self.now.course).wanted []) IsOnBranch }
-        requires data { IfSome ((left_at self.now.course).wanted []) (λ at. IsSome (data_of self.now.course (words_sent self.now.table))) }
-        ensures wanted { (left_at self.now.course).wanted [] ≡ option_map address_of result }
-        ensures moves { IfSome result (λ k. (data_of self.now.course (words_sent self.now.table) ≡ Some k.mv) × (k.f ≡ self.now.function)) }
-    {
-        match self.course.next() {
-            None => None,
-            Some(at) => Some(command(at, self.function, self.data())),
-        }
-    }
-
-    // What its next cycle moves.
-    fn data(&self) -> DataMove
-        requires { IsSome (data_of self.now.course (words_sent self.now.table)) }
-        ensures { data_of self.now.course (words_sent self.now.table) ≡ Some result }
-    {
-        match self.table {
-            None => DataMove::In,
-            Some(words) => DataMove::Out(words[self.course.index()]),
-        }
-    }
 }

@@ -8,7 +8,7 @@ ghost use Rattle.camac_run_machine.specs.Store.{variables_in};
 
 use camac_lang::Expr;
 
-/// The value of an expression that has one.
+/// The value of an expression that has one. A number or a variable takes no call.
 pub fn value_of(e: &Expr, variables: &[u32]) -> u32
     requires declared { refers (length variables.now) (expression_of e.now) ≡ true }
     requires has_value { IsSome (value (expression_of e.now) (variables_in variables.now)) }
@@ -17,17 +17,30 @@ pub fn value_of(e: &Expr, variables: &[u32]) -> u32
     match e {
         Expr::Num(n) => *n,
         Expr::Var(x) => variables[*x],
-        Expr::Group(e) => value_of(e, variables),
+        _ => computed(e, variables),
+    }
+}
+
+// The value by way of its operands.
+fn computed(e: &Expr, variables: &[u32]) -> u32
+    requires declared { refers (length variables.now) (expression_of e.now) ≡ true }
+    requires has_value { IsSome (value (expression_of e.now) (variables_in variables.now)) }
+    ensures { value (expression_of e.now) (variables_in variables.now) ≡ Some result }
+{
+    match e {
+        Expr::Num(n) => *n,
+        Expr::Var(x) => variables[*x],
+        Expr::Group(e) => computed(e, variables),
         Expr::Add(operands) => {
-            value_of(&operands.left, variables) + value_of(&operands.right, variables)
+            computed(&operands.left, variables) + computed(&operands.right, variables)
         }
         Expr::Sub(operands) => {
-            value_of(&operands.left, variables) - value_of(&operands.right, variables)
+            computed(&operands.left, variables) - computed(&operands.right, variables)
         }
         Expr::Mul(operands) => {
-            value_of(&operands.left, variables) * value_of(&operands.right, variables)
+            computed(&operands.left, variables) * computed(&operands.right, variables)
         }
-        Expr::Div(d, e) => value_of(e, variables) / d.get(),
-        Expr::Rem(d, e) => value_of(e, variables) % d.get(),
+        Expr::Div(d, e) => computed(e, variables) / d.get(),
+        Expr::Rem(d, e) => computed(e, variables) % d.get(),
     }
 }

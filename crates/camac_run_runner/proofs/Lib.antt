@@ -3,3 +3,4 @@ pub mod Serving
 pub mod Told
 pub mod Sizes
 pub mod Operation
+pub mod Holds

@@ -22,12 +22,13 @@ use Rattle.camac_run_machine.specs.MachineState.{context_in, left_in, stands, st
 use Rattle.camac_run_machine.specs.Rest.{address_of, awaited, onward, served}
 use Rattle.camac_run_runner.specs.Runner.{rest}
 use Rattle.camac_run_runner.specs.Sound.{runner_state}
-use Rattle.camac_run_runner.specs.Operation.{Begins, CanLock, operation}
+use Rattle.camac_run_runner.specs.Operation.{Begins, CanLock, IsWaiting, Waits, Wants, operation}
 use Rattle.camac_run_runner.specs.declared.progress.Wanted.{Wanted}
 use Rattle.camac_run_runner.specs.declared.progress.Wanted.TheVariants as wanted
 use Rattle.camac_run_machine.specs.declared.machine.Machine.{Machine}
 use Rattle.camac_run_machine.specs.declared.machine.Wanting.{Wanting}
 use Rattle.camac_run_machine.specs.declared.machine.Wanting.TheVariants.{Cycle, Read, Lock, Transfer}
+use Rattle.camac_run_runner.proofs.Told.{rest_short, rest_over}
 use Rattle.camac_run_machine.proofs.Takes.{cycle_goes, cycle_halts}
 use Rattle.camac_run_machine.proofs.Taken.{lock_goes, lock_halts}
 use Rattle.camac_run_machine.proofs.Transfers.{transfer_goes}
@@ -105,3 +106,23 @@ module _ {V D C : ℕ} (h : Machine V D C) (a : Answer) (answers : List Answer) 
     pub idle_begins : (wanting : Option Wanting) → wanting ≡ None → Begins wanted.Demand a (rest (runner_state h wanting fed n has o) (a ∷ answers))
     unfolding onward
     idle_begins wanting e = rw e refl
+
+-- a runner whose waits were all permitted wants an answer
+module _ {V D C : ℕ} (h : Machine V D C) (fed n : ℕ) (has : Bool) (o : Option Overrun) (first : o ≡ None) where
+  pub wants_some : (wanting : Option Wanting) (w : Wanting) → wanting ≡ Some w → IfSome wanting (IsWanting h) → Wants (runner_state h wanting fed n has o) (Some (operation w))
+  wants_some wanting w e p = (
+    first,
+    subst (λ (b : Behaviour (Unit {0})). Waits b) (sym (rest_short h wanting w fed n has o e p)) tt,
+    λ a answers. wanted_begins h a answers fed n has o wanting w e p,
+  )
+
+  pub wants_none : (wanting : Option Wanting) → wanting ≡ None → Wants (runner_state h wanting fed n has o) (Some wanted.Demand)
+  wants_none wanting e = (
+    first,
+    subst (λ (b : Behaviour (Unit {0})). Waits b) (sym (rest_over h wanting fed n has o e)) tt,
+    λ a answers. idle_begins h a answers fed n has o wanting e,
+  )
+
+  pub is_waiting : (wanting : Option Wanting) → IfSome wanting (IsWanting h) → IsWaiting (runner_state h wanting fed n has o)
+  is_waiting None p = (wanted.Demand, wants_none None refl)
+  is_waiting (Some w) p = (operation w, wants_some (Some w) w refl p)

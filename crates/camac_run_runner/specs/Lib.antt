@@ -3,3 +3,4 @@ pub mod Runner
 pub mod Sound
 pub mod Ends
 pub mod Operation
+pub mod Holds

@@ -50,10 +50,24 @@ Begins o a (does p b) = operation_of p ≡ Some o
 Begins o a (ends x) = ⊥
 Begins o a (stops w s) = StopsAt o a w
 
--- whatever the next answer is, and those after it, it is used for this operation; a run wants none after a wait that was not permitted
+-- for want of an answer nothing more is done
+abbrev pub Waits : {A : Type 0} → Behaviour A → Type 0
+Waits (does p b) = ⊥
+Waits (ends x) = Unit {0}
+Waits (stops short s) = Unit {0}
+Waits (stops (overrun c w) s) = ⊥
+Waits (stops wrong s) = ⊥
+Waits (stops more s) = ⊥
+
+-- Whatever the next answer is, and those after it, it is used for this operation, and nothing is done without one. A run wants none after
+-- a wait that was not permitted.
 abbrev pub Wants : RunnerState → Option Wanted → Type 0
-Wants h (Some o) = (h.overrun ≡ None) × ((a : Answer) (answers : List Answer) → Begins o a (rest h (a ∷ answers)))
+Wants h (Some o) = (h.overrun ≡ None) × Waits (rest h []) × ((a : Answer) (answers : List Answer) → Begins o a (rest h (a ∷ answers)))
 Wants h None = IsSome h.overrun
+
+-- it wants one for some operation
+abbrev pub IsWaiting : RunnerState → Type 0
+IsWaiting h = (o : Wanted) × Wants h (Some o)
 
 -- a lock that is wanted is of a crate of the plan which is not locked
 abbrev pub CanLock : RunnerState → Option Wanted → Type 0

@@ -7,7 +7,8 @@ ghost use Rattle.camac_lang.specs.Fits.{fits};
 ghost use Rattle.camac_model.specs.Behaviour.{stops, short, ends};
 ghost use Rattle.camac_model.specs.Run.{the_run};
 ghost use Rattle.camac_run_runner.specs.Runner.{state_in, rest, last_words_in, event_in, Progresses, steps_of, words_of};
-ghost use Rattle.camac_run_runner.specs.Operation.{CanLock, Wants, operation};
+ghost use Rattle.camac_run_runner.specs.Holds.{HoldsAfter};
+ghost use Rattle.camac_run_runner.specs.Operation.{CanLock, IsWaiting, Wants, operation};
 
 use crate::progress::{Progress, Wanted};
 use crate::service::service_for;
@@ -64,6 +65,7 @@ impl<'a, const V: usize, const DEPTH: usize, const CAP: usize> Runner<'a, V, DEP
     pub fn start(checked: &'a Checked) -> Self
         requires { fits checked.now.script V DEPTH CAP ≡ true }
         ensures rest { (answers : List Answer) → rest result answers ≡ the_run checked.now.plan checked.now.script answers }
+        ensures holds { HoldsAfter checked.now.plan checked.now.script [] result }
         ensures checked { result.checked ≡ checked.now }
         ensures fed { result.fed ≡ 0 }
         ensures events { result.events ≡ 0 }
@@ -82,10 +84,10 @@ impl<'a, const V: usize, const DEPTH: usize, const CAP: usize> Runner<'a, V, DEP
         }
     }
 
-    /// Takes an answer, and returns what it was used for. It takes no memory. From the first wait on that is not permitted, it returns that
+    /// Takes an answer, the 4,294,967,295th at most, and returns what it was used for. It takes no memory. From the first wait on that is not permitted, it returns that
     /// wait, and nothing else changes.
     pub fn next(&mut self, answer: Answer) -> Progress
-        requires { self.old.fed < 1000000 }
+        requires { self.old.fed < 4294967295 }
         ensures { Progresses self.old answer result self.new }
     {
         if let Some(overrun) = self.overrun {
@@ -99,7 +101,7 @@ impl<'a, const V: usize, const DEPTH: usize, const CAP: usize> Runner<'a, V, DEP
 
     // A graded-L operation.
     fn demand(&mut self, answer: Answer) -> Progress
-        requires fed { self.old.fed < 1000000 }
+        requires fed { self.old.fed < 4294967295 }
         requires first { self.old.overrun ≡ None }
         requires idle { self.old.wanting ≡ None }
         ensures { Progresses self.old answer result self.new }
@@ -131,7 +133,7 @@ impl<'a, const V: usize, const DEPTH: usize, const CAP: usize> Runner<'a, V, DEP
 
     // The answer that the service in progress wants.
     fn resume(&mut self, answer: Answer) -> Progress
-        requires fed { self.old.fed < 1000000 }
+        requires fed { self.old.fed < 4294967295 }
         requires first { self.old.overrun ≡ None }
         requires wanting { IsSome self.old.wanting }
         ensures { Progresses self.old answer result self.new }
@@ -164,7 +166,7 @@ impl<'a, const V: usize, const DEPTH: usize, const CAP: usize> Runner<'a, V, DEP
     fn close(&mut self) -> Option<(u32, GlBit, Usage)>
         requires service { self.old.service < length self.old.checked.script.services }
         requires events { self.old.events < self.old.fed }
-        requires fed { self.old.fed ≤ 1000000 }
+        requires fed { self.old.fed ≤ 4294967295 }
         ensures ended { IfNone self.old.wanting ((result ≡ Some (event_in self.old (self.old.events + 1))) × (self.new ≡ record self.old { events = self.old.events + 1; has_event = true })) }
         ensures goes_on { OnSome self.old.wanting ((result ≡ None) × (self.new ≡ record self.old { has_event = false })) }
     {
@@ -181,8 +183,8 @@ impl<'a, const V: usize, const DEPTH: usize, const CAP: usize> Runner<'a, V, DEP
         }
     }
 
-    /// The operation that the next answer is for, whatever that answer is. None after a wait that was not permitted. A lock that is wanted
-    /// is of a crate of the plan which is not locked.
+    /// The operation that the next answer is for, whatever that answer is; without one the run does nothing more. None after a wait that was
+    /// not permitted. A lock that is wanted is of a crate of the plan which is not locked.
     pub fn wants(&self) -> Option<Wanted>
         ensures wants { Wants self.now result }
         ensures lock { CanLock self.now result }
@@ -194,6 +196,14 @@ impl<'a, const V: usize, const DEPTH: usize, const CAP: usize> Runner<'a, V, DEP
             Some(wanting) => Some(operation(wanting)),
             None => Some(Wanted::Demand),
         }
+    }
+
+    /// The law that a run whose waits were all permitted wants an answer.
+    pub fn is_waiting(&self)
+        requires { self.now.overrun ≡ None }
+        ensures { IsWaiting self.now }
+    {
+        let _ = &self.wanting;
     }
 
     /// Whether a service is in progress.

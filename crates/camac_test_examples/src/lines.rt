@@ -1,6 +1,6 @@
 // The command lines.
 
-pub const LINES: [&str; 54] = [
+pub const LINES: [&str; 55] = [
     // the examples
     "plan beam_line.toml",
     "plan sample_plan.toml",
@@ -22,7 +22,8 @@ pub const LINES: [&str; 54] = [
     "run @sample straight.script late.answers events",
     "run @sample straight.script bad.answers events",
     "drive @sample straight.script events",
-    "events events",
+    "drive @sample straight.script live.events",
+    "events live.events",
     "events straight.script",
     // an event file that is an input
     "run @sample straight.script answers answers",

@@ -41,7 +41,7 @@ fn answer(x: bool, q: bool, word: u32, wait: u8, gl: u32) -> Result<Answer, Fail
     Ok(Answer::new(x, q, word, wait, gl).ok_or("wait")?)
 }
 
-fn broken(rule: AnswerRule, line: u32) -> Result<Option<Answer>, AnswerFault> {
+fn broken(rule: AnswerRule, line: u64) -> Result<Option<Answer>, AnswerFault> {
     Err(AnswerFault::Broken { rule, line })
 }
 
@@ -76,5 +76,15 @@ fn read_that_fails_in_a_line(rt: HostRuntime) -> Result<(), Fail> {
     assert!(rt; answers.next() == Err(AnswerFault::Read));
     assert!(rt; answers.next() == Err(AnswerFault::Read));
     assert!(rt; reader.failed());
+    Ok(())
+}
+
+#[test]
+fn answers_up_to_a_limit(rt: HostRuntime) -> Result<(), Fail> {
+    let mut reader = in_pieces("0 0 000000 0 000004\n1 1 123fff 2 000000\n", 20, false);
+    let mut answers = Answers::with_limit(rt.alloc(), 1, &mut reader)?;
+    assert!(rt; answers.next()? == Some(answer(false, false, 0, 0, 4)?));
+    assert!(rt; answers.next() == broken(AnswerRule::TooMany, 2));
+    assert!(rt; answers.next() == broken(AnswerRule::TooMany, 2));
     Ok(())
 }

@@ -17,12 +17,12 @@ fn tokens_one_by_one(rt: HostRuntime) -> Result<(), Fail> {
     let Ok(mut left) = TokensLeft::new(b"# a\nv <= 1 # b\n\t..x ") else {
         return Err(Fail::from("the text has tokens"));
     };
-    for line in [2, 2, 2, 3, 3] {
+    for place in [(2, 16), (2, 14), (2, 11), (3, 4), (3, 2)] {
         let found = match left.first() {
-            Some(token) => token.line,
-            None => 0,
+            Some(token) => (token.line, token.left),
+            None => (0, 0),
         };
-        assert!(rt; found == line);
+        assert!(rt; found == place);
         left.advance();
     }
     assert!(rt; left.first().is_none());

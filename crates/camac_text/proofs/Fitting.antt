@@ -59,15 +59,15 @@ first_fits : (t : Token) (r : Result (List Token) Fault) (ts : List Token) → k
 first_fits t (Ok us) ts fits rest e = subst (λ (w : List Token). AllFit w) (list_is (t ∷ us) ts e) (fits, rest us refl)
 first_fits t (Err d) ts fits rest e = absurd cc
 
-step_fits : (f : Start) (line : ℕ) (more : ℕ → Result (List Token) Fault) (ts : List Token) → StartFits f → ((n : ℕ) (us : List Token) → more n ≡ Ok us → AllFit us) → tokens_by f line more ≡ Ok ts → AllFit ts
-step_fits (start.Gap n) line more ts fits rest e = rest (n - 1) ts e
-step_fits (start.Found k n) line more ts fits rest e = first_fits (record { kind = k; line = line_number line }) (more (n - 1)) ts fits (λ us h. rest (n - 1) us h) e
-step_fits (start.Wrong rule) line more ts fits rest e = absurd cc
+step_fits : (f : Start) (line left : ℕ) (more : ℕ → Result (List Token) Fault) (ts : List Token) → StartFits f → ((n : ℕ) (us : List Token) → more n ≡ Ok us → AllFit us) → tokens_by f line left more ≡ Ok ts → AllFit ts
+step_fits (start.Gap n) line left more ts fits rest e = rest (n - 1) ts e
+step_fits (start.Found k n) line left more ts fits rest e = first_fits (record { kind = k; line = line_number line; left = left }) (more (n - 1)) ts fits (λ us h. rest (n - 1) us h) e
+step_fits (start.Wrong rule) line left more ts fits rest e = absurd cc
 
 from_fits : (bs : List ℕ) (skip line : ℕ) (ts : List Token) → tokens_from skip line bs ≡ Ok ts → AllFit ts
 unfolding tokens_from
 from_fits [] skip line ts e = subst (λ (w : List Token). AllFit w) (list_is [] ts e) tt
-from_fits (b ∷ bs) zero line ts e = step_fits (start_of b (b ∷ bs)) line (λ skip. tokens_from skip (line_after line b) bs) ts (start_fits b bs) (λ n us h. from_fits bs n (line_after line b) us h) e
+from_fits (b ∷ bs) zero line ts e = step_fits (start_of b (b ∷ bs)) line (length (b ∷ bs)) (λ skip. tokens_from skip (line_after line b) bs) ts (start_fits b bs) (λ n us h. from_fits bs n (line_after line b) us h) e
 from_fits (b ∷ bs) (suc skip) line ts e = from_fits bs skip (line_after line b) ts e
 
 pub tokens_fit : (text : List ℕ) (ts : List Token) → tokens_of text ≡ Ok ts → AllFit ts

@@ -62,6 +62,11 @@ abbrev pub line_of : List Token → ℕ → ℕ
 line_of [] end_line = end_line
 line_of (t ∷ ts) end_line = t.line
 
+-- how many bytes of the text stand from the first byte of the next token on
+abbrev pub left_of : List Token → ℕ
+left_of [] = 0
+left_of (t ∷ ts) = t.left
+
 abbrev pub kind_of : List Token → Option TokenKind
 kind_of [] = None
 kind_of (t ∷ ts) = Some t.kind
@@ -81,7 +86,7 @@ advance = change (λ s. record s { rest = after_first s.rest })
 
 -- a fault at the next token
 abbrev pub fail : {A : Type 0} → TextRule → Reader A
-fail rule = λ s. Err (record { rule = rule; line = line_of s.rest s.end_line })
+fail rule = λ s. Err (record { rule = rule; line = line_of s.rest s.end_line; left = left_of s.rest })
 
 -- a fault at the next token, where a rule is broken
 abbrev pub check : Bool → TextRule → Reader (Unit {0})

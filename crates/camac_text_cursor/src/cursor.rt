@@ -2,7 +2,7 @@
 
 ghost use Rattle.std.specs.Prelude.{◌≡◌, option_copied};
 ghost use Rattle.camac_text_tokens.specs.Fault.{Fails};
-ghost use Rattle.camac_text_cursor.specs.Reading.{line_of, kind_of, after_first};
+ghost use Rattle.camac_text_cursor.specs.Reading.{line_of, left_of, kind_of, after_first};
 ghost use Rattle.camac_text_cursor.specs.Readers.{begin, is_keyword, is_sign, is_name, expect, expect_sign, name_here, number_here, any_number, branch_number, function_number, sub_address_number};
 ghost use Rattle.camac_text_cursor.specs.Parser.{state, unread, Gives};
 
@@ -99,13 +99,24 @@ impl Parser<'_> {
         }
     }
 
+    /// How many bytes of the text stand from the first byte of the next token on, 0 at the text's end.
+    pub fn left_here(&self) -> usize
+        ensures { result ≡ left_of (state self.now).rest }
+    {
+        match self.rest.first() {
+            Some(token) => token.left,
+            None => 0,
+        }
+    }
+
     /// A fault at the next token.
     pub fn fault(&self, rule: TextRule) -> TextFault
-        ensures { result ≡ TextFault.Broken rule (line_of (state self.now).rest self.now.end_line) }
+        ensures { result ≡ TextFault.Broken rule (line_of (state self.now).rest self.now.end_line) (left_of (state self.now).rest) }
     {
         TextFault::Broken {
             rule,
             line: self.line_here(),
+            left: self.left_here(),
         }
     }
 

@@ -105,7 +105,7 @@ arguments_go room n es s e t total took so_far = ap (λ (r : Result (Expression 
 pub arguments_fail : (room n : ℕ) (es : List Expression) (s : State) (f : TextFault) (total : Result (List Expression × State) Fault) → Fails f (argument_after room es s) → more_arguments room (suc n) es s ≡ total → Fails f total
 unfolding more_arguments
 arguments_fail room n es s fault.OutOfMemory total failed so_far = tt
-arguments_fail room n es s (fault.Broken rule line) total failed so_far = sym so_far ∙ ap (λ (r : Result (Expression × State) Fault). then_read r (λ x. more_arguments room n (es ++ x ∷ []))) failed
+arguments_fail room n es s (fault.Broken rule line left) total failed so_far = sym so_far ∙ ap (λ (r : Result (Expression × State) Fault). then_read r (λ x. more_arguments room n (es ++ x ∷ []))) failed
 
 pub arguments_end : (room : ℕ) (es : List Expression) (s : State) (total : Result (List Expression × State) Fault) → more_arguments room 0 es s ≡ total → total ≡ Ok (es, s)
 unfolding more_arguments

@@ -112,6 +112,7 @@ record BrokenFrom (line : ℕ) (text : List ℕ) (f : Fault) : Type 0 where
   nothing : (k : Option TokenKind) (bytes after : List ℕ) → rest ≡ bytes ++ after → IsPiece k bytes after → ⊥
   why : Breaks f.rule rest
   at_line : f.line ≡ line_number (line + line_feeds (joined pieces))
+  at_left : f.left ≡ length rest
 
 fault_is : (e f : Fault) → (let r : Result (List Token) Fault = Err e in r) ≡ Err f → e ≡ f
 fault_is e f h = cc
@@ -123,8 +124,8 @@ all_err us (Err d) f e = e
 broken_here : (b line : ℕ) (bs : List ℕ) (f : Fault) (r : TextRule) → wrong (start_of b (b ∷ bs)) ≡ Some r → tokens_from 0 line (b ∷ bs) ≡ Err f → BrokenFrom line (b ∷ bs) f
 unfolding tokens_from
 broken_here b line bs f r bad e =
-    let here : tokens_from 0 line (b ∷ bs) ≡ Err (record { rule = r; line = line_number line }) = ap (λ (g : Start). tokens_by g line (λ n. tokens_from n (line_after line b) bs)) (wrong_is (start_of b (b ∷ bs)) r bad) in
-    let same : (let d : Fault = record { rule = r; line = line_number line } in d) ≡ f = fault_is _ f (sym here ∙ e) in
+    let here : tokens_from 0 line (b ∷ bs) ≡ Err (record { rule = r; line = line_number line; left = length (b ∷ bs) }) = ap (λ (g : Start). tokens_by g line (length (b ∷ bs)) (λ n. tokens_from n (line_after line b) bs)) (wrong_is (start_of b (b ∷ bs)) r bad) in
+    let same : (let d : Fault = record { rule = r; line = line_number line; left = length (b ∷ bs) } in d) ≡ f = fault_is _ f (sym here ∙ e) in
     record {
       pieces = [];
       rest = b ∷ bs;
@@ -133,6 +134,7 @@ broken_here b line bs f r bad e =
       nothing = nothing_stands b bs r bad;
       why = subst (λ (d : Fault). Breaks d.rule (b ∷ bs)) same (breaks_wrong (start_of b (b ∷ bs)) r (b ∷ bs) bad (start_breaks b bs));
       at_line = sym (ap (λ (d : Fault). d.line) same) ∙ ap line_number (omega arith);
+      at_left = sym (ap (λ (d : Fault). d.left) same);
     }
 
 broken_later : (f : Start) (line : ℕ) (text : List ℕ) (d : Fault) → wrong f ≡ None → Stands f text
@@ -147,6 +149,7 @@ broken_later f line text d good stands rest =
       nothing = rest.nothing;
       why = rest.why;
       at_line = rest.at_line ∙ ap line_number (omega (arith, feeds));
+      at_left = rest.at_left;
     }
 
 wrong_or : (o : Option TextRule) → ((r : TextRule) × (o ≡ Some r)) ⊎ (o ≡ None)
@@ -163,7 +166,7 @@ broken_from (suc n) line (b ∷ bs) f few e =
       | inl bad ↦ broken_here b line bs f bad.0 bad.1 e
       | inr good ↦
           let sized = sized_start b bs good in
-          let later = all_err (added g (line_number line)) (tokens_from 0 (line + line_feeds (take (size g) (b ∷ bs))) (drop (size g) (b ∷ bs))) f (sym (start_step g b line bs good sized.0) ∙ e) in
+          let later = all_err (added g (line_number line) (length (b ∷ bs))) (tokens_from 0 (line + line_feeds (take (size g) (b ∷ bs))) (drop (size g) (b ∷ bs))) f (sym (start_step g b line bs good sized.0) ∙ e) in
           broken_later g line (b ∷ bs) f good (start_stands b bs) (broken_from n (line + line_feeds (take (size g) (b ∷ bs))) (drop (size g) (b ∷ bs)) f (shorter (size g) b bs n sized.0 few) later)
     ]
   where
@@ -210,7 +213,7 @@ no_bytes (b ∷ bs) rest e is = absurd cc
 
 fault_at : (line : ℕ) (rest : List ℕ) (r : TextRule) → Breaks r rest
     → ((k : Option TokenKind) (bytes after : List ℕ) → rest ≡ bytes ++ after → IsPiece k bytes after → ⊥)
-    → tokens_from 0 line rest ≡ Err (record { rule = r; line = line_number line })
+    → tokens_from 0 line rest ≡ Err (record { rule = r; line = line_number line; left = length rest })
 unfolding tokens_from
 fault_at line [] rule.BadByte why nothing = let some = why.some in absurd (omega (arith, some))
 fault_at line [] rule.NumberTooLarge why nothing = absurd (no_bytes why.bytes why.rest why.parts why.digits)
@@ -220,7 +223,7 @@ fault_at line [] rule.DeclaredTwice why nothing = absurd why
 fault_at line [] rule.NotDeclared why nothing = absurd why
 fault_at line [] rule.BranchNotOne why nothing = absurd why
 fault_at line (b ∷ bs) r why nothing =
-    ap (λ (g : Start). tokens_by g line (λ n. tokens_from n (line_after line b) bs)) (wrong_here (start_of b (b ∷ bs)) (b ∷ bs) r why (start_stands b bs) (start_breaks b bs) nothing)
+    ap (λ (g : Start). tokens_by g line (length (b ∷ bs)) (λ n. tokens_from n (line_after line b) bs)) (wrong_here (start_of b (b ∷ bs)) (b ∷ bs) r why (start_stands b bs) (start_breaks b bs) nothing)
 
 fault_after : (line : ℕ) (ps : List Piece) (rest : List ℕ) (f : Fault) → StandBefore rest ps → tokens_from 0 (line + line_feeds (joined ps)) rest ≡ Err f
     → tokens_from 0 line (joined ps ++ rest) ≡ Err f
@@ -239,8 +242,9 @@ unfolding tokens_of
 token_faults_stand text f = (
   λ e.
       let b = broken_from (length text) 1 text f (omega arith) e in
-      record { pieces = b.pieces; rest = b.rest; parts = b.parts; stand = b.stand; nothing = b.nothing; why = b.why; line = b.at_line },
+      record { pieces = b.pieces; rest = b.rest; parts = b.parts; stand = b.stand; nothing = b.nothing; why = b.why; line = b.at_line; left = b.at_left },
   λ b.
       ap (tokens_from 0 1) b.parts
-      ∙ fault_after 1 b.pieces b.rest f b.stand (fault_at (1 + line_feeds (joined b.pieces)) b.rest f.rule b.why b.nothing ∙ ap (λ (l : ℕ). let r : Result (List Token) Fault = Err (record { rule = f.rule; line = l }) in r) (sym b.line)),
+      ∙ fault_after 1 b.pieces b.rest f b.stand (fault_at (1 + line_feeds (joined b.pieces)) b.rest f.rule b.why b.nothing ∙ ap (λ (l : ℕ). let r : Result (List Token) Fault = Err (record { rule = f.rule; line = l; left = length b.rest }) in r) (sym b.line)
+      ∙ ap (λ (n : ℕ). let r : Result (List Token) Fault = Err (record { rule = f.rule; line = f.line; left = n }) in r) (sym b.left)),
 )

@@ -126,24 +126,26 @@ piece_of (start.Gap n) text good h = h
 piece_of (start.Found k n) text good h = h
 piece_of (start.Wrong rule) text good h = absurd cc
 
-added_is : (f : Start) (line : ℕ) → wrong f ≡ None → added f (line_number line) ≡ token_at (kind_at f) line
+added_is : (f : Start) (line left : ℕ) → wrong f ≡ None → added f (line_number line) left ≡ token_at (kind_at f) line left
 unfolding kind_at
-added_is (start.Gap n) line good = refl
-added_is (start.Found k n) line good = refl
-added_is (start.Wrong rule) line good = absurd cc
+added_is (start.Gap n) line left good = refl
+added_is (start.Found k n) line left good = refl
+added_is (start.Wrong rule) line left good = absurd cc
 
-good_start : (f : Start) (line : ℕ) (more : ℕ → Result (List Token) Fault) (ts : List Token) → tokens_by f line more ≡ Ok ts → wrong f ≡ None
-good_start (start.Gap n) line more ts e = refl
-good_start (start.Found k n) line more ts e = refl
-good_start (start.Wrong rule) line more ts e = absurd cc
+good_start : (f : Start) (line left : ℕ) (more : ℕ → Result (List Token) Fault) (ts : List Token) → tokens_by f line left more ≡ Ok ts → wrong f ≡ None
+good_start (start.Gap n) line left more ts e = refl
+good_start (start.Found k n) line left more ts e = refl
+good_start (start.Wrong rule) line left more ts e = absurd cc
 
-cut_step : (f : Start) (line : ℕ) (text : List ℕ) (ts us : List Token) → wrong f ≡ None → Stands f text → ts ≡ added f (line_number line) ++ us → CutFrom (line + line_feeds (take (size f) text)) (drop (size f) text) us → CutFrom line text ts
-cut_step f line text ts us good stands tokens rest = record {
-  pieces = record { bytes = take (size f) text; kind = kind_at f } ∷ rest.pieces;
-  parts = sym (take-append-drop (size f) text) ∙ ap (λ (w : List ℕ). take (size f) text ++ w) rest.parts;
-  stand = (subst (λ (w : List ℕ). IsPiece (kind_at f) (take (size f) text) w) rest.parts (piece_of f text good stands), rest.stand);
-  tokens_are = tokens ∙ ap (λ (w : List Token). w ++ us) (added_is f line good) ∙ ap (λ (w : List Token). token_at (kind_at f) line ++ w) rest.tokens_are;
-}
+cut_step : (f : Start) (line : ℕ) (text : List ℕ) (ts us : List Token) → wrong f ≡ None → Stands f text → ts ≡ added f (line_number line) (length text) ++ us → CutFrom (line + line_feeds (take (size f) text)) (drop (size f) text) us → CutFrom line text ts
+cut_step f line text ts us good stands tokens rest =
+    let whole : text ≡ take (size f) text ++ joined rest.pieces = sym (take-append-drop (size f) text) ∙ ap (λ (w : List ℕ). take (size f) text ++ w) rest.parts in record {
+      pieces = record { bytes = take (size f) text; kind = kind_at f } ∷ rest.pieces;
+      parts = whole;
+      stand = (subst (λ (w : List ℕ). IsPiece (kind_at f) (take (size f) text) w) rest.parts (piece_of f text good stands), rest.stand);
+      tokens_are = tokens ∙ ap (λ (w : List Token). w ++ us) (added_is f line (length text) good) ∙ ap (λ (w : List Token). token_at (kind_at f) line (length text) ++ w) rest.tokens_are
+          ∙ ap (λ (w : List ℕ). token_at (kind_at f) line (length w) ++ tokens_in (line + line_feeds (take (size f) text)) rest.pieces) whole;
+    }
 
 cut_from : (n line : ℕ) (text : List ℕ) (ts : List Token) → length text ≤ n → tokens_from 0 line text ≡ Ok ts → CutFrom line text ts
 unfolding tokens_from
@@ -151,9 +153,9 @@ cut_from n line [] ts few e = record { pieces = []; parts = refl; stand = tt; to
 cut_from zero line (b ∷ bs) ts few e = absurd (omega arith)
 cut_from (suc n) line (b ∷ bs) ts few e =
     let f : Start = start_of b (b ∷ bs) in
-    let good : wrong f ≡ None = good_start f line (λ skip. tokens_from skip (line_after line b) bs) ts e in
+    let good : wrong f ≡ None = good_start f line (length (b ∷ bs)) (λ skip. tokens_from skip (line_after line b) bs) ts e in
     let sized = sized_start b bs good in
-    let m = all_ok (added f (line_number line)) (tokens_from 0 (line + line_feeds (take (size f) (b ∷ bs))) (drop (size f) (b ∷ bs))) ts (sym (start_step f b line bs good sized.0) ∙ e) in
+    let m = all_ok (added f (line_number line) (length (b ∷ bs))) (tokens_from 0 (line + line_feeds (take (size f) (b ∷ bs))) (drop (size f) (b ∷ bs))) ts (sym (start_step f b line bs good sized.0) ∙ e) in
     cut_step f line (b ∷ bs) ts m.0 good (start_stands b bs) m.2 (cut_from n (line + line_feeds (take (size f) (b ∷ bs))) (drop (size f) (b ∷ bs)) m.0 (shorter (size f) b bs n sized.0 few) m.1) where
       shorter : (k b : ℕ) (bs : List ℕ) (n : ℕ) → 0 < k → length (b ∷ bs) ≤ suc n → length (drop k (b ∷ bs)) ≤ n
       shorter k b bs n some few = grind (arith, length-drop {A = ℕ})

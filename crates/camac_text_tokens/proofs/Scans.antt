@@ -42,9 +42,18 @@ take_whole zero (x ∷ xs) e = absurd (omega arith)
 take_whole (suc n) [] e = refl
 take_whole (suc n) (x ∷ xs) e = ap (λ (w : List ℕ). x ∷ w) (take_whole n xs (omega arith))
 
--- the bytes that a pattern of four leaves
-pub behind_four : (xs : List ℕ) → 4 ≤ length xs → take (length xs - 4) (drop 4 xs) ≡ drop 4 xs
-behind_four xs four = take_whole (length xs - 4) (drop 4 xs) (omega (arith, length-drop 4 xs, four))
+-- the bytes that a pattern of n leaves
+behind : (n : ℕ) (xs : List ℕ) → n ≤ length xs → take (length xs - n) (drop n xs) ≡ drop n xs
+behind n xs some = take_whole (length xs - n) (drop n xs) (omega (arith, length-drop n xs, some))
+
+-- n bytes that pass are counted, and those behind them are left
+pub run_on : (p : ℕ → Bool) (n count : ℕ) (text rest : List ℕ) → n ≤ length rest → length (take_while p rest) ≡ n + length (take_while p (drop n rest))
+    → (count + length (take_while p rest) ≡ length (take_while p text)) × (count + length rest ≡ length text)
+    → (count + n + length (take_while p (take (length rest - n) (drop n rest))) ≡ length (take_while p text)) × (count + n + length (take (length rest - n) (drop n rest)) ≡ length text)
+run_on p n count text rest some run so_far =
+    let more_run : count + n + length (take_while p (drop n rest)) ≡ length (take_while p text) = omega (arith, run, so_far.0) in
+    let more_bytes : count + n + length (drop n rest) ≡ length text = omega (arith, length-drop n rest, some, so_far.1) in
+    subst (λ (left : List ℕ). (count + n + length (take_while p left) ≡ length (take_while p text)) × (count + n + length left ≡ length text)) (sym (behind n rest some)) (more_run, more_bytes)
 
 run_one : (p : ℕ → Bool) (x : ℕ) (xs : List ℕ) → p x ≡ true → take_while p (x ∷ xs) ≡ x ∷ take_while p xs
 run_one p x xs e = take_while-cons p x xs ∙ ap (λ (b : Bool). cond b (x ∷ take_while p xs) []) e
@@ -63,6 +72,21 @@ run_of_four p [] four e = absurd (omega arith)
 run_of_four p (a ∷ []) four e = absurd (omega arith)
 run_of_four p (a ∷ b ∷ []) four e = absurd (omega arith)
 run_of_four p (a ∷ b ∷ c ∷ []) four e = absurd (omega arith)
+
+-- and eight
+pub run_of_eight : (p : ℕ → Bool) (xs : List ℕ) → 8 ≤ length xs → (p (slice_index xs 0) && p (slice_index xs 1) && p (slice_index xs 2) && p (slice_index xs 3)) ≡ true
+    → (p (slice_index xs 4) && p (slice_index xs 5) && p (slice_index xs 6) && p (slice_index xs 7)) ≡ true
+    → length (take_while p xs) ≡ 8 + length (take_while p (drop 8 xs))
+run_of_eight p (a ∷ b ∷ c ∷ d ∷ xs) eight e f =
+    let four : 4 ≤ length (a ∷ b ∷ c ∷ d ∷ xs) = omega (arith, eight) in
+    let more : 4 ≤ length xs = omega (arith, eight) in
+    let front : length (take_while p (a ∷ b ∷ c ∷ d ∷ xs)) ≡ 4 + length (take_while p xs) = run_of_four p (a ∷ b ∷ c ∷ d ∷ xs) four e in
+    let back : length (take_while p xs) ≡ 4 + length (take_while p (drop 4 xs)) = run_of_four p xs more f in
+    omega (arith, front, back)
+run_of_eight p [] eight e f = absurd (omega arith)
+run_of_eight p (a ∷ []) eight e f = absurd (omega arith)
+run_of_eight p (a ∷ b ∷ []) eight e f = absurd (omega arith)
+run_of_eight p (a ∷ b ∷ c ∷ []) eight e f = absurd (omega arith)
 
 -- ---- numbers
 
@@ -156,34 +180,34 @@ none_all (Ok ts) = refl
 none_all (Err e) = refl
 
 -- one step over what stands at the start
-pub start_step : (f : Start) (b line : ℕ) (bs : List ℕ) → wrong f ≡ None → 0 < size f → tokens_by f line (λ n. tokens_from n (line_after line b) bs) ≡ with_all (added f (line_number line)) (tokens_from 0 (line + line_feeds (take (size f) (b ∷ bs))) (drop (size f) (b ∷ bs)))
+pub start_step : (f : Start) (b line : ℕ) (bs : List ℕ) → wrong f ≡ None → 0 < size f → tokens_by f line (length (b ∷ bs)) (λ n. tokens_from n (line_after line b) bs) ≡ with_all (added f (line_number line) (length (b ∷ bs))) (tokens_from 0 (line + line_feeds (take (size f) (b ∷ bs))) (drop (size f) (b ∷ bs)))
 unfolding tokens_from
 start_step (start.Gap zero) b line bs good some = absurd (omega arith)
 start_step (start.Gap (suc n)) b line bs good some = ap (λ (k : ℕ). tokens_from k (line_after line b) bs) (omega arith) ∙ skip (suc n) line (b ∷ bs) ∙ none_all _
 start_step (start.Found k zero) b line bs good some = absurd (omega arith)
-start_step (start.Found k (suc n)) b line bs good some = ap (λ (m : ℕ). with_first (record { kind = k; line = line_number line }) (tokens_from m (line_after line b) bs)) (omega arith) ∙ ap (with_first (record { kind = k; line = line_number line })) (skip (suc n) line (b ∷ bs)) ∙ first_all _ _
+start_step (start.Found k (suc n)) b line bs good some = ap (λ (m : ℕ). with_first (record { kind = k; line = line_number line; left = length (b ∷ bs) }) (tokens_from m (line_after line b) bs)) (omega arith) ∙ ap (with_first (record { kind = k; line = line_number line; left = length (b ∷ bs) })) (skip (suc n) line (b ∷ bs)) ∙ first_all _ _
 start_step (start.Wrong rule) b line bs good some = absurd cc
 
 pub sizes : (rest : List ℕ) → 0 < length rest → Sized (start_of (slice_index rest 0) rest) (length rest)
 sizes [] h = absurd (omega arith)
 sizes (b ∷ bs) h = sized_start b bs
 
-pub goes : (xs : List Token) (line : ℕ) (rest : List ℕ) (total : Result (List Token) Fault) → 0 < length rest → wrong (start_of (slice_index rest 0) rest) ≡ None → with_all xs (tokens_from 0 line rest) ≡ total → with_all (xs ++ added (start_of (slice_index rest 0) rest) (line_number line)) (tokens_from 0 (line + line_feeds (take (size (start_of (slice_index rest 0) rest)) rest)) (drop (size (start_of (slice_index rest 0) rest)) rest)) ≡ total
+pub goes : (xs : List Token) (line : ℕ) (rest : List ℕ) (total : Result (List Token) Fault) → 0 < length rest → wrong (start_of (slice_index rest 0) rest) ≡ None → with_all xs (tokens_from 0 line rest) ≡ total → with_all (xs ++ added (start_of (slice_index rest 0) rest) (line_number line) (length rest)) (tokens_from 0 (line + line_feeds (take (size (start_of (slice_index rest 0) rest)) rest)) (drop (size (start_of (slice_index rest 0) rest)) rest)) ≡ total
 unfolding tokens_from
 goes xs line [] total some good so_far = absurd (omega arith)
 goes xs line (b ∷ bs) total some good so_far =
     let f = start_of b (b ∷ bs) in
-    sym (all_join xs (added f (line_number line)) _) ∙ ap (with_all xs) (sym (start_step f b line bs good (sized_start b bs good).0)) ∙ so_far
+    sym (all_join xs (added f (line_number line) (length (b ∷ bs))) _) ∙ ap (with_all xs) (sym (start_step f b line bs good (sized_start b bs good).0)) ∙ so_far
 
 pub wrong_is : (f : Start) (rule : TextRule) → wrong f ≡ Some rule → f ≡ start.Wrong rule
 wrong_is (start.Wrong c) rule e = ap start.Wrong cc
 wrong_is (start.Gap n) rule e = absurd cc
 wrong_is (start.Found k n) rule e = absurd cc
 
-pub fails : (xs : List Token) (line : ℕ) (rest : List ℕ) (total : Result (List Token) Fault) (rule : TextRule) → 0 < length rest → wrong (start_of (slice_index rest 0) rest) ≡ Some rule → with_all xs (tokens_from 0 line rest) ≡ total → total ≡ Err (record { rule = rule; line = line_number line })
+pub fails : (xs : List Token) (line : ℕ) (rest : List ℕ) (total : Result (List Token) Fault) (rule : TextRule) → 0 < length rest → wrong (start_of (slice_index rest 0) rest) ≡ Some rule → with_all xs (tokens_from 0 line rest) ≡ total → total ≡ Err (record { rule = rule; line = line_number line; left = length rest })
 unfolding tokens_from
 fails xs line [] total rule some bad so_far = absurd (omega arith)
-fails xs line (b ∷ bs) total rule some bad so_far = sym so_far ∙ ap (λ (f : Start). with_all xs (tokens_by f line (λ n. tokens_from n (line_after line b) bs))) (wrong_is (start_of b (b ∷ bs)) rule bad)
+fails xs line (b ∷ bs) total rule some bad so_far = sym so_far ∙ ap (λ (f : Start). with_all xs (tokens_by f line (length (b ∷ bs)) (λ n. tokens_from n (line_after line b) bs))) (wrong_is (start_of b (b ∷ bs)) rule bad)
 
 pub ends : (xs : List Token) (line : ℕ) (rest : List ℕ) (total : Result (List Token) Fault) → length rest ≡ 0 → with_all xs (tokens_from 0 line rest) ≡ total → total ≡ Ok xs
 unfolding tokens_from

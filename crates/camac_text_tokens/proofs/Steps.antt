@@ -1,8 +1,8 @@
 -- What is left of the tokens of a text, step by step.
-use Rattle.std.proofs.Common.{◌≡◌, ℕ, suc, ◌+◌, ◌≤◌, ◌<◌, Bool, true, false, not, cond, ltb, eqb, List, [], ◌∷◌, ◌++◌, length, take, drop, Option, Some, None, Result, Ok, Err, refl, sym, ap, subst, ◌∙◌, length-drop, arith}
+use Rattle.std.proofs.Common.{◌≡◌, ℕ, zero, suc, ◌+◌, ◌≤◌, ◌<◌, Bool, true, false, not, cond, ltb, eqb, List, [], ◌∷◌, ◌++◌, length, take, drop, Option, Some, None, Result, Ok, Err, refl, sym, ap, subst, ◌∙◌, length-drop, arith}
 use Rattle.std.specs.Prelude.{take_while, slice_index}
 use Rattle.std.specs.Char.{is_ascii_digit, is_ascii_alphabetic}
-use Rattle.std.proofs.lemmas.Bool.{lt-ltb, le-ltb, eqb-true}
+use Rattle.std.proofs.lemmas.Bool.{lt-ltb, le-ltb, eqb-true, ne_eqb}
 use Rattle.camac_text_tokens.specs.declared.token.Keyword.{Keyword}
 use Rattle.camac_text_tokens.specs.declared.token.Sign.{Sign}
 use Rattle.camac_text_tokens.specs.declared.token.Token.{Token}
@@ -14,7 +14,7 @@ use Rattle.camac_text_tokens.specs.declared.fault.TextRule.TheVariants.{LimitPas
 use Rattle.camac_text_tokens.specs.Fault.{Fault}
 use Rattle.camac_text_tokens.specs.Words.{keyword}
 use Rattle.camac_text_tokens.specs.Scanning.{is_name_byte, is_blank, is_no_line_feed, decimal_value, keyword_or, pair_at, single_at, pair_or_single, start_of, size, added, wrong, tokens_by, tokens_from, line_after, line_number}
-use Rattle.camac_text_tokens.specs.Left.{list_of, next_and, BeginsNoGap, IsPut, IsExtent}
+use Rattle.camac_text_tokens.specs.Left.{list_of, next_and, BeginsNoGap, IsPastGaps, IsPut, IsExtent}
 use Rattle.camac_text_tokens.proofs.Spellings.{no_long_keyword}
 use Rattle.camac_text_tokens.proofs.Scans.{line_feeds, feeds-cons, lines_step, take_run, run_some, with_all, none_all, start_step, sized_start, goes}
 use Rattle.camac_text_tokens.proofs.OneLine.{run_feeds, OnOneLine, start_on_one_line, feeds_behind}
@@ -35,7 +35,7 @@ blank_is b bs is = on (is_blank b) _ _ is
 
 pub blank_past : (b line : ℕ) (bs : List ℕ) → is_blank b ≡ true → tokens_from 0 (line_after line b) bs ≡ tokens_from 0 line (b ∷ bs)
 unfolding tokens_from
-blank_past b line bs is = sym (ap (λ (f : Start). tokens_by f line (λ skip. tokens_from skip (line_after line b) bs)) (blank_is b bs is))
+blank_past b line bs is = sym (ap (λ (f : Start). tokens_by f line (length (b ∷ bs)) (λ skip. tokens_from skip (line_after line b) bs)) (blank_is b bs is))
 
 no_feed : (b : ℕ) → is_no_line_feed b ≡ true → eqb b 10 ≡ false
 no_feed b e = off_not (eqb b 10) e where
@@ -60,7 +60,7 @@ comment_past b line bs is =
     let feeds : line_feeds (take (length (take_while is_no_line_feed (b ∷ bs))) (b ∷ bs)) ≡ 0 = comment_feeds b bs in
     let same : line + line_feeds (take (length (take_while is_no_line_feed (b ∷ bs))) (b ∷ bs)) ≡ line = omega (arith, feeds) in
     sym (
-    ap (λ (f : Start). tokens_by f line (λ skip. tokens_from skip (line_after line b) bs)) (comment_is b bs is)
+    ap (λ (f : Start). tokens_by f line (length (b ∷ bs)) (λ skip. tokens_from skip (line_after line b) bs)) (comment_is b bs is)
     ∙ start_step (start.Gap n) b line bs refl (comment_some b bs is)
     ∙ sym (none_all _)
     ∙ ap (λ (l : ℕ). tokens_from 0 l (drop (length (take_while is_no_line_feed (b ∷ bs))) (b ∷ bs))) same
@@ -90,7 +90,43 @@ pub blank_skips : (line : ℕ) (rest : List ℕ) → 0 < length rest → is_blan
 blank_skips line [] some is = absurd (omega arith)
 blank_skips line (b ∷ bs) some is = record { same = blank_past b line bs is; lines = line_step (eqb b 10) line (length bs); shorter = omega arith; feeds = lines_step (eqb b 10) line (line_feeds bs) ∙ ap (λ (m : ℕ). line + m) (sym (feeds-cons b bs)) }
 
+abbrev pub spaces : ℕ → List ℕ
+spaces zero = []
+spaces (suc n) = 32 ∷ spaces n
+
+space_skips : (line b : ℕ) (bs : List ℕ) → b ≡ 32 → Skips line (b ∷ bs) line 1
+space_skips line b bs is = subst (λ (x : ℕ). Skips line (x ∷ bs) line 1) (sym is) (blank_skips line (32 ∷ bs) (omega arith) refl)
+
+-- the rest after 1 + n spaces
+pub spaces_skip : (n line : ℕ) (rest : List ℕ) → take (suc n) rest ≡ spaces (suc n) → Skips line rest line (suc n)
+spaces_skip n line [] e = absurd cc
+spaces_skip zero line (b ∷ bs) e =
+    let both : b ∷ [] ≡ 32 ∷ [] = e in
+    space_skips line b bs cc
+spaces_skip (suc n) line (b ∷ bs) e =
+    let both : b ∷ take (suc n) bs ≡ 32 ∷ spaces (suc n) = e in
+    let head : b ≡ 32 = cc in
+    let others : take (suc n) bs ≡ spaces (suc n) = cc in
+    let one = space_skips line b bs head in
+    let more = spaces_skip n line bs others in
+    record { same = more.same ∙ one.same; lines = omega (arith, more.lines, one.lines); shorter = omega (arith, more.shorter); feeds = more.feeds ∙ one.feeds }
+
 -- ---- what begins with no gap
+
+above_hash : (b : ℕ) → 35 < b → (is_blank b ≡ false) × (eqb b 35 ≡ false)
+above_hash b above = (
+  rw (ne_eqb b 32 (λ e. absurd (omega (arith, e, above))), ne_eqb b 9 (λ e. absurd (omega (arith, e, above))), ne_eqb b 13 (λ e. absurd (omega (arith, e, above))), ne_eqb b 10 (λ e. absurd (omega (arith, e, above)))) refl,
+  ne_eqb b 35 (λ e. absurd (omega (arith, e, above))),
+)
+
+-- one space, and then what is neither a blank nor a comment
+pub space_is_past : (line : ℕ) (text : List ℕ) → 2 ≤ length text → slice_index text 0 ≡ 32 → 35 < slice_index text 1 → IsPastGaps line text line (drop 1 text)
+space_is_past line [] some is above = absurd (omega arith)
+space_is_past line (a ∷ []) some is above = absurd (omega arith)
+space_is_past line (a ∷ b ∷ bs) some is above =
+    let one : take 1 (a ∷ b ∷ bs) ≡ spaces 1 = ap (λ (x : ℕ). x ∷ []) is in
+    let skips = spaces_skip 0 line (a ∷ b ∷ bs) one in
+    record { same = skips.same; lines = skips.lines; shorter = omega (arith, skips.shorter); begins = above_hash b above; feeds = skips.feeds }
 
 abbrev NoGap : Start → Type 0
 NoGap (start.Gap n) = ⊥
@@ -124,9 +160,9 @@ no_gap_start b bs no_blank no_hash =
 same_line : (line n : ℕ) → n ≡ 0 → line + n ≡ line
 same_line line n e = omega (arith, e)
 
-token_step : (b line : ℕ) (bs : List ℕ) (f : Start) → start_of b (b ∷ bs) ≡ f → tokens_from 0 line (b ∷ bs) ≡ tokens_by f line (λ skip. tokens_from skip (line_after line b) bs)
+token_step : (b line : ℕ) (bs : List ℕ) (f : Start) → start_of b (b ∷ bs) ≡ f → tokens_from 0 line (b ∷ bs) ≡ tokens_by f line (length (b ∷ bs)) (λ skip. tokens_from skip (line_after line b) bs)
 unfolding tokens_from
-token_step b line bs f is = ap (λ (g : Start). tokens_by g line (λ skip. tokens_from skip (line_after line b) bs)) is
+token_step b line bs f is = ap (λ (g : Start). tokens_by g line (length (b ∷ bs)) (λ skip. tokens_from skip (line_after line b) bs)) is
 
 wrong_is_wrong : (f : Start) (rule : TextRule) → wrong f ≡ Some rule → f ≡ start.Wrong rule
 wrong_is_wrong (start.Gap n) rule e = absurd cc
@@ -146,12 +182,12 @@ pub found_size : (rest : List ℕ) (k : TokenKind) (n : ℕ) → 0 < length rest
 found_size [] k n some is = absurd (omega arith)
 found_size (b ∷ bs) k n some is = found_some b bs k n is
 
-token_goes : (line : ℕ) (rest : List ℕ) (k : TokenKind) (n : ℕ) → 0 < length rest → start_of (slice_index rest 0) rest ≡ start.Found k n → tokens_from 0 line rest ≡ with_all (record { kind = k; line = line_number line } ∷ []) (tokens_from 0 line (drop n rest))
+token_goes : (line : ℕ) (rest : List ℕ) (k : TokenKind) (n : ℕ) → 0 < length rest → start_of (slice_index rest 0) rest ≡ start.Found k n → tokens_from 0 line rest ≡ with_all (record { kind = k; line = line_number line; left = length rest } ∷ []) (tokens_from 0 line (drop n rest))
 token_goes line [] k n some is = absurd (omega arith)
 token_goes line (b ∷ bs) k n some is =
     token_step b line bs (start.Found k n) is
     ∙ start_step (start.Found k n) b line bs refl (found_some b bs k n is).0
-    ∙ ap (λ (l : ℕ). with_all (record { kind = k; line = line_number line } ∷ []) (tokens_from 0 l (drop n (b ∷ bs)))) (same_line line _ (subst (λ (f : Start). OnOneLine f (b ∷ bs)) is (start_on_one_line b bs)))
+    ∙ ap (λ (l : ℕ). with_all (record { kind = k; line = line_number line; left = length (b ∷ bs) } ∷ []) (tokens_from 0 l (drop n (b ∷ bs)))) (same_line line _ (subst (λ (f : Start). OnOneLine f (b ∷ bs)) is (start_on_one_line b bs)))
 
 -- what is read after one token
 pub record Behind (t : Token) (whole rest : Result (List Token) Fault) : Type 0 where
@@ -163,8 +199,8 @@ behind t (Ok ts) whole is cut = record { next = sym (ap list_of is); cut = refl 
 behind t (Err e) whole is cut = let both = sym is ∙ cut in absurd cc
 
 pub token_left : (line : ℕ) (rest : List ℕ) (k : TokenKind) (n : ℕ) → 0 < length rest → start_of (slice_index rest 0) rest ≡ start.Found k n → tokens_from 0 line rest ≡ Ok (list_of (tokens_from 0 line rest))
-    → Behind (record { kind = k; line = line_number line }) (tokens_from 0 line rest) (tokens_from 0 line (drop n rest))
-token_left line rest k n some is cut = behind (record { kind = k; line = line_number line }) _ (tokens_from 0 line rest) (token_goes line rest k n some is) cut
+    → Behind (record { kind = k; line = line_number line; left = length rest }) (tokens_from 0 line rest) (tokens_from 0 line (drop n rest))
+token_left line rest k n some is cut = behind (record { kind = k; line = line_number line; left = length rest }) _ (tokens_from 0 line rest) (token_goes line rest k n some is) cut
 
 -- what is left once a token is put in its place
 pub record PutLeft (at : ℕ) (rest : List ℕ) (next : Option Token) (n : ℕ) : Type 0 where
@@ -172,15 +208,15 @@ pub record PutLeft (at : ℕ) (rest : List ℕ) (next : Option Token) (n : ℕ) 
   pub cut : tokens_from 0 at (drop n rest) ≡ Ok (list_of (tokens_from 0 at (drop n rest)))
   pub tokens : next_and next at (drop n rest) ≡ list_of (tokens_from 0 at rest)
 
-pub put_left : (at : ℕ) (rest : List ℕ) (next : Option Token) (n : ℕ) → 0 < length rest → IsPut (Ok n) next (line_number at) (start_of (slice_index rest 0) rest) → tokens_from 0 at rest ≡ Ok (list_of (tokens_from 0 at rest))
+pub put_left : (at : ℕ) (rest : List ℕ) (next : Option Token) (n : ℕ) → 0 < length rest → IsPut (Ok n) next (line_number at) (length rest) (start_of (slice_index rest 0) rest) → tokens_from 0 at rest ≡ Ok (list_of (tokens_from 0 at rest))
     → PutLeft at rest next n
 put_left at rest None n some put cut = absurd put
 put_left at rest (Some t) n some put cut =
     let left = token_left at rest t.kind n some put.0 cut in
-    record { fits = (found_size rest t.kind n some put.0).1; cut = left.cut; tokens = ap (λ (l : ℕ). record { kind = t.kind; line = l } ∷ list_of (tokens_from 0 at (drop n rest))) put.1 ∙ left.next }
+    record { fits = (found_size rest t.kind n some put.0).1; cut = left.cut; tokens = ap (λ (l : ℕ). record { kind = t.kind; line = l; left = t.left } ∷ list_of (tokens_from 0 at (drop n rest))) put.1 ∙ ap (λ (m : ℕ). record { kind = t.kind; line = line_number at; left = m } ∷ list_of (tokens_from 0 at (drop n rest))) put.2 ∙ left.next }
 
 -- a text without a fault has a token at its start
-pub put_no_fault : (at : ℕ) (rest : List ℕ) (rule : TextRule) (next : Option Token) → 0 < length rest → IsPut (Err rule) next (line_number at) (start_of (slice_index rest 0) rest) → tokens_from 0 at rest ≡ Ok (list_of (tokens_from 0 at rest)) → ⊥
+pub put_no_fault : (at : ℕ) (rest : List ℕ) (rule : TextRule) (next : Option Token) → 0 < length rest → IsPut (Err rule) next (line_number at) (length rest) (start_of (slice_index rest 0) rest) → tokens_from 0 at rest ≡ Ok (list_of (tokens_from 0 at rest)) → ⊥
 put_no_fault at rest rule next some put cut = no_fault at rest rule some cut (wrong_is_wrong (start_of (slice_index rest 0) rest) rule put)
 
 -- the bytes of what is no gap have no line feed
@@ -191,11 +227,11 @@ taken_feeds (start.Wrong rule) text no_gap one = refl
 
 -- so the bytes behind it are on the same line
 pub goes_on : (xs : List Token) (line : ℕ) (rest : List ℕ) (total : Result (List Token) Fault) → 0 < length rest → BeginsNoGap rest → wrong (start_of (slice_index rest 0) rest) ≡ None → with_all xs (tokens_from 0 line rest) ≡ total
-    → with_all (xs ++ added (start_of (slice_index rest 0) rest) (line_number line)) (tokens_from 0 line (drop (size (start_of (slice_index rest 0) rest)) rest)) ≡ total
+    → with_all (xs ++ added (start_of (slice_index rest 0) rest) (line_number line) (length rest)) (tokens_from 0 line (drop (size (start_of (slice_index rest 0) rest)) rest)) ≡ total
 goes_on xs line [] total some begins good so_far = absurd (omega arith)
 goes_on xs line (b ∷ bs) total some begins good so_far =
     let f : Start = start_of b (b ∷ bs) in
-    ap (λ (l : ℕ). with_all (xs ++ added f (line_number line)) (tokens_from 0 l (drop (size f) (b ∷ bs)))) (sym (same_line line _ (taken_feeds f (b ∷ bs) (no_gap_start b bs begins.0 begins.1) (start_on_one_line b bs))))
+    ap (λ (l : ℕ). with_all (xs ++ added f (line_number line) (length (b ∷ bs))) (tokens_from 0 l (drop (size f) (b ∷ bs)))) (sym (same_line line _ (taken_feeds f (b ∷ bs) (no_gap_start b bs begins.0 begins.1) (start_on_one_line b bs))))
     ∙ goes xs line (b ∷ bs) total some good so_far
 
 pub feeds_on : (rest : List ℕ) → 0 < length rest → BeginsNoGap rest → line_feeds (drop (size (start_of (slice_index rest 0) rest)) rest) ≡ line_feeds rest

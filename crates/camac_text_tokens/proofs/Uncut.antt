@@ -244,12 +244,12 @@ size_for : (k : Option TokenKind) (n : ℕ) → size (start_for k n) ≡ n
 size_for None n = refl
 size_for (Some k) n = refl
 
-added_for : (k : Option TokenKind) (n line : ℕ) → added (start_for k n) (line_number line) ≡ token_at k line
-added_for None n line = refl
-added_for (Some k) n line = refl
+added_for : (k : Option TokenKind) (n line left : ℕ) → added (start_for k n) (line_number line) left ≡ token_at k line left
+added_for None n line left = refl
+added_for (Some k) n line left = refl
 
 -- one step over a piece
-pub piece_step : (k : Option TokenKind) (line : ℕ) (bytes rest : List ℕ) → Starts k bytes rest → tokens_from 0 line (bytes ++ rest) ≡ with_all (token_at k line) (tokens_from 0 (line + line_feeds bytes) rest)
+pub piece_step : (k : Option TokenKind) (line : ℕ) (bytes rest : List ℕ) → Starts k bytes rest → tokens_from 0 line (bytes ++ rest) ≡ with_all (token_at k line (length (bytes ++ rest))) (tokens_from 0 (line + line_feeds bytes) rest)
 unfolding tokens_from
 piece_step k line [] rest f = absurd (omega (arith, f.some))
 piece_step k line (b ∷ bs) rest f =
@@ -259,17 +259,17 @@ piece_step k line (b ∷ bs) rest f =
     let sized : size g ≡ n = ap size f.start ∙ size_for k n in
     let some : 0 < size g = omega (arith, sized) in
     start_step g b line (bs ++ rest) good some
-    ∙ ap (λ (us : List Token). with_all us (tokens_from 0 (line + line_feeds (take (size g) ((b ∷ bs) ++ rest))) (drop (size g) ((b ∷ bs) ++ rest)))) (ap (λ (h : Start). added h (line_number line)) f.start ∙ added_for k n line)
-    ∙ ap (λ (m : ℕ). with_all (token_at k line) (tokens_from 0 (line + line_feeds (take m ((b ∷ bs) ++ rest))) (drop m ((b ∷ bs) ++ rest)))) sized
-    ∙ ap (λ (w : List ℕ). with_all (token_at k line) (tokens_from 0 (line + line_feeds w) (drop n ((b ∷ bs) ++ rest)))) (take-append_seam (b ∷ bs) rest)
-    ∙ ap (λ (w : List ℕ). with_all (token_at k line) (tokens_from 0 (line + line_feeds (b ∷ bs)) w)) (drop-append_seam (b ∷ bs) rest)
+    ∙ ap (λ (us : List Token). with_all us (tokens_from 0 (line + line_feeds (take (size g) ((b ∷ bs) ++ rest))) (drop (size g) ((b ∷ bs) ++ rest)))) (ap (λ (h : Start). added h (line_number line) (length ((b ∷ bs) ++ rest))) f.start ∙ added_for k n line (length ((b ∷ bs) ++ rest)))
+    ∙ ap (λ (m : ℕ). with_all (token_at k line (length ((b ∷ bs) ++ rest))) (tokens_from 0 (line + line_feeds (take m ((b ∷ bs) ++ rest))) (drop m ((b ∷ bs) ++ rest)))) sized
+    ∙ ap (λ (w : List ℕ). with_all (token_at k line (length ((b ∷ bs) ++ rest))) (tokens_from 0 (line + line_feeds w) (drop n ((b ∷ bs) ++ rest)))) (take-append_seam (b ∷ bs) rest)
+    ∙ ap (λ (w : List ℕ). with_all (token_at k line (length ((b ∷ bs) ++ rest))) (tokens_from 0 (line + line_feeds (b ∷ bs)) w)) (drop-append_seam (b ∷ bs) rest)
 
 pieces_read : (line : ℕ) (ps : List Piece) → ArePieces ps → tokens_from 0 line (joined ps) ≡ Ok (tokens_in line ps)
 unfolding tokens_from
 pieces_read line [] stand = refl
 pieces_read line (p ∷ ps) stand =
     piece_step p.kind line p.bytes (joined ps) (piece_starts p.kind p.bytes (joined ps) stand.0)
-    ∙ ap (with_all (token_at p.kind line)) (pieces_read (line + line_feeds p.bytes) ps stand.1)
+    ∙ ap (with_all (token_at p.kind line (length (p.bytes ++ joined ps)))) (pieces_read (line + line_feeds p.bytes) ps stand.1)
 
 pub cut_tokens : (text : List ℕ) (ts : List Token) → IsCut text ts → tokens_of text ≡ Ok ts
 unfolding tokens_of
@@ -283,4 +283,4 @@ made_one us ts r p q = list_is us ts (sym p ∙ q) where
 pub answer_only : (text : List ℕ) (r : Result (Vec Token Global) TextFault) → AnswersList r (tokens_of text) → (ts : List Token) → IsCut text ts → HasTokens r ts
 answer_only text (Ok v) made ts c = made_one v.items ts (tokens_of text) made (cut_tokens text ts c)
 answer_only text (Err fault.OutOfMemory) made ts c = tt
-answer_only text (Err (fault.Broken rule line)) made ts c = let found : tokens_of text ≡ Ok ts = cut_tokens text ts c in let both = sym made ∙ found in absurd cc
+answer_only text (Err (fault.Broken rule line left)) made ts c = let found : tokens_of text ≡ Ok ts = cut_tokens text ts c in let both = sym made ∙ found in absurd cc

@@ -47,8 +47,8 @@ Breaks rule.DeclaredTwice text = ⊥
 Breaks rule.NotDeclared text = ⊥
 Breaks rule.BranchNotOne text = ⊥
 
--- The text is pieces that stand and a rest. No piece stands at the start of the rest, as the rule says, and the line is 1 plus the line
--- feeds before it.
+-- The text is pieces that stand and a rest. No piece stands at the start of the rest, as the rule says, the line is 1 plus the line
+-- feeds before it, and the bytes that are left are those of the rest.
 pub record IsBrokenAt (text : List ℕ) (f : Fault) : Type 0 where
   pub pieces : List Piece
   pub rest : List ℕ
@@ -57,6 +57,7 @@ pub record IsBrokenAt (text : List ℕ) (f : Fault) : Type 0 where
   pub nothing : (kind : Option TokenKind) (bytes after : List ℕ) → rest ≡ bytes ++ after → IsPiece kind bytes after → ⊥
   pub why : Breaks f.rule rest
   pub line : f.line ≡ line_number (1 + count_by (λ b. b == 10) (joined pieces))
+  pub left : f.left ≡ length rest
 
 -- a text has this token fault exactly where it is broken so
 abbrev pub TokenFaultsStand : Type 0

@@ -72,14 +72,14 @@ abbrev pub joined : List Piece → List ℕ
 joined [] = []
 joined (p ∷ ps) = p.bytes ++ joined ps
 
-abbrev pub token_at : Option TokenKind → ℕ → List Token
-token_at None line = []
-token_at (Some k) line = record { kind = k; line = line_number line } ∷ []
+abbrev pub token_at : Option TokenKind → ℕ → ℕ → List Token
+token_at None line left = []
+token_at (Some k) line left = record { kind = k; line = line_number line; left = left } ∷ []
 
--- the tokens of pieces that begin on a line: that of a token is 1 plus the line feeds before it
+-- the tokens of pieces that begin on a line: that of a token is 1 plus the line feeds before it, and from its first byte on stand its bytes and all behind it
 abbrev pub tokens_in : ℕ → List Piece → List Token
 tokens_in line [] = []
-tokens_in line (p ∷ ps) = token_at p.kind line ++ tokens_in (line + count_by (λ b. b == 10) p.bytes) ps
+tokens_in line (p ∷ ps) = token_at p.kind line (length (joined (p ∷ ps))) ++ tokens_in (line + count_by (λ b. b == 10) p.bytes) ps
 
 abbrev pub ArePieces : List Piece → Type 0
 ArePieces [] = Unit {0}
@@ -96,4 +96,4 @@ pub record IsCut (text : List ℕ) (tokens : List Token) : Type 0 where
 abbrev pub HasTokens : Result (Vec Token) TextFault → List Token → Type 0
 HasTokens (Ok v) tokens = v.items ≡ tokens
 HasTokens (Err fault.OutOfMemory) tokens = Unit {0}
-HasTokens (Err (fault.Broken rule line)) tokens = ⊥
+HasTokens (Err (fault.Broken rule line left)) tokens = ⊥

@@ -28,13 +28,13 @@ pub record IsLeft (line : ℕ) (bytes : List ℕ) : Type 0 where
 abbrev pub AnswersTokens : Result (List Token) TextFault → Result (List Token) Fault → Type 0
 AnswersTokens (Ok ts) read = read ≡ Ok ts
 AnswersTokens (Err fault.OutOfMemory) read = ⊥
-AnswersTokens (Err (fault.Broken rule line)) read = read ≡ Err (record { rule = rule; line = line })
+AnswersTokens (Err (fault.Broken rule line left)) read = read ≡ Err (record { rule = rule; line = line; left = left })
 
 -- the same, with the line of the text's end
 abbrev pub AnswersWithEnd : Result (List Token × ℕ) TextFault → Result (List Token) Fault → ℕ → Type 0
 AnswersWithEnd (Ok p) read end = (read ≡ Ok p.0) × (p.1 ≡ end)
 AnswersWithEnd (Err fault.OutOfMemory) read end = ⊥
-AnswersWithEnd (Err (fault.Broken rule line)) read end = read ≡ Err (record { rule = rule; line = line })
+AnswersWithEnd (Err (fault.Broken rule line left)) read end = read ≡ Err (record { rule = rule; line = line; left = left })
 
 -- bytes that begin with neither a blank nor a comment
 abbrev pub BeginsNoGap : List ℕ → Type 0
@@ -49,17 +49,20 @@ pub record IsPastGaps (line : ℕ) (text : List ℕ) (after : ℕ) (rest : List 
   pub begins : BeginsNoGap rest
   pub feeds : after + count_by (λ b. b == 10) rest ≡ line + count_by (λ b. b == 10) text
 
+abbrev pub eight_spaces : List ℕ
+eight_spaces = 32 ∷ 32 ∷ 32 ∷ 32 ∷ 32 ∷ 32 ∷ 32 ∷ 32 ∷ []
+
 -- the line of the text's end, or the first token fault
 abbrev pub EndOrFault : Result ℕ TextFault → Result (List Token) Fault → ℕ → Type 0
 EndOrFault (Ok line) read end = (read ≡ Ok (list_of read)) × (line ≡ end)
 EndOrFault (Err fault.OutOfMemory) read end = ⊥
-EndOrFault (Err (fault.Broken rule line)) read end = read ≡ Err (record { rule = rule; line = line })
+EndOrFault (Err (fault.Broken rule line left)) read end = read ≡ Err (record { rule = rule; line = line; left = left })
 
--- the token at the start is put in its place, with the line of its bytes; or what is wrong there
-abbrev pub IsPut : Result ℕ TextRule → Option Token → ℕ → Start → Type 0
-IsPut (Ok n) (Some t) line f = (f ≡ start.Found t.kind n) × (t.line ≡ line)
-IsPut (Ok n) None line f = ⊥
-IsPut (Err rule) next line f = wrong f ≡ Some rule
+-- the token at the start is put in its place, with the line of its bytes and how many are left; or what is wrong there
+abbrev pub IsPut : Result ℕ TextRule → Option Token → ℕ → ℕ → Start → Type 0
+IsPut (Ok n) (Some t) line left f = (f ≡ start.Found t.kind n) × (t.line ≡ line) × (t.left ≡ left)
+IsPut (Ok n) None line left f = ⊥
+IsPut (Err rule) next line left f = wrong f ≡ Some rule
 
 -- the bytes that are taken at the start, or what is wrong there
 abbrev pub IsExtent : Result ℕ TextRule → Start → Type 0

@@ -71,9 +71,9 @@ size (start.Gap n) = n
 size (start.Found k n) = n
 size (start.Wrong rule) = 0
 
-abbrev pub added : Start → ℕ → List Token
-added (start.Found k n) line = record { kind = k; line = line } ∷ []
-added _ line = []
+abbrev pub added : Start → ℕ → ℕ → List Token
+added (start.Found k n) line left = record { kind = k; line = line; left = left } ∷ []
+added _ line left = []
 
 abbrev pub wrong : Start → Option TextRule
 wrong (start.Wrong rule) = Some rule
@@ -90,15 +90,16 @@ abbrev pub with_first : Token → Result (List Token) Fault → Result (List Tok
 with_first t (Ok ts) = Ok (t ∷ ts)
 with_first t (Err e) = Err e
 
-abbrev pub tokens_by : Start → ℕ → (ℕ → Result (List Token) Fault) → Result (List Token) Fault
-tokens_by (start.Gap n) line more = more (n - 1)
-tokens_by (start.Found k n) line more = with_first (record { kind = k; line = line_number line }) (more (n - 1))
-tokens_by (start.Wrong rule) line more = Err (record { rule = rule; line = line_number line })
+-- of what stands where so many bytes are left
+abbrev pub tokens_by : Start → ℕ → ℕ → (ℕ → Result (List Token) Fault) → Result (List Token) Fault
+tokens_by (start.Gap n) line left more = more (n - 1)
+tokens_by (start.Found k n) line left more = with_first (record { kind = k; line = line_number line; left = left }) (more (n - 1))
+tokens_by (start.Wrong rule) line left more = Err (record { rule = rule; line = line_number line; left = left })
 
 -- The tokens after so many bytes that belong to the one before, from a line on.
 unfoldable pub tokens_from : ℕ → ℕ → List ℕ → Result (List Token) Fault
 tokens_from skip line [] = Ok []
-tokens_from zero line (b ∷ bs) = tokens_by (start_of b (b ∷ bs)) line (λ skip. tokens_from skip (line_after line b) bs)
+tokens_from zero line (b ∷ bs) = tokens_by (start_of b (b ∷ bs)) line (length (b ∷ bs)) (λ skip. tokens_from skip (line_after line b) bs)
 tokens_from (suc skip) line (b ∷ bs) = tokens_from skip (line_after line b) bs
 
 -- the one list of tokens of a text, or its first token fault

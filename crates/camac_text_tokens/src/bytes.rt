@@ -4,8 +4,8 @@ ghost use Rattle.std.specs.Prelude.{◌≡◌, ◌-◌, ◌≤◌, drop, length,
 ghost use Rattle.std.specs.Int.{from_le_bytes, to_le_bytes, w64};
 ghost use Rattle.std.specs.Str.{bytes_eq};
 
-/// Whether these are the same bytes. Lengths are looked at first, since most words differ there. Where fewer than eight bytes are left,
-/// they are looked at together with some of those before them.
+/// Whether these are the same bytes. Lengths are looked at first, since most words differ there, and then the last eight bytes, since names
+/// that are much alike differ in a number at their end.
 #[inline]
 pub fn are_same(one: &[u8], other: &[u8]) -> bool
     ensures { result ≡ bytes_eq one.now other.now }
@@ -15,6 +15,9 @@ pub fn are_same(one: &[u8], other: &[u8]) -> bool
     }
     if one.len() < 8 {
         return are_same_from_first(one, other);
+    }
+    if last_eight(one) != last_eight(other) {
+        return false;
     }
     let mut rest = one;
     let mut other_rest = other;
@@ -27,11 +30,11 @@ pub fn are_same(one: &[u8], other: &[u8]) -> bool
         rest = after;
         other_rest = other_after;
     }
-    last_eight(one) == last_eight(other)
+    true
 }
 
 // The first eight bytes as one number, which no other bytes give. It takes one load, where each byte on its own takes a load and a branch.
-fn first_eight(bytes: &[u8]) -> u64
+pub fn first_eight(bytes: &[u8]) -> u64
     requires { 8 ≤ length bytes.now }
     ensures number { result ≡ from_le_bytes w64 (take 8 bytes.now) }
     ensures only { to_le_bytes w64 result ≡ take 8 bytes.now }

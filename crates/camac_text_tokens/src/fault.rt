@@ -31,9 +31,13 @@ pub enum TextFault {
     /// S8: a growth of memory was refused.
     #[error("out of memory")]
     OutOfMemory,
-    /// The rule that the text breaks, and the line of the token that shows it, from 1.
+    /// The rule that the text breaks, the line of the token that shows it, from 1, and how many bytes of the text stand from its first byte on.
     #[error("line {line}: {rule:?}")]
-    Broken { rule: TextRule, line: u32 },
+    Broken {
+        rule: TextRule,
+        line: u32,
+        left: usize,
+    },
 }
 
 impl From<AllocError> for TextFault {

@@ -16,31 +16,37 @@ use camac_lang::Name;
 pub fn put_token(next: &mut Option<Token>, text: &[u8], line: u32) -> Result<usize, TextRule>
     requires some { 0 < length text.now }
     requires begins { BeginsNoGap text.now }
-    ensures { IsPut result next.new line (start_of (slice_index text.now 0) text.now) }
+    ensures { IsPut result next.new line (length text.now) (start_of (slice_index text.now 0) text.now) }
 {
     let b = text[0];
+    let left = text.len();
     if b.is_ascii_alphabetic() {
-        return put_word(next, name_text(text), line);
+        return put_word(next, name_text(text), line, left);
     }
     if b.is_ascii_digit() {
-        return put_number(next, digits_text(text), line);
+        return put_number(next, digits_text(text), line, left);
     }
-    put_sign(next, text, line)
+    put_sign(next, text, line, left)
 }
 
-fn put_word(next: &mut Option<Token>, text: &[u8], line: u32) -> Result<usize, TextRule>
+fn put_word(
+    next: &mut Option<Token>,
+    text: &[u8],
+    line: u32,
+    left: usize,
+) -> Result<usize, TextRule>
     requires { 0 < length text.now }
-    ensures { IsPut result next.new line (keyword_or (keyword text.now) text.now) }
+    ensures { IsPut result next.new line left (keyword_or (keyword text.now) text.now) }
 {
     match keyword(text) {
         Some(word) => {
             let kind = TokenKind::Keyword(word);
-            *next = Some(Token { kind, line });
+            *next = Some(Token { kind, line, left });
         }
         None => match Name::new(text) {
             Some(name) => {
                 let kind = TokenKind::Name(name);
-                *next = Some(Token { kind, line });
+                *next = Some(Token { kind, line, left });
             }
             None => return Err(TextRule::LimitPassed),
         },
@@ -48,32 +54,42 @@ fn put_word(next: &mut Option<Token>, text: &[u8], line: u32) -> Result<usize, T
     Ok(text.len())
 }
 
-fn put_number(next: &mut Option<Token>, digits: &[u8], line: u32) -> Result<usize, TextRule>
-    ensures { IsPut result next.new line (number_or_fault digits.now) }
+fn put_number(
+    next: &mut Option<Token>,
+    digits: &[u8],
+    line: u32,
+    left: usize,
+) -> Result<usize, TextRule>
+    ensures { IsPut result next.new line left (number_or_fault digits.now) }
 {
     match number(digits) {
         Some(number) => {
             let kind = TokenKind::Number(number);
-            *next = Some(Token { kind, line });
+            *next = Some(Token { kind, line, left });
             Ok(digits.len())
         }
         None => Err(TextRule::NumberTooLarge),
     }
 }
 
-fn put_sign(next: &mut Option<Token>, text: &[u8], line: u32) -> Result<usize, TextRule>
-    ensures { IsPut result next.new line (pair_or_single (pair_at text.now) (single_at text.now)) }
+fn put_sign(
+    next: &mut Option<Token>,
+    text: &[u8],
+    line: u32,
+    left: usize,
+) -> Result<usize, TextRule>
+    ensures { IsPut result next.new line left (pair_or_single (pair_at text.now) (single_at text.now)) }
 {
     match pair_at(text) {
         Some(sign) => {
             let kind = TokenKind::Sign(sign);
-            *next = Some(Token { kind, line });
+            *next = Some(Token { kind, line, left });
             Ok(2)
         }
         None => match single_at(text) {
             Some(sign) => {
                 let kind = TokenKind::Sign(sign);
-                *next = Some(Token { kind, line });
+                *next = Some(Token { kind, line, left });
                 Ok(1)
             }
             None => Err(TextRule::BadByte),

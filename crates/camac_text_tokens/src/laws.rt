@@ -3,7 +3,7 @@
 ghost use Rattle.camac_text_tokens.specs.Broken.{TokenFaultsStand};
 
 /// A text has a token fault exactly where gaps and tokens stand up to a place at which none stands, for the reason that the rule names. The
-/// line is 1 plus the line feeds before that place.
+/// line is 1 plus the line feeds before that place, and what is left are the bytes from there on.
 pub fn token_faults_stand()
     ensures { TokenFaultsStand }
 {}

@@ -1,9 +1,10 @@
 // What is left of the tokens of a text: they are cut one by one, where they are wanted.
 
-ghost use Rattle.std.specs.Prelude.{◌≡◌, ◌+◌, ◌≤◌, drop, length, slice_get, option_copied};
+ghost use Rattle.std.specs.Prelude.{◌≡◌, ◌+◌, ◌≤◌, true, take, drop, length, slice_get, option_copied};
 ghost use Rattle.camac_text_tokens.specs.Scanning.{last_line, line_after, tokens_from, tokens_of};
-ghost use Rattle.camac_text_tokens.specs.Left.{list_of, next_and, IsLeft, AnswersTokens, AnswersWithEnd, IsPastGaps, EndOrFault};
+ghost use Rattle.camac_text_tokens.specs.Left.{list_of, next_and, IsLeft, AnswersTokens, AnswersWithEnd, IsPastGaps, EndOrFault, eight_spaces};
 
+use crate::bytes::first_eight;
 use crate::extent::extent_of;
 use crate::fault::TextFault;
 use crate::first::put_token;
@@ -112,15 +113,31 @@ fn end_line(text: &[u8]) -> Result<u32, TextFault>
             }
             Err(rule) => {
                 let line = line_number(line);
-                return Err(TextFault::Broken { rule, line });
+                let left = rest.len();
+                return Err(TextFault::Broken { rule, line, left });
             }
         }
     }
     Ok(line_number(line))
 }
 
-// The bytes after blanks and comments, and their line.
+// The bytes after blanks and comments, and their line. Before most tokens stands one space, or nothing.
 fn past_gaps(text: &[u8], line: usize) -> (&[u8], usize)
+    requires { line + length text.now ≤ 9223372036854775808 }
+    ensures { IsPastGaps line text.now result.1 result.0.now }
+{
+    match text {
+        [first, second, ..] if *first == b' ' && *second > b'#' => {
+            let (_, after) = text.split_at(1);
+            (after, line)
+        }
+        [first, ..] if *first > b'#' => (text, line),
+        _ => past_long_gaps(text, line),
+    }
+}
+
+// The same for gaps of all kinds.
+fn past_long_gaps(text: &[u8], line: usize) -> (&[u8], usize)
     requires { line + length text.now ≤ 9223372036854775808 }
     ensures { IsPastGaps line text.now result.1 result.0.now }
 {
@@ -131,6 +148,9 @@ fn past_gaps(text: &[u8], line: usize) -> (&[u8], usize)
         if byte == b'#' {
             let (_, after) = rest.split_at(comment_len(rest));
             rest = after;
+        } else if begins_with_eight_spaces(rest) {
+            let (_, after) = rest.split_at(8);
+            rest = after;
         } else if is_blank(byte) {
             let (_, after) = rest.split_at(1);
             rest = after;
@@ -140,6 +160,16 @@ fn past_gaps(text: &[u8], line: usize) -> (&[u8], usize)
         }
     }
     (rest, at)
+}
+
+// Long runs of spaces are passed by eight in a turn.
+fn begins_with_eight_spaces(text: &[u8]) -> bool
+    ensures { result ≡ true → take 8 text.now ≡ eight_spaces }
+{
+    if text.len() < 8 {
+        return false;
+    }
+    first_eight(text) == 0x2020_2020_2020_2020
 }
 
 // The line of what follows a byte.

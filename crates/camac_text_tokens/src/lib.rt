@@ -16,4 +16,6 @@ pub use bytes::are_same;
 pub use fault::{TextFault, TextRule};
 pub use left::TokensLeft;
 pub use scanner::{last_line, tokens};
+pub use signs::SIGNS;
 pub use token::{Keyword, Sign, Token, TokenKind};
+pub use words::KEYWORDS;

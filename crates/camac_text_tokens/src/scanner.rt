@@ -36,7 +36,12 @@ fn scan(alloc: Global, text: &[u8]) -> Result<Vec<Token>, TextFault>
     while let Some(token) = left.first() {
         let kind = token.kind.duplicate();
         let line = token.line;
-        tokens.push(Token { kind, line })?;
+        let bytes_left = token.left;
+        tokens.push(Token {
+            kind,
+            line,
+            left: bytes_left,
+        })?;
         left.advance();
     }
     Ok(tokens)
@@ -96,10 +101,46 @@ fn digits_len(text: &[u8]) -> usize
     text.iter().take_while(|b| b.is_ascii_digit()).count()
 }
 
+// Eight bytes are looked at in a turn, since comments are long.
 pub fn comment_len(text: &[u8]) -> usize
     ensures { result ≡ length (take_while is_no_line_feed text.now) }
 {
+    let mut rest = text;
+    let mut count = 0;
+    while let [
+        first,
+        second,
+        third,
+        fourth,
+        fifth,
+        sixth,
+        seventh,
+        eighth,
+        after @ ..,
+    ] = rest
+    {
+        if !has_no_line_feed(*first, *second, *third, *fourth)
+            || !has_no_line_feed(*fifth, *sixth, *seventh, *eighth)
+        {
+            break;
+        }
+        count += 8;
+        rest = after;
+    }
+    count + short_comment_len(rest)
+}
+
+// The same, byte by byte.
+fn short_comment_len(text: &[u8]) -> usize
+    ensures { result ≡ length (take_while is_no_line_feed text.now) }
+{
     text.iter().take_while(|b| **b != b'\n').count()
+}
+
+fn has_no_line_feed(first: u8, second: u8, third: u8, fourth: u8) -> bool
+    ensures { result ≡ (is_no_line_feed first && is_no_line_feed second && is_no_line_feed third && is_no_line_feed fourth) }
+{
+    first != b'\n' && second != b'\n' && third != b'\n' && fourth != b'\n'
 }
 
 pub fn line_feeds(text: &[u8]) -> usize

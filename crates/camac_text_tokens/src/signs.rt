@@ -1,9 +1,63 @@
 // The signs of the language.
 
-ghost use Rattle.std.specs.Prelude.{◌≡◌, [], ◌∷◌};
-ghost use Rattle.camac_text_tokens.specs.Words.{spelled_in, pair_signs, single_signs};
+ghost use Rattle.std.specs.Prelude.{◌≡◌, [], ◌∷◌, Some};
+ghost use Rattle.camac_text_tokens.specs.Words.{spelled_in, or_else, pair_signs, single_signs};
 
 use crate::token::Sign;
+
+/// The signs of the language.
+pub const SIGNS: [Sign; 20] = [
+    Sign::LeftBrace,
+    Sign::RightBrace,
+    Sign::LeftBracket,
+    Sign::RightBracket,
+    Sign::Plus,
+    Sign::Minus,
+    Sign::Times,
+    Sign::Over,
+    Sign::Modulo,
+    Sign::Equals,
+    Sign::Comma,
+    Sign::Less,
+    Sign::AtMost,
+    Sign::More,
+    Sign::AtLeast,
+    Sign::Same,
+    Sign::Differs,
+    Sign::Into,
+    Sign::From,
+    Sign::UpTo,
+];
+
+impl Sign {
+    /// How the sign is spelled.
+    pub fn spelling(self) -> &'static str
+        ensures { or_else (spelled_in pair_signs result.now) (spelled_in single_signs result.now) ≡ Some self }
+    {
+        match self {
+            Sign::LeftBrace => "{",
+            Sign::RightBrace => "}",
+            Sign::LeftBracket => "(",
+            Sign::RightBracket => ")",
+            Sign::Plus => "+",
+            Sign::Minus => "-",
+            Sign::Times => "*",
+            Sign::Over => "/",
+            Sign::Modulo => "%",
+            Sign::Equals => "=",
+            Sign::Comma => ",",
+            Sign::Less => "<",
+            Sign::AtMost => "<=",
+            Sign::More => ">",
+            Sign::AtLeast => ">=",
+            Sign::Same => "==",
+            Sign::Differs => "!=",
+            Sign::Into => "->",
+            Sign::From => "<-",
+            Sign::UpTo => "..",
+        }
+    }
+}
 
 /// The sign of these two bytes.
 pub fn pair_sign(first: u8, second: u8) -> Option<Sign>

@@ -124,9 +124,10 @@ impl TokenKind {
     }
 }
 
-/// A token and its line, from 1. A line past 4294967295 has that number.
+/// A token, its line, from 1, and how many bytes of the text stand from its first byte on. A line past 4294967295 has that number.
 #[derive(Drop)]
 pub struct Token {
     pub kind: TokenKind,
     pub line: u32,
+    pub left: usize,
 }

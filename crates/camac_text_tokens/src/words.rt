@@ -1,6 +1,6 @@
 // The words of the language.
 
-ghost use Rattle.std.specs.Prelude.{◌≡◌};
+ghost use Rattle.std.specs.Prelude.{◌≡◌, Some};
 ghost use Rattle.camac_text_tokens.specs.Words.{spelled_in, declaration_words, action_words, call_words, control_words, keyword};
 
 use crate::bytes::are_same;
@@ -8,6 +8,115 @@ use crate::token::Keyword;
 
 // The length of the longest, `service`.
 const LONGEST: usize = 7;
+
+/// The words of the language, in the order of its list.
+pub const KEYWORDS: [Keyword; 47] = [
+    Keyword::Table,
+    Keyword::Cdlam,
+    Keyword::Var,
+    Keyword::Proc,
+    Keyword::Service,
+    Keyword::Within,
+    Keyword::Cycles,
+    Keyword::Event,
+    Keyword::Words,
+    Keyword::Steps,
+    Keyword::Cdreg,
+    Keyword::Cfsa,
+    Keyword::Cssa,
+    Keyword::Cfmad,
+    Keyword::Cfubc,
+    Keyword::Cfubr,
+    Keyword::Max,
+    Keyword::Limit,
+    Keyword::Tally,
+    Keyword::Put,
+    Keyword::Cccz,
+    Keyword::Cccc,
+    Keyword::Ctci,
+    Keyword::Ctcd,
+    Keyword::Ctgl,
+    Keyword::Ccci,
+    Keyword::Cccd,
+    Keyword::On,
+    Keyword::Off,
+    Keyword::Cclm,
+    Keyword::Cclc,
+    Keyword::Ctlm,
+    Keyword::If,
+    Keyword::Else,
+    Keyword::For,
+    Keyword::To,
+    Keyword::While,
+    Keyword::Turns,
+    Keyword::By,
+    Keyword::Keep,
+    Keyword::In,
+    Keyword::Lock,
+    Keyword::Call,
+    Keyword::And,
+    Keyword::Not,
+    Keyword::Q,
+    Keyword::X,
+];
+
+impl Keyword {
+    /// How the word is spelled.
+    #[tactic(auto, unfolding(crate::specs::Words::keyword))]
+    pub fn spelling(self) -> &'static str
+        ensures { keyword result.now ≡ Some self }
+    {
+        match self {
+            Keyword::Table => "table",
+            Keyword::Cdlam => "cdlam",
+            Keyword::Var => "var",
+            Keyword::Proc => "proc",
+            Keyword::Service => "service",
+            Keyword::Within => "within",
+            Keyword::Cycles => "cycles",
+            Keyword::Event => "event",
+            Keyword::Words => "words",
+            Keyword::Steps => "steps",
+            Keyword::Cdreg => "cdreg",
+            Keyword::Cfsa => "cfsa",
+            Keyword::Cssa => "cssa",
+            Keyword::Cfmad => "cfmad",
+            Keyword::Cfubc => "cfubc",
+            Keyword::Cfubr => "cfubr",
+            Keyword::Max => "max",
+            Keyword::Limit => "limit",
+            Keyword::Tally => "tally",
+            Keyword::Put => "put",
+            Keyword::Cccz => "cccz",
+            Keyword::Cccc => "cccc",
+            Keyword::Ctci => "ctci",
+            Keyword::Ctcd => "ctcd",
+            Keyword::Ctgl => "ctgl",
+            Keyword::Ccci => "ccci",
+            Keyword::Cccd => "cccd",
+            Keyword::On => "on",
+            Keyword::Off => "off",
+            Keyword::Cclm => "cclm",
+            Keyword::Cclc => "cclc",
+            Keyword::Ctlm => "ctlm",
+            Keyword::If => "if",
+            Keyword::Else => "else",
+            Keyword::For => "for",
+            Keyword::To => "to",
+            Keyword::While => "while",
+            Keyword::Turns => "turns",
+            Keyword::By => "by",
+            Keyword::Keep => "keep",
+            Keyword::In => "in",
+            Keyword::Lock => "lock",
+            Keyword::Call => "call",
+            Keyword::And => "and",
+            Keyword::Not => "not",
+            Keyword::Q => "q",
+            Keyword::X => "x",
+        }
+    }
+}
 
 // The first word that is spelled so.
 macro_rules! spelled {

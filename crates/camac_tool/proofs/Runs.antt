@@ -1,86 +1,116 @@
--- A run from its plan and script on.
-use Rattle.std.proofs.Common.{◌≡◌, ℕ, List, Option, None, Some, refl, sym, subst, inl, inr}
+-- An engine from its plan and script on.
+use Rattle.std.proofs.Common.{◌≡◌, ℕ, List, Option, Bool, true, false, ◌||◌, refl, sym, ap, ◌∙◌, inl, inr}
 use Rattle.std.specs.Prelude.{Result, Ok, Err}
-use Rattle.camac_branch.specs.Plan.{Layout}
-use Rattle.camac_answer.specs.Reading.{Reading}
-use Rattle.camac_plan.specs.declared.fault.PlanRule.{PlanRule}
-use Rattle.camac_tool_play.specs.Sent.{Outputs, outputs}
-use Rattle.camac_tool_play.proofs.Sending.{sends_listing, prefix_listing, sends_nothing}
+use Rattle.std.proofs.Math.Bool.{or-false}
 use Rattle.camac_report_text.specs.Refusal.{refusal_text}
 use Rattle.camac_report_text.specs.declared.refusal.Refusal.{Refusal}
-use Rattle.camac_tool_check.specs.Accepted.{Accepted, Accepts, accepted}
-use Rattle.camac_tool_check.specs.Engine.{Shows}
-use Rattle.camac_tool_check.specs.Found.{IsJudgedIf, HasJudged, ReadsJudged}
-use Rattle.camac_tool_check.specs.Plan.{Says}
+use Rattle.camac_tool_check.specs.Engine.{Shows, is_write_fault}
+use Rattle.camac_tool_check.specs.Found.{HasJudged, ReadsJudged}
+use Rattle.camac_tool_check.specs.Reading.{is_read_fault}
 use Rattle.camac_tool_check.specs.Report.{refused}
-use Rattle.camac_tool.specs.Run.{Refuses, RunsAccepted, RunsJudged, RunsText, RunsOn, RunsIf, RunsPlan, Runs}
-use Rattle.camac_tool.specs.RunInTurn.{JudgedInTurn, RunsInTurn}
 use Rattle.camac_tool_check.specs.declared.fault.ToolFault.{ToolFault}
 use Rattle.camac_tool_check.specs.declared.fault.ToolFault.TheVariants as fault
 use Rattle.camac_tool_check.specs.declared.judging.Judged.{Judged}
 use Rattle.camac_tool_check.specs.declared.judging.Judged.TheVariants as judged
 use Rattle.camac_tool_check.specs.declared.outcome.Outcome.{Outcome}
-use Rattle.camac_tool_check.specs.declared.plan.PlanSource.{PlanSource}
+use Rattle.camac_tool_play.specs.declared.telling.Telling.{Telling}
+use Rattle.camac_tool_play.proofs.Sending.{both, sends_listing, prefix_listing}
+use Rattle.camac_tool.specs.Headline.{JudgedKeeps, KeepsHeadline}
+use Rattle.camac_tool.specs.Run.{Refuses, RunsJudged, RunsOn, StaysQuiet, Runs}
+use Rattle.camac_tool.specs.World.{World}
 
 -- the line of a refusal, as both writers have it
-pub refuses : (r : Result Outcome ToolFault) (why : Refusal) (l m e : Option (List ℕ)) → Shows (refused why) l m r → Refuses why (outputs l e) (outputs m e) r
+pub refuses : (r : Result Outcome ToolFault) (why : Refusal) (l m e : Option (List ℕ)) → Shows (refused why) l m r → Refuses why (both l e) (both m e) r
 refuses (Ok outcome) why l m e h = (h.0, sends_listing l m e (refusal_text why) h.1)
 refuses (Err fault.Write) why l m e h = prefix_listing l m e (refusal_text why) h
 refuses (Err fault.Read) why l m e h = absurd h
 refuses (Err fault.Memory) why l m e h = absurd h
 refuses (Err fault.TooLong) why l m e h = absurd h
 
-module _ (left : Option Reading) (a b : Outputs) where
-  accepted_runs : (r : Result Outcome ToolFault) (j : Judged) (plan : Layout) (x : Accepted) → Accepts (Ok j) plan x → RunsJudged j left a b r → RunsAccepted plan x left a b r
-  accepted_runs r (judged.Accepted c) plan x (same, is) h =
-      let here : RunsAccepted plan (Some (Ok c.script)) left a b r = subst (λ (p : Layout). RunsAccepted p (Some (Ok c.script)) left a b r) same h in
-      subst (λ (y : Accepted). RunsAccepted plan y left a b r) (sym is) here
-  accepted_runs r (judged.Refused why) plan x is h = subst (λ (y : Accepted). RunsAccepted plan y left a b r) (sym is) h
+-- flags: of two readers one of which was not called, and one failed
+texts_flag : (a b c f : Bool) → a ≡ (b || f) → (a || c) ≡ ((b || c) || f)
+texts_flag a true c f e = rw e refl
+texts_flag a false true true e = rw e refl
+texts_flag a false true false e = rw e refl
+texts_flag a false false true e = rw e refl
+texts_flag a false false false e = rw e refl
 
-  -- a run that began ends by no such fault
-  no_memory : (j : Judged) → RunsJudged j left a b (Err fault.Memory) → ⊥
-  no_memory (judged.Accepted c) h = h
-  no_memory (judged.Refused why) h = h
+answers_flag : (a b c d f : Bool) → a ≡ (b || false) → c ≡ (d || f) → (a || c) ≡ ((b || d) || f)
+answers_flag a true c d f e g = rw e refl
+answers_flag a false c d f e g = rw e g
 
-  not_long : (j : Judged) → RunsJudged j left a b (Err fault.TooLong) → ⊥
-  not_long (judged.Accepted c) h = h
-  not_long (judged.Refused why) h = h
+no_flag : {T : Type 0} (a b : Bool) → a ≡ (b || false) → b ≡ false → a ≡ true → T
+no_flag a b e f g = let no : true ≡ false = sym g ∙ e ∙ ap (λ x. x || false) f in cc
 
-  runs_if : (r : Result Outcome ToolFault) (j : Judged) (says : Result Layout PlanRule) (s t : Option (List ℕ)) → IsJudgedIf says s t j → RunsJudged j left a b r → RunsIf says s t left a b r
-  runs_if (Ok outcome) j (Ok plan) s t (text, was, accepts) h = (text, was, accepted_runs (Ok outcome) j plan (accepted plan text) accepts h)
-  runs_if (Err fault.Write) j (Ok plan) s t (text, was, accepts) h = (text, was, accepted_runs (Err fault.Write) j plan (accepted plan text) accepts h)
-  runs_if (Err fault.Read) j (Ok plan) s t (text, was, accepts) h = inr (text, was, accepted_runs (Err fault.Read) j plan (accepted plan text) accepts h)
-  runs_if (Err fault.Memory) j (Ok plan) s t is h = absurd (no_memory j h)
-  runs_if (Err fault.TooLong) j (Ok plan) s t is h = absurd (not_long j h)
-  runs_if r j (Err rule) s t (same, is) h = (same, subst (λ (k : Judged). RunsJudged k left a b r) is h)
+module _ {P : Type 0} (old new : World P) (t : Telling) where
+  -- nothing was judged
+  module _ (quiet : StaysQuiet old new) (r : Result Outcome ToolFault) where
+    runs_before : (e : ToolFault) → r ≡ Err e → ReadsJudged old.left old.plan new.plan old.script new.script (Err e) → RunsOn old new t r
+    runs_before fault.TooLong is h = rw is (h, quiet)
+    runs_before fault.Read is h = rw is (inl quiet)
+    runs_before fault.Memory is h = rw is quiet
+    runs_before fault.Write is h = absurd h
 
-  module _ {R : Type 0} (of : R → Option (List ℕ)) (plan plan' : PlanSource R) (s t : Option (List ℕ)) (j : Judged) (has : HasJudged of plan plan' s t j) where
-    pub runs_found : (r : Result Outcome ToolFault) → RunsJudged j left a b r → Runs of plan plan' s t left a b r
-    runs_found (Ok outcome) h = (has.0, has.1, runs_if (Ok outcome) j has.0 s t has.2 h)
-    runs_found (Err fault.Write) h = (has.0, has.1, runs_if (Err fault.Write) j has.0 s t has.2 h)
-    runs_found (Err fault.Read) h = inr (has.0, has.1, runs_if (Err fault.Read) j has.0 s t has.2 h)
-    runs_found (Err fault.Memory) h = absurd (no_memory j h)
-    runs_found (Err fault.TooLong) h = absurd (not_long j h)
+    keeps_before : (e : ToolFault) → r ≡ Err e → KeepsHeadline old new t r
+    keeps_before fault.TooLong is = rw is tt
+    keeps_before fault.Read is = rw is (inl quiet.1.events)
+    keeps_before fault.Memory is = rw is tt
+    keeps_before fault.Write is = rw is tt
 
-    module _ (u v : Option (List ℕ)) where
-      pub in_turn_found : (r : Result Outcome ToolFault) → RunsJudged j left a b r → JudgedInTurn j left u v a b r → RunsInTurn of plan plan' s t left u v a b r
-      in_turn_found (Ok outcome) h k = (j, has, k)
-      in_turn_found (Err fault.Write) h k = (j, has, k)
-      in_turn_found (Err fault.Read) h k = inr (j, has, k)
-      in_turn_found (Err fault.Memory) h k = absurd (no_memory j h)
-      in_turn_found (Err fault.TooLong) h k = absurd (not_long j h)
+    no_write : (e : ToolFault) → r ≡ Err e → ReadsJudged old.left old.plan new.plan old.script new.script (Err e) → is_write_fault r ≡ false
+    no_write fault.TooLong is h = rw is refl
+    no_write fault.Read is h = rw is refl
+    no_write fault.Memory is h = rw is refl
+    no_write fault.Write is h = absurd h
 
--- nothing was judged
-module _ {R : Type 0} (of : R → Option (List ℕ)) (plan plan' : PlanSource R) (s t : Option (List ℕ)) (left : Option Reading) (a : Outputs) where
-  pub runs_before : (r : Result Outcome ToolFault) (e : ToolFault) → r ≡ Err e → ReadsJudged of plan plan' s t (Err e) → Runs of plan plan' s t left a a r
-  runs_before r fault.TooLong is (inl h) = rw is (inl (h.0, h.1, sends_nothing a))
-  runs_before r fault.TooLong is (inr h) = rw is (inr (Ok h.0, h.1, (h.2, sends_nothing a)))
-  runs_before r fault.Read is h = rw is (inl (sends_nothing a))
-  runs_before r fault.Memory is h = rw is (sends_nothing a)
-  runs_before r fault.Write is h = absurd h
+    same_read : (e : ToolFault) → r ≡ Err e → is_read_fault {T = Judged} (Err e) ≡ is_read_fault r
+    same_read fault.TooLong is = rw is refl
+    same_read fault.Read is = rw is refl
+    same_read fault.Memory is = rw is refl
+    same_read fault.Write is = rw is refl
 
-  pub in_turn_before : (u : Option (List ℕ)) (r : Result Outcome ToolFault) (e : ToolFault) → r ≡ Err e → ReadsJudged of plan plan' s t (Err e) → RunsInTurn of plan plan' s t left u u a a r
-  in_turn_before u r fault.TooLong is h = rw is (refl, sends_nothing a)
-  in_turn_before u r fault.Read is h = rw is (inl (refl, sends_nothing a))
-  in_turn_before u r fault.Memory is h = rw is (refl, sends_nothing a)
-  in_turn_before u r fault.Write is h = absurd h
+    pub ends_before : (e : ToolFault) → r ≡ Err e → ReadsJudged old.left old.plan new.plan old.script new.script (Err e) → new.writers_failed ≡ old.writers_failed → new.answers_failed ≡ old.answers_failed
+        → new.texts_failed ≡ (old.texts_failed || is_read_fault {T = Judged} (Err e)) → Runs old new t r
+    ends_before e is h w a s = record {
+      runs = runs_before e is h;
+      headline = keeps_before e is;
+      out_failed = w ∙ sym (or-false old.writers_failed) ∙ ap (λ x. old.writers_failed || x) (sym (no_write e is h));
+      in_failed = rw a (texts_flag new.texts_failed old.texts_failed old.answers_failed (is_read_fault r) (s ∙ ap (λ x. old.texts_failed || x) (same_read e is)));
+      unread = λ was now. quiet;
+      begun = λ was now. no_flag new.answers_failed old.answers_failed (a ∙ sym (or-false old.answers_failed)) was now;
+    }
+
+  -- this was judged
+  module _ (j : Judged) (has : HasJudged old.left old.plan new.plan old.script new.script j) where
+    runs_found : (r : Result Outcome ToolFault) → RunsJudged t j old.answers new.answers old.outputs new.outputs r → RunsOn old new t r
+    runs_found (Ok outcome) d = (j, has, d)
+    runs_found (Err fault.Write) d = (j, has, d)
+    runs_found (Err fault.Read) d = inr (j, has, d)
+    runs_found (Err fault.Memory) d = no j d
+      where
+        no : (k : Judged) → RunsJudged t k old.answers new.answers old.outputs new.outputs (Err fault.Memory) → RunsOn old new t (Err fault.Memory)
+        no (judged.Accepted c) x = absurd x
+        no (judged.Refused why) x = absurd x.1
+    runs_found (Err fault.TooLong) d = no j d
+      where
+        no : (k : Judged) → RunsJudged t k old.answers new.answers old.outputs new.outputs (Err fault.TooLong) → RunsOn old new t (Err fault.TooLong)
+        no (judged.Accepted c) x = absurd x
+        no (judged.Refused why) x = absurd x.1
+
+    keeps_found : (r : Result Outcome ToolFault) → JudgedKeeps t j old.answers old.outputs.events new.outputs.events r → KeepsHeadline old new t r
+    keeps_found (Ok outcome) k = (j, has, k)
+    keeps_found (Err fault.Read) k = inr (j, has, k)
+    keeps_found (Err fault.Write) k = tt
+    keeps_found (Err fault.Memory) k = tt
+    keeps_found (Err fault.TooLong) k = tt
+
+    pub ends_found : (r : Result Outcome ToolFault) → RunsJudged t j old.answers new.answers old.outputs new.outputs r → JudgedKeeps t j old.answers old.outputs.events new.outputs.events r
+        → new.writers_failed ≡ (old.writers_failed || is_write_fault r) → new.answers_failed ≡ (old.answers_failed || is_read_fault r) → new.texts_failed ≡ (old.texts_failed || false) → Runs old new t r
+    ends_found r d k w a s = record {
+      runs = runs_found r d;
+      headline = keeps_found r k;
+      out_failed = w;
+      in_failed = answers_flag new.texts_failed old.texts_failed new.answers_failed old.answers_failed (is_read_fault r) s a;
+      unread = λ was now. no_flag new.texts_failed old.texts_failed s was now;
+      begun = λ was now. (j, has, d);
+    }

@@ -1,5 +1,4 @@
+pub mod World
 pub mod Run
 pub mod Headline
-pub mod RunInTurn
-pub mod Drive
 pub mod Input

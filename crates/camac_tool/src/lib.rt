@@ -1,7 +1,6 @@
 //! The engines of the program: from its inputs to its output, and its command line.
 #![tactic(auto)]
 
-mod driving;
 mod input;
 mod launch;
 pub mod laws;
@@ -11,11 +10,10 @@ mod streams;
 mod target;
 
 pub use camac_tool_check::{
-    Outcome, PlanSource, ToolFault, engine_bounds, engine_check, engine_events, engine_explain,
-    engine_plan, sample_plan, status,
+    Outcome, PlanSource, ToolFault, engine_bounds, engine_check, engine_commands, engine_events,
+    engine_explain, engine_explain_plan, engine_plan, sample_plan, status,
 };
 pub use camac_tool_words::{Job, JobFault, read_words};
-pub use driving::engine_drive;
 pub use launch::{ArgumentsFault, arguments};
 pub use program::{exit_status, unread_status};
-pub use running::engine_run;
+pub use running::{engine_drive, engine_run};

@@ -1,21 +1,20 @@
 // The program, from its words to its exit status.
 
-ghost use Rattle.std.specs.Prelude.{◌≡◌, ◌||◌, IfOk, IfErr, codes, is_err, is_none};
+ghost use Rattle.std.specs.Prelude.{◌≡◌, ◌||◌, [], IfOk, IfErr, OnOk, codes, is_err, is_none};
 ghost use Rattle.std.specs.Str.{bytes_eq};
 ghost use Rattle.camac_tool_check.specs.Engine.{status_of};
 ghost use Rattle.camac_tool_check.specs.declared.fault.ToolFault.TheVariants.{Read as read-fault, Write};
 ghost use Rattle.camac_tool.specs.declared.launch.ArgumentsFault.TheVariants.{Memory, NotText};
-ghost use Rattle.camac_word.specs.Watched.{has_failed};
+ghost use Rattle.camac_tool_streams.specs.Gathered.{has_stopped, held_in};
 
-use crate::driving::engine_drive;
 use crate::input::{Input, open};
 use crate::launch::ArgumentsFault;
-use crate::running::engine_run;
+use crate::running::{engine_drive, engine_run};
 use crate::streams::hold_places;
-use crate::target::{create_events, settle};
+use crate::target::{NewFile, create, keep_apart, settle};
 use camac_tool_check::{
-    Outcome, PlanSource, ToolFault, engine_bounds, engine_check, engine_events, engine_explain,
-    engine_plan, status,
+    Outcome, PlanSource, ToolFault, engine_bounds, engine_check, engine_commands, engine_events,
+    engine_explain, engine_explain_plan, engine_plan, status,
 };
 use camac_tool_streams::{FromAnswers, Gathered, Streams, ToListing, ToRecords};
 use camac_tool_words::{Job, JobFault, read_words};
@@ -63,8 +62,10 @@ pub fn unread_status<R: Runtime>(rt: &R, fault: ArgumentsFault) -> u8
 fn serve<R: Runtime + AllocGlobal>(rt: &R, job: Job<'_>) -> u8 {
     match job {
         Job::Plan(plan) => finished(rt, show_plan(rt, plan)),
+        Job::Commands(plan) => finished(rt, show_commands(rt, plan)),
         Job::Check(plan, script) => finished(rt, check(rt, plan, script)),
         Job::Explain(plan, script) => finished(rt, explain(rt, plan, script)),
+        Job::ExplainPlan(plan) => finished(rt, explain_plan(rt, plan)),
         Job::Bounds(plan, script) => finished(rt, show_bounds(rt, plan, script)),
         Job::Events(file) => finished(rt, show_events(rt, file)),
         Job::Run(plan, script, answers, events) => {
@@ -78,7 +79,14 @@ fn show_plan<R: Runtime + AllocGlobal>(rt: &R, plan: &str) -> Result<Outcome, To
     let mut plan = source_of(plan_input(rt, plan)?);
     let mut out = Watched::new(Gathered::new(rt.alloc(), io::writer(rt))?);
     let outcome = engine_plan(rt.alloc(), &mut plan, &mut out)?;
-    handed_on(&mut out, outcome)
+    handed_on(&mut out.into_inner(), outcome)
+}
+
+fn show_commands<R: Runtime + AllocGlobal>(rt: &R, plan: &str) -> Result<Outcome, ToolFault> {
+    let mut plan = source_of(plan_input(rt, plan)?);
+    let mut out = Watched::new(Gathered::new(rt.alloc(), io::writer(rt))?);
+    let outcome = engine_commands(rt.alloc(), &mut plan, &mut out)?;
+    handed_on(&mut out.into_inner(), outcome)
 }
 
 fn check<R: Runtime + AllocGlobal>(rt: &R, plan: &str, script: &str) -> Result<Outcome, ToolFault> {
@@ -97,6 +105,13 @@ fn explain<R: Runtime + AllocGlobal>(
     let mut script = Watched::new(open(rt, script)?);
     let mut out = Watched::new(io::writer(rt));
     engine_explain(rt.alloc(), &mut plan, &mut script, &mut out)
+}
+
+fn explain_plan<R: Runtime + AllocGlobal>(rt: &R, plan: &str) -> Result<Outcome, ToolFault> {
+    let mut plan = source_of(plan_input(rt, plan)?);
+    let mut out = Watched::new(Gathered::new(rt.alloc(), io::writer(rt))?);
+    let outcome = engine_explain_plan(rt.alloc(), &mut plan, &mut out)?;
+    handed_on(&mut out.into_inner(), outcome)
 }
 
 fn show_bounds<R: Runtime + AllocGlobal>(
@@ -122,14 +137,16 @@ fn run<R: Runtime + AllocGlobal>(
     let plan = plan_input(rt, plan)?;
     let script = open(rt, script)?;
     let answers = open(rt, answers)?;
-    let file = create_events(rt, events, plan.as_ref(), &script, &answers)?;
+    keep_apart(rt, events, plan.as_ref(), &script, &answers)?;
+    let file = create(rt, events)?;
     let streams = RefCell::new(Streams::new(rt.alloc(), answers, io::writer(rt), file)?);
     let outcome = run_on_streams(rt.alloc(), plan, script, &streams);
-    let Ok((_, file)) = streams.into_inner().finish() else {
+    let (listing, file) = streams.into_inner().finish();
+    if listing.failed() || file.failed() {
         return Err(ToolFault::Write);
-    };
+    }
     let outcome = outcome?;
-    settle(&file)?;
+    settle(&file.into_inner())?;
     Ok(outcome)
 }
 
@@ -153,7 +170,8 @@ fn run_on_streams<I: Read + Drop, W: Write + Drop, E: Write + Drop>(
     )
 }
 
-// A request goes out in one write to a writer that keeps nothing back, and no answer is read ahead of its request.
+// A request goes out in one write to a writer that keeps nothing back, and no answer is read ahead of its request. EVENTS is opened where the
+// header is written, so that a script that is refused does not touch it.
 fn drive<R: Runtime + AllocGlobal>(
     rt: &R,
     plan: &str,
@@ -163,8 +181,8 @@ fn drive<R: Runtime + AllocGlobal>(
     let plan = plan_input(rt, plan)?;
     let script = open(rt, script)?;
     let answers = Input::Standard(rt.reader());
-    let file = create_events(rt, events, plan.as_ref(), &script, &answers)?;
-    let mut events = Watched::new(file);
+    keep_apart(rt, events, plan.as_ref(), &script, &answers)?;
+    let mut events = Watched::new(NewFile::named(rt, events));
     let outcome = engine_drive(
         rt.alloc(),
         &mut source_of(plan),
@@ -173,7 +191,9 @@ fn drive<R: Runtime + AllocGlobal>(
         &mut Watched::new(io::writer(rt)),
         &mut events,
     )?;
-    settle(&events.into_inner())?;
+    if let Some(file) = events.into_inner().into_file() {
+        settle(&file)?;
+    }
     Ok(outcome)
 }
 
@@ -181,14 +201,15 @@ fn show_events<R: Runtime + AllocGlobal>(rt: &R, file: &str) -> Result<Outcome, 
     let mut input = Watched::new(open(rt, file)?);
     let mut out = Watched::new(Gathered::new(rt.alloc(), io::writer(rt))?);
     let outcome = engine_events(rt.alloc(), &mut input, &mut out)?;
-    handed_on(&mut out, outcome)
+    handed_on(&mut out.into_inner(), outcome)
 }
 
 // The lines of a plan and of events are many, so they are gathered before they go out.
-fn handed_on<W: Write>(out: &mut Watched<W>, outcome: Outcome) -> Result<Outcome, ToolFault>
+fn handed_on<W: Write + Drop>(out: &mut Gathered<W>, outcome: Outcome) -> Result<Outcome, ToolFault>
     ensures outcome { IfOk result (λ o. o ≡ outcome) }
     ensures fault { IfErr result (λ fault. fault ≡ Write) }
-    ensures failed { has_failed out.new ≡ (has_failed out.old || is_err result) }
+    ensures all { OnOk result (held_in out.new ≡ []) }
+    ensures failed { has_stopped out.new ≡ (has_stopped out.old || is_err result) }
 {
     match out.flush() {
         Ok(()) => Ok(outcome),

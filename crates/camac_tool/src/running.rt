@@ -1,21 +1,19 @@
-// The engine of a run: from a plan, a script and the text of its answers to a listing and an event file.
+// The engines of a run: from a plan, a script and answers to a listing or to requests, and to an event file.
 
-ghost use Rattle.std.specs.Prelude.{◌≡◌, ◌||◌, true, false};
-ghost use Rattle.camac_answer.specs.Answers.{left_in};
-ghost use Rattle.camac_answer.specs.declared.answers.Stage.TheVariants.{Running};
-ghost use Rattle.camac_tool_play.specs.Sent.{outputs};
+ghost use Rattle.std.specs.Prelude.{◌≡◌, ◌||◌};
+ghost use Rattle.camac_tool.specs.Headline.{JudgedKeeps};
+ghost use Rattle.camac_tool.specs.Run.{Runs, RunsJudged, RunsScript, outcome_of};
+ghost use Rattle.camac_tool.specs.World.{world};
 ghost use Rattle.camac_tool_check.specs.Engine.{is_write_fault};
-ghost use Rattle.camac_tool.specs.Headline.{CheckedKeeps, JudgedKeeps, KeepsHeadline};
-ghost use Rattle.camac_tool_check.specs.Plan.{plan_failed};
 ghost use Rattle.camac_tool_check.specs.Reading.{is_read_fault};
-ghost use Rattle.camac_tool.specs.Run.{Runs, RunsJudged, RunsScript, outcome_of, StaysQuiet};
-ghost use Rattle.camac_tool.specs.RunInTurn.{FoundInTurn, JudgedInTurn, RunsInTurn, ScriptInTurn};
+ghost use Rattle.camac_tool_check.specs.declared.judging.Judged.TheVariants.{Accepted};
+ghost use Rattle.camac_tool_play.specs.Sent.{outputs};
 ghost use Rattle.camac_word.specs.Watched.{inner_of, has_failed};
 
 use camac_check::Checked;
 use camac_run_runner::End;
 use camac_tool_check::{Judged, Outcome, PlanSource, ToolFault, read_judged, refuse};
-use camac_tool_play::{Ending, PlayFault, play};
+use camac_tool_play::{Ending, PlayFault, Telling, play_as};
 use camac_word::Watched;
 use std::alloc::Global;
 use std::io::{Read, Write};
@@ -33,68 +31,92 @@ pub fn engine_run<P: Read, S: Read, A: Read, W: Write, E: Write>(
     out: &mut Watched<W>,
     events: &mut Watched<E>,
 ) -> Result<Outcome, ToolFault>
-    ensures runs { Runs P.remaining plan.old plan.new (S.remaining (inner_of script.old)) (S.remaining (inner_of script.new)) (left_in Running 0 (A.remaining (inner_of answers.old)))
-        (outputs (W.contents (inner_of out.old)) (E.contents (inner_of events.old))) (outputs (W.contents (inner_of out.new)) (E.contents (inner_of events.new))) result }
-    ensures in_turn { RunsInTurn P.remaining plan.old plan.new (S.remaining (inner_of script.old)) (S.remaining (inner_of script.new))
-        (left_in Running 0 (A.remaining (inner_of answers.old))) (A.remaining (inner_of answers.old)) (A.remaining (inner_of answers.new))
-        (outputs (W.contents (inner_of out.old)) (E.contents (inner_of events.old))) (outputs (W.contents (inner_of out.new)) (E.contents (inner_of events.new))) result }
-    ensures headline { KeepsHeadline P.remaining plan.old plan.new (S.remaining (inner_of script.old)) (S.remaining (inner_of script.new))
-        (left_in Running 0 (A.remaining (inner_of answers.old))) (E.contents (inner_of events.old)) (E.contents (inner_of events.new)) result }
-    ensures out_failed { (has_failed out.new || has_failed events.new) ≡ ((has_failed out.old || has_failed events.old) || is_write_fault result) }
-    ensures in_failed { ((plan_failed plan.new || has_failed script.new) || has_failed answers.new)
-        ≡ (((plan_failed plan.old || has_failed script.old) || has_failed answers.old) || is_read_fault result) }
-    // The reader of the plan or of the script failed.
-    ensures unread { (plan_failed plan.old || has_failed script.old) ≡ false → (plan_failed plan.new || has_failed script.new) ≡ true
-        → StaysQuiet (A.remaining (inner_of answers.old)) (A.remaining (inner_of answers.new))
-        (outputs (W.contents (inner_of out.old)) (E.contents (inner_of events.old))) (outputs (W.contents (inner_of out.new)) (E.contents (inner_of events.new))) }
-    // The reader of the answers failed.
-    ensures begun { has_failed answers.old ≡ false → has_failed answers.new ≡ true
-        → FoundInTurn P.remaining plan.old plan.new (S.remaining (inner_of script.old)) (S.remaining (inner_of script.new))
-        (left_in Running 0 (A.remaining (inner_of answers.old))) (A.remaining (inner_of answers.old)) (A.remaining (inner_of answers.new))
-        (outputs (W.contents (inner_of out.old)) (E.contents (inner_of events.old))) (outputs (W.contents (inner_of out.new)) (E.contents (inner_of events.new))) result }
+    ensures { Runs (world P.remaining S.remaining A.remaining W.contents E.contents plan.old script.old answers.old out.old events.old)
+        (world P.remaining S.remaining A.remaining W.contents E.contents plan.new script.new answers.new out.new events.new) Telling.Listing result }
+{
+    run_as(alloc, Telling::Listing, plan, script, answers, out, events)
+}
+
+/// Runs a script live, on a plan and the answers of a branch. The plan is read and judged first, then the script. Then each operation is
+/// asked for on `requests` before its answer is read, and each lock that is released is told there. The event file goes to `events`. The
+/// last line, or the line of the first refusal, goes to `requests`. A fault leaves nothing written, but for two. A fault of a writer
+/// leaves a prefix of what the answers that were read call for, to both, in one order. A fault of the reader of the answers leaves all that
+/// the answers before it call for, the open request too.
+pub fn engine_drive<P: Read, S: Read, A: Read, W: Write, E: Write>(
+    alloc: Global,
+    plan: &mut PlanSource<P>,
+    script: &mut Watched<S>,
+    answers: &mut Watched<A>,
+    requests: &mut Watched<W>,
+    events: &mut Watched<E>,
+) -> Result<Outcome, ToolFault>
+    ensures { Runs (world P.remaining S.remaining A.remaining W.contents E.contents plan.old script.old answers.old requests.old events.old)
+        (world P.remaining S.remaining A.remaining W.contents E.contents plan.new script.new answers.new requests.new events.new) Telling.Requests result }
+{
+    run_as(
+        alloc,
+        Telling::Requests,
+        plan,
+        script,
+        answers,
+        requests,
+        events,
+    )
+}
+
+// What both engines do.
+fn run_as<P: Read, S: Read, A: Read, W: Write, E: Write>(
+    alloc: Global,
+    telling: Telling,
+    plan: &mut PlanSource<P>,
+    script: &mut Watched<S>,
+    answers: &mut Watched<A>,
+    out: &mut Watched<W>,
+    events: &mut Watched<E>,
+) -> Result<Outcome, ToolFault>
+    ensures { Runs (world P.remaining S.remaining A.remaining W.contents E.contents plan.old script.old answers.old out.old events.old)
+        (world P.remaining S.remaining A.remaining W.contents E.contents plan.new script.new answers.new out.new events.new) telling result }
 {
     let judged = read_judged(alloc, plan, script)?;
-    run_judged(alloc, &judged, answers, out, events)
+    run_judged(alloc, telling, &judged, answers, out, events)
 }
 
 fn run_judged<A: Read, W: Write, E: Write>(
     alloc: Global,
+    telling: Telling,
     judged: &Judged,
     answers: &mut Watched<A>,
     out: &mut Watched<W>,
     events: &mut Watched<E>,
 ) -> Result<Outcome, ToolFault>
-    ensures runs { RunsJudged judged.now (left_in Running 0 (A.remaining (inner_of answers.old)))
-        (outputs (W.contents (inner_of out.old)) (E.contents (inner_of events.old))) (outputs (W.contents (inner_of out.new)) (E.contents (inner_of events.new))) result }
-    ensures in_turn { JudgedInTurn judged.now (left_in Running 0 (A.remaining (inner_of answers.old))) (A.remaining (inner_of answers.old)) (A.remaining (inner_of answers.new))
-        (outputs (W.contents (inner_of out.old)) (E.contents (inner_of events.old))) (outputs (W.contents (inner_of out.new)) (E.contents (inner_of events.new))) result }
-    ensures headline { JudgedKeeps judged.now (left_in Running 0 (A.remaining (inner_of answers.old))) (E.contents (inner_of events.old)) (E.contents (inner_of events.new)) result }
+    ensures runs { RunsJudged telling judged.now (A.remaining (inner_of answers.old)) (A.remaining (inner_of answers.new))
+        (outputs W.contents E.contents out.old events.old) (outputs W.contents E.contents out.new events.new) result }
+    ensures headline { JudgedKeeps telling judged.now (A.remaining (inner_of answers.old)) (E.contents (inner_of events.old)) (E.contents (inner_of events.new)) result }
     ensures out_failed { (has_failed out.new || has_failed events.new) ≡ ((has_failed out.old || has_failed events.old) || is_write_fault result) }
     ensures in_failed { has_failed answers.new ≡ (has_failed answers.old || is_read_fault result) }
 {
     match judged {
-        Judged::Accepted(checked) => run_checked(alloc, checked, answers, out, events),
-        Judged::Refused(refusal) => refuse(out, *refusal),
+        Judged::Accepted(checked) => run_checked(alloc, telling, checked, answers, out, events),
+        Judged::Refused(finding) => refuse(out, finding.refusal()),
     }
 }
 
 fn run_checked<A: Read, W: Write, E: Write>(
     alloc: Global,
+    telling: Telling,
     checked: &Checked,
     answers: &mut Watched<A>,
     out: &mut Watched<W>,
     events: &mut Watched<E>,
 ) -> Result<Outcome, ToolFault>
-    ensures runs { RunsScript checked.now.plan checked.now.script (left_in Running 0 (A.remaining (inner_of answers.old)))
-        (outputs (W.contents (inner_of out.old)) (E.contents (inner_of events.old))) (outputs (W.contents (inner_of out.new)) (E.contents (inner_of events.new))) result }
-    ensures in_turn { ScriptInTurn checked.now.plan checked.now.script (left_in Running 0 (A.remaining (inner_of answers.old))) (A.remaining (inner_of answers.new))
-        (outputs (W.contents (inner_of out.old)) (E.contents (inner_of events.old))) (outputs (W.contents (inner_of out.new)) (E.contents (inner_of events.new))) result }
-    ensures headline { CheckedKeeps checked.now (left_in Running 0 (A.remaining (inner_of answers.old))) (E.contents (inner_of events.old)) (E.contents (inner_of events.new)) result }
+    ensures runs { RunsScript telling checked.now.plan checked.now.script (A.remaining (inner_of answers.old)) (A.remaining (inner_of answers.new))
+        (outputs W.contents E.contents out.old events.old) (outputs W.contents E.contents out.new events.new) result }
+    ensures headline { JudgedKeeps telling (Accepted checked.now) (A.remaining (inner_of answers.old)) (E.contents (inner_of events.old)) (E.contents (inner_of events.new)) result }
     ensures out_failed { (has_failed out.new || has_failed events.new) ≡ ((has_failed out.old || has_failed events.old) || is_write_fault result) }
     ensures in_failed { has_failed answers.new ≡ (has_failed answers.old || is_read_fault result) }
 {
     checked.is_checked();
-    match play(alloc, checked, answers, out, events) {
+    match play_as(alloc, telling, checked, answers, out, events) {
         Ok(ending) => Ok(outcome_of(ending)),
         Err(PlayFault::Read) => Err(ToolFault::Read),
         Err(PlayFault::Write) => Err(ToolFault::Write),
@@ -102,7 +124,7 @@ fn run_checked<A: Read, W: Write, E: Write>(
 }
 
 // A wait that is not permitted and a fault of the answers refuse, the end of the answers does not.
-pub fn outcome_of(ending: Ending) -> Outcome
+fn outcome_of(ending: Ending) -> Outcome
     ensures { result ≡ outcome_of ending }
 {
     match ending {

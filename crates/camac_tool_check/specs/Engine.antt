@@ -32,13 +32,13 @@ Shows r old new (Ok outcome) = Tells r (λ told text. (outcome ≡ told) × Appe
 Shows r old new (Err fault.Write) = Tells r (λ told text. AppendsPrefix old new text)
 Shows r old new (Err _) = ⊥
 
--- What was read of a plan, and written: its lines or its refusal, and nothing after a fault before them.
-abbrev pub ShowsPlan : {R : Type 0} → (left : R → Option (List ℕ)) → (plan plan' : PlanSource R) → (o p : Option (List ℕ)) → Result Outcome ToolFault → Type 0
-ShowsPlan left plan plan' o p (Ok outcome) = (says : Result Layout PlanRule) × Says left plan plan' says × Shows (report_plan says) o p (Ok outcome)
-ShowsPlan left plan plan' o p (Err fault.Write) = (says : Result Layout PlanRule) × Says left plan plan' says × Shows (report_plan says) o p (Err fault.Write)
-ShowsPlan left plan plan' o p (Err fault.Read) = Keeps o p
-ShowsPlan left plan plan' o p (Err fault.Memory) = Keeps o p
-ShowsPlan left plan plan' o p (Err fault.TooLong) = IsPlanTooLong left plan plan' × Keeps o p
+-- What was read of a plan, and written: what is shown of it, and nothing after a fault before that.
+abbrev pub ShowsPlan : {R : Type 0} → (Shown : Result Layout PlanRule → (o p : Option (List ℕ)) → Result Outcome ToolFault → Type 0) → (left : R → Option (List ℕ)) → (plan plan' : PlanSource R) → (o p : Option (List ℕ)) → Result Outcome ToolFault → Type 0
+ShowsPlan Shown left plan plan' o p (Ok outcome) = (says : Result Layout PlanRule) × Says left plan plan' says × Shown says o p (Ok outcome)
+ShowsPlan Shown left plan plan' o p (Err fault.Write) = (says : Result Layout PlanRule) × Says left plan plan' says × Shown says o p (Err fault.Write)
+ShowsPlan Shown left plan plan' o p (Err fault.Read) = Keeps o p
+ShowsPlan Shown left plan plan' o p (Err fault.Memory) = Keeps o p
+ShowsPlan Shown left plan plan' o p (Err fault.TooLong) = IsPlanTooLong left plan plan' × Keeps o p
 
 -- what is told of a script's text, for a plan
 abbrev pub Tale : Type 0

@@ -2,7 +2,7 @@
 use Rattle.std.specs.Prelude.{◌≡◌, ◌⊎◌, ℕ, ◌+◌, List, Option, Result, Ok, Err}
 use Rattle.camac_branch.specs.Plan.{Layout}
 use Rattle.camac_plan.specs.declared.fault.PlanRule.{PlanRule}
-use Rattle.camac_report_text.specs.declared.refusal.Refusal.TheVariants as refusal
+use Rattle.camac_explain.specs.declared.finding.Finding.TheVariants as finding
 use Rattle.camac_tool_check.specs.Accepted.{Accepts, accepted}
 use Rattle.camac_tool_check.specs.Plan.{Says, IsPlanTooLong}
 use Rattle.camac_tool_check.specs.Reading.{ConsumesSome, WasRead}
@@ -28,7 +28,7 @@ JudgesOn plan s t (Err fault.Write) = ⊥
 -- where the plan may be refused: of the script nothing is read then
 abbrev pub IsJudgedIf : Result Layout PlanRule → (s t : Option (List ℕ)) → Judged → Type 0
 IsJudgedIf (Ok plan) s t j = IsJudged plan s t j
-IsJudgedIf (Err rule) s t j = (t ≡ s) × (j ≡ judged.Refused (refusal.Plan rule))
+IsJudgedIf (Err rule) s t j = (t ≡ s) × (j ≡ judged.Refused (finding.Plan rule))
 
 -- a plan was read and then a script, and this was found of them
 abbrev pub HasJudged : {R : Type 0} → (of : R → Option (List ℕ)) → (plan plan' : PlanSource R) → (s t : Option (List ℕ)) → Judged → Type 0

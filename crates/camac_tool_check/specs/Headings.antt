@@ -12,8 +12,8 @@ use Rattle.camac_report_text.specs.declared.refusal.Refusal.TheVariants as refus
 use Rattle.camac_tool_check.specs.Report.{Report, refused}
 use Rattle.camac_tool_check.specs.declared.fault.ToolFault.{ToolFault}
 use Rattle.camac_tool_check.specs.declared.fault.ToolFault.TheVariants as fault
-use Rattle.camac_tool_check.specs.declared.judging.Judged.{Judged}
-use Rattle.camac_tool_check.specs.declared.judging.Judged.TheVariants as judged
+use Rattle.camac_tool_check.specs.declared.headings.Headings.{Headings}
+use Rattle.camac_tool_check.specs.declared.headings.Headings.TheVariants as headings
 use Rattle.camac_tool_check.specs.declared.outcome.Outcome.TheVariants.{Good}
 
 -- of the script with its least headings
@@ -32,12 +32,12 @@ headings_read plan (Err fault) = refused (refusal.Text fault.rule fault.line)
 abbrev pub headings_report : Layout → List ℕ → Report
 headings_report plan text = headings_read plan (script_of text)
 
-abbrev pub headings_report_of : Judged → Report
-headings_report_of (judged.Accepted c) = Some (Good, headings_text c.script)
-headings_report_of (judged.Refused r) = refused r
+abbrev pub headings_report_of : Headings → Report
+headings_report_of (headings.Least c) = Some (Good, headings_text c.script)
+headings_report_of (headings.Refused r) = refused r
 
 -- the least headings were found, or memory was refused
-abbrev pub FindsHeadings : Result Judged ToolFault → Report → Type 0
+abbrev pub FindsHeadings : Result Headings ToolFault → Report → Type 0
 FindsHeadings (Ok j) r = r ≡ headings_report_of j
 FindsHeadings (Err fault.Memory) r = Unit {0}
 FindsHeadings (Err _) r = ⊥

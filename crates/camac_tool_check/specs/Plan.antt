@@ -9,6 +9,7 @@ use Rattle.camac_tool_check.specs.Sample.{sample}
 use Rattle.camac_tool_check.specs.declared.fault.ToolFault.{ToolFault}
 use Rattle.camac_tool_check.specs.declared.fault.ToolFault.TheVariants as fault
 use Rattle.camac_tool_check.specs.declared.plan.PlanRead.{PlanRead}
+use Rattle.camac_tool_check.specs.declared.plan.PlanRefusal.{PlanRefusal}
 use Rattle.camac_tool_check.specs.declared.plan.PlanSource.{PlanSource}
 use Rattle.camac_tool_check.specs.declared.plan.PlanSource.TheVariants.{Sample, Text}
 use Rattle.camac_tool_check.specs.declared.reading.TheConstants.{TEXT_LIMIT}
@@ -32,14 +33,19 @@ ReadsPlan left old new (Err fault.Read) = Unit {0}
 ReadsPlan left old new (Err fault.Memory) = Unit {0}
 ReadsPlan left old new (Err _) = ⊥
 
+-- a plan, or the rule that was broken
+abbrev pub by_rule : Result Layout PlanRefusal → Result Layout PlanRule
+by_rule (Ok plan) = Ok plan
+by_rule (Err refusal) = Err refusal.rule
+
 -- what was read says
 abbrev pub says_of : Result PlanRead ToolFault → Result (Result Layout PlanRule) ToolFault
-says_of (Ok read) = Ok read.says
+says_of (Ok read) = Ok (by_rule read.says)
 says_of (Err f) = Err f
 
 -- what a text reads as, unless memory was refused
-abbrev pub JudgesPlan : Result (Result Layout PlanRule) ToolFault → Result Layout PlanRule → Type 0
-JudgesPlan (Ok says) read = says ≡ read
+abbrev pub JudgesPlan : Result (Result Layout PlanRefusal) ToolFault → Result Layout PlanRule → Type 0
+JudgesPlan (Ok says) read = by_rule says ≡ read
 JudgesPlan (Err fault.Memory) read = Unit {0}
 JudgesPlan (Err _) read = ⊥
 

@@ -1,5 +1,5 @@
 -- What `camac plan` tells of a plan, `camac check` of a plan and a script, and `camac events` of an event file.
-use Rattle.std.specs.Prelude.{ℕ, List, Option, Some, None, Result, Ok, Err}
+use Rattle.std.specs.Prelude.{ℕ, List, ◌++◌, Option, Some, None, Result, Ok, Err}
 use Rattle.camac_lang.specs.Tree.{Script}
 use Rattle.camac_branch.specs.Plan.{Layout}
 use Rattle.camac_text_tokens.specs.Fault.{Fault as TextFault}
@@ -14,8 +14,9 @@ use Rattle.camac_model.specs.Fine.{Bounds}
 use Rattle.camac_event.specs.declared.event.Version.{Version}
 use Rattle.camac_event.specs.Spelling.{Entry}
 use Rattle.camac_event.specs.Reading.{Flaw}
+use Rattle.camac_explain.specs.Finding.{refusal_of}
 use Rattle.camac_report_text.specs.Events.{events_text}
-use Rattle.camac_report_text.specs.Plan.{plan_text}
+use Rattle.camac_report_text.specs.Plan.{plan_text, plan_with_commands}
 use Rattle.camac_report_text.specs.Refusal.{refusal_text}
 use Rattle.camac_report_text.specs.Verdict.{verdict_text}
 use Rattle.camac_report_text.specs.declared.refusal.Refusal.{Refusal}
@@ -32,15 +33,19 @@ Report = Option (Outcome × List ℕ)
 abbrev pub refused : Refusal → Report
 refused r = Some (Refused, refusal_text r)
 
+-- with lines after it
+abbrev pub refused_and : Refusal → List ℕ → Report
+refused_and r more = Some (Refused, refusal_text r ++ more)
+
 -- of what acceptance says of the script
 abbrev pub report_accepted : Layout → Script → Result (List Bounds) CheckFault → Report
 report_accepted plan script (Ok bounds) = Some (Good, verdict_text plan script bounds)
-report_accepted plan script (Err (broken rule line)) = refused (refusal.Check rule line)
+report_accepted plan script (Err (broken rule line case)) = refused (refusal.Check rule line)
 
 -- of what linking says of the script
 abbrev pub report_linked : Layout → Script → Option LinkFault → Report
 report_linked plan script None = report_accepted plan script (accept plan script)
-report_linked plan script (Some (link_fault_of.Broken rule line)) = refused (refusal.Link rule line)
+report_linked plan script (Some (link_fault_of.Broken rule line case)) = refused (refusal.Link rule line)
 report_linked plan script (Some link_fault_of.OutOfMemory) = None
 
 -- of what reading the text gives
@@ -57,6 +62,11 @@ abbrev pub report_plan : Result Layout PlanRule → Report
 report_plan (Ok plan) = Some (Good, plan_text plan)
 report_plan (Err rule) = refused (refusal.Plan rule)
 
+-- the same with the commands of the types
+abbrev pub report_commands : Result Layout PlanRule → Report
+report_commands (Ok plan) = Some (Good, plan_with_commands plan)
+report_commands (Err rule) = refused (refusal.Plan rule)
+
 -- of what an event file says
 abbrev pub report_events : Result (Version × List Entry) Flaw → Report
 report_events (Ok file) = Some (Good, events_text file.1)
@@ -64,4 +74,4 @@ report_events (Err flaw) = refused (refusal.Event flaw)
 
 abbrev pub report_of : Judged → Report
 report_of (judged.Accepted c) = Some (Good, verdict_text c.plan c.script c.bounds)
-report_of (judged.Refused r) = refused r
+report_of (judged.Refused f) = refused (refusal_of f)

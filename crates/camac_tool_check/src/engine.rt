@@ -5,7 +5,7 @@ ghost use Rattle.camac_event.specs.Reading.{file_at};
 ghost use Rattle.camac_tool_check.specs.Engine.{Checks, ChecksOn, ShowsEvents, ShowsPlan, Shows, is_write_fault};
 ghost use Rattle.camac_tool_check.specs.Plan.{plan_failed};
 ghost use Rattle.camac_tool_check.specs.Reading.{is_read_fault};
-ghost use Rattle.camac_tool_check.specs.Report.{refused, report, report_events, report_of};
+ghost use Rattle.camac_tool_check.specs.Report.{refused, report, report_commands, report_events, report_of, report_plan};
 ghost use Rattle.camac_word.specs.Watched.{inner_of, has_failed};
 
 use crate::fault::ToolFault;
@@ -15,7 +15,9 @@ use crate::plan::{PlanSource, read_plan};
 use crate::reading::{EVENTS_LIMIT, TEXT_LIMIT, read_whole};
 use camac_branch::Plan;
 use camac_event::EventFile;
-use camac_report_text::{Refusal, write_event_file, write_plan, write_refusal, write_verdict};
+use camac_report_text::{
+    Refusal, write_event_file, write_plan, write_plan_with_commands, write_refusal, write_verdict,
+};
 use camac_word::Watched;
 use std::alloc::Global;
 use std::io::{Read, Write};
@@ -27,13 +29,32 @@ pub fn engine_plan<P: Read, W: Write>(
     plan: &mut PlanSource<P>,
     out: &mut Watched<W>,
 ) -> Result<Outcome, ToolFault>
-    ensures shows { ShowsPlan P.remaining plan.old plan.new (W.contents (inner_of out.old)) (W.contents (inner_of out.new)) result }
+    ensures shows { ShowsPlan (λ says. Shows (report_plan says)) P.remaining plan.old plan.new (W.contents (inner_of out.old)) (W.contents (inner_of out.new)) result }
     ensures out_failed { has_failed out.new ≡ (has_failed out.old || is_write_fault result) }
     ensures in_failed { plan_failed plan.new ≡ (plan_failed plan.old || is_read_fault result) }
 {
     match read_plan(alloc, plan)? {
         Ok(plan) => {
             write_plan(out, &plan)?;
+            Ok(Outcome::Good)
+        }
+        Err(rule) => refuse(out, Refusal::Plan(rule)),
+    }
+}
+
+/// Lists a plan with the commands of its types: what `engine_plan` writes, and after the line of each type the lines of its commands.
+pub fn engine_commands<P: Read, W: Write>(
+    alloc: Global,
+    plan: &mut PlanSource<P>,
+    out: &mut Watched<W>,
+) -> Result<Outcome, ToolFault>
+    ensures shows { ShowsPlan (λ says. Shows (report_commands says)) P.remaining plan.old plan.new (W.contents (inner_of out.old)) (W.contents (inner_of out.new)) result }
+    ensures out_failed { has_failed out.new ≡ (has_failed out.old || is_write_fault result) }
+    ensures in_failed { plan_failed plan.new ≡ (plan_failed plan.old || is_read_fault result) }
+{
+    match read_plan(alloc, plan)? {
+        Ok(plan) => {
+            write_plan_with_commands(out, &plan)?;
             Ok(Outcome::Good)
         }
         Err(rule) => refuse(out, Refusal::Plan(rule)),
@@ -84,7 +105,7 @@ fn show<W: Write>(out: &mut Watched<W>, judged: &Judged) -> Result<Outcome, Tool
             write_verdict(out, checked)?;
             Ok(Outcome::Good)
         }
-        Judged::Refused(refusal) => refuse(out, *refusal),
+        Judged::Refused(finding) => refuse(out, finding.refusal()),
     }
 }
 

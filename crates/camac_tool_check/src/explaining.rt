@@ -2,23 +2,22 @@
 
 ghost use Rattle.std.specs.Prelude.{◌≡◌, ◌||◌, ◌++◌, Err, is_err};
 ghost use Rattle.camac_report_text.specs.Refusal.{refusal_text};
-ghost use Rattle.camac_tool_check.specs.Engine.{is_write_fault};
-ghost use Rattle.camac_tool_check.specs.Explain.{Explains, ExplainsOn, ShowsMore};
+ghost use Rattle.camac_tool_check.specs.Engine.{Shows, ShowsPlan, is_write_fault};
+ghost use Rattle.camac_tool_check.specs.Explain.{ExplainedBy, Explains, ExplainsOn, PlanExplained, ShowsMore};
 ghost use Rattle.camac_tool_check.specs.Plan.{plan_failed};
 ghost use Rattle.camac_tool_check.specs.Reading.{is_read_fault};
-ghost use Rattle.camac_tool_check.specs.Report.{refused, report_of, report_plan};
+ghost use Rattle.camac_tool_check.specs.Report.{refused_and, report_of, report_plan};
 ghost use Rattle.camac_word.specs.Watched.{inner_of, has_failed};
 ghost use Rattle.camac_word.specs.Writing.{Writes};
 
 use crate::fault::ToolFault;
 use crate::judging::{Judged, judge};
 use crate::outcome::Outcome;
-use crate::plan::{PlanRead, PlanSource, read_plan_text};
+use crate::plan::{PlanRead, PlanRefusal, PlanSource, read_plan_text};
 use crate::reading::{TEXT_LIMIT, read_whole};
 use camac_branch::Plan;
 use camac_explain::{explain_plan, explain_script};
-use camac_plan::PlanRule;
-use camac_report_text::{Refusal, write_refusal, write_verdict};
+use camac_report_text::{Refusal, write_plan, write_refusal, write_verdict};
 use camac_word::{Watched, WriteFault};
 use std::alloc::Global;
 use std::io::{Read, Write};
@@ -39,23 +38,46 @@ pub fn engine_explain<P: Read, S: Read, W: Write>(
     let PlanRead { text, says } = read_plan_text(alloc, plan)?;
     match says {
         Ok(plan) => explain_on(alloc, &plan, script, out),
-        Err(rule) => explain_rule(alloc, &text, rule, out),
+        Err(refusal) => explain_refusal(alloc, &text, &refusal, out),
     }
 }
 
-fn explain_rule<W: Write>(
+/// Lists a plan, and explains its refusal: what `engine_plan` writes is written to `out`, and after the line of a refusal the lines of its
+/// explanation. Nothing is written before a fault but one of the writer, which leaves a prefix of the text.
+pub fn engine_explain_plan<P: Read, W: Write>(
     alloc: Global,
-    text: &[u8],
-    rule: PlanRule,
+    plan: &mut PlanSource<P>,
     out: &mut Watched<W>,
 ) -> Result<Outcome, ToolFault>
-    ensures shows { ShowsMore (report_plan (Err rule)) (W.contents (inner_of out.old)) (W.contents (inner_of out.new)) result }
-    ensures failed { has_failed out.new ≡ (has_failed out.old || is_write_fault result) }
+    ensures shows { ShowsPlan (λ says. ShowsMore (PlanExplained says) (report_plan says)) P.remaining plan.old plan.new (W.contents (inner_of out.old)) (W.contents (inner_of out.new)) result }
+    ensures out_failed { has_failed out.new ≡ (has_failed out.old || is_write_fault result) }
+    ensures in_failed { plan_failed plan.new ≡ (plan_failed plan.old || is_read_fault result) }
 {
-    let more = explain_plan(alloc, text, rule)?;
-    refuse_and(out, Refusal::Plan(rule), &more)
+    let PlanRead { text, says } = read_plan_text(alloc, plan)?;
+    match says {
+        Ok(plan) => {
+            write_plan(out, &plan)?;
+            Ok(Outcome::Good)
+        }
+        Err(refusal) => explain_refusal(alloc, &text, &refusal, out),
+    }
 }
 
+#[tactic(auto, using(crate::proofs::Explained::plan_explained))]
+fn explain_refusal<W: Write>(
+    alloc: Global,
+    text: &[u8],
+    refusal: &PlanRefusal,
+    out: &mut Watched<W>,
+) -> Result<Outcome, ToolFault>
+    ensures shows { ShowsMore (PlanExplained (Err refusal.now.rule)) (report_plan (Err refusal.now.rule)) (W.contents (inner_of out.old)) (W.contents (inner_of out.new)) result }
+    ensures failed { has_failed out.new ≡ (has_failed out.old || is_write_fault result) }
+{
+    let more = explain_plan(alloc, text, refusal.rule, refusal.case)?;
+    refuse_and(out, Refusal::Plan(refusal.rule), &more)
+}
+
+#[tactic(auto, using(crate::proofs::Explained::explained_on))]
 fn explain_on<S: Read, W: Write>(
     alloc: Global,
     plan: &Plan,
@@ -68,17 +90,17 @@ fn explain_on<S: Read, W: Write>(
 {
     let text = read_whole(alloc, script, TEXT_LIMIT)?;
     let judged = judge(alloc, plan, &text)?;
-    explain_judged(alloc, plan, &text, &judged, out)
+    explain_judged(alloc, &text, &judged, out)
 }
 
+#[tactic(auto, using(crate::proofs::Explained::refusal_explained))]
 fn explain_judged<W: Write>(
     alloc: Global,
-    plan: &Plan,
     text: &[u8],
     judged: &Judged,
     out: &mut Watched<W>,
 ) -> Result<Outcome, ToolFault>
-    ensures shows { ShowsMore (report_of judged.now) (W.contents (inner_of out.old)) (W.contents (inner_of out.new)) result }
+    ensures shows { ShowsMore (ExplainedBy text.now judged.now) (report_of judged.now) (W.contents (inner_of out.old)) (W.contents (inner_of out.new)) result }
     ensures failed { has_failed out.new ≡ (has_failed out.old || is_write_fault result) }
 {
     match judged {
@@ -86,9 +108,9 @@ fn explain_judged<W: Write>(
             write_verdict(out, checked)?;
             Ok(Outcome::Good)
         }
-        Judged::Refused(refusal) => {
-            let more = explain_script(alloc, plan, text, *refusal)?;
-            refuse_and(out, *refusal, &more)
+        Judged::Refused(finding) => {
+            let more = explain_script(alloc, text, *finding)?;
+            refuse_and(out, finding.refusal(), &more)
         }
     }
 }
@@ -98,7 +120,7 @@ fn refuse_and<W: Write>(
     refusal: Refusal,
     more: &[u8],
 ) -> Result<Outcome, ToolFault>
-    ensures shows { ShowsMore (refused refusal) (W.contents (inner_of out.old)) (W.contents (inner_of out.new)) result }
+    ensures shows { Shows (refused_and refusal more.now) (W.contents (inner_of out.old)) (W.contents (inner_of out.new)) result }
     ensures failed { has_failed out.new ≡ (has_failed out.old || is_write_fault result) }
 {
     write_refusal_and(out, refusal, more)?;

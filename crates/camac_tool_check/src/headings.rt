@@ -10,12 +10,11 @@ ghost use Rattle.camac_word.specs.Watched.{inner_of, has_failed};
 
 use crate::engine::refuse;
 use crate::fault::ToolFault;
-use crate::judging::Judged;
 use crate::outcome::Outcome;
 use crate::plan::{PlanSource, read_plan};
 use crate::reading::{TEXT_LIMIT, read_whole};
 use camac_branch::Plan;
-use camac_check::{LeastFault, least};
+use camac_check::{Checked, LeastFault, least};
 use camac_lang::Script;
 use camac_report_text::{Refusal, write_headings};
 use camac_text::{TextFault, parse};
@@ -55,41 +54,52 @@ fn bounds_on<S: Read, W: Write>(
     ensures in_failed { has_failed script.new ≡ (has_failed script.old || is_read_fault result) }
 {
     let text = read_whole(alloc, script, TEXT_LIMIT)?;
-    let judged = judge_headings(alloc, plan, &text)?;
-    show_headings(out, &judged)
+    let found = judge_headings(alloc, plan, &text)?;
+    show_headings(out, &found)
 }
 
-fn show_headings<W: Write>(out: &mut Watched<W>, judged: &Judged) -> Result<Outcome, ToolFault>
-    ensures shows { Shows (headings_report_of judged.now) (W.contents (inner_of out.old)) (W.contents (inner_of out.new)) result }
+// What is found of a script's least headings.
+#[derive(Drop)]
+enum Headings {
+    Least(Checked),
+    Refused(Refusal),
+}
+
+fn show_headings<W: Write>(out: &mut Watched<W>, found: &Headings) -> Result<Outcome, ToolFault>
+    ensures shows { Shows (headings_report_of found.now) (W.contents (inner_of out.old)) (W.contents (inner_of out.new)) result }
     ensures failed { has_failed out.new ≡ (has_failed out.old || is_write_fault result) }
 {
-    match judged {
-        Judged::Accepted(checked) => {
+    match found {
+        Headings::Least(checked) => {
             write_headings(out, checked.script())?;
             Ok(Outcome::Good)
         }
-        Judged::Refused(refusal) => refuse(out, *refusal),
+        Headings::Refused(refusal) => refuse(out, *refusal),
     }
 }
 
 // Finds the least headings of the script of a text.
-fn judge_headings(alloc: Global, plan: &Plan, text: &[u8]) -> Result<Judged, ToolFault>
+fn judge_headings(alloc: Global, plan: &Plan, text: &[u8]) -> Result<Headings, ToolFault>
     ensures { FindsHeadings result (headings_report plan.now text.now) }
 {
     match parse(alloc, text) {
         Ok(script) => find_headings(alloc, plan, script),
         Err(TextFault::OutOfMemory) => Err(ToolFault::Memory),
-        Err(TextFault::Broken { rule, line }) => Ok(Judged::Refused(Refusal::Text { rule, line })),
+        Err(TextFault::Broken { rule, line, .. }) => {
+            Ok(Headings::Refused(Refusal::Text { rule, line }))
+        }
     }
 }
 
-fn find_headings(alloc: Global, plan: &Plan, script: Script) -> Result<Judged, ToolFault>
+fn find_headings(alloc: Global, plan: &Plan, script: Script) -> Result<Headings, ToolFault>
     ensures { FindsHeadings result (headings_found (least plan.now script)) }
 {
     match least(alloc, script, plan) {
-        Ok(checked) => Ok(Judged::Accepted(checked)),
+        Ok(checked) => Ok(Headings::Least(checked)),
         Err(LeastFault::OutOfMemory) => Err(ToolFault::Memory),
-        Err(LeastFault::Link { rule, line }) => Ok(Judged::Refused(Refusal::Link { rule, line })),
-        Err(LeastFault::Check { rule, line }) => Ok(Judged::Refused(Refusal::Check { rule, line })),
+        Err(LeastFault::Link { rule, line }) => Ok(Headings::Refused(Refusal::Link { rule, line })),
+        Err(LeastFault::Check { rule, line }) => {
+            Ok(Headings::Refused(Refusal::Check { rule, line }))
+        }
     }
 }

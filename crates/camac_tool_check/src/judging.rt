@@ -16,9 +16,9 @@ use crate::plan::{PlanSource, read_plan};
 use crate::reading::{TEXT_LIMIT, read_whole};
 use camac_branch::Plan;
 use camac_check::{CheckFault, Checked, check};
+use camac_explain::Finding;
 use camac_lang::Script;
 use camac_names::{LinkFault, Linked, resolve};
-use camac_report_text::Refusal;
 use camac_text::{TextFault, parse};
 use camac_word::Watched;
 use std::alloc::Global;
@@ -28,7 +28,7 @@ use std::io::Read;
 #[derive(Drop)]
 pub enum Judged {
     Accepted(Checked),
-    Refused(Refusal),
+    Refused(Finding),
 }
 
 /// Reads and judges a plan, and then a script for it.
@@ -43,7 +43,7 @@ pub fn read_judged<P: Read, S: Read>(
     let says = read_plan(alloc, plan)?;
     match says {
         Ok(plan) => judge_on(alloc, &plan, script),
-        Err(rule) => Ok(Judged::Refused(Refusal::Plan(rule))),
+        Err(rule) => Ok(Judged::Refused(Finding::Plan(rule))),
     }
 }
 
@@ -67,7 +67,9 @@ pub fn judge(alloc: Global, plan: &Plan, text: &[u8]) -> Result<Judged, ToolFaul
     match parse(alloc, text) {
         Ok(script) => judge_script(alloc, plan, script),
         Err(TextFault::OutOfMemory) => Err(ToolFault::Memory),
-        Err(TextFault::Broken { rule, line }) => Ok(Judged::Refused(Refusal::Text { rule, line })),
+        Err(TextFault::Broken { rule, line, left }) => {
+            Ok(Judged::Refused(Finding::Text { rule, line, left }))
+        }
     }
 }
 
@@ -78,7 +80,9 @@ fn judge_script(alloc: Global, plan: &Plan, script: Script) -> Result<Judged, To
     match resolve(alloc, script, plan) {
         Ok(linked) => judge_linked(alloc, linked),
         Err(LinkFault::OutOfMemory) => Err(ToolFault::Memory),
-        Err(LinkFault::Broken { rule, line }) => Ok(Judged::Refused(Refusal::Link { rule, line })),
+        Err(LinkFault::Broken { rule, line, case }) => {
+            Ok(Judged::Refused(Finding::Link { rule, line, case }))
+        }
     }
 }
 
@@ -89,9 +93,8 @@ fn judge_linked(alloc: Global, linked: Linked) -> Result<Judged, ToolFault>
     match check(alloc, linked) {
         Ok(checked) => Ok(Judged::Accepted(checked)),
         Err(CheckFault::OutOfMemory) => Err(ToolFault::Memory),
-        Err(CheckFault::Broken { rule, line }) => Ok(Judged::Refused(Refusal::Check {
-            rule,
-            line,
-        })),
+        Err(CheckFault::Broken { rule, line, case }) => {
+            Ok(Judged::Refused(Finding::Check { rule, line, case }))
+        }
     }
 }

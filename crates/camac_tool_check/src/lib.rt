@@ -11,8 +11,8 @@ mod plan;
 mod reading;
 mod sample;
 
-pub use engine::{engine_check, engine_events, engine_plan, refuse};
-pub use explaining::engine_explain;
+pub use engine::{engine_check, engine_commands, engine_events, engine_plan, refuse};
+pub use explaining::{engine_explain, engine_explain_plan};
 pub use fault::ToolFault;
 pub use headings::engine_bounds;
 pub use judging::{Judged, read_judged};

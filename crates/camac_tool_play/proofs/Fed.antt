@@ -1,231 +1,292 @@
--- A run that is fed, and what it has sent.
-use Rattle.std.proofs.Common.{◌≡◌, ℕ, ◌+◌, ◌<◌, ◌^◌, List, [], ◌∷◌, ◌++◌, length, Option, Some, None, refl, sym, ap, subst, ◌∙◌, append_assoc, append-nil, drop, false, arith}
-use Rattle.std.specs.Prelude.{slice_get, unwrap_or, Result, Ok, Err}
-use Rattle.std.specs.Result.{IsErr}
+-- A run that is fed, what it has sent, and what it calls for.
+use Rattle.std.proofs.Common.{◌≡◌, ℕ, ◌+◌, ◌<◌, ◌≤◌, ◌^◌, ◌⊎◌, List, [], ◌∷◌, ◌++◌, length, Option, Some, None, refl, sym, ap, subst, ◌∙◌, append_assoc, append-nil, length-append, inl, inr, false, arith}
+use Rattle.std.specs.Prelude.{IfSome, IfNone, Result, Ok, Err, take, option_map, unwrap_or}
 use Rattle.camac_lang.specs.Tree.{Script}
 use Rattle.camac_branch.specs.Branch.{Answer}
 use Rattle.camac_branch.specs.Plan.{Layout}
 use Rattle.camac_branch.specs.declared.answer.Overrun.{Overrun}
-use Rattle.camac_model.specs.Behaviour.{Behaviour, Piece, pieces, stop_of, Stop, short, overrun, wrong, more, events, events_in, stops}
+use Rattle.camac_model.specs.Behaviour.{Behaviour, does, ends, stops, Piece, pieces, stop_of, Stop, short, overrun, wrong, more, events, events_in, uses}
 use Rattle.camac_model.specs.Run.{the_run}
-use Rattle.camac_answer.specs.Reading.{Reading, no_more, given_or, result_at, after as answers_after}
-use Rattle.camac_answer.specs.Answers.{Steps, is_memory_failure}
+use Rattle.camac_answer.specs.Answers.{left_in, Steps, FailsInOpenLine, is_memory_failure}
+use Rattle.camac_answer.specs.Reading.{Reading}
+use Rattle.camac_answer.specs.declared.answers.Stage.TheVariants.{Running}
 use Rattle.camac_answer.specs.declared.fault.AnswerFault.{AnswerFault}
 use Rattle.camac_answer.specs.declared.fault.AnswerFault.TheVariants.{OutOfMemory, Read, Broken}
 use Rattle.camac_answer.specs.declared.fault.AnswerRule.{AnswerRule}
+use Rattle.camac_run_machine.specs.MachineState.{piece_of, Left}
+use Rattle.camac_run_machine.specs.declared.item.Item.{Item}
 use Rattle.camac_run_runner.specs.Ends.{stop_in}
-use Rattle.camac_run_runner.specs.Runner.{RunnerState, rest}
+use Rattle.camac_run_runner.specs.Holds.{after, HoldsAfter}
+use Rattle.camac_run_runner.specs.Operation.{operation_of, wanted_after, Begins, Waits, Wants}
+use Rattle.camac_run_runner.specs.Runner.{RunnerState, GoesOn, Stops, rest, last_words_in, state_in}
 use Rattle.camac_run_runner.specs.declared.progress.End.{End}
 use Rattle.camac_run_runner.specs.declared.progress.End.TheVariants as end
-use Rattle.camac_tool_play.specs.Play.{Gives, GivesFirst, with_taken, HasGiven, Feeds, run_sent, faulted, failed_by}
-use Rattle.camac_tool_play.specs.Played.{pieces_sent, ending_of}
-use Rattle.camac_tool_play.specs.Sent.{Outputs, Sends, SendsPrefix, Sent}
-use Rattle.camac_tool_play.specs.Step.{after, count_of, Does, Overruns, IsOut}
+use Rattle.camac_run_runner.specs.declared.progress.Wanted.{Wanted}
+use Rattle.camac_run_runner.proofs.Holds.{pieces-after, stop_of-after, later, going_on_holds, did_all, wants_are_wanted}
+use Rattle.camac_tool_play.specs.Play.{HasGiven, HasRead, ReadsNoMore, FailsAtWrite, Feeds, with_taken, faulted, failed_by}
+use Rattle.camac_tool_play.specs.Sent.{Outputs, Sends, SendsPrefix, Sent, to_listing}
+use Rattle.camac_tool_play.specs.Told.{most_answers, asked_text, line_of, pieces_sent, open_text, called_for, ending_of}
 use Rattle.camac_tool_play.specs.declared.ending.Ending.{Ending}
 use Rattle.camac_tool_play.specs.declared.ending.Ending.TheVariants as how
 use Rattle.camac_tool_play.specs.declared.fault.PlayFault.{PlayFault}
 use Rattle.camac_tool_play.specs.declared.fault.PlayFault.TheVariants as fault
-use Rattle.camac_tool_play.proofs.Pieces.{pieces-after, stop_of-after, after-append, count-append, pieces_sent-append}
-use Rattle.camac_tool_play.proofs.Sending.{sends_nothing, Sends-trans, SendsPrefix-longer, SendsPrefix-after}
+use Rattle.camac_tool_play.specs.declared.telling.Telling.{Telling}
+use Rattle.camac_tool_play.specs.declared.telling.Telling.TheVariants.{Listing, Requests}
+use Rattle.camac_tool_play.proofs.Given.{given_none, given_next, given_end, given_fault, given_all, has_read, known}
+use Rattle.camac_tool_play.proofs.Pieces.{count_of, count-append, pieces_sent-append, told_sent, answer_sent, answer_counts, answer_uses, uses-append}
+use Rattle.camac_tool_play.proofs.Sending.{sends_nothing, Sends-trans, SendsPrefix-longer, SendsPrefix-after, last_part, later_part}
+
+-- no answer was taken; or what was sent is what those before the last one call for, and more
+abbrev pub Follows : Telling → Layout → Script → List Answer → List Sent → Type 0
+Follows t plan script taken sent =
+    (taken ≡ [])
+    ⊎ ((before : List Answer) × (a : Answer) × (more' : List Sent) × (taken ≡ before ++ a ∷ []) × (sent ≡ called_for t plan script before ++ more'))
 
 -- the answers so far did these pieces, which were sent, and the runner holds the rest
-pub record IsFed (line : Piece → List ℕ) (plan : Layout) (script : Script) (left now : Option Reading) (start sent_now : Outputs) (runner : RunnerState) (count : ℕ) : Type 0 where
+pub record IsFed (t : Telling) (plan : Layout) (script : Script) (left now : Option Reading) (start sent_now : Outputs) (runner : RunnerState) (count : ℕ) : Type 0 where
   pub taken : List Answer
-  pub done : List Piece
-  pub run : (answers : List Answer) → the_run plan script (taken ++ answers) ≡ after done (rest runner answers)
-  pub sent : Sends start sent_now (pieces_sent line 1 done)
-  pub counted : count ≡ count_of done
+  pub holds : HoldsAfter plan script taken runner
+  pub sent : Sends start sent_now (pieces_sent (line_of t script) 1 holds.done)
+  pub counted : count ≡ count_of holds.done
+  pub used : uses holds.done ≡ length taken
   pub given : HasGiven left now taken
+  pub follows : Follows t plan script taken (pieces_sent (line_of t script) 1 holds.done)
 
-abbrev pub starts : (line : Piece → List ℕ) (plan : Layout) (script : Script) (left : Option Reading) (a : Outputs) (runner : RunnerState) → ((answers : List Answer) → rest runner answers ≡ the_run plan script answers) → IsFed line plan script left left a a runner 0
-starts line plan script left a runner run = record {
+abbrev pub starts : (t : Telling) (plan : Layout) (script : Script) (left : Option Reading) (a : Outputs) (runner : RunnerState) → ((answers : List Answer) → rest runner answers ≡ the_run plan script answers) → IsFed t plan script left left a a runner 0
+starts t plan script left a runner run = record {
   taken = [];
-  done = [];
-  run = λ (answers : List Answer). sym (run answers);
+  holds = record { done = []; goes = λ (answers : List Answer). sym (run answers) };
   sent = sends_nothing a;
   counted = refl;
-  given = λ (whole : Reading) (e : left ≡ Some whole). (whole, e, refl);
+  used = refl;
+  given = given_none left;
+  follows = inl refl;
 }
 
-first_answer : (xs : List Answer) (f : Option AnswerFault) (a : Answer) → Ok (Some a) ≡ given_or (slice_get xs 0) f → xs ≡ a ∷ drop 1 xs
-first_answer [] None a e = cc
-first_answer [] (Some x) a e = cc
-first_answer (x ∷ xs) f a e =
-    let same : a ≡ x = cc in
-    ap (λ (y : Answer). y ∷ xs) (sym same)
+-- the answers of a run can be numbered in 32 bits
+pub numbered : (t : Telling) → most_answers t ≤ 4294967295
+numbered Listing = omega arith
+numbered Requests = omega arith
 
-none_left : (xs : List Answer) (f : Option AnswerFault) → Ok None ≡ given_or (slice_get xs 0) f → (xs ≡ []) × (f ≡ None)
-none_left [] None e = (refl, refl)
-none_left [] (Some x) e = cc
-none_left (x ∷ xs) f e = cc
+take_all : {A : Type 0} (xs ys : List A) → take (length xs) (xs ++ ys) ≡ xs
+take_all [] ys = refl
+take_all {A} (x ∷ xs) ys = ap (λ (l : List A). x ∷ l) (take_all xs ys)
 
-fault_left : (xs : List Answer) (f : Option AnswerFault) (x : AnswerFault) → Err x ≡ given_or (slice_get xs 0) f → (xs ≡ []) × (f ≡ Some x)
-fault_left [] None x e = cc
-fault_left [] (Some y) x e = (refl, cc)
-fault_left (y ∷ xs) f x e = cc
-
-module _ (left now new : Option Reading) (taken : List Answer) (h : HasGiven left now taken) where
-  pub given_next : (a : Answer) → Steps now (Ok (Some a)) new → HasGiven left new (taken ++ a ∷ [])
-  given_next a s whole e =
-      let g = h whole e in
-      let r = g.0 in
-      let t : (Ok (Some a) ≡ result_at r 0) × (new ≡ Some (answers_after 1 r)) = rw g.1 at s in
-      let parts : r.answers ≡ a ∷ drop 1 r.answers = first_answer r.answers r.fault a t.0 in
-      let all : taken ++ r.answers ≡ (taken ++ a ∷ []) ++ drop 1 r.answers = ap (λ (l : List Answer). taken ++ l) parts ∙ sym (append_assoc taken (a ∷ []) (drop 1 r.answers)) in
-      (answers_after 1 r, t.1, g.2 ∙ ap (λ (l : List Answer). record r { answers = l }) all)
-
-  pub given_end : Steps now (Ok None) new → Gives left (record { answers = taken ++ []; fault = None })
-  given_end s whole e =
-      let g = h whole e in
-      let r = g.0 in
-      let t : (Ok None ≡ result_at r 0) × (new ≡ Some (answers_after 1 r)) = rw g.1 at s in
-      let none = none_left r.answers r.fault t.0 in
-      g.2 ∙ ap (λ (l : List Answer). with_taken taken (record r { answers = l })) none.0 ∙ ap (λ (f : Option AnswerFault). with_taken taken (record { answers = []; fault = f })) none.1
-
-  pub given_fault : (rule : AnswerRule) (line : ℕ) → Steps now (Err (Broken rule line)) new → Gives left (record { answers = taken ++ []; fault = Some (Broken rule line) })
-  given_fault rule line s whole e =
-      let g = h whole e in
-      let r = g.0 in
-      let t : (Err (Broken rule line) ≡ result_at r 0) × (new ≡ Some (answers_after 1 r)) = rw g.1 at s in
-      let none = fault_left r.answers r.fault (Broken rule line) t.0 in
-      g.2 ∙ ap (λ (l : List Answer). with_taken taken (record r { answers = l })) none.0 ∙ ap (λ (f : Option AnswerFault). with_taken taken (record { answers = []; fault = f })) none.1
-
-  pub given_first : GivesFirst left (taken ++ [])
-  given_first whole e =
-      let g = h whole e in
-      let r = g.0 in
-      (r.answers, ap (λ (w : Reading). w.answers) g.2 ∙ ap (λ (l : List Answer). l ++ r.answers) (sym (append-nil taken)))
-
--- what is left, or nothing where that is not known
-abbrev pub known : Option Reading → Reading
-known now = unwrap_or now (no_more None)
-
-pub given_all : (left now : Option Reading) (taken : List Answer) → HasGiven left now taken → Gives left (with_taken taken (known now))
-given_all left now taken h whole e =
-    let g = h whole e in
-    g.2 ∙ ap (λ (o : Option Reading). with_taken taken (known o)) (sym g.1)
-
-pub ends_by : (e : End) → ending_of (stop_in e) None ≡ how.End e
+ends_by : (e : End) → ending_of (stop_in e) None ≡ how.End e
 ends_by end.Ended = refl
 ends_by end.Short = refl
 ends_by (end.Overrun o) = refl
 
-pub refused_by : (s : Option Stop) (rule : AnswerRule) (line : ℕ) → IsOut s → ending_of s (Some (Broken rule line)) ≡ how.Refused rule line
-refused_by None rule line h = refl
-refused_by (Some short) rule line h = refl
-refused_by (Some (overrun c w)) rule line h = absurd h
-refused_by (Some wrong) rule line h = absurd h
-refused_by (Some more) rule line h = absurd h
+-- a run that waits for an answer did not stop at a wait
+refused_by : {A : Type 0} (b : Behaviour A) (rule : AnswerRule) (line : ℕ) → Waits b → ending_of (stop_of b) (Some (Broken rule line)) ≡ how.Refused rule line
+refused_by (does p b) rule line h = absurd h
+refused_by (ends x) rule line h = refl
+refused_by (stops short s) rule line h = refl
+refused_by (stops (overrun c w) s) rule line h = absurd h
+refused_by (stops wrong s) rule line h = absurd h
+refused_by (stops more s) rule line h = absurd h
 
-module _ (line : Piece → List ℕ) (plan : Layout) (script : Script) (left now : Option Reading) (a b : Outputs) (runner : RunnerState) (count : ℕ) (fed : IsFed line plan script left now a b runner count) where
-  abbrev taken : List Answer
-  taken = fed.taken ++ []
+no_overrun : {A : Type 0} (t : Telling) (plan : Layout) (script : Script) (left : Option Reading) (now : Option (List ℕ)) (e : End) (b : Behaviour A) → Waits b → stop_in e ≡ stop_of b → ReadsNoMore t plan script left now (how.End e)
+no_overrun t plan script left now end.Ended b w h = tt
+no_overrun t plan script left now end.Short b w h = tt
+no_overrun t plan script left now (end.Overrun o) (does p b) w h = absurd w
+no_overrun t plan script left now (end.Overrun o) (ends x) w h = cc
+no_overrun t plan script left now (end.Overrun o) (stops short s) w h = cc
+no_overrun t plan script left now (end.Overrun o) (stops (overrun c k) s) w h = absurd w
+no_overrun t plan script left now (end.Overrun o) (stops wrong s) w h = absurd w
+no_overrun t plan script left now (end.Overrun o) (stops more s) w h = absurd w
 
-  pub pieces_now : pieces (rest runner []) ≡ [] → pieces (the_run plan script taken) ≡ fed.done
-  pieces_now quiet =
-      ap (λ (x : Behaviour (Unit {0})). pieces x) (fed.run []) ∙ pieces-after fed.done (rest runner [])
-      ∙ ap (λ (ps : List Piece). fed.done ++ ps) quiet ∙ append-nil fed.done
+stops_now : (o : Option Overrun) (P : Type 0) → o ≡ None → IfNone o P → P
+stops_now None P e h = h
+stops_now (Some x) P e h = cc
 
-  pub stop_now : stop_of (the_run plan script taken) ≡ stop_of (rest runner [])
-  stop_now = ap (λ (x : Behaviour (Unit {0})). stop_of x) (fed.run []) ∙ stop_of-after fed.done (rest runner [])
+pub next_number : (event : Option Left) (n k m : ℕ) → IfSome event (λ e. (e.0 ≡ n + 1) × (m ≡ e.0) × (e.2.missed ≤ e.2.cycles)) → n ≡ k → IfSome event (λ e. e.0 ≡ k + 1)
+next_number None n k m h same = tt
+next_number (Some e) n k m h same = h.0 ∙ ap (λ (j : ℕ). j + 1) same
 
-  pub counts_now : pieces (rest runner []) ≡ [] → count ≡ length (events (the_run plan script taken))
-  counts_now quiet = fed.counted ∙ ap (λ (ps : List Piece). length (events_in ps)) (sym (pieces_now quiet))
+one_on : (event : Option Left) (k : ℕ) → IfSome event (λ e. e.0 ≡ k + 1) → IfSome event (λ e. e.0 ≡ 1 + k)
+one_on None k h = tt
+one_on (Some e) k h = h ∙ omega arith
 
-  pub sends_now : pieces (rest runner []) ≡ [] → Sends a b (run_sent line plan script taken)
-  sends_now quiet = subst (λ (ps : List Piece). Sends a b (pieces_sent line 1 ps)) (sym (pieces_now quiet)) fed.sent
+-- the number of events that the runner and the loop count
+pub same_number : (event : Option Left) (n k m r : ℕ) → IfNone event (m ≡ n) → IfSome event (λ e. (e.0 ≡ n + 1) × (m ≡ e.0) × (e.2.missed ≤ e.2.cycles)) → n ≡ k → IfNone event (r ≡ k) → IfSome event (λ e. r ≡ e.0) → m ≡ r
+same_number None n k m r a h same b d = a ∙ same ∙ sym b
+same_number (Some e) n k m r a h same b d = h.1 ∙ sym d
 
-  -- no answer is left
-  pub ends_here : (new : Option Reading) (e : End) → Steps now (Ok None) new → stop_in e ≡ stop_of (rest runner []) → pieces (rest runner []) ≡ [] → Feeds line plan script left a b (Ok (how.End e, count))
-  ends_here new e s stop quiet = (
-    record { answers = taken; fault = None },
-    given_end left now new fed.taken fed.given s,
-    sym (ends_by e) ∙ ap (λ (x : Option Stop). ending_of x None) (stop ∙ sym stop_now),
-    counts_now quiet,
-    sends_now quiet,
+module _ (t : Telling) (plan : Layout) (script : Script) (left now : Option Reading) (a b : Outputs) (runner : RunnerState) (count : ℕ) (fed : IsFed t plan script left now a b runner count) (o : Wanted) (wants : Wants runner (Some o)) where
+  abbrev done : List Piece
+  done = fed.holds.done
+
+  abbrev asked : List Sent
+  asked = to_listing (asked_text t o)
+
+  did : pieces (the_run plan script fed.taken) ≡ done
+  did = did_all plan script fed.taken runner fed.holds wants.1
+
+  stop_now : stop_of (the_run plan script fed.taken) ≡ stop_of (rest runner [])
+  stop_now =
+      ap (λ (l : List Answer). stop_of (the_run plan script l)) (sym (append-nil fed.taken))
+      ∙ ap (λ (x : Behaviour (Unit {0})). stop_of x) (fed.holds.goes []) ∙ stop_of-after done (rest runner [])
+
+  count_now : count ≡ length (events (the_run plan script fed.taken))
+  count_now = fed.counted ∙ ap (λ (ps : List Piece). length (events_in ps)) (sym did)
+
+  -- what is wanted stands open as long as no answer was used for it
+  open_at : (more' : List Answer) → pieces (the_run plan script (fed.taken ++ more')) ≡ done → open_text t plan script (fed.taken ++ more') ≡ asked_text t o
+  open_at more' same =
+      ap (λ (n : ℕ). unwrap_or (option_map (asked_text t) (wanted_after plan script (take n (fed.taken ++ more')))) []) (ap uses same ∙ fed.used)
+      ∙ ap (λ (answers : List Answer). unwrap_or (option_map (asked_text t) (wanted_after plan script answers)) []) (take_all fed.taken more')
+      ∙ ap (λ (x : Option Wanted). unwrap_or (option_map (asked_text t) x) []) (wants_are_wanted plan script fed.taken runner o fed.holds wants)
+
+  called_at : (more' : List Answer) → pieces (the_run plan script (fed.taken ++ more')) ≡ done → called_for t plan script (fed.taken ++ more') ≡ pieces_sent (line_of t script) 1 done ++ asked
+  called_at more' same =
+      ap (λ (ps : List Piece). pieces_sent (line_of t script) 1 ps ++ to_listing (open_text t plan script (fed.taken ++ more'))) same
+      ∙ ap (λ (text : List ℕ). pieces_sent (line_of t script) 1 done ++ to_listing text) (open_at more' same)
+
+  called_now : called_for t plan script fed.taken ≡ pieces_sent (line_of t script) 1 done ++ asked
+  called_now =
+      ap (called_for t plan script) (sym (append-nil fed.taken))
+      ∙ called_at [] (ap (λ (l : List Answer). pieces (the_run plan script l)) (append-nil fed.taken) ∙ did)
+
+  stops_after : (text : Option (List ℕ)) (c : Outputs) → HasRead t left text fed.taken → SendsPrefix b c asked → Follows t plan script fed.taken (pieces_sent (line_of t script) 1 done) → FailsAtWrite t left text a c (called_for t plan script)
+  stops_after text c read prefix (inl none) = inl (
+    subst (λ (l : List Answer). HasRead t left text l) none read,
+    subst (λ (l : List Answer). SendsPrefix a c (called_for t plan script l)) none
+        (subst (λ (l : List Sent). SendsPrefix a c l) (sym called_now) (SendsPrefix-after a b c (pieces_sent (line_of t script) 1 done) asked fed.sent prefix)),
+  )
+  stops_after text c read prefix (inr (before, x, more', taken, sent)) = inr (
+    before,
+    x,
+    subst (λ (l : List Answer). HasRead t left text l) taken read,
+    later_part a b c (called_for t plan script before) more' asked (called_for t plan script (before ++ x ∷ []))
+        (subst (λ (l : List Sent). Sends a b l) sent fed.sent) prefix
+        (ap (called_for t plan script) (sym taken) ∙ called_now ∙ ap (λ (l : List Sent). l ++ asked) sent),
   )
 
-  pub few_now : count < 2 ^ 32 → pieces (rest runner []) ≡ [] → length (events (the_run plan script taken)) < 2 ^ 32
-  few_now few quiet = let n = counts_now quiet in omega (arith, n, few)
+  -- what asks for the operation was not written whole
+  pub stops_asking : (r : Result (Ending × ℕ) PlayFault) (text : Option (List ℕ)) (c : Outputs) → r ≡ Err fault.Write → now ≡ left_in (most_answers t) Running (length fed.taken) text → SendsPrefix b c asked → Feeds t plan script left text a c r
+  stops_asking r text c write same prefix = rw write (stops_after text c (has_read t left now text fed.taken fed.given same) prefix fed.follows)
 
-  -- the text has a fault where the next answer is wanted
-  pub faults_here : (new : Option Reading) (f : AnswerFault) → count < 2 ^ 32 → Steps now (Err f) new → is_memory_failure (failed_by f) ≡ false → IsOut (stop_of (rest runner [])) → pieces (rest runner []) ≡ [] → Feeds line plan script left a b (faulted f count)
-  faults_here new OutOfMemory few s fine out quiet = (taken, given_first left now new fed.taken fed.given, few_now few quiet, sends_now quiet)
-  faults_here new Read few s fine out quiet = (taken, given_first left now new fed.taken fed.given, few_now few quiet, sends_now quiet)
-  faults_here new (Broken rule line) few s fine out quiet = (
-    record { answers = taken; fault = Some (Broken rule line) },
-    given_fault left now new fed.taken fed.given rule line s,
-    sym (refused_by (stop_of (rest runner [])) rule line out) ∙ ap (λ (x : Option Stop). ending_of x (Some (Broken rule line))) (sym stop_now),
-    counts_now quiet,
-    sends_now quiet,
-  )
+  module _ (c : Outputs) (asks : Sends b c asked) where
+    pub sends_all : Sends a c (called_for t plan script fed.taken)
+    sends_all = subst (λ (l : List Sent). Sends a c l) (sym called_now) (Sends-trans a b c (pieces_sent (line_of t script) 1 done) asked fed.sent asks)
 
-  module _ (new : Option Reading) (answer : Answer) (given : Steps now (Ok (Some answer)) new) where
-    abbrev pub then_taken : List Answer
-    then_taken = fed.taken ++ answer ∷ []
+    -- no answer is left
+    pub ends_here : (new : Option Reading) (text : Option (List ℕ)) (e : End) → Steps now (Ok None) new → stop_in e ≡ stop_of (rest runner []) → Feeds t plan script left text a c (Ok (how.End e, count))
+    ends_here new text e s stop = (
+      record { answers = fed.taken; fault = None },
+      given_end left now new fed.taken fed.given s,
+      sym (ends_by e) ∙ ap (λ (x : Option Stop). ending_of x None) (stop ∙ sym stop_now),
+      no_overrun t plan script left text e (rest runner []) wants.1 stop,
+      count_now,
+      sends_all,
+    )
 
-    abbrev pub left_then : HasGiven left new then_taken
-    left_then = given_next left now new fed.taken fed.given answer given
+    -- the text has a fault where the next answer is wanted
+    pub faults_here : (new : Option Reading) (before text : Option (List ℕ)) (f : AnswerFault) → count < 2 ^ 32 → now ≡ left_in (most_answers t) Running (length fed.taken) before → Steps now (Err f) new → FailsInOpenLine (most_answers t) Running (Err f) (length fed.taken) before text
+        → is_memory_failure (failed_by f) ≡ false → Feeds t plan script left text a c (faulted f count)
+    faults_here new before text OutOfMemory few same s open' fine = cc
+    faults_here new before text Read few same s open' fine =
+        (fed.taken, before, has_read t left now before fed.taken fed.given same, open', (let n = count_now in omega (arith, n, few)), sends_all)
+    faults_here new before text (Broken rule line) few same s open' fine = (
+      record { answers = fed.taken; fault = Some (Broken rule line) },
+      given_fault left now new fed.taken fed.given rule line s,
+      sym (refused_by (rest runner []) rule line wants.1) ∙ ap (λ (x : Option Stop). ending_of x (Some (Broken rule line))) (sym stop_now),
+      tt,
+      count_now,
+      sends_all,
+    )
 
-    pub run_then : (answers : List Answer) → the_run plan script (then_taken ++ answers) ≡ after fed.done (rest runner (answer ∷ answers))
-    run_then answers = ap (the_run plan script) (append_assoc fed.taken (answer ∷ []) answers) ∙ fed.run (answer ∷ answers)
+    module _ (new : Option Reading) (text : Option (List ℕ)) (answer : Answer) (given : Steps now (Ok (Some answer)) new) where
+      abbrev pub taken : List Answer
+      taken = fed.taken ++ answer ∷ []
 
-    -- its wait is not permitted
-    pub overruns_here : (c : Outputs) (o : Overrun) → Overruns runner answer o → Sends b c [] → Feeds line plan script left a c (Ok (how.End (end.Overrun o), count))
-    overruns_here c o s sends =
-        let r : Reading = with_taken then_taken (known new) in
-        let x = s (known new).answers in
-        let run : the_run plan script r.answers ≡ after fed.done (stops (overrun o.c o.wait) x.0) = run_then (known new).answers ∙ ap (after fed.done) x.1 in
-        let did : pieces (the_run plan script r.answers) ≡ fed.done = ap (λ (y : Behaviour (Unit {0})). pieces y) run ∙ pieces-after fed.done (stops (overrun o.c o.wait) x.0) ∙ append-nil fed.done in
-        let stop : stop_of (the_run plan script r.answers) ≡ Some (overrun o.c o.wait) = ap (λ (y : Behaviour (Unit {0})). stop_of y) run ∙ stop_of-after fed.done (stops (overrun o.c o.wait) x.0) in (
-          r,
-          given_all left new then_taken left_then,
-          ap (λ (y : Option Stop). ending_of y r.fault) (sym stop),
-          fed.counted ∙ ap (λ (ps : List Piece). length (events_in ps)) (sym did),
-          subst (λ (ps : List Piece). Sends a c (pieces_sent line 1 ps)) (sym did)
-              (subst (λ (l : List Sent). Sends a c l) (append-nil (pieces_sent line 1 fed.done)) (Sends-trans a b c (pieces_sent line 1 fed.done) [] fed.sent sends)),
-        )
+      abbrev given_then : HasGiven left new taken
+      given_then = given_next left now new fed.taken fed.given answer given
 
-    module _ (runner' : RunnerState) (ps : List Piece) (did : Does runner answer runner' ps) where
-      pub run_on : (answers : List Answer) → the_run plan script (then_taken ++ answers) ≡ after (fed.done ++ ps) (rest runner' answers)
-      run_on answers = run_then answers ∙ ap (after fed.done) (did.run answers) ∙ after-append fed.done ps (rest runner' answers)
+      module _ (halt : Overrun) (runner' : RunnerState) (halts : Stops runner answer halt runner') where
+        stopped : (answers : List Answer) → (pieces (the_run plan script (fed.taken ++ answer ∷ answers)) ≡ done) × (stop_of (the_run plan script (fed.taken ++ answer ∷ answers)) ≡ Some (overrun halt.c halt.wait))
+        stopped answers =
+            let at = state_in runner (answer ∷ answers) in
+            let now' = stops_now runner.overrun ((more' : List Answer) → rest runner (answer ∷ more') ≡ stops (overrun halt.c halt.wait) (state_in runner (answer ∷ more'))) wants.0 halts.now answers in
+            let run : the_run plan script (fed.taken ++ answer ∷ answers) ≡ after done (stops (overrun halt.c halt.wait) at) = fed.holds.goes (answer ∷ answers) ∙ ap (after done) now' in (
+              ap (λ (y : Behaviour (Unit {0})). pieces y) run ∙ pieces-after done (stops (overrun halt.c halt.wait) at) ∙ append-nil done,
+              ap (λ (y : Behaviour (Unit {0})). stop_of y) run ∙ stop_of-after done (stops (overrun halt.c halt.wait) at),
+            )
 
-      abbrev next_number : ℕ
-      next_number = 1 + count_of fed.done
+        -- its wait is not permitted
+        pub overruns_here : new ≡ left_in (most_answers t) Running (length taken) text → Feeds t plan script left text a c (Ok (how.End (end.Overrun halt), count))
+        overruns_here same =
+            let more' : List Answer = (known new).answers in
+            let s = stopped more' in
+            let parts : taken ++ more' ≡ fed.taken ++ answer ∷ more' = append_assoc fed.taken (answer ∷ []) more' in (
+              with_taken taken (known new),
+              given_all left new taken given_then,
+              ap (λ (y : Option Stop). ending_of y (known new).fault) (sym s.1 ∙ ap (λ (l : List Answer). stop_of (the_run plan script l)) (sym parts)),
+              (taken, has_read t left new text taken given_then same, ap (λ (y : Option Stop). ending_of y None) (stopped []).1),
+              fed.counted ∙ ap (λ (ps : List Piece). length (events_in ps)) (sym s.0 ∙ ap (λ (l : List Answer). pieces (the_run plan script l)) (sym parts)),
+              subst (λ (l : List Sent). Sends a c l) (called_now ∙ sym (called_at (answer ∷ more') s.0) ∙ ap (called_for t plan script) (sym parts)) sends_all,
+            )
 
-      pub numbers : count + 1 ≡ next_number
-      numbers = omega (arith, fed.counted)
+      module _ (runner' : RunnerState) (told : Item) (ks : List ℕ) (event : Option Left) (words : List ℕ) (g : GoesOn runner answer told ks event runner') (same_words : words ≡ last_words_in runner') (counted : runner.events ≡ count) where
+        abbrev holds' : HoldsAfter plan script taken runner'
+        holds' = going_on_holds plan script fed.taken answer runner runner' told ks event fed.holds g
 
-      -- what the answer did was written
-      abbrev pub goes_on : (c : Outputs) (n : ℕ) → n ≡ count + count_of ps → Sends b c (pieces_sent line (count + 1) ps) → IsFed line plan script left new a c runner' n
-      goes_on c n counts sends = record {
-        taken = then_taken;
-        done = fed.done ++ ps;
-        run = run_on;
-        sent = subst (λ (l : List Sent). Sends a c l) (sym (pieces_sent-append line 1 fed.done ps))
-            (Sends-trans a b c (pieces_sent line 1 fed.done) (pieces_sent line next_number ps) fed.sent (subst (λ (k : ℕ). Sends b c (pieces_sent line k ps)) numbers sends));
-        counted = counts ∙ ap (λ (k : ℕ). k + count_of ps) fed.counted ∙ sym (count-append fed.done ps);
-        given = left_then;
-      }
+        told_is : operation_of (piece_of told) ≡ Some o
+        told_is = subst (λ (x : Behaviour (Unit {0})). Begins o answer x) (g.goes []) (wants.2 answer [])
 
-      prefix_here : (c : Outputs) → SendsPrefix b c (pieces_sent line (count + 1) ps) → (r : Reading) × Gives left r × SendsPrefix a c (run_sent line plan script r.answers)
-      prefix_here c prefix =
-          let r : Reading = with_taken then_taken (known new) in
-          let more' : List Piece = pieces (rest runner' (known new).answers) in
-          let all : pieces (the_run plan script r.answers) ≡ (fed.done ++ ps) ++ more' =
-          ap (λ (y : Behaviour (Unit {0})). pieces y) (run_on (known new).answers) ∙ pieces-after (fed.done ++ ps) (rest runner' (known new).answers) in
-          let first = pieces_sent line 1 (fed.done ++ ps) in
-          let later = pieces_sent line (1 + count_of (fed.done ++ ps)) more' in
-          let sent : run_sent line plan script r.answers ≡ first ++ later = ap (pieces_sent line 1) all ∙ pieces_sent-append line 1 (fed.done ++ ps) more' in (
-            r,
-            given_all left new then_taken left_then,
-            subst (λ (l : List Sent). SendsPrefix a c l) (sym sent)
-                (SendsPrefix-longer a c first later
-                (subst (λ (l : List Sent). SendsPrefix a c l) (sym (pieces_sent-append line 1 fed.done ps))
-                (SendsPrefix-after a b c (pieces_sent line 1 fed.done) (pieces_sent line next_number ps) fed.sent
-                (subst (λ (k : ℕ). SendsPrefix b c (pieces_sent line k ps)) numbers prefix)))),
-          )
+        abbrev text_sent : List Sent
+        text_sent = told_sent t script told ks event words
 
-      -- a prefix of what the answer did was written
-      pub stops_here : (r : Result (Ending × ℕ) PlayFault) (c : Outputs) → IsErr r → r ≡ Err fault.Write → SendsPrefix b c (pieces_sent line (count + 1) ps) → Feeds line plan script left a c r
-      stops_here r c is write prefix = rw write (prefix_here c prefix)
+        numbers : IfSome event (λ e. e.0 ≡ 1 + count_of done)
+        numbers = one_on event (count_of done) (next_number event runner.events (count_of done) runner'.events g.next (counted ∙ fed.counted))
+
+        -- what was sent of all pieces is what the answers before this one call for, and what it did
+        pub as_called : pieces_sent (line_of t script) 1 holds'.done ≡ called_for t plan script fed.taken ++ text_sent
+        as_called =
+            pieces_sent-append (line_of t script) 1 done (piece_of told ∷ later ks event (last_words_in runner'))
+            ∙ ap (λ (l : List ℕ). pieces_sent (line_of t script) 1 done ++ pieces_sent (line_of t script) (1 + count_of done) (piece_of told ∷ later ks event l)) (sym same_words)
+            ∙ ap (λ (l : List Sent). pieces_sent (line_of t script) 1 done ++ l) (answer_sent t script (1 + count_of done) o told ks event words told_is numbers)
+            ∙ sym (append_assoc (pieces_sent (line_of t script) 1 done) asked text_sent)
+            ∙ ap (λ (l : List Sent). l ++ text_sent) (sym called_now)
+
+        pub uses_then : uses holds'.done ≡ length taken
+        uses_then =
+            let sum = uses-append done (piece_of told ∷ later ks event (last_words_in runner')) in
+            let one = answer_uses o told ks event (last_words_in runner') told_is in
+            let len = length-append fed.taken (answer ∷ []) in
+            let used = fed.used in
+            omega (arith, sum, one, len, used)
+
+        -- what it did was written
+        abbrev pub goes_on : (d : Outputs) (n : ℕ) → IfNone event (n ≡ count) → IfSome event (λ e. n ≡ e.0) → Sends c d text_sent → IsFed t plan script left new a d runner' n
+        goes_on d n none some sends = record {
+          taken = taken;
+          holds = holds';
+          sent = subst (λ (l : List Sent). Sends a d l) (sym as_called) (Sends-trans a c d (called_for t plan script fed.taken) text_sent sends_all sends);
+          counted = answer_counts told ks event (last_words_in runner') count n none some (next_number event runner.events count runner'.events g.next counted)
+              ∙ ap (λ (k : ℕ). k + count_of (piece_of told ∷ later ks event (last_words_in runner'))) fed.counted ∙ sym (count-append done (piece_of told ∷ later ks event (last_words_in runner')));
+          used = uses_then;
+          given = given_then;
+          follows = inr (fed.taken, answer, text_sent, refl, as_called);
+        }
+
+        -- a prefix of that was written
+        pub stops_here : (r : Result (Ending × ℕ) PlayFault) (d : Outputs) → r ≡ Err fault.Write → new ≡ left_in (most_answers t) Running (length taken) text → SendsPrefix c d text_sent → Feeds t plan script left text a d r
+        stops_here r d write same prefix =
+            let more' : List Piece = pieces (rest runner' []) in
+            let did_then : pieces (the_run plan script taken) ≡ holds'.done ++ more' =
+            ap (λ (l : List Answer). pieces (the_run plan script l)) (sym (append-nil taken)) ∙ ap (λ (y : Behaviour (Unit {0})). pieces y) (holds'.goes []) ∙ pieces-after holds'.done (rest runner' []) in
+            let next' : List Sent = pieces_sent (line_of t script) (1 + count_of holds'.done) more' in
+            let open' : List Sent = to_listing (open_text t plan script taken) in
+            let whole : called_for t plan script taken ≡ called_for t plan script fed.taken ++ (text_sent ++ (next' ++ open')) =
+            ap (λ (ps : List Piece). pieces_sent (line_of t script) 1 ps ++ open') did_then
+            ∙ ap (λ (l : List Sent). l ++ open') (pieces_sent-append (line_of t script) 1 holds'.done more' ∙ ap (λ (l : List Sent). l ++ next') as_called)
+            ∙ append_assoc (called_for t plan script fed.taken ++ text_sent) next' open'
+            ∙ append_assoc (called_for t plan script fed.taken) text_sent (next' ++ open') in
+            rw write (inr (
+              fed.taken,
+              answer,
+              has_read t left new text taken given_then same,
+              last_part a c d (called_for t plan script fed.taken) (text_sent ++ (next' ++ open')) (called_for t plan script taken) sends_all (SendsPrefix-longer c d text_sent (next' ++ open') prefix) whole,
+            ))

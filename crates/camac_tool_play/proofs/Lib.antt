@@ -1,10 +1,6 @@
 pub mod Sending
 pub mod Pieces
-pub mod Steps
+pub mod Given
 pub mod Fed
-pub mod Followed
-pub mod Whole
-pub mod InTurn
-pub mod Live
 pub mod EventFile
-pub mod Driven
+pub mod Whole

@@ -1,31 +1,25 @@
 -- What an answer did, as pieces of the run, and what is sent of them.
 use Rattle.std.proofs.Common.{◌≡◌, ℕ, ◌+◌, List, [], ◌∷◌, ◌++◌, length, map, Option, Some, None, refl, sym, ap, ◌∙◌, append_assoc, append-nil, length-append, arith}
-use Rattle.std.specs.Prelude.{IfSome, IfNone}
+use Rattle.std.specs.Prelude.{IfSome, IfNone, unwrap_or}
 use Rattle.camac_lang.specs.Tree.{Script}
-use Rattle.camac_model.specs.Behaviour.{Behaviour, does, Event, Piece, demanded, cycled, lock_taken, lock_released, event_left, pieces, stop_of, event_in, events_in}
-use Rattle.camac_report.specs.Items.{item_text, unlock_text, unlock_texts}
+use Rattle.camac_model.specs.Behaviour.{Event, Piece, demanded, cycled, lock_taken, lock_released, event_left, event_in, events_in, uses, piece_uses}
+use Rattle.camac_report.specs.Items.{unlock_text, unlock_texts}
+use Rattle.camac_report.specs.Requests.{request_text, live_text}
 use Rattle.camac_run_machine.specs.declared.item.Item.{Item}
 use Rattle.camac_run_machine.specs.declared.item.Item.TheVariants as item
-use Rattle.camac_run_runner.specs.Runner.{with_event}
 use Rattle.camac_run_machine.specs.MachineState.{piece_of, Left}
-use Rattle.camac_run_machine.specs.Rest.{says}
-use Rattle.camac_tool_play.specs.Played.{record_text, number_after, piece_sent, pieces_sent}
+use Rattle.camac_run_runner.specs.Operation.{operation_of}
+use Rattle.camac_run_runner.specs.declared.progress.Wanted.{Wanted}
+use Rattle.camac_run_runner.specs.declared.progress.Wanted.TheVariants as wanted
+use Rattle.camac_run_runner.proofs.Holds.{event_pieces, later}
 use Rattle.camac_tool_play.specs.Sent.{Sent, to_listing, to_events}
-use Rattle.camac_tool_play.specs.Step.{after, count_of}
-use Rattle.camac_tool_play.specs.Telling.{event_record}
+use Rattle.camac_tool_play.specs.Told.{asked_text, item_line, line_of, record_text, number_after, piece_sent, pieces_sent, event_record}
+use Rattle.camac_tool_play.specs.declared.telling.Telling.{Telling}
+use Rattle.camac_tool_play.specs.declared.telling.Telling.TheVariants.{Listing, Requests}
 use Rattle.camac_tool_play.proofs.Sending.{to_listing-append}
 
-pub pieces-after : {A : Type 0} (ps : List Piece) (b : Behaviour A) → pieces (after ps b) ≡ ps ++ pieces b
-pieces-after [] b = refl
-pieces-after (p ∷ ps) b = ap (λ (l : List Piece). p ∷ l) (pieces-after ps b)
-
-pub stop_of-after : {A : Type 0} (ps : List Piece) (b : Behaviour A) → stop_of (after ps b) ≡ stop_of b
-stop_of-after [] b = refl
-stop_of-after (p ∷ ps) b = stop_of-after ps b
-
-pub after-append : {A : Type 0} (ps qs : List Piece) (b : Behaviour A) → after ps (after qs b) ≡ after (ps ++ qs) b
-after-append [] qs b = refl
-after-append {A} (p ∷ ps) qs b = ap (λ (x : Behaviour A). does p x) (after-append ps qs b)
+abbrev pub count_of : List Piece → ℕ
+count_of ps = length (events_in ps)
 
 pub count-append : (ps qs : List Piece) → count_of (ps ++ qs) ≡ count_of ps + count_of qs
 count-append [] qs = omega arith
@@ -52,26 +46,6 @@ pieces_sent-append line n (p ∷ ps) qs =
     ap (λ (l : List Sent). sent ++ l) (pieces_sent-append line k ps qs ∙ ap (λ (j : ℕ). pieces_sent line k ps ++ pieces_sent line j qs) same)
     ∙ sym (append_assoc sent (pieces_sent line k ps) (pieces_sent line (n + count_of (p ∷ ps)) qs))
 
-abbrev pub event_pieces : Option Left → List ℕ → List Piece
-event_pieces None words = []
-event_pieces (Some e) words = event_left (record { bit = e.1; cycles = e.2.cycles; missed = e.2.missed; words = words }) ∷ []
-
--- the pieces of an answer
-abbrev pub step : Item → List ℕ → Option Left → List ℕ → List Piece
-step told ks event words = piece_of told ∷ (map lock_released ks ++ event_pieces event words)
-
-with_event-after : (event : Option Left) (words : List ℕ) (b : Behaviour (Unit {0})) → with_event event words b ≡ after (event_pieces event words) b
-with_event-after None words b = refl
-with_event-after (Some e) words b = refl
-
-says-after : (ks : List ℕ) (event : Option Left) (words : List ℕ) (b : Behaviour (Unit {0})) → says ks (with_event event words b) ≡ after (map lock_released ks ++ event_pieces event words) b
-says-after [] event words b = with_event-after event words b
-says-after (k ∷ ks) event words b = ap (λ (x : Behaviour (Unit {0})). does (lock_released k) x) (says-after ks event words b)
-
-pub step-after : (told : Item) (ks : List ℕ) (event : Option Left) (words : List ℕ) (b : Behaviour (Unit {0}))
-    → does (piece_of told) (says ks (with_event event words b)) ≡ after (step told ks event words) b
-step-after told ks event words b = ap (λ (x : Behaviour (Unit {0})). does (piece_of told) x) (says-after ks event words b)
-
 -- an item leaves no event
 quiet_record : (n : ℕ) (told : Item) → record_text n (piece_of told) ≡ []
 quiet_record n (item.Cycle d) = refl
@@ -91,46 +65,71 @@ quiet_event (item.Lock c w) = refl
 quiet_event (item.Unlock c) = refl
 quiet_event (item.Demand p v) = refl
 
-module _ (line : Piece → List ℕ) (releases : (k : ℕ) → line (lock_released k) ≡ unlock_text k) (leaves : (e : Event) → line (event_left e) ≡ []) where
+-- the item of an answer is the operation that was asked for
+asked_is : (told : Item) (o : Wanted) → operation_of (piece_of told) ≡ Some o → (live_text (piece_of told) ≡ request_text o) × (piece_uses (piece_of told) ≡ 1)
+asked_is (item.Cycle d) o h = (ap (λ x. request_text (unwrap_or x wanted.Demand)) h, refl)
+asked_is (item.Lock c w) o h = (ap (λ x. request_text (unwrap_or x wanted.Demand)) h, refl)
+asked_is (item.Unlock c) o h = cc
+asked_is (item.Demand p v) o h = (ap (λ x. request_text (unwrap_or x wanted.Demand)) h, refl)
+
+-- its line is what was asked and what is told
+line_splits : (t : Telling) (script : Script) (told : Item) (o : Wanted) → operation_of (piece_of told) ≡ Some o → line_of t script (piece_of told) ≡ asked_text t o ++ item_line t script (piece_of told)
+line_splits Listing script told o h = refl
+line_splits Requests script told o h = (asked_is told o h).0 ∙ sym (append-nil (request_text o))
+
+releases : (t : Telling) (script : Script) (k : ℕ) → line_of t script (lock_released k) ≡ unlock_text k
+releases Listing script k = refl
+releases Requests script k = refl
+
+leaves : (t : Telling) (script : Script) (e : Event) → line_of t script (event_left e) ≡ []
+leaves Listing script e = refl
+leaves Requests script e = refl
+
+module _ (t : Telling) (script : Script) where
+  abbrev line : Piece → List ℕ
+  line = line_of t script
+
   event_sent : (n : ℕ) (event : Option Left) (words : List ℕ) → IfSome event (λ e. e.0 ≡ n) → pieces_sent line n (event_pieces event words) ≡ to_events (event_record event words)
   event_sent n None words h = refl
   event_sent n (Some e) words h =
       let left : Event = record { bit = e.1; cycles = e.2.cycles; missed = e.2.missed; words = words } in
       append-nil (piece_sent line n (event_left left))
-      ∙ ap (λ (l : List ℕ). to_listing l ++ to_events (record_text n (event_left left))) (leaves left)
+      ∙ ap (λ (l : List ℕ). to_listing l ++ to_events (record_text n (event_left left))) (leaves t script left)
       ∙ ap (λ (k : ℕ). to_events (event_record (Some (k, e.1, e.2)) words)) (sym h)
 
   released_sent : (n : ℕ) (ks : List ℕ) (ps : List Piece) → pieces_sent line n (map lock_released ks ++ ps) ≡ to_listing (unlock_texts ks) ++ pieces_sent line n ps
   released_sent n [] ps = refl
   released_sent n (k ∷ ks) ps =
-      let more = pieces_sent line n ps in
-      ap (λ (l : List ℕ). (to_listing l ++ []) ++ pieces_sent line n (map lock_released ks ++ ps)) (releases k)
+      let more' = pieces_sent line n ps in
+      ap (λ (l : List ℕ). (to_listing l ++ []) ++ pieces_sent line n (map lock_released ks ++ ps)) (releases t script k)
       ∙ ap (λ (l : List Sent). (to_listing (unlock_text k) ++ []) ++ l) (released_sent n ks ps)
-      ∙ ap (λ (l : List Sent). l ++ (to_listing (unlock_texts ks) ++ more)) (append-nil (to_listing (unlock_text k)))
-      ∙ sym (append_assoc (to_listing (unlock_text k)) (to_listing (unlock_texts ks)) more)
-      ∙ ap (λ (l : List Sent). l ++ more) (sym (to_listing-append (unlock_text k) (unlock_texts ks)))
+      ∙ ap (λ (l : List Sent). l ++ (to_listing (unlock_texts ks) ++ more')) (append-nil (to_listing (unlock_text k)))
+      ∙ sym (append_assoc (to_listing (unlock_text k)) (to_listing (unlock_texts ks)) more')
+      ∙ ap (λ (l : List Sent). l ++ more') (sym (to_listing-append (unlock_text k) (unlock_texts ks)))
 
-  -- what is sent after an answer's item
-  pub later_sent : (n : ℕ) (ks : List ℕ) (event : Option Left) (words : List ℕ) → IfSome event (λ e. e.0 ≡ n) → pieces_sent line n (map lock_released ks ++ event_pieces event words) ≡ to_listing (unlock_texts ks) ++ to_events (event_record event words)
-  later_sent n ks event words h = released_sent n ks (event_pieces event words) ∙ ap (λ (l : List Sent). to_listing (unlock_texts ks) ++ l) (event_sent n event words h)
-
-  pub first_sent : (n : ℕ) (told : Item) (ps : List Piece) → pieces_sent line n (piece_of told ∷ ps) ≡ to_listing (line (piece_of told)) ++ pieces_sent line n ps
+  first_sent : (n : ℕ) (told : Item) (ps : List Piece) → pieces_sent line n (piece_of told ∷ ps) ≡ to_listing (line (piece_of told)) ++ pieces_sent line n ps
   first_sent n told ps =
       let words = to_listing (line (piece_of told)) in
       ap (λ (k : ℕ). piece_sent line n (piece_of told) ++ pieces_sent line k ps) (quiet_number n told)
       ∙ ap (λ (l : List ℕ). (words ++ to_events l) ++ pieces_sent line n ps) (quiet_record n told)
       ∙ ap (λ (l : List Sent). l ++ pieces_sent line n ps) (append-nil words)
 
--- what is sent of an answer's pieces
-pub step_sent : (script : Script) (n : ℕ) (told : Item) (ks : List ℕ) (event : Option Left) (words : List ℕ) → IfSome event (λ e. e.0 ≡ n)
-    → pieces_sent (item_text script) n (step told ks event words) ≡ to_listing (item_text script (piece_of told) ++ unlock_texts ks) ++ to_events (event_record event words)
-step_sent script n told ks event words h =
-    let line = to_listing (item_text script (piece_of told)) in
-    let event' = to_events (event_record event words) in
-    first_sent (item_text script) (λ k. refl) (λ e. refl) n told (map lock_released ks ++ event_pieces event words)
-    ∙ ap (λ (l : List Sent). line ++ l) (later_sent (item_text script) (λ k. refl) (λ e. refl) n ks event words h)
-    ∙ sym (append_assoc line (to_listing (unlock_texts ks)) event')
-    ∙ ap (λ (l : List Sent). l ++ event') (sym (to_listing-append (item_text script (piece_of told)) (unlock_texts ks)))
+  -- what is sent of an answer's pieces, after what asked for it
+  abbrev pub told_sent : (told : Item) (ks : List ℕ) (event : Option Left) (words : List ℕ) → List Sent
+  told_sent told ks event words = to_listing (item_line t script (piece_of told) ++ unlock_texts ks) ++ to_events (event_record event words)
+
+  pub answer_sent : (n : ℕ) (o : Wanted) (told : Item) (ks : List ℕ) (event : Option Left) (words : List ℕ) → operation_of (piece_of told) ≡ Some o → IfSome event (λ e. e.0 ≡ n)
+      → pieces_sent line n (piece_of told ∷ later ks event words) ≡ to_listing (asked_text t o) ++ told_sent told ks event words
+  answer_sent n o told ks event words is h =
+      let asked = to_listing (asked_text t o) in
+      let item' : List ℕ = item_line t script (piece_of told) in
+      let free = to_listing (unlock_texts ks) in
+      let left = to_events (event_record event words) in
+      first_sent n told (later ks event words)
+      ∙ ap (λ (l : List Sent). to_listing (line (piece_of told)) ++ l) (released_sent n ks (event_pieces event words) ∙ ap (λ (l : List Sent). free ++ l) (event_sent n event words h))
+      ∙ ap (λ (l : List Sent). l ++ (free ++ left)) (ap to_listing (line_splits t script told o is) ∙ to_listing-append (asked_text t o) item')
+      ∙ append_assoc asked (to_listing item') (free ++ left)
+      ∙ ap (λ (l : List Sent). asked ++ l) (sym (append_assoc (to_listing item') free left) ∙ ap (λ (l : List Sent). l ++ left) (sym (to_listing-append item' (unlock_texts ks))))
 
 released_quiet : (ks : List ℕ) (ps : List Piece) → count_of (map lock_released ks ++ ps) ≡ count_of ps
 released_quiet [] ps = refl
@@ -141,7 +140,20 @@ event_counts None words n m a b h = omega (arith, a)
 event_counts (Some e) words n m a b h = omega (arith, b, h)
 
 -- the number of events after an answer
-pub step_counts : (told : Item) (ks : List ℕ) (event : Option Left) (words : List ℕ) (n m : ℕ) → IfNone event (m ≡ n) → IfSome event (λ e. m ≡ e.0) → IfSome event (λ e. e.0 ≡ n + 1)
-    → m ≡ n + count_of (step told ks event words)
-step_counts told ks event words n m a b h =
-    omega (arith, event_counts event words n m a b h, released_quiet ks (event_pieces event words), quiet_event told, length-append (event_in (piece_of told)) (events_in (map lock_released ks ++ event_pieces event words)))
+pub answer_counts : (told : Item) (ks : List ℕ) (event : Option Left) (words : List ℕ) (n m : ℕ) → IfNone event (m ≡ n) → IfSome event (λ e. m ≡ e.0) → IfSome event (λ e. e.0 ≡ n + 1)
+    → m ≡ n + count_of (piece_of told ∷ later ks event words)
+answer_counts told ks event words n m a b h =
+    omega (arith, event_counts event words n m a b h, released_quiet ks (event_pieces event words), quiet_event told, length-append (event_in (piece_of told)) (events_in (later ks event words)))
+
+pub uses-append : (ps qs : List Piece) → uses (ps ++ qs) ≡ uses ps + uses qs
+uses-append [] qs = omega arith
+uses-append (p ∷ ps) qs = let m = uses-append ps qs in omega (arith, m)
+
+later_uses : (ks : List ℕ) (event : Option Left) (words : List ℕ) → uses (later ks event words) ≡ 0
+later_uses [] None words = refl
+later_uses [] (Some e) words = refl
+later_uses (k ∷ ks) event words = let m = later_uses ks event words in omega (arith, m)
+
+-- an answer is used once
+pub answer_uses : (o : Wanted) (told : Item) (ks : List ℕ) (event : Option Left) (words : List ℕ) → operation_of (piece_of told) ≡ Some o → uses (piece_of told ∷ later ks event words) ≡ 1
+answer_uses o told ks event words is = let one = (asked_is told o is).1 in let none = later_uses ks event words in omega (arith, one, none)

@@ -1,11 +1,10 @@
 -- Texts one after another over two writers.
 use Rattle.std.proofs.Common.{◌≡◌, ℕ, ◌<◌, List, [], ◌∷◌, ◌++◌, length, Option, Some, None, refl, sym, ap, subst, ◌∙◌, append_assoc, append-nil, length-append, arith}
 use Rattle.std.specs.Prelude.{Result, Ok, Err}
-use Rattle.std.specs.Result.{IsErr}
 use Rattle.std.specs.Io.KnownBytes.{Appends}
 use Rattle.std.proofs.KnownBytes.{Appends-trans}
 use Rattle.camac_word.specs.Writing.{AppendsPrefix, Writes}
-use Rattle.camac_tool_play.specs.Sent.{Sent, listed, recorded, to_listing, to_events, listing_of, events_of, Outputs, outputs, Sends, SendsPrefix, SendsBy}
+use Rattle.camac_tool_play.specs.Sent.{Sent, listed, recorded, to_listing, to_events, listing_of, events_of, Outputs, Sends, SendsPrefix, SendsLastPart, SendsBy}
 
 pub listing_of-append : (a b : List Sent) → listing_of (a ++ b) ≡ listing_of a ++ listing_of b
 listing_of-append [] b = refl
@@ -53,28 +52,37 @@ stays : (a : Option (List ℕ)) (t : List ℕ) → t ≡ [] → Appends a a t
 stays None t e = tt
 stays (Some xs) t e = sym (ap (λ (l : List ℕ). xs ++ l) e ∙ append-nil xs)
 
+-- what two writers hold
+abbrev pub both : (listing events : Option (List ℕ)) → Outputs
+both listing events = record { listing = listing; events = events }
+
 pub sends_nothing : (a : Outputs) → Sends a a []
 sends_nothing a = record { listing = stays a.listing [] refl; events = stays a.events [] refl }
 
-pub sends_listing : (l m e : Option (List ℕ)) (t : List ℕ) → Appends l m t → Sends (outputs l e) (outputs m e) (to_listing t)
+pub sends_listing : (l m e : Option (List ℕ)) (t : List ℕ) → Appends l m t → Sends (both l e) (both m e) (to_listing t)
 sends_listing l m e t p = record {
   listing = subst (λ (x : List ℕ). Appends l m x) (sym (listing_listed t)) p;
   events = stays e (events_of (to_listing t)) (events_listed t);
 }
 
-pub sends_events : (l e f : Option (List ℕ)) (t : List ℕ) → Appends e f t → Sends (outputs l e) (outputs l f) (to_events t)
+pub sends_events : (l e f : Option (List ℕ)) (t : List ℕ) → Appends e f t → Sends (both l e) (both l f) (to_events t)
 sends_events l e f t p = record {
   listing = stays l (listing_of (to_events t)) (listing_recorded t);
   events = subst (λ (x : List ℕ). Appends e f x) (sym (events_recorded t)) p;
 }
 
-pub prefix_listing : (l m e : Option (List ℕ)) (t : List ℕ) → AppendsPrefix l m t → SendsPrefix (outputs l e) (outputs m e) (to_listing t)
+pub prefix_listing : (l m e : Option (List ℕ)) (t : List ℕ) → AppendsPrefix l m t → SendsPrefix (both l e) (both m e) (to_listing t)
 prefix_listing l m e t (prefix, rest, split, some, p) =
     (to_listing prefix, to_listing rest, ap to_listing split ∙ to_listing-append prefix rest, some_listed rest some, sends_listing l m e prefix p)
 
-pub prefix_events : (l e f : Option (List ℕ)) (t : List ℕ) → AppendsPrefix e f t → SendsPrefix (outputs l e) (outputs l f) (to_events t)
+pub prefix_events : (l e f : Option (List ℕ)) (t : List ℕ) → AppendsPrefix e f t → SendsPrefix (both l e) (both l f) (to_events t)
 prefix_events l e f t (prefix, rest, split, some, p) =
     (to_events prefix, to_events rest, ap to_events split ∙ to_events-append prefix rest, some_recorded rest some, sends_events l e f prefix p)
+
+-- a text for the listing, as far as it went
+pub by_listing : {T E : Type 0} (r : Result T E) (l m e : Option (List ℕ)) (t : List ℕ) → Writes l m r t → SendsBy (both l e) (both m e) r (to_listing t)
+by_listing (Ok v) l m e t p = sends_listing l m e t p
+by_listing (Err x) l m e t p = prefix_listing l m e t p
 
 pub Sends-trans : (a b c : Outputs) (x y : List Sent) → Sends a b x → Sends b c y → Sends a c (x ++ y)
 Sends-trans a b c x y p q = record {
@@ -92,20 +100,27 @@ pub SendsPrefix-after : (a b c : Outputs) (x y : List Sent) → Sends a b x → 
 SendsPrefix-after a b c x y p (prefix, rest, split, some, q) =
     (x ++ prefix, rest, ap (λ (l : List Sent). x ++ l) split ∙ sym (append_assoc x prefix rest), some, Sends-trans a b c x prefix p q)
 
--- the second text, as far as it went
-pub SendsBy-after : {T E : Type 0} (r : Result T E) (a b c : Outputs) (x y : List Sent) → Sends a b x → SendsBy b c r y → SendsBy a c r (x ++ y)
-SendsBy-after (Ok v) a b c x y p q = Sends-trans a b c x y p q
-SendsBy-after (Err e) a b c x y p q = SendsPrefix-after a b c x y p q
+-- all of the first text, and a prefix of the second
+pub last_part : (a b c : Outputs) (first last whole : List Sent) → Sends a b first → SendsPrefix b c last → whole ≡ first ++ last → SendsLastPart a c first whole
+last_part a b c first last whole p (prefix, rest, split, some, q) e =
+    (prefix, rest, e ∙ ap (λ (l : List Sent). first ++ l) split, some, Sends-trans a b c first prefix p q)
 
-pub SendsBy-at_err : {T E : Type 0} (r : Result T E) (a c : Outputs) (x : List Sent) → IsErr r → SendsPrefix a c x → SendsBy a c r x
-SendsBy-at_err (Ok v) a c x is prefix = cc
-SendsBy-at_err (Err e) a c x is prefix = prefix
+-- where more of the whole went before the second
+pub later_part : (a b c : Outputs) (first more' last whole : List Sent) → Sends a b (first ++ more') → SendsPrefix b c last → whole ≡ (first ++ more') ++ last → SendsLastPart a c first whole
+later_part a b c first more' last whole p (prefix, rest, split, some, q) e = (
+  more' ++ prefix,
+  rest,
+  e ∙ ap (λ (l : List Sent). (first ++ more') ++ l) split ∙ append_assoc first more' (prefix ++ rest) ∙ ap (λ (l : List Sent). first ++ l) (sym (append_assoc more' prefix rest)),
+  some,
+  subst (λ (l : List Sent). Sends a c l) (append_assoc first more' prefix) (Sends-trans a b c (first ++ more') prefix p q),
+)
 
--- a text for one of the writers, as far as it went
-pub by_listing : {T E : Type 0} (r : Result T E) (l m e : Option (List ℕ)) (t : List ℕ) → Writes l m r t → SendsBy (outputs l e) (outputs m e) r (to_listing t)
-by_listing (Ok v) l m e t p = sends_listing l m e t p
-by_listing (Err x) l m e t p = prefix_listing l m e t p
-
-pub by_events : {T E : Type 0} (r : Result T E) (l e f : Option (List ℕ)) (t : List ℕ) → Writes e f r t → SendsBy (outputs l e) (outputs l f) r (to_events t)
-by_events (Ok v) l e f t p = sends_events l e f t p
-by_events (Err x) l e f t p = prefix_events l e f t p
+-- after a text before both
+pub last_part-after : (a b c : Outputs) (text first whole : List Sent) → Sends a b text → SendsLastPart b c first whole → SendsLastPart a c (text ++ first) (text ++ whole)
+last_part-after a b c text first whole p (part, rest, split, some, q) = (
+  part,
+  rest,
+  ap (λ (l : List Sent). text ++ l) split ∙ sym (append_assoc text first (part ++ rest)),
+  some,
+  subst (λ (l : List Sent). Sends a c l) (sym (append_assoc text first part)) (Sends-trans a b c text (first ++ part) p q),
+)

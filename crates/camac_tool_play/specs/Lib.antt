@@ -1,8 +1,4 @@
 pub mod Sent
-pub mod Played
-pub mod Telling
-pub mod Step
+pub mod Told
 pub mod Play
-pub mod InTurn
-pub mod Live
 pub mod Headline

@@ -1,19 +1,23 @@
--- What a play takes from its answers, and writes.
-use Rattle.std.specs.Prelude.{◌≡◌, ◌<◌, ◌^◌, ℕ, Bool, true, false, List, ◌++◌, length, Option, Some, Result, Ok, Err}
+-- What a play takes from its answers, and writes. `left` is what the text of the answers gave at first, `now` the text that is left.
+use Rattle.std.specs.Prelude.{◌≡◌, ◌<◌, ◌^◌, ◌⊎◌, ℕ, Bool, true, false, List, [], ◌∷◌, ◌++◌, length, Option, Some, None, Result, Ok, Err}
 use Rattle.camac_lang.specs.Tree.{Script}
 use Rattle.camac_branch.specs.Branch.{Answer}
 use Rattle.camac_branch.specs.Plan.{Layout}
-use Rattle.camac_model.specs.Behaviour.{Piece, pieces, events}
+use Rattle.camac_model.specs.Behaviour.{events}
 use Rattle.camac_model.specs.Run.{the_run}
+use Rattle.camac_answer.specs.Answers.{left_in, window, IsOpen}
 use Rattle.camac_answer.specs.Reading.{Reading, Answered}
+use Rattle.camac_answer.specs.declared.answers.Stage.TheVariants.{Running}
 use Rattle.camac_answer.specs.declared.fault.AnswerFault.{AnswerFault}
 use Rattle.camac_answer.specs.declared.fault.AnswerFault.TheVariants.{OutOfMemory, Read, Broken}
-use Rattle.camac_tool_play.specs.Played.{pieces_sent, report, ending, played}
-use Rattle.camac_tool_play.specs.Sent.{Outputs, Sends, SendsPrefix, Sent}
+use Rattle.camac_run_runner.specs.declared.progress.End.TheVariants as end
+use Rattle.camac_tool_play.specs.Sent.{Outputs, Sends, SendsPrefix, SendsLastPart, Sent}
+use Rattle.camac_tool_play.specs.Told.{most_answers, called_for, ending, report, played}
 use Rattle.camac_tool_play.specs.declared.ending.Ending.{Ending}
-use Rattle.camac_tool_play.specs.declared.ending.Ending.TheVariants.{Refused}
+use Rattle.camac_tool_play.specs.declared.ending.Ending.TheVariants as how
 use Rattle.camac_tool_play.specs.declared.fault.PlayFault.{PlayFault}
 use Rattle.camac_tool_play.specs.declared.fault.PlayFault.TheVariants as fault
+use Rattle.camac_tool_play.specs.declared.telling.Telling.{Telling}
 
 -- the text of the answers gives this, where its bytes are known
 abbrev pub Gives : Option Reading → Reading → Type 0
@@ -31,29 +35,51 @@ with_taken taken r = record r { answers = taken ++ r.answers }
 abbrev pub HasGiven : Option Reading → Option Reading → List Answer → Type 0
 HasGiven left now taken = (whole : Reading) → left ≡ Some whole → (r : Reading) × (now ≡ Some r) × (whole ≡ with_taken taken r)
 
--- All was written at an ending; a prefix of it after a write fault; after a read fault what the run on the answers before it tells.
-abbrev pub Plays : Layout → Script → Option Reading → Outputs → Outputs → Result Ending PlayFault → Type 0
-Plays plan script left old new (Ok e) =
-    (r : Reading) × Gives left r × (e ≡ ending plan script r) × Sends old new (played plan script r)
-Plays plan script left old new (Err fault.Write) =
-    (r : Reading) × Gives left r × SendsPrefix old new (played plan script r)
-Plays plan script left old new (Err fault.Read) =
-    (taken : List Answer) × GivesFirst left taken × Sends old new (report plan script taken)
+-- these answers were read, and no more: this text is left of them
+abbrev pub HasRead : Telling → Option Reading → Option (List ℕ) → List Answer → Type 0
+HasRead telling left now taken = HasGiven left (left_in (most_answers telling) Running (length taken) now) taken
 
--- what a run tells on these answers, after the header of its event file
-abbrev pub run_sent : (Piece → List ℕ) → Layout → Script → List Answer → List Sent
-run_sent line plan script answers = pieces_sent line 1 (pieces (the_run plan script answers))
+-- a wait that was not permitted ends a run at once: no answer after it was read
+abbrev pub ReadsNoMore : Telling → Layout → Script → Option Reading → Option (List ℕ) → Ending → Type 0
+ReadsNoMore telling plan script left now (how.End (end.Overrun o)) =
+    (taken : List Answer) × HasRead telling left now taken × (ending plan script (record { answers = taken; fault = None }) ≡ how.End (end.Overrun o))
+ReadsNoMore telling plan script left now (how.End end.Ended) = Unit {0}
+ReadsNoMore telling plan script left now (how.End end.Short) = Unit {0}
+ReadsNoMore telling plan script left now (how.Refused rule line) = Unit {0}
 
--- the same after the header and before the last line, with the number of events; after a read fault they can be numbered
-abbrev pub Feeds : (Piece → List ℕ) → Layout → Script → Option Reading → Outputs → Outputs → Result (Ending × ℕ) PlayFault → Type 0
-Feeds line plan script left old new (Ok v) =
-    (r : Reading) × Gives left r × (v.0 ≡ ending plan script r) × (v.1 ≡ length (events (the_run plan script r.answers)))
-    × Sends old new (run_sent line plan script r.answers)
-Feeds line plan script left old new (Err fault.Write) =
-    (r : Reading) × Gives left r × SendsPrefix old new (run_sent line plan script r.answers)
-Feeds line plan script left old new (Err fault.Read) =
-    (taken : List Answer) × GivesFirst left taken × (length (events (the_run plan script taken)) < 2 ^ 32)
-    × Sends old new (run_sent line plan script taken)
+-- A read failed in the line after these answers, before the line could be judged. All that they call for was sent, and their events can
+-- be numbered.
+abbrev pub FailsAtRead : Telling → Layout → Script → Option Reading → Option (List ℕ) → Outputs → Outputs → (List Answer → List Sent) → Type 0
+FailsAtRead telling plan script left now old new calls =
+    (taken : List Answer) × (before : Option (List ℕ)) × HasRead telling left before taken × IsOpen (window (most_answers telling) (length taken)) before now
+    × (length (events (the_run plan script taken)) < 2 ^ 32) × Sends old new (calls taken)
+
+-- A write failed before an answer was read; or after one, and then all that the answers before that one call for was sent.
+abbrev pub FailsAtWrite : Telling → Option Reading → Option (List ℕ) → Outputs → Outputs → (List Answer → List Sent) → Type 0
+FailsAtWrite telling left now old new calls =
+    (HasRead telling left now [] × SendsPrefix old new (calls []))
+    ⊎ ((taken : List Answer) × (last : Answer) × HasRead telling left now (taken ++ last ∷ []) × SendsLastPart old new (calls taken) (calls (taken ++ last ∷ [])))
+
+-- All was written at an ending. A fault of the text counts only where the run comes to it, and no answer is read before what the ones
+-- before it call for was sent: a write fails in what the last answer that was read calls for, or in the last line.
+abbrev pub Plays : Telling → Layout → Script → Option Reading → Option (List ℕ) → Outputs → Outputs → Result Ending PlayFault → Type 0
+Plays telling plan script left now old new (Ok e) =
+    (r : Reading) × Gives left r × (e ≡ ending plan script r) × ReadsNoMore telling plan script left now e
+    × (length (events (the_run plan script r.answers)) < 2 ^ 32) × Sends old new (played telling plan script r)
+Plays telling plan script left now old new (Err fault.Write) =
+    FailsAtWrite telling left now old new (report telling plan script)
+    ⊎ ((r : Reading) × Gives left r × ReadsNoMore telling plan script left now (ending plan script r)
+    × SendsLastPart old new (report telling plan script r.answers) (played telling plan script r))
+Plays telling plan script left now old new (Err fault.Read) =
+    FailsAtRead telling plan script left now old new (report telling plan script)
+
+-- the same after the header and before the last line, with the number of events
+abbrev pub Feeds : Telling → Layout → Script → Option Reading → Option (List ℕ) → Outputs → Outputs → Result (Ending × ℕ) PlayFault → Type 0
+Feeds telling plan script left now old new (Ok v) =
+    (r : Reading) × Gives left r × (v.0 ≡ ending plan script r) × ReadsNoMore telling plan script left now v.0
+    × (v.1 ≡ length (events (the_run plan script r.answers))) × Sends old new (called_for telling plan script r.answers)
+Feeds telling plan script left now old new (Err fault.Write) = FailsAtWrite telling left now old new (called_for telling plan script)
+Feeds telling plan script left now old new (Err fault.Read) = FailsAtRead telling plan script left now old new (called_for telling plan script)
 
 abbrev pub is_write_fault : {T : Type 0} → Result T PlayFault → Bool
 is_write_fault (Err fault.Write) = true
@@ -65,7 +91,7 @@ is_read_fault _ = false
 
 -- after so many events the run wants an answer where the text has this fault
 abbrev pub faulted : AnswerFault → ℕ → Result (Ending × ℕ) PlayFault
-faulted (Broken rule line) n = Ok (Refused rule line, n)
+faulted (Broken rule line) n = Ok (how.Refused rule line, n)
 faulted Read n = Err fault.Read
 faulted OutOfMemory n = Err fault.Read
 

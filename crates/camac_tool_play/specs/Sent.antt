@@ -1,6 +1,8 @@
 -- What is sent to two writers, byte by byte in one order.
 use Rattle.std.specs.Prelude.{◌≡◌, ℕ, ◌<◌, List, [], ◌∷◌, ◌++◌, length, Option, Result, MatchResult}
 use Rattle.std.specs.Io.KnownBytes.{Appends}
+use Rattle.camac_word.specs.Watched.{inner_of}
+use Rattle.camac_word.specs.declared.watched.Watched.{Watched}
 
 -- a byte for the listing, or for the event file
 pub data Sent : Type 0 where
@@ -34,8 +36,8 @@ pub record Outputs : Type 0 where
   pub listing : Option (List ℕ)
   pub events : Option (List ℕ)
 
-abbrev pub outputs : Option (List ℕ) → Option (List ℕ) → Outputs
-outputs listing events = record { listing = listing; events = events }
+abbrev pub outputs : {W E : Type 0} → (W → Option (List ℕ)) → (E → Option (List ℕ)) → Watched W → Watched E → Outputs
+outputs of_listing of_events out events = record { listing = of_listing (inner_of out); events = of_events (inner_of events) }
 
 -- each writer has got its part
 pub record Sends (old new : Outputs) (sent : List Sent) : Type 0 where
@@ -46,6 +48,10 @@ pub record Sends (old new : Outputs) (sent : List Sent) : Type 0 where
 -- has gone to neither.
 abbrev pub SendsPrefix : Outputs → Outputs → List Sent → Type 0
 SendsPrefix old new sent = (prefix rest : List Sent) × (sent ≡ prefix ++ rest) × (0 < length rest) × Sends old new prefix
+
+-- They have got all of the first, and of what follows it in the whole a part, which lacks at least its last byte.
+abbrev pub SendsLastPart : Outputs → Outputs → (first whole : List Sent) → Type 0
+SendsLastPart old new first whole = (part rest : List Sent) × (whole ≡ first ++ (part ++ rest)) × (0 < length rest) × Sends old new (first ++ part)
 
 -- all of it at `Ok`, and else a prefix
 abbrev pub SendsBy : {T E : Type 0} → Outputs → Outputs → Result T E → List Sent → Type 0

@@ -9,5 +9,5 @@ pub enum Ending {
     /// The answers were used up, or a wait was not permitted.
     End(End),
     /// The answer that it needs is not given: a line, from 1, breaks a rule.
-    Refused { rule: AnswerRule, line: u32 },
+    Refused { rule: AnswerRule, line: u64 },
 }

@@ -1,19 +1,15 @@
-//! Plays a script against the text of its answers, and writes its listing and its event file while it runs.
+//! Plays a script against the text of its answers, or live, and writes what it tells and its event file while it runs.
 #![tactic(auto)]
 
-mod asking;
-mod driving;
 mod ending;
 mod fault;
 mod feeding;
-mod following;
 mod laws;
 mod playing;
-mod step;
 mod telling;
 
-pub use driving::drive;
 pub use ending::Ending;
 pub use fault::PlayFault;
 pub use laws::event_file_is_sent;
-pub use playing::play;
+pub use playing::{drive, play, play_as};
+pub use telling::Telling;

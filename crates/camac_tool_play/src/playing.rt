@@ -1,13 +1,12 @@
-// A run, from the text of its answers to its listing and its event file.
+// A run, from the text of its answers to what it tells and its event file.
 
-ghost use Rattle.std.specs.Prelude.{◌≡◌, ◌||◌, ◌<◌, ◌^◌, true, is_err, IfOk, IfErr};
-ghost use Rattle.camac_answer.specs.Answers.{left_in, left_of, stage_of, given_by, text_of, reader_failed};
+ghost use Rattle.std.specs.Prelude.{◌≡◌, ◌||◌, ◌<◌, ◌^◌, is_err, IfOk, IfErr};
+ghost use Rattle.camac_answer.specs.Answers.{left_in, left_of, limit_of, stage_of, given_by, text_of, reader_failed};
 ghost use Rattle.camac_answer.specs.declared.answers.Stage.TheVariants.{Running};
-ghost use Rattle.camac_tool_play.specs.Headline.{PlayKeepsHeadline};
-ghost use Rattle.camac_tool_play.specs.InTurn.{PlaysInTurn};
+ghost use Rattle.camac_tool_play.specs.Headline.{KeepsHeadline};
 ghost use Rattle.camac_tool_play.specs.Play.{Plays, is_read_fault, is_write_fault};
-ghost use Rattle.camac_tool_play.specs.Played.{ending_text};
 ghost use Rattle.camac_tool_play.specs.Sent.{outputs};
+ghost use Rattle.camac_tool_play.specs.Told.{ending_text, most_answers};
 ghost use Rattle.camac_tool_play.specs.declared.fault.PlayFault.TheVariants.{Write};
 ghost use Rattle.camac_word.specs.Watched.{inner_of, has_failed};
 ghost use Rattle.camac_word.specs.Writing.{Writes};
@@ -15,18 +14,19 @@ ghost use Rattle.camac_word.specs.Writing.{Writes};
 use crate::ending::Ending;
 use crate::fault::PlayFault;
 use crate::feeding::feed;
-use crate::telling::close;
+use crate::telling::{Telling, close};
 use camac_answer::Answers;
 use camac_check_result::Checked;
 use camac_event::write_header;
-use camac_run::runs_by_headline;
+use camac_run::{requests_are_safe, runs_by_headline};
 use camac_word::Watched;
 use std::alloc::Global;
 use std::io::{Read, Write};
 
 /// Runs a checked script on the answers of a text: the listing goes to `out`, the event file to `events`. What an answer did is written
-/// before the next one is asked for, and the last line of the listing at the end. A fault of the text counts only where the run needs
-/// that answer, and no answer is read beyond a wait that is not permitted. After a write fault nothing more is written to either writer; after a read fault no last line is.
+/// before the next one is read, and the last line at the end. A fault of the text counts only where the run needs that answer, and no
+/// answer is read beyond a wait that is not permitted. After a write fault nothing more is written to either writer; after a read fault no
+/// last line is.
 pub fn play<R: Read, W: Write, E: Write>(
     alloc: Global,
     checked: &Checked,
@@ -34,50 +34,82 @@ pub fn play<R: Read, W: Write, E: Write>(
     out: &mut Watched<W>,
     events: &mut Watched<E>,
 ) -> Result<Ending, PlayFault>
-    ensures plays { Plays checked.now.plan checked.now.script (left_in Running 0 (R.remaining (inner_of answers.old)))
-        (outputs (W.contents (inner_of out.old)) (E.contents (inner_of events.old))) (outputs (W.contents (inner_of out.new)) (E.contents (inner_of events.new))) result }
-    ensures in_turn { PlaysInTurn checked.now.plan checked.now.script (left_in Running 0 (R.remaining (inner_of answers.old))) (R.remaining (inner_of answers.new))
-        (outputs (W.contents (inner_of out.old)) (E.contents (inner_of events.old))) (outputs (W.contents (inner_of out.new)) (E.contents (inner_of events.new))) result }
-    ensures headline { PlayKeepsHeadline checked.now.plan checked.now.script checked.now.bounds (left_in Running 0 (R.remaining (inner_of answers.old)))
+    ensures plays { Plays Telling.Listing checked.now.plan checked.now.script (left_in (most_answers Telling.Listing) Running 0 (R.remaining (inner_of answers.old))) (R.remaining (inner_of answers.new))
+        (outputs W.contents E.contents out.old events.old) (outputs W.contents E.contents out.new events.new) result }
+    ensures headline { KeepsHeadline checked.now.plan checked.now.script checked.now.bounds (left_in (most_answers Telling.Listing) Running 0 (R.remaining (inner_of answers.old)))
         (E.contents (inner_of events.old)) (E.contents (inner_of events.new)) result }
     ensures out_failed { (has_failed out.new || has_failed events.new) ≡ ((has_failed out.old || has_failed events.old) || is_write_fault result) }
     ensures in_failed { has_failed answers.new ≡ (has_failed answers.old || is_read_fault result) }
 {
-    let mut answers = Answers::new(alloc, answers).unwrap();
-    play_on(checked, &mut answers, out, events)
+    play_as(alloc, Telling::Listing, checked, answers, out, events)
+}
+
+/// Runs a checked script on answers that come as they are asked for: each operation's request goes to `requests` before its answer is read,
+/// and a line for each lock that is released. The event file goes to `events`, and the last line of the run to `requests`. Faults are as
+/// those of `play`.
+pub fn drive<R: Read, W: Write, E: Write>(
+    alloc: Global,
+    checked: &Checked,
+    answers: &mut Watched<R>,
+    requests: &mut Watched<W>,
+    events: &mut Watched<E>,
+) -> Result<Ending, PlayFault>
+    ensures drives { Plays Telling.Requests checked.now.plan checked.now.script (left_in (most_answers Telling.Requests) Running 0 (R.remaining (inner_of answers.old))) (R.remaining (inner_of answers.new))
+        (outputs W.contents E.contents requests.old events.old) (outputs W.contents E.contents requests.new events.new) result }
+    ensures headline { KeepsHeadline checked.now.plan checked.now.script checked.now.bounds (left_in (most_answers Telling.Requests) Running 0 (R.remaining (inner_of answers.old)))
+        (E.contents (inner_of events.old)) (E.contents (inner_of events.new)) result }
+    ensures out_failed { (has_failed requests.new || has_failed events.new) ≡ ((has_failed requests.old || has_failed events.old) || is_write_fault result) }
+    ensures in_failed { has_failed answers.new ≡ (has_failed answers.old || is_read_fault result) }
+{
+    play_as(alloc, Telling::Requests, checked, answers, requests, events)
+}
+
+/// What `play` and `drive` do, which differ in how the run is told.
+pub fn play_as<R: Read, W: Write, E: Write>(
+    alloc: Global,
+    telling: Telling,
+    checked: &Checked,
+    answers: &mut Watched<R>,
+    out: &mut Watched<W>,
+    events: &mut Watched<E>,
+) -> Result<Ending, PlayFault>
+    ensures plays { Plays telling checked.now.plan checked.now.script (left_in (most_answers telling) Running 0 (R.remaining (inner_of answers.old))) (R.remaining (inner_of answers.new))
+        (outputs W.contents E.contents out.old events.old) (outputs W.contents E.contents out.new events.new) result }
+    ensures headline { KeepsHeadline checked.now.plan checked.now.script checked.now.bounds (left_in (most_answers telling) Running 0 (R.remaining (inner_of answers.old)))
+        (E.contents (inner_of events.old)) (E.contents (inner_of events.new)) result }
+    ensures out_failed { (has_failed out.new || has_failed events.new) ≡ ((has_failed out.old || has_failed events.old) || is_write_fault result) }
+    ensures in_failed { has_failed answers.new ≡ (has_failed answers.old || is_read_fault result) }
+{
+    runs_by_headline(checked);
+    requests_are_safe(checked);
+    let mut answers = Answers::with_limit(alloc, telling.most_answers(), answers).unwrap();
+    play_on(telling, checked, &mut answers, out, events)
 }
 
 // A run on answers of which none was taken yet.
 fn play_on<R: Read, W: Write, E: Write>(
+    telling: Telling,
     checked: &Checked,
     answers: &mut Answers<'_, R>,
     out: &mut Watched<W>,
     events: &mut Watched<E>,
 ) -> Result<Ending, PlayFault>
     requires running { stage_of answers.old ≡ Running }
+    requires limit { limit_of answers.old ≡ most_answers telling }
     requires given { given_by answers.old ≡ 0 }
-    ensures plays { Plays checked.now.plan checked.now.script (left_of R.remaining answers.old)
-        (outputs (W.contents (inner_of out.old)) (E.contents (inner_of events.old))) (outputs (W.contents (inner_of out.new)) (E.contents (inner_of events.new))) result }
-    ensures in_turn { PlaysInTurn checked.now.plan checked.now.script (left_of R.remaining answers.old) (text_of R.remaining answers.new)
-        (outputs (W.contents (inner_of out.old)) (E.contents (inner_of events.old))) (outputs (W.contents (inner_of out.new)) (E.contents (inner_of events.new))) result }
-    ensures headline { PlayKeepsHeadline checked.now.plan checked.now.script checked.now.bounds (left_of R.remaining answers.old)
-        (E.contents (inner_of events.old)) (E.contents (inner_of events.new)) result }
+    ensures plays { Plays telling checked.now.plan checked.now.script (left_of R.remaining answers.old) (text_of R.remaining answers.new)
+        (outputs W.contents E.contents out.old events.old) (outputs W.contents E.contents out.new events.new) result }
     ensures out_failed { (has_failed out.new || has_failed events.new) ≡ ((has_failed out.old || has_failed events.old) || is_write_fault result) }
     ensures in_failed { reader_failed answers.new ≡ (reader_failed answers.old || is_read_fault result) }
     ensures same_reader { answers.new.reader.ghost_name ≡ answers.old.reader.ghost_name }
 {
-    runs_by_headline(checked);
     write_header(events)?;
-    let (ending, count) = feed(checked, answers, out, events)?;
+    let (ending, count) = feed(telling, checked, answers, out, events)?;
     finish(out, ending, count)
 }
 
 // The last line.
-pub fn finish<W: Write>(
-    out: &mut Watched<W>,
-    ending: Ending,
-    count: u32,
-) -> Result<Ending, PlayFault>
+fn finish<W: Write>(out: &mut Watched<W>, ending: Ending, count: u32) -> Result<Ending, PlayFault>
     ensures value { IfOk result (λ e. e ≡ ending) }
     ensures text { Writes (W.contents (inner_of out.old)) (W.contents (inner_of out.new)) result (ending_text ending count) }
     ensures fault { IfErr result (λ f. f ≡ Write) }

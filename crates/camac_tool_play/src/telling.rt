@@ -1,39 +1,93 @@
-// What an answer did, and the last line, as they are written.
+// How a run tells what it does, and what is written at an answer and at the end.
 
-ghost use Rattle.std.specs.Prelude.{◌≡◌, ◌≤◌, ◌||◌, ◌++◌, length, is_err, IfSome};
-ghost use Rattle.camac_tool_play.specs.Played.{ending_text};
-ghost use Rattle.camac_tool_play.specs.Sent.{outputs, to_listing, to_events, SendsBy};
-ghost use Rattle.camac_tool_play.specs.Telling.{event_record};
+ghost use Rattle.std.specs.Prelude.{◌≡◌, ◌≤◌, ◌||◌, ◌++◌, length, is_err, IfSome, IfNone, None};
+ghost use Rattle.camac_report.specs.Items.{unlock_texts};
+ghost use Rattle.camac_run_machine.specs.MachineState.{piece_of};
+ghost use Rattle.camac_tool_play.specs.Told.{most_answers, item_line, ending_text, Asks, event_record};
 ghost use Rattle.camac_word.specs.Watched.{inner_of, has_failed};
 ghost use Rattle.camac_word.specs.Writing.{Writes};
 
 use crate::ending::Ending;
+use camac_answer::{FILE_ANSWERS, LIVE_ANSWERS};
+use camac_check_result::Checked;
 use camac_event::{Usage, write_record};
-use camac_report::{Line, Refusal, write_end, write_refusal};
-use camac_word::{GlBit, Watched, Word24, WriteFault};
+use camac_report::{
+    Line, Refusal, lay_out_items, write_end, write_refusal, write_request, write_unlocks,
+};
+use camac_run_runner::{FullRunner, Item};
+use camac_word::{CrateNo, GlBit, Watched, Word24, WriteFault};
 use std::io::Write;
+
+/// How a run tells what it does (own).
+#[derive(Clone, Copy, Debug, PartialEq, Eq)]
+pub enum Telling {
+    /// By a listing: after an answer a line of what it was used for.
+    Listing,
+    /// By requests: before an answer a line of what it is wanted for.
+    Requests,
+}
+
+impl Telling {
+    /// How many answers a run takes at most: those of an answer file, or of a live run.
+    pub fn most_answers(self) -> u32
+        ensures { result ≡ most_answers self }
+    {
+        match self {
+            Telling::Listing => FILE_ANSWERS,
+            Telling::Requests => LIVE_ANSWERS,
+        }
+    }
+}
 
 /// An event that a service left: its number, its bit and its usage.
 pub type Left = (u32, GlBit, Usage);
 
-/// Writes what an answer did: its lines, and then the record of the event that a service left.
-pub fn tell<W: Write, E: Write>(
-    lines: &Line,
-    event: &Option<Left>,
-    words: &[Word24],
+/// Asks for the operation that a run wants. A listing asks for nothing.
+pub fn ask<W: Write>(
+    telling: Telling,
+    runner: &FullRunner<'_>,
     out: &mut Watched<W>,
-    events: &mut Watched<E>,
 ) -> Result<(), WriteFault>
-    requires words { length words.now ≤ 4096 }
-    requires usage { IfSome event.now (λ e. e.2.missed ≤ e.2.cycles) }
-    ensures sends { SendsBy (outputs (W.contents (inner_of out.old)) (E.contents (inner_of events.old))) (outputs (W.contents (inner_of out.new)) (E.contents (inner_of events.new))) result
-        (to_listing lines.now ++ to_events (event_record event.now words.now)) }
-    ensures failed { (has_failed out.new || has_failed events.new) ≡ ((has_failed out.old || has_failed events.old) || is_err result) }
+    requires first { runner.now.overrun ≡ None }
+    ensures asks { Asks telling runner.now (W.contents (inner_of out.old)) (W.contents (inner_of out.new)) result }
+    ensures failed { has_failed out.new ≡ (has_failed out.old || is_err result) }
 {
-    out.write_text(lines.as_bytes())?;
-    write_event(events, event, words)
+    match telling {
+        Telling::Listing => {
+            runner.is_waiting();
+            Ok(())
+        }
+        Telling::Requests => match runner.wants() {
+            Some(wanted) => write_request(out, wanted),
+            None => unreachable!(),
+        },
+    }
 }
 
+/// Writes what an answer did, by way of `lines`: in a listing what it was used for, and a line for each lock that was released.
+pub fn tell<W: Write>(
+    telling: Telling,
+    checked: &Checked,
+    item: &Item,
+    unlocks: &[CrateNo],
+    lines: &mut Line,
+    out: &mut Watched<W>,
+) -> Result<(), WriteFault>
+    requires few { length unlocks.now ≤ 7 }
+    ensures text { Writes (W.contents (inner_of out.old)) (W.contents (inner_of out.new)) result
+        (item_line telling checked.now.script (piece_of item.now) ++ unlock_texts unlocks.now) }
+    ensures failed { has_failed out.new ≡ (has_failed out.old || is_err result) }
+{
+    match telling {
+        Telling::Listing => {
+            lay_out_items(lines, checked, item, unlocks);
+            out.write_text(lines.as_bytes())
+        }
+        Telling::Requests => write_unlocks(out, unlocks),
+    }
+}
+
+/// Writes the record of the event that a service left, where one was left.
 pub fn write_event<E: Write>(
     events: &mut Watched<E>,
     event: &Option<Left>,
@@ -50,7 +104,18 @@ pub fn write_event<E: Write>(
     }
 }
 
-/// Writes the last line of a listing, after so many events.
+/// How many events there are after an answer, where so many were before it.
+pub fn count_after(event: &Option<Left>, count: u32) -> u32
+    ensures same { IfNone event.now (result ≡ count) }
+    ensures next { IfSome event.now (λ e. result ≡ e.0) }
+{
+    match event {
+        Some((number, _, _)) => *number,
+        None => count,
+    }
+}
+
+/// Writes the last line, after so many events.
 pub fn close<W: Write>(out: &mut Watched<W>, ending: &Ending, events: u32) -> Result<(), WriteFault>
     ensures text { Writes (W.contents (inner_of out.old)) (W.contents (inner_of out.new)) result (ending_text ending.now events) }
     ensures failed { has_failed out.new ≡ (has_failed out.old || is_err result) }

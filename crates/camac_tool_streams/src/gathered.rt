@@ -4,13 +4,14 @@ ghost use Rattle.std.specs.Prelude.{◌<◌, vec_capacity};
 
 pub mod handing;
 
+use camac_word::Watched;
+
 /// A writer that holds what it is given until it is flushed or its room is full, and then hands it on. So what was handed on is always a
 /// prefix of what was given. Once a call of the writer behind it has failed, that writer is left alone and each later call fails: an
 /// interrupted call is one that failed. What is held when it is dropped is lost.
 #[derive(Drop)]
 pub struct Gathered<W: Drop> {
-    inner: W,
+    inner: Watched<W>,
     held: Vec<u8>,
-    failed: bool,
     ghost room: { 0 < vec_capacity held },
 }

@@ -3,11 +3,13 @@
 ghost use Rattle.std.specs.Prelude.{◌≡◌, ◌<◌, ◌||◌, true, false, length, IfOk, OnOk, is_err};
 ghost use Rattle.std.specs.Io.{ReadsAtMost, WritesAtMost};
 ghost use Rattle.std.specs.Io.KnownBytes.{Keeps, ReadConsumes, WriteAppends};
-ghost use Rattle.camac_tool_streams.specs.Gathered.{device_of, given_to};
+ghost use Rattle.camac_tool_streams.specs.Gathered.{device_of, given_to, has_stopped};
 ghost use Rattle.camac_tool_streams.specs.Streams.{answers_of, listing_of, records_of, have_stopped, HoldNothing};
+ghost use Rattle.camac_word.specs.Watched.{inner_of, has_failed};
 
 use crate::gathered::Gathered;
 use crate::gathered::handing::stopped;
+use camac_word::Watched;
 use std::alloc::{AllocError, Global};
 use std::io;
 use std::io::{Read, Write};
@@ -16,7 +18,7 @@ use std::io::{Read, Write};
 /// and each later call fails.
 #[derive(Drop)]
 pub struct Streams<R: Drop, W: Drop, E: Drop> {
-    answers: R,
+    answers: Watched<R>,
     listing: Gathered<W>,
     records: Gathered<E>,
 }
@@ -28,14 +30,15 @@ impl<R: Drop, W: Drop, E: Drop> Streams<R, W, E> {
         listing: W,
         records: E,
     ) -> Result<Streams<R, W, E>, AllocError>
-        ensures answers { IfOk result (λ s. answers_of s ≡ answers) }
+        ensures answers { IfOk result (λ s. inner_of (answers_of s) ≡ answers) }
+        ensures unread { IfOk result (λ s. has_failed (answers_of s) ≡ false) }
         ensures listing { IfOk result (λ s. device_of (listing_of s) ≡ listing) }
         ensures records { IfOk result (λ s. device_of (records_of s) ≡ records) }
         ensures empty { IfOk result (λ s. HoldNothing s) }
         ensures works { IfOk result (λ s. have_stopped s ≡ false) }
     {
         Ok(Streams {
-            answers,
+            answers: Watched::new(answers),
             listing: Gathered::new(alloc, listing)?,
             records: Gathered::new(alloc, records)?,
         })
@@ -88,6 +91,7 @@ impl<R: Drop, W: Write + Drop, E: Write + Drop> Streams<R, W, E> {
         ensures answers { answers_of self.new ≡ answers_of self.old }
         ensures listing { Keeps (given_to W.contents (listing_of self.old)) (given_to W.contents (listing_of self.new)) }
         ensures records { Keeps (given_to E.contents (records_of self.old)) (given_to E.contents (records_of self.new)) }
+        ensures order { has_stopped (listing_of self.new) ≡ true → records_of self.new ≡ records_of self.old }
         ensures failed { have_stopped self.new ≡ (have_stopped self.old || is_err result) }
         ensures stopped { have_stopped self.old ≡ true → (is_err result ≡ true) × (self.new ≡ self.old) }
     {
@@ -98,16 +102,15 @@ impl<R: Drop, W: Write + Drop, E: Write + Drop> Streams<R, W, E> {
         self.records.flush()
     }
 
-    /// Hands on all that was given, and returns both outputs.
-    pub fn finish(mut self) -> io::Result<(W, E)>
-        ensures listing { IfOk result (λ outputs. Keeps (given_to W.contents (listing_of self)) (W.contents outputs.0)) }
-        ensures records { IfOk result (λ outputs. Keeps (given_to E.contents (records_of self)) (E.contents outputs.1)) }
-        ensures stopped { have_stopped self ≡ true → is_err result ≡ true }
+    /// Hands on all that was given, and returns both outputs. Where neither has failed all was handed on.
+    pub fn finish(mut self) -> (Watched<W>, Watched<E>)
+        ensures listing { (has_failed result.0 || has_failed result.1) ≡ false → Keeps (given_to W.contents (listing_of self)) (W.contents (inner_of result.0)) }
+        ensures records { (has_failed result.0 || has_failed result.1) ≡ false → Keeps (given_to E.contents (records_of self)) (E.contents (inner_of result.1)) }
+        ensures stopped { have_stopped self ≡ true → (has_failed result.0 || has_failed result.1) ≡ true }
     {
-        match self.hand_on() {
-            Ok(()) => Ok((self.listing.into_inner(), self.records.into_inner())),
-            Err(error) => Err(error),
-        }
+        // The output that failed tells it.
+        let _ = self.hand_on();
+        (self.listing.into_watched(), self.records.into_watched())
     }
 }
 
@@ -115,9 +118,11 @@ impl<R: Read + Drop, W: Write + Drop, E: Write + Drop> Streams<R, W, E> {
     /// Hands on all that was given, and only then reads the answers. Where that fails none is read.
     pub fn read(&mut self, buf: &mut [u8]) -> io::Result<usize>
         ensures bound { ReadsAtMost result buf.new }
-        ensures bytes { ReadConsumes (R.remaining (answers_of self.old)) (R.remaining (answers_of self.new)) result buf.new }
+        ensures bytes { ReadConsumes (R.remaining (inner_of (answers_of self.old))) (R.remaining (inner_of (answers_of self.new))) result buf.new }
         ensures first { have_stopped self.new ≡ false → HoldNothing self.new }
         ensures unread { have_stopped self.new ≡ true → (is_err result ≡ true) × (answers_of self.new ≡ answers_of self.old) }
+        ensures failed { have_stopped self.new ≡ false → has_failed (answers_of self.new) ≡ (has_failed (answers_of self.old) || is_err result) }
+        ensures order { has_stopped (listing_of self.new) ≡ true → records_of self.new ≡ records_of self.old }
         ensures listing { Keeps (given_to W.contents (listing_of self.old)) (given_to W.contents (listing_of self.new)) }
         ensures records { Keeps (given_to E.contents (records_of self.old)) (given_to E.contents (records_of self.new)) }
         ensures stopped { have_stopped self.old ≡ true → self.new ≡ self.old }

@@ -1,19 +1,28 @@
 -- The command line as `clap` is told of it, and the job that its matches name.
-use Rattle.std.specs.Prelude.{◌≡◌, ◌⊎◌, ◌<◌, ℕ, true, List, [], ◌∷◌, map, codes, count_by, Option, Some, None}
+use Rattle.std.specs.Prelude.{◌≡◌, ◌⊎◌, ◌<◌, ℕ, Bool, true, false, List, [], ◌∷◌, map, codes, count_by, Option, Some, None}
 use Rattle.std.specs.Str.{bytes_eq}
 use Rattle.clap.specs.Words.{App, HasKind, Row, Rule, Text, fault_of, first_of, kind_of, new_app, new_rule, subcommand_of, takes, with_rule, with_subcommand}
+use Rattle.clap.specs.declared.builder.action.ArgAction.TheVariants.{SetTrue}
 use Rattle.clap.specs.declared.error.Error.{Error}
 use Rattle.clap.specs.declared.error.kind.ErrorKind.TheVariants as kind
 use Rattle.camac_tool_words.specs.declared.words.Job.{Job}
-use Rattle.camac_tool_words.specs.declared.words.Job.TheVariants.{Plan, Check, Explain, Bounds, Run, Drive, Events}
+use Rattle.camac_tool_words.specs.declared.words.Job.TheVariants.{Plan, Commands, Check, Explain, ExplainPlan, Bounds, Run, Drive, Events}
 use Rattle.camac_tool_words.specs.declared.words.JobFault.{JobFault}
 use Rattle.camac_tool_words.specs.declared.words.JobFault.TheVariants.{Usage, InTwice}
 
 abbrev pub word_rule : Text → Rule
 word_rule name = record (new_rule name) { required = true }
 
+-- a word that may be missing
+abbrev pub optional_rule : Text → Rule
+optional_rule name = new_rule name
+
+-- an option without a value, by its long name
+abbrev pub option_rule : Text → Rule
+option_rule name = record (new_rule name) { long = Some name; action = Some SetTrue }
+
 abbrev pub plan_app : App
-plan_app = with_rule (new_app (codes "plan")) (word_rule (codes "PLAN"))
+plan_app = with_rule (with_rule (new_app (codes "plan")) (word_rule (codes "PLAN"))) (option_rule (codes "commands"))
 
 -- of a command that takes a plan and a script
 abbrev pub script_app : Text → App
@@ -23,7 +32,7 @@ abbrev pub check_app : App
 check_app = script_app (codes "check")
 
 abbrev pub explain_app : App
-explain_app = script_app (codes "explain")
+explain_app = with_rule (with_rule (new_app (codes "explain")) (word_rule (codes "PLAN"))) (optional_rule (codes "SCRIPT"))
 
 abbrev pub bounds_app : App
 bounds_app = script_app (codes "bounds")
@@ -49,8 +58,10 @@ camac_app =
 
 abbrev pub name_of : Job → Text
 name_of (Plan plan) = codes "plan"
+name_of (Commands plan) = codes "plan"
 name_of (Check plan script) = codes "check"
 name_of (Explain plan script) = codes "explain"
+name_of (ExplainPlan plan) = codes "explain"
 name_of (Bounds plan script) = codes "bounds"
 name_of (Run plan script answers events) = codes "run"
 name_of (Drive plan script events) = codes "drive"
@@ -59,8 +70,10 @@ name_of (Events file) = codes "events"
 -- the names of a job's words, in order
 abbrev pub ids_of : Job → List Text
 ids_of (Plan plan) = codes "PLAN" ∷ []
+ids_of (Commands plan) = codes "PLAN" ∷ []
 ids_of (Check plan script) = codes "PLAN" ∷ codes "SCRIPT" ∷ []
 ids_of (Explain plan script) = codes "PLAN" ∷ codes "SCRIPT" ∷ []
+ids_of (ExplainPlan plan) = codes "PLAN" ∷ []
 ids_of (Bounds plan script) = codes "PLAN" ∷ codes "SCRIPT" ∷ []
 ids_of (Run plan script answers events) = codes "PLAN" ∷ codes "SCRIPT" ∷ codes "ANSWERS" ∷ codes "EVENTS" ∷ []
 ids_of (Drive plan script events) = codes "PLAN" ∷ codes "SCRIPT" ∷ codes "EVENTS" ∷ []
@@ -68,8 +81,10 @@ ids_of (Events file) = codes "FILE" ∷ []
 
 abbrev pub words_of : Job → List Text
 words_of (Plan plan) = plan.now ∷ []
+words_of (Commands plan) = plan.now ∷ []
 words_of (Check plan script) = plan.now ∷ script.now ∷ []
 words_of (Explain plan script) = plan.now ∷ script.now ∷ []
+words_of (ExplainPlan plan) = plan.now ∷ []
 words_of (Bounds plan script) = plan.now ∷ script.now ∷ []
 words_of (Run plan script answers events) = plan.now ∷ script.now ∷ answers.now ∷ events.now ∷ []
 words_of (Drive plan script events) = plan.now ∷ script.now ∷ events.now ∷ []
@@ -78,17 +93,35 @@ words_of (Events file) = file.now ∷ []
 -- the words that name an input; the answers of a live run are standard input
 abbrev pub inputs_of : Job → List Text
 inputs_of (Plan plan) = plan.now ∷ []
+inputs_of (Commands plan) = plan.now ∷ []
 inputs_of (Check plan script) = plan.now ∷ script.now ∷ []
 inputs_of (Explain plan script) = plan.now ∷ script.now ∷ []
+inputs_of (ExplainPlan plan) = plan.now ∷ []
 inputs_of (Bounds plan script) = plan.now ∷ script.now ∷ []
 inputs_of (Run plan script answers events) = plan.now ∷ script.now ∷ answers.now ∷ []
 inputs_of (Drive plan script events) = codes "@in" ∷ plan.now ∷ script.now ∷ []
 inputs_of (Events file) = file.now ∷ []
 
--- the job is the subcommand with the values that these matches hold, in order
+-- an option is among the words
+abbrev pub is_true : Option Text → Bool
+is_true None = false
+is_true (Some text) = bytes_eq text (codes "true")
+
+abbrev pub is_on : Text → List Row → Bool
+is_on id rows = is_true (first_of id rows)
+
+-- what tells jobs of one subcommand apart: the option of `plan`, and whether `explain` is given a script
+abbrev pub HasForm : Job → List Row → Type 0
+HasForm (Plan plan) rows = is_on (codes "commands") rows ≡ false
+HasForm (Commands plan) rows = is_on (codes "commands") rows ≡ true
+HasForm (ExplainPlan plan) rows = first_of (codes "SCRIPT") rows ≡ None
+HasForm _ rows = Unit {0}
+
+-- the job is the subcommand in its form with the values that these matches hold, in order
 abbrev pub IsJob : Job → Option (Text × List Row) → Type 0
 IsJob job None = ⊥
-IsJob job (Some found) = (found.0 ≡ name_of job) × (map (λ id. first_of id found.1) (ids_of job) ≡ map (λ word. Some word) (words_of job))
+IsJob job (Some found) =
+    (found.0 ≡ name_of job) × HasForm job found.1 × (map (λ id. first_of id found.1) (ids_of job) ≡ map (λ word. Some word) (words_of job))
 
 -- how many inputs are standard input
 abbrev pub input_count_of : Job → ℕ

@@ -3,10 +3,10 @@
 ghost use Rattle.std.specs.Prelude.{◌≡◌, IfOk, false};
 ghost use Rattle.clap.specs.Words.{app_of, new_app, rule_of};
 ghost use Rattle.clap.specs.declared.builder.command.Command.TheViews.{out-Command};
-ghost use Rattle.camac_tool_words.specs.Words.{word_rule, script_app, plan_app, check_app, explain_app, bounds_app, run_app, drive_app, events_app, camac_top, camac_app};
+ghost use Rattle.camac_tool_words.specs.Words.{word_rule, optional_rule, option_rule, script_app, plan_app, check_app, explain_app, bounds_app, run_app, drive_app, events_app, camac_top, camac_app};
 
 use crate::texts;
-use clap::{Arg, Command};
+use clap::{Arg, ArgAction, Command};
 use std::alloc::{AllocError, Global};
 
 /// The program's command line: the subcommands with their words, and what help says of each.
@@ -42,6 +42,25 @@ fn word<'a>(alloc: Global, name: &'a str, help: &'a str) -> Arg<'a>
     Arg::new(alloc, name).required(true).help(help)
 }
 
+// A word that may be missing, and what help says of it.
+fn optional_word<'a>(alloc: Global, name: &'a str, help: &'a str) -> Arg<'a>
+    ensures rule { rule_of result ≡ optional_rule name.entry.now }
+    ensures local { result.global ≡ false }
+{
+    Arg::new(alloc, name).help(help)
+}
+
+// An option without a value, and what help says of it.
+fn option<'a>(alloc: Global, name: &'a str, help: &'a str) -> Arg<'a>
+    ensures rule { rule_of result ≡ option_rule name.entry.now }
+    ensures local { result.global ≡ false }
+{
+    Arg::new(alloc, name)
+        .long(name)
+        .action(ArgAction::SetTrue)
+        .help(help)
+}
+
 // A command without words, what help says of it, and the examples after that.
 fn subcommand<'a>(alloc: Global, name: &'a str, about: &'a str, after: &'a str) -> Command<'a>
     ensures app { app_of result ≡ new_app name.entry.now }
@@ -54,8 +73,9 @@ fn plan_command<'a>(alloc: Global) -> Result<Command<'a>, AllocError>
     ensures app { IfOk result (λ c. app_of c ≡ plan_app) }
     ensures local { IfOk result (λ c. (out-Command c).has_globals ≡ false) }
 {
-    let plan = subcommand(alloc, "plan", texts::PLAN_COMMAND, texts::AFTER_PLAN);
-    plan.arg(word(alloc, "PLAN", texts::PLAN))
+    subcommand(alloc, "plan", texts::PLAN_COMMAND, texts::AFTER_PLAN)
+        .arg(word(alloc, "PLAN", texts::PLAN))?
+        .arg(option(alloc, "commands", texts::COMMANDS))
 }
 
 // A command that takes a plan and a script.
@@ -84,12 +104,14 @@ fn explain_command<'a>(alloc: Global) -> Result<Command<'a>, AllocError>
     ensures app { IfOk result (λ c. app_of c ≡ explain_app) }
     ensures local { IfOk result (λ c. (out-Command c).has_globals ≡ false) }
 {
-    script_command(
+    subcommand(
         alloc,
         "explain",
         texts::EXPLAIN_COMMAND,
         texts::AFTER_EXPLAIN,
     )
+    .arg(word(alloc, "PLAN", texts::PLAN))?
+    .arg(optional_word(alloc, "SCRIPT", texts::SCRIPT))
 }
 
 fn bounds_command<'a>(alloc: Global) -> Result<Command<'a>, AllocError>
@@ -115,7 +137,7 @@ fn drive_command<'a>(alloc: Global) -> Result<Command<'a>, AllocError>
     subcommand(alloc, "drive", texts::DRIVE_COMMAND, texts::AFTER_DRIVE)
         .arg(word(alloc, "PLAN", texts::PLAN_OF_DRIVE))?
         .arg(word(alloc, "SCRIPT", texts::SCRIPT_OF_DRIVE))?
-        .arg(word(alloc, "EVENTS", texts::EVENTS))
+        .arg(word(alloc, "EVENTS", texts::EVENTS_OF_DRIVE))
 }
 
 fn events_command<'a>(alloc: Global) -> Result<Command<'a>, AllocError>

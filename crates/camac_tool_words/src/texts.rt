@@ -10,8 +10,7 @@ pub const PLAN_COMMAND: &str = "Lists what a plan says";
 pub const CHECK_COMMAND: &str =
     "Accepts a script with its bounds, or refuses it with a rule and a line";
 
-pub const EXPLAIN_COMMAND: &str =
-    "Checks like check, and says of a refusal where, why and how to mend it";
+pub const EXPLAIN_COMMAND: &str = "Says of a refused plan or script where, why and how to mend it";
 
 pub const BOUNDS_COMMAND: &str =
     "Prints the headings of a script with the least numbers that are accepted";
@@ -26,6 +25,8 @@ pub const EVENTS_COMMAND: &str = "Lists an event file";
 
 pub const PLAN: &str = "A plan: a TOML file, or @sample, the built-in plan, or @in, standard input";
 
+pub const COMMANDS: &str = "Lists the commands of each type, too";
+
 pub const SCRIPT: &str = "A script: a file, or @in, standard input";
 
 pub const PLAN_OF_DRIVE: &str = "A plan: a TOML file, or @sample, the built-in plan";
@@ -36,6 +37,9 @@ pub const ANSWERS: &str =
     "Answers, a line for each operation (see below): a file, or @in, standard input";
 
 pub const EVENTS: &str = "The event file to write: created anew, emptied before anything is read";
+
+pub const EVENTS_OF_DRIVE: &str =
+    "The event file to write: free or empty, opened once plan and script are accepted";
 
 pub const FILE: &str = "An event file, at most 16777216 bytes: a file, or @in, standard input";
 
@@ -56,9 +60,12 @@ Examples:
 
 pub const AFTER_PLAN: &str =
     "Prints the buffer, the module types, the crates and their stations, or the first fault.
+With --commands each type's commands follow it: function, sub-addresses, and the
+width in bits where data move, or 'probe'.
 
 Examples:
   camac plan plan.toml
+  camac plan plan.toml --commands
   camac plan @sample
   camac plan @in < plan.toml";
 
@@ -71,11 +78,13 @@ Examples:
   camac check @sample @in < readout.script";
 
 pub const AFTER_EXPLAIN: &str =
-    "Prints what check prints. After a refusal it goes on with the line of the
-script, what is wrong there, why the rule is there, and how to mend it.
-Status as check. @in stands for one of the two at most.
+    "Prints what check prints; without a script what plan prints. After a refusal it
+goes on with the line of the script or the place in the plan, what is wrong
+there, why the rule is there, and how to mend it. Status as check. @in stands for
+one of the two at most.
 
 Examples:
+  camac explain plan.toml
   camac explain plan.toml readout.script
   camac explain @sample @in < readout.script";
 

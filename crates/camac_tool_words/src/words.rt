@@ -4,7 +4,7 @@ ghost use Rattle.std.specs.Prelude.{◌≡◌, ◌≤◌, ◌↔◌, IsTrue, opt
 ghost use Rattle.std.specs.Str.{bytes_eq};
 ghost use Rattle.clap.specs.Words.{first_of, found_of, rows_of, subcommand_of, subcommand_rows_of};
 ghost use Rattle.camac_tool_words.specs.declared.words.JobFault.TheVariants.{Usage};
-ghost use Rattle.camac_tool_words.specs.Words.{camac_app, IsJob, IsFaultOf, IsOfMemory, NamesNoJob, input_count_of};
+ghost use Rattle.camac_tool_words.specs.Words.{camac_app, is_on, IsJob, IsFaultOf, IsOfMemory, NamesNoJob, input_count_of};
 
 use crate::command::camac_command;
 use clap::error::ErrorKind;
@@ -15,8 +15,11 @@ use std::alloc::{AllocError, Global};
 #[derive(Clone, Copy, Debug)]
 pub enum Job<'a> {
     Plan(&'a str),
+    /// A plan with its commands.
+    Commands(&'a str),
     Check(&'a str, &'a str),
     Explain(&'a str, &'a str),
+    ExplainPlan(&'a str),
     Bounds(&'a str, &'a str),
     Run(&'a str, &'a str, &'a str, &'a str),
     Drive(&'a str, &'a str, &'a str),
@@ -75,11 +78,26 @@ fn value_of<'a>(found: &ArgMatches<'a>, id: &str) -> Option<&'a str>
     found.get_str(id)
 }
 
+// Whether an option is among the words.
+fn is_on(found: &ArgMatches<'_>, id: &str) -> bool
+    ensures { result ≡ is_on id.now (rows_of (found_of found.now)) }
+{
+    match value_of(found, id) {
+        Some(text) => text == "true",
+        None => false,
+    }
+}
+
 fn plan_job<'a>(found: &ArgMatches<'a>) -> Option<Job<'a>>
     ensures some { IfSome result (λ job. IsJob job (Some (codes "plan", rows_of (found_of found.now)))) }
     ensures none { IfNone result (NamesNoJob (Some (codes "plan", rows_of (found_of found.now)))) }
 {
-    Some(Job::Plan(value_of(found, "PLAN")?))
+    let plan = value_of(found, "PLAN")?;
+    Some(if is_on(found, "commands") {
+        Job::Commands(plan)
+    } else {
+        Job::Plan(plan)
+    })
 }
 
 fn check_job<'a>(found: &ArgMatches<'a>) -> Option<Job<'a>>
@@ -93,7 +111,11 @@ fn explain_job<'a>(found: &ArgMatches<'a>) -> Option<Job<'a>>
     ensures some { IfSome result (λ job. IsJob job (Some (codes "explain", rows_of (found_of found.now)))) }
     ensures none { IfNone result (NamesNoJob (Some (codes "explain", rows_of (found_of found.now)))) }
 {
-    Some(Job::Explain(value_of(found, "PLAN")?, value_of(found, "SCRIPT")?))
+    let plan = value_of(found, "PLAN")?;
+    Some(match value_of(found, "SCRIPT") {
+        Some(script) => Job::Explain(plan, script),
+        None => Job::ExplainPlan(plan),
+    })
 }
 
 fn bounds_job<'a>(found: &ArgMatches<'a>) -> Option<Job<'a>>
@@ -179,7 +201,7 @@ fn input_count(job: &Job<'_>) -> usize
 {
     let is_in = |word: &str| usize::from(is_standard_input(word));
     match *job {
-        Job::Plan(plan) => is_in(plan),
+        Job::Plan(plan) | Job::Commands(plan) | Job::ExplainPlan(plan) => is_in(plan),
         Job::Check(plan, script) | Job::Explain(plan, script) | Job::Bounds(plan, script) => {
             is_in(plan) + is_in(script)
         }

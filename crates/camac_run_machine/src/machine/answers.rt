@@ -11,7 +11,6 @@ ghost use Rattle.camac_run_machine.specs.MachineState.{reach, stands, IsFineHere
 use crate::command::command;
 use crate::item::Item;
 use crate::machine::{Frame, Machine, Owner, Wanting};
-use crate::transfer::Transfer;
 use camac_branch::{Answer, Command, CycleDone, Overrun, cycle, lock};
 use camac_lang::Stmt;
 use camac_word::{CrateNo, Word24};
@@ -182,13 +181,12 @@ impl<'a, const V: usize, const DEPTH: usize, const CAP: usize> Machine<'a, V, DE
         match wanting {
             Some(Wanting::Transfer(wanted)) => {
                 wanted.course.take(self.q);
-                let transfer = Transfer {
-                    course: wanted.course,
-                    function: wanted.command.f,
-                    table: wanted.table,
-                    tally: wanted.tally,
-                };
-                match self.next_cycle(&transfer) {
+                match self.next_cycle(
+                    &wanted.course,
+                    wanted.command.f,
+                    wanted.table,
+                    wanted.tally,
+                ) {
                     Some(command) => {
                         wanted.command = command;
                         true

@@ -1,17 +1,17 @@
 // Blocks: how one is opened, what goes on after it, and calls of procedures.
 
-ghost use Rattle.std.specs.Prelude.{◌≡◌, ℕ, suc, ◌+◌, ◌*◌, ◌-◌, ◌<◌, ◌≤◌, length, ◌∷◌, ◌++◌, [], List, map, None, Some, IfSome, IfNone};
+ghost use Rattle.std.specs.Prelude.{◌≡◌, ℕ, suc, ◌+◌, ◌*◌, ◌-◌, ◌<◌, ◌≤◌, length, ◌∷◌, ◌++◌, [], List, map, true, None, Some, IsSome, IfSome, IfNone};
 ghost use Rattle.camac_branch.specs.Branch.{Answer};
 ghost use Rattle.camac_lang.specs.View.{expression_of, part_of, statements_of};
 ghost use Rattle.camac_lang.specs.Tree.{done, choose_else, for_, locked, call};
 ghost use Rattle.camac_model.specs.Fine.{most_turns};
 ghost use Rattle.camac_model.specs.Meaning.{effect, block_meaning, for_turns, turns as while_turns};
 ghost use Rattle.camac_model.specs.Value.{value};
-ghost use Rattle.camac_run_machine.specs.MachineState.{context_in, reach, state_of, owner_in, open_in, opens_in, holds, free, FineThen, HasRoomFor, HasRoom, IsFineHere, stands, TakesFirst, LastIsOver, GoesOn, Advances, Enters, Wants};
+ghost use Rattle.camac_run_machine.specs.MachineState.{context_in, reach, state_of, owner_in, open_in, opens_in, holds, free, FineThen, HasRoomFor, HasRoom, IsFineHere, stands, TakesFirst, TurnsAgain, LastIsOver, wanted_if, GoesOn, Advances, Enters, Wants};
 ghost use Rattle.camac_run_machine.specs.Rest.{releases, owed, left_of};
 ghost use Rattle.camac_run_machine.specs.Within.{Refers, CallFits, PartsRefer, Opens, OwnerFits, outer};
 
-use crate::arguments::{pass, unset};
+use crate::arguments::{pass, wipe};
 use crate::condition::holds;
 use crate::machine::{Frame, MOST_TURNS, Machine, Owner, Wanting};
 use camac_branch::{Answer, unlock};
@@ -165,7 +165,7 @@ impl<'a, const V: usize, const DEPTH: usize, const CAP: usize> Machine<'a, V, DE
             scope.variables.start,
             &mut self.variables,
         );
-        unset(scope.registers, &mut self.registers);
+        wipe(scope.registers, &mut self.registers, None);
         self.scope = scope;
         self.frames.push(Frame {
             rest: callee.body.as_slice(),
@@ -218,20 +218,39 @@ impl<'a, const V: usize, const DEPTH: usize, const CAP: usize> Machine<'a, V, DE
         }
     }
 
-    // Begins the next statement of the innermost block, or leaves that block.
-    pub(crate) fn go_on(&mut self) -> Option<Wanting<'a>>
+    // Begins the next statement of the innermost block, or goes on after that block. Answers whether an answer is wanted: `wanting` then
+    // says for what.
+    pub(crate) fn go_on(&mut self, wanting: &mut Option<Wanting<'a>>) -> bool
         requires room { HasRoom self.old }
         requires open { 1 ≤ length self.old.frames.items }
         requires fine { (answers : List Answer) → IsFineHere self.old (stands None self.old answers) }
-        ensures { GoesOn self.old result self.new }
+        ensures goes { GoesOn self.old (wanted_if result wanting.new) self.new }
+        ensures some { result ≡ true → IsSome wanting.new }
     {
         match next_statement(self.frames.as_mut_slice()) {
-            Some(first) => self.begin(first),
+            Some(first) => self.begin(first, wanting),
+            None => {
+                self.close();
+                false
+            }
+        }
+    }
+
+    // Goes on after the innermost block, which is over: with the next turn of its `for`, which stays in its place, or without the block.
+    fn close(&mut self)
+        requires room { HasRoom self.old }
+        requires open { 1 ≤ length self.old.frames.items }
+        requires over { LastIsOver self.old.frames.items }
+        requires fine { (answers : List Answer) → IsFineHere self.old (stands None self.old answers) }
+        ensures { GoesOn self.old None self.new }
+    {
+        match next_turn(self.frames.as_mut_slice()) {
+            Some((variable, value)) => {
+                self.set_variable(variable, value);
+                self.steps += 1;
+            }
             None => match self.frames.pop() {
-                Some(frame) => {
-                    self.leave(&frame.owner);
-                    None
-                }
+                Some(frame) => self.leave(&frame.owner),
                 None => unreachable!(),
             },
         }
@@ -254,5 +273,41 @@ fn next_statement<'a>(frames: &mut [Frame<'a>]) -> Option<&'a Stmt>
             last.rest = rest;
             Some(first)
         }
+    }
+}
+
+// Begins the next turn of the `for` whose body the innermost block is, where that has one: returns its variable and the value for it.
+fn next_turn(frames: &mut [Frame]) -> Option<(usize, u32)>
+    ensures turn { IfSome result (λ t. TurnsAgain frames.old t.0 t.1 frames.new) }
+    ensures none { IfNone result (frames.new ≡ frames.old) }
+{
+    let count = frames.len();
+    if count == 0 {
+        return None;
+    }
+    let frame = &mut frames[count - 1];
+    match frame.owner {
+        Owner::For {
+            variable,
+            current,
+            last,
+            turns,
+            body,
+        } => {
+            if current < last {
+                let owner = Owner::For {
+                    variable,
+                    current: current + 1,
+                    last,
+                    turns: turns.saturating_sub(1),
+                    body,
+                };
+                *frame = Frame { rest: body, owner };
+                Some((variable, current + 1))
+            } else {
+                None
+            }
+        }
+        _ => None,
     }
 }

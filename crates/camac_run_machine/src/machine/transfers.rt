@@ -6,7 +6,7 @@ ghost use Rattle.camac_lang.specs.View.{expression_of};
 ghost use Rattle.camac_lang.specs.Tree.{done, address_scan, q_stop, q_repeat};
 ghost use Rattle.camac_model.specs.Fine.{most_turns};
 ghost use Rattle.camac_model.specs.Meaning.{sent, effect};
-ghost use Rattle.camac_run_machine.specs.MachineState.{context_in, reach, FineThen, HasRoom, Proceeds, cycle_of, transferred};
+ghost use Rattle.camac_run_machine.specs.MachineState.{context_in, reach, FineThen, HasRoom, Proceeds, cycle_of, transfer_at, transferred};
 ghost use Rattle.camac_run_machine.specs.Course.{keeps, words_sent, words_after};
 ghost use Rattle.camac_run_machine.specs.Rest.{address_of};
 ghost use Rattle.camac_run_machine.specs.Within.{Refers};
@@ -144,7 +144,12 @@ impl<'a, const V: usize, const DEPTH: usize, const CAP: usize> Machine<'a, V, DE
         requires fine { FineThen self.old (λ c. transferred c transfer.now) }
         ensures { Proceeds self.old (λ c. transferred c transfer.now) result self.new }
     {
-        match self.next_cycle(transfer) {
+        match self.next_cycle(
+            &transfer.course,
+            transfer.function,
+            transfer.table,
+            transfer.tally,
+        ) {
             Some(command) => Some(Wanting::Transfer(TransferCycle {
                 command,
                 course: transfer.course,
@@ -156,18 +161,24 @@ impl<'a, const V: usize, const DEPTH: usize, const CAP: usize> Machine<'a, V, DE
     }
 
     // The command of a transfer's next cycle, or none at the end, where the tally is set.
-    pub(crate) fn next_cycle(&mut self, transfer: &Transfer<'a>) -> Option<Command>
+    pub(crate) fn next_cycle(
+        &mut self,
+        course: &Course,
+        function: Function,
+        table: Option<&[Word24]>,
+        tally: usize,
+    ) -> Option<Command>
         requires room { HasRoom self.old }
-        requires tally { transfer.now.tally < (reach self.old).variables }
-        requires fine { FineThen self.old (λ c. transferred c transfer.now) }
-        ensures { Proceeds self.old (λ c. transferred c transfer.now) (option_map (cycle_of transfer.now) result) self.new }
+        requires tally { tally < (reach self.old).variables }
+        requires fine { FineThen self.old (λ c. transferred c (transfer_at course.now function table tally)) }
+        ensures { Proceeds self.old (λ c. transferred c (transfer_at course.now function table.entry tally)) (option_map (cycle_of (transfer_at course.now function table.entry tally)) result) self.new }
     {
         let plan = self.checked.plan();
         plan.allows_commands();
-        match transfer.next() {
+        match course.command(function, table) {
             Some(command) => Some(command),
             None => {
-                self.set_variable(transfer.tally, transfer.course.tally());
+                self.set_variable(tally, course.tally());
                 None
             }
         }

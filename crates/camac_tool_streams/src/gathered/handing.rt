@@ -4,8 +4,10 @@ ghost use Rattle.std.specs.Prelude.{◌≡◌, ◌≤◌, ◌<◌, ◌+◌, ◌-
 ghost use Rattle.std.specs.Io.{WritesAtMost};
 ghost use Rattle.std.specs.Io.KnownBytes.{Keeps, Appends, WriteAppends};
 ghost use Rattle.camac_tool_streams.specs.Gathered.{device_of, given_to, has_stopped, held_in};
+ghost use Rattle.camac_word.specs.Watched.{inner_of, has_failed};
 
 use super::Gathered;
+use camac_word::Watched;
 use std::alloc::{AllocError, Global};
 use std::io;
 use std::io::{Error, ErrorKind, Write};
@@ -21,9 +23,8 @@ impl<W: Drop> Gathered<W> {
     {
         let held = Vec::with_capacity(alloc, ROOM)?;
         Ok(Gathered {
-            inner,
+            inner: Watched::new(inner),
             held,
-            failed: false,
         })
     }
 
@@ -31,13 +32,13 @@ impl<W: Drop> Gathered<W> {
     pub fn failed(&self) -> bool
         ensures { result ≡ has_stopped self.now }
     {
-        let Gathered { failed, .. } = self;
-        *failed
+        self.inner.failed()
     }
 
-    /// The writer behind it. What is still held is lost.
-    pub fn into_inner(self) -> W
-        ensures { result ≡ device_of self }
+    /// The writer behind it, watched. What is still held is lost.
+    pub fn into_watched(self) -> Watched<W>
+        ensures inner { inner_of result ≡ device_of self }
+        ensures failed { has_failed result ≡ has_stopped self }
     {
         self.inner
     }
@@ -54,7 +55,6 @@ impl<W: Write + Drop> Gathered<W> {
     {
         let (written, result) = write_out(self.held.as_slice(), &mut self.inner);
         remove_prefix(&mut self.held, written);
-        self.failed = result.is_err();
         result
     }
 }
@@ -69,7 +69,7 @@ impl<W: Write + Drop> Write for Gathered<W> {
         ensures failed { has_stopped self.new ≡ (has_stopped self.old || is_err result) }
         ensures stopped { has_stopped self.old ≡ true → (is_err result ≡ true) × (self.new ≡ self.old) }
     {
-        if self.failed {
+        if self.failed() {
             return Err(stopped());
         }
         if self.held.len() == self.held.capacity() {
@@ -87,13 +87,11 @@ impl<W: Write + Drop> Write for Gathered<W> {
         ensures failed { has_stopped self.new ≡ (has_stopped self.old || is_err result) }
         ensures stopped { has_stopped self.old ≡ true → (is_err result ≡ true) × (self.new ≡ self.old) }
     {
-        if self.failed {
+        if self.failed() {
             return Err(stopped());
         }
         self.write_held()?;
-        let flushed = self.inner.flush();
-        self.failed = flushed.is_err();
-        flushed
+        self.inner.flush()
     }
 }
 
@@ -103,10 +101,11 @@ pub fn stopped() -> Error {
 }
 
 // Writes until all is written or a write fails, and returns how many bytes were written.
-fn write_out<W: Write>(bytes: &[u8], to: &mut W) -> (usize, io::Result<()>)
+fn write_out<W: Write>(bytes: &[u8], to: &mut Watched<W>) -> (usize, io::Result<()>)
     ensures bound { result.0 ≤ length bytes.now }
     ensures all { OnOk result.1 (result.0 ≡ length bytes.now) }
-    ensures bytes { Appends (W.contents to.old) (W.contents to.new) (take result.0 bytes.now) }
+    ensures bytes { Appends (W.contents (inner_of to.old)) (W.contents (inner_of to.new)) (take result.0 bytes.now) }
+    ensures failed { has_failed to.new ≡ (has_failed to.old || is_err result.1) }
 {
     let mut written = 0;
     while written < bytes.len() {

@@ -1,4 +1,5 @@
 use Rattle.std.proofs.Common.{◌∙◌}
+use Rattle.camac_check_rules.specs.declared.case.Case.TheVariants.{Malformed}
 use Rattle.camac_check_rules.specs.declared.rule.CheckRule.TheVariants.{StationNotInstalled}
 use Rattle.camac_check_simple.proofs.Lams.{lam_there, no_lam, same_region}
 use Rattle.camac_check_simple.proofs.calls.address_of.Goals as goal
@@ -8,11 +9,11 @@ returns-in-Some c =
     let ls = c.args.context.now.lams.now in
     let l = c.in-Some.lam.now in
     let there = c.in-Some.ensures.lookup in
-    lam_there ls c.args.lam l StationNotInstalled c.args.line there.3.0 (there.3.1 l)
+    lam_there ls c.args.lam l StationNotInstalled c.args.line Malformed there.3.0 (there.3.1 l)
     ∙ same_region c.new.result c.only.result c.only-in-Some.result c.only-in-Some-2.result l.crate_no l.station c.get-in-Some.result l.sub_address
     c.new.ensures c.only.ensures c.only-in-Some.ensures c.only-in-Some-2.ensures c.get-in-Some.ensures.value
 
 pub returns-in-None : goal.returns-in-None
 returns-in-None c =
     let there = c.in-None.ensures.lookup in
-    no_lam c.args.context.now.lams.now c.args.lam StationNotInstalled c.args.line there.3
+    no_lam c.args.context.now.lams.now c.args.lam StationNotInstalled c.args.line Malformed there.3

@@ -1,6 +1,7 @@
 use Rattle.std.proofs.Common.{◌≡◌, ◌-◌, ◌∙◌, ◌++◌, ◌∷◌, [], ℕ, ap, arith}
 use Rattle.std.proofs.lemmas.Result.{err_from_is_err_and}
 use Rattle.camac_event.specs.Reading.{words_at}
+use Rattle.camac_event.specs.Records.{words_in}
 use Rattle.camac_event.proofs.Loops.{with_prefix, starts, goes_on, ends, is_done}
 use Rattle.camac_event.proofs.reading.pass_words.Goals as goal
 
@@ -22,3 +23,6 @@ loop-preserved c = (
 
 pub returns : goal.returns
 returns c = (c.loop.invariant.0, is_done c.loop.invariant.0 c.args.count c.loop.counter c.args.total c.loop.bytes.now (words_at c.args.count c.args.total c.args.bytes.now.now) c.loop-test.false c.loop.invariant.1)
+
+pub returns-in-Some : goal.returns-in-Some
+returns-in-Some c = (words_in c.args.count c.args.bytes.now.now, c.in-Some.ensures c.args.total)

@@ -1,6 +1,7 @@
 use Rattle.std.proofs.Common.{◌≡◌, ◌-◌}
-use Rattle.camac_plan.specs.Commands.{with_places, with_command}
+use Rattle.camac_plan.specs.Commands.{commands_view, with_places, with_command}
 use Rattle.camac_plan.proofs.command.declare_command.Given as goal
 
 abbrev pub invariant-places : goal.invariant-places
-invariant-places l = with_places l.line l.commands l.place (l.place-end - l.place) ≡ with_command l.line l.initial.commands
+invariant-places l =
+    with_places (commands_view l.all) l.place l.line l.commands l.x (l.x-end - l.x) ≡ with_command (commands_view l.all) l.place l.line l.initial.commands

@@ -1,8 +1,7 @@
-use Rattle.std.proofs.Common.{◌≡◌, map, drop}
+use Rattle.std.proofs.Common.{◌≡◌, drop}
 use Rattle.std.specs.List.{list_any}
-use Rattle.camac_branch.specs.Name.{same_text}
+use Rattle.camac_plan.specs.Field.{is_text}
 use Rattle.camac_plan.proofs.field.is_one_of.Given as goal
 
 abbrev pub invariant-keys : goal.invariant-keys
-invariant-keys l =
-    list_any (same_text l.key) (map (λ k. k.now) (drop l.known-index l.keys)) ≡ list_any (same_text l.key) (map (λ k. k.now) l.keys)
+invariant-keys l = list_any (is_text l.key) (drop l.known-index l.keys) ≡ list_any (is_text l.key) l.keys

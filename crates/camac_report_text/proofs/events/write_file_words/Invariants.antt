@@ -1,13 +1,16 @@
-use Rattle.std.proofs.Common.{◌≡◌, ◌<◌, ◌++◌, codes, drop, length}
+use Rattle.std.proofs.Common.{◌≡◌, ◌<◌, ◌-◌, ◌++◌, codes, drop, length}
 use Rattle.std.specs.List.{flat_map}
 use Rattle.camac_word.specs.Watched.{inner_of, has_failed}
 use Rattle.camac_word.proofs.Prefixes.{IsUnderWay}
 use Rattle.camac_report_text.specs.Events.{word_text}
 use Rattle.camac_report_text.proofs.events.write_file_words.Given as goal
 
-abbrev pub invariant-words : goal.invariant-words
-invariant-words g l =
-    IsUnderWay (l.initial.line ++ flat_map word_text l.fn.words ++ codes "\n") (l.line ++ flat_map word_text (drop l.i l.fn.words) ++ codes "\n")
+abbrev pub invariant-pieces : goal.invariant-pieces
+invariant-pieces g l =
+    IsUnderWay (l.initial.line ++ flat_map word_text l.words ++ codes "\n") (l.line ++ flat_map word_text (drop l.first l.words) ++ codes "\n")
     (g.W.Write.contents (inner_of l.initial.out)) (g.W.Write.contents (inner_of l.out))
     × (has_failed l.out ≡ has_failed l.initial.out)
-    × (length l.line < 256)
+    × (length l.line < 249)
+
+abbrev pub decreases-pieces : goal.decreases-pieces
+decreases-pieces g l = length l.words - l.first

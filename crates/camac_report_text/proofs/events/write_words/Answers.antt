@@ -22,7 +22,7 @@ words-preserved g c =
     let rest : List ℕ = flat_map word_text (drop i words) in
     let out = c.if-len-ge-LAST_WORD.out in
     let line = c.if-len-ge-LAST_WORD.line in
-    let found = laid_next word_text words i c.word-item.result line c.spaced.result c.push_bytes.new.self c.words-test.true c.word-item.is c.spaced.ensures c.push_bytes.ensures.bytes in
+    let found = laid_next word_text words i c.word-item.result line c.spaced.result c.push_bytes.new.self c.words-test.true c.word-item.is (c.spaced.ensures ∙ ap (λ (l : List ℕ). codes " " ++ l) c.hex_word.ensures) c.push_bytes.ensures.bytes in
     let more : line ++ rest ++ end ≡ c.push_bytes.new.self ++ flat_map word_text (drop (i + 1) words) ++ end = ap (λ (l : List ℕ). l ++ end) found in
     elim c.if-len-ge-LAST_WORD.branch [
       | then-len-ge-LAST_WORD+in_ok-write_text w ↦

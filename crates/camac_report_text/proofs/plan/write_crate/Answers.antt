@@ -1,6 +1,7 @@
 use Rattle.std.proofs.Common.{◌≡◌, ◌∙◌, sym, Some}
 use Rattle.camac_branch.specs.Plan.{crate_waits}
-use Rattle.camac_report_text.specs.Plan.{texts, crate_line, station_text}
+use Rattle.camac_report_text.specs.Plan.{crate_line, station_text}
+use Rattle.camac_report_text.specs.Texts.{texts}
 use Rattle.camac_report_text.proofs.Lines.{prefix_longer, Writes-at_err}
 use Rattle.camac_report_text.proofs.Texts.{Writes-after}
 use Rattle.camac_report_text.proofs.plan.write_crate.Goals as goal

@@ -1,7 +1,8 @@
 use Rattle.std.proofs.Common.{◌≡◌, ◌-◌}
 use Rattle.camac_word.specs.Watched.{inner_of, has_failed}
 use Rattle.camac_word.proofs.Prefixes.{IsUnderWay}
-use Rattle.camac_report_text.specs.Plan.{texts, crate_text}
+use Rattle.camac_report_text.specs.Plan.{crate_text}
+use Rattle.camac_report_text.specs.Texts.{texts}
 use Rattle.camac_report_text.proofs.plan.write_crates.Given as goal
 
 abbrev pub invariant-crates : goal.invariant-crates

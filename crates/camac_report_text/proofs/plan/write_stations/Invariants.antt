@@ -1,7 +1,8 @@
 use Rattle.std.proofs.Common.{◌≡◌, ◌-◌}
 use Rattle.camac_word.specs.Watched.{inner_of, has_failed}
 use Rattle.camac_word.proofs.Prefixes.{IsUnderWay}
-use Rattle.camac_report_text.specs.Plan.{texts, station_text}
+use Rattle.camac_report_text.specs.Plan.{station_text}
+use Rattle.camac_report_text.specs.Texts.{texts}
 use Rattle.camac_report_text.proofs.plan.write_stations.Given as goal
 
 abbrev pub invariant-stations : goal.invariant-stations

@@ -1,7 +1,7 @@
-use Rattle.std.proofs.Common.{◌≡◌, ℕ, zero, suc, ◌+◌, ◌-◌, ◌≤◌, Bool, true, false, ◌&&◌, eqb, List, [], ◌∷◌, length, take, drop, refl, sym, ap, ◌∙◌, length-drop, arith}
+use Rattle.std.proofs.Common.{◌≡◌, ℕ, zero, suc, ◌+◌, ◌-◌, ◌≤◌, Bool, true, false, ◌&&◌, List, [], ◌∷◌, length, take, drop, refl, sym, ap, ◌∙◌, length-drop, arith}
 use Rattle.std.specs.Str.{bytes_eq}
 use Rattle.std.specs.Int.{from_le_bytes, to_le_bytes, w64}
-use Rattle.std.proofs.lemmas.Bool.{eq-eqb, eqb-true}
+use Rattle.std.proofs.lemmas.Bool.{eq-eqb}
 use Rattle.std.proofs.lemmas.List.{drop-drop}
 use Rattle.std.proofs.lemmas.Slice.Eq.{bytes_eq-Decides}
 use Rattle.camac_text_tokens.proofs.bytes.are_same.Goals as goal
@@ -28,36 +28,27 @@ last_of n r whole few some =
     let on : n - 8 + (8 - r) ≡ n - r = omega arith in
     sym (drop-drop (8 - r) (n - 8) whole ∙ ap (λ (m : ℕ). drop m whole) on)
 
--- where all before the last eight bytes are the same, those eight decide, by their numbers
-eights_decide : (one other rest other_rest : List ℕ) (a b : ℕ) → length one ≡ length other → 8 ≤ length one → length rest ≤ 8
-    → rest ≡ drop (length one - length rest) one → other_rest ≡ drop (length one - length rest) other → bytes_eq rest other_rest ≡ bytes_eq one other
-    → a ≡ from_le_bytes w64 (drop (length one - 8) one) → to_le_bytes w64 a ≡ drop (length one - 8) one
-    → b ≡ from_le_bytes w64 (drop (length other - 8) other) → to_le_bytes w64 b ≡ drop (length other - 8) other
-    → eqb a b ≡ bytes_eq one other
-eights_decide one other rest other_rest a b lengths some few rest_is other_is decides a_is a_only b_is b_only = by (eqb a b) refl where
-  n : ℕ
-  n = length one
-
-  r : ℕ
-  r = length rest
-
-  same : a ≡ b → bytes_eq one other ≡ true
-  same ab =
-      let lasts : drop (n - 8) one ≡ drop (n - 8) other = sym a_only ∙ ap (to_le_bytes w64) ab ∙ b_only ∙ ap (λ (m : ℕ). drop (m - 8) other) (sym lengths) in
-      let rests : rest ≡ other_rest = rest_is ∙ last_of n r one few some ∙ ap (λ (xs : List ℕ). drop (8 - r) xs) lasts ∙ sym (last_of n r other few some) ∙ sym other_is in
-      sym decides ∙ (bytes_eq-Decides rest other_rest).1 rests
-
-  differ : (u : Bool) → eqb a b ≡ false → bytes_eq one other ≡ u → bytes_eq one other ≡ false
-  differ false e is = is
-  differ true e is =
+-- bytes whose last eight are not the same number are not the same
+lasts_differ : (one other : List ℕ) (a b : ℕ) → a ≡ from_le_bytes w64 (drop (length one - 8) one) → b ≡ from_le_bytes w64 (drop (length other - 8) other)
+    → (a ≡ b → ⊥) → false ≡ bytes_eq one other
+lasts_differ one other a b a_is b_is differ = by (bytes_eq one other) refl where
+  by : (u : Bool) → bytes_eq one other ≡ u → false ≡ bytes_eq one other
+  by false is = sym is
+  by true is =
       let all : one ≡ other = (bytes_eq-Decides one other).0 is in
-      let ab : a ≡ b = a_is ∙ ap (λ (xs : List ℕ). from_le_bytes w64 (drop (length xs - 8) xs)) all ∙ sym b_is in
-      let both : true ≡ false = sym (eq-eqb a b ab) ∙ e in
-      absurd cc
+      absurd (differ (a_is ∙ ap (λ (xs : List ℕ). from_le_bytes w64 (drop (length xs - 8) xs)) all ∙ sym b_is))
 
-  by : (t : Bool) → eqb a b ≡ t → eqb a b ≡ bytes_eq one other
-  by true e = e ∙ sym (same (eqb-true a b e))
-  by false e = e ∙ sym (differ (bytes_eq one other) e refl)
+-- where the last eight are the same number, and all before them are the same, all are
+lasts_same : (one other rest other_rest : List ℕ) (a b : ℕ) → length one ≡ length other → 8 ≤ length one → length rest ≤ 8
+    → rest ≡ drop (length one - length rest) one → other_rest ≡ drop (length one - length rest) other → bytes_eq rest other_rest ≡ bytes_eq one other
+    → to_le_bytes w64 a ≡ drop (length one - 8) one → to_le_bytes w64 b ≡ drop (length other - 8) other → a ≡ b
+    → true ≡ bytes_eq one other
+lasts_same one other rest other_rest a b lengths some few rest_is other_is decides a_only b_only ab =
+    let n : ℕ = length one in
+    let r : ℕ = length rest in
+    let lasts : drop (n - 8) one ≡ drop (n - 8) other = sym a_only ∙ ap (to_le_bytes w64) ab ∙ b_only ∙ ap (λ (m : ℕ). drop (m - 8) other) (sym lengths) in
+    let rests : rest ≡ other_rest = rest_is ∙ last_of n r one few some ∙ ap (λ (xs : List ℕ). drop (8 - r) xs) lasts ∙ sym (last_of n r other few some) ∙ sym other_is in
+    sym (sym decides ∙ (bytes_eq-Decides rest other_rest).1 rests)
 
 pub loop-rest-preserved : goal.loop-rest-preserved
 loop-rest-preserved c =
@@ -81,6 +72,9 @@ loop-rest-preserved c =
 
 pub returns : goal.returns
 returns c =
-    eights_decide c.args.one.now c.args.other.now c.loop-rest.rest.now c.loop-rest.other_rest.now c.last_eight.result c.last_eight-2.result
+    lasts_same c.args.one.now c.args.other.now c.loop-rest.rest.now c.loop-rest.other_rest.now c.last_eight.result c.last_eight-2.result
     c.if-one-other.false c.if-one-lt8.false c.loop-rest-test.false c.loop-rest.invariant.2 c.loop-rest.invariant.3 c.loop-rest.invariant.0
-    c.last_eight.ensures.number c.last_eight.ensures.only c.last_eight-2.ensures.number c.last_eight-2.ensures.only
+    c.last_eight.ensures.only c.last_eight-2.ensures.only c.if-last_eight.false
+
+pub returns-then-last_eight : goal.returns-then-last_eight
+returns-then-last_eight c = lasts_differ c.args.one.now c.args.other.now c.last_eight.result c.last_eight-2.result c.last_eight.ensures.number c.last_eight-2.ensures.number c.if-last_eight.true

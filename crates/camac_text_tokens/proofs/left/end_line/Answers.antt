@@ -43,7 +43,7 @@ loop-rest-preserved c =
     let sized = c.in-Ok.ensures in
     let back : c.split_at.result.1.now ≡ drop (size f) rest = c.split_at.ensures.back ∙ ap (λ (n : ℕ). drop n rest) (sym sized.1) in
     let further : tokens_from 0 c.past_gaps.result.1 c.past_gaps.result.0.now ≡ tokens_from 0 c.loop-rest.line (drop (size f) rest) = c.past_gaps.ensures.same ∙ ap (tokens_from 0 c.loop-rest.line) back in
-    let ts : List Token = c.loop-rest.invariant.0.0 ++ added f (line_number c.loop-rest.line) in (
+    let ts : List Token = c.loop-rest.invariant.0.0 ++ added f (line_number c.loop-rest.line) (length rest) in (
       (ts, ap (with_all ts) further ∙ goes_on c.loop-rest.invariant.0.0 c.loop-rest.line rest (tokens_of c.args.text.now) some c.loop-rest.invariant.2 sized.0 c.loop-rest.invariant.0.1),
       omega (arith, c.split_at.ensures.back_len, c.past_gaps.ensures.lines, c.loop-rest.invariant.1),
       c.past_gaps.ensures.begins,

@@ -3,18 +3,15 @@ use Rattle.camac_word.specs.Watched.{inner_of}
 use Rattle.camac_tool.proofs.Runs.{refuses}
 use Rattle.camac_tool.proofs.running.run_judged.Goals as goal
 
+pub returns-in-Accepted-clause-runs : goal.returns-in-Accepted-clause-runs
+returns-in-Accepted-clause-runs g c = rw c.in-Accepted.is c.run_checked.ensures.runs
+
 pub returns-in-Refused-clause-runs : goal.returns-in-Refused-clause-runs
-returns-in-Refused-clause-runs g c = rw c.in-Refused.is
-    (refuses c.refuse.result _ (g.W.Write.contents (inner_of c.args.out.now)) (g.W.Write.contents (inner_of c.refuse.new.out)) (g.E.Write.contents (inner_of c.args.events.now)) c.refuse.ensures.shows)
+returns-in-Refused-clause-runs g c = rw (c.in-Refused.is, ← c.refusal.ensures)
+    (refl, refuses c.refuse.result _ (g.W.Write.contents (inner_of c.args.out.now)) (g.W.Write.contents (inner_of c.refuse.new.out)) (g.E.Write.contents (inner_of c.args.events.now)) c.refuse.ensures.shows)
 
 pub returns-in-Accepted-clause-headline : goal.returns-in-Accepted-clause-headline
 returns-in-Accepted-clause-headline g c = rw c.in-Accepted.is c.run_checked.ensures.headline
 
 pub returns-in-Refused-clause-headline : goal.returns-in-Refused-clause-headline
 returns-in-Refused-clause-headline g c = rw c.in-Refused.is tt
-
-pub returns-in-Accepted-clause-in_turn : goal.returns-in-Accepted-clause-in_turn
-returns-in-Accepted-clause-in_turn g c = rw c.in-Accepted.is c.run_checked.ensures.in_turn
-
-pub returns-in-Refused-clause-in_turn : goal.returns-in-Refused-clause-in_turn
-returns-in-Refused-clause-in_turn g c = rw c.in-Refused.is refl

@@ -1,21 +1,21 @@
 use Rattle.std.proofs.Common.{◌≡◌, ◌≤◌, ◌-◌, ◌||◌, None, length}
-use Rattle.camac_answer.specs.Answers.{left_of, stage_of, given_by, reader_failed}
+use Rattle.camac_answer.specs.Answers.{left_of, limit_of, stage_of, given_by, reader_failed}
 use Rattle.camac_answer.specs.declared.answers.Stage.TheVariants.{Running}
-use Rattle.camac_word.specs.Watched.{inner_of, has_failed}
+use Rattle.camac_word.specs.Watched.{has_failed}
 use Rattle.camac_tool_play.specs.Sent.{outputs}
-use Rattle.camac_report.specs.Items.{item_text}
+use Rattle.camac_tool_play.specs.Told.{most_answers}
 use Rattle.camac_tool_play.proofs.Fed.{IsFed}
 use Rattle.camac_tool_play.proofs.feeding.feed.Given as goal
 
 abbrev pub invariant-answers : goal.invariant-answers
 invariant-answers g l = record {
-  fed : IsFed (item_text l.checked.script) l.checked.plan l.checked.script (left_of g.R.Read.remaining l.fn.answers) (left_of g.R.Read.remaining l.answers)
-      (outputs (g.W.Write.contents (inner_of l.fn.out)) (g.E.Write.contents (inner_of l.fn.events))) (outputs (g.W.Write.contents (inner_of l.out)) (g.E.Write.contents (inner_of l.events)))
-      l.runner l.count;
+  fed : IsFed l.telling l.checked.plan l.checked.script (left_of g.R.Read.remaining l.fn.answers) (left_of g.R.Read.remaining l.answers)
+      (outputs g.W.Write.contents g.E.Write.contents l.fn.out l.fn.events) (outputs g.W.Write.contents g.E.Write.contents l.out l.events) l.runner l.count;
   number : given_by l.answers ≡ length fed.taken;
   stage : stage_of l.answers ≡ Running;
   counted : l.runner.fed ≡ given_by l.answers;
-  few : given_by l.answers ≤ 1000000;
+  limit : limit_of l.answers ≡ most_answers l.telling;
+  few : given_by l.answers ≤ most_answers l.telling;
   events : l.runner.events ≡ l.count;
   first : l.runner.overrun ≡ None;
   flags : (has_failed l.out || has_failed l.events) ≡ (has_failed l.fn.out || has_failed l.fn.events);
@@ -24,4 +24,4 @@ invariant-answers g l = record {
 }
 
 abbrev pub decreases-answers : goal.decreases-answers
-decreases-answers g l = 1000000 - given_by l.answers
+decreases-answers g l = most_answers l.telling - given_by l.answers

@@ -2,11 +2,10 @@ use Rattle.std.proofs.Common.{◌∙◌, ap, Err}
 use Rattle.std.proofs.lemmas.Result.{err_from_is_err_and}
 use Rattle.camac_event.specs.Spelling.{header}
 use Rattle.camac_event.specs.declared.event.Version.TheVariants.{Two}
-use Rattle.camac_answer.specs.Answers.{left_of}
+use Rattle.camac_answer.specs.Answers.{left_of, text_of}
 use Rattle.camac_word.specs.Watched.{inner_of}
-use Rattle.camac_tool_play.specs.Played.{ending_text}
-use Rattle.camac_tool_play.proofs.EventFile.{nothing_kept, stops_by_headline, ends_by_headline}
-use Rattle.camac_tool_play.proofs.InTurn.{left_is, header_in_turn, run_in_turn, end_in_turn}
+use Rattle.camac_tool_play.specs.Told.{ending_text}
+use Rattle.camac_tool_play.proofs.Given.{left_is}
 use Rattle.camac_tool_play.proofs.Sending.{by_listing, prefix_events, sends_events}
 use Rattle.camac_tool_play.proofs.Whole.{stops_at_header, stops_in_run, finishes}
 use Rattle.camac_tool_play.proofs.playing.play_on.Goals as goal
@@ -14,52 +13,17 @@ use Rattle.camac_tool_play.proofs.playing.play_on.Goals as goal
 pub returns-in_err-write_header-clause-plays : goal.returns-in_err-write_header-clause-plays
 returns-in_err-write_header-clause-plays g c =
     let p = err_from_is_err_and c.from_residual.result c.from_residual.ensures.1 in
-    stops_at_header c.args.checked.now.plan c.args.checked.now.script (left_of g.R.Read.remaining c.args.answers.now) _ _ c.from_residual.result (p.1 ∙ ap Err p.2)
-    (prefix_events _ _ _ (header Two) c.in_err-write_header.ensures.text)
+    stops_at_header c.args.telling c.args.checked.now.plan c.args.checked.now.script (left_of g.R.Read.remaining c.args.answers.now) (text_of g.R.Read.remaining c.args.answers.now) _ _ c.from_residual.result (p.1 ∙ ap Err p.2)
+    (left_is g.R.Read.remaining c.args.answers.now _ 0 c.requires.running c.requires.limit c.requires.given) (prefix_events _ _ _ (header Two) c.in_err-write_header.ensures.text)
 
 pub returns-in_err-ending-clause-plays : goal.returns-in_err-ending-clause-plays
 returns-in_err-ending-clause-plays g c =
     let p = err_from_is_err_and c.from_residual-in_err-ending.result c.from_residual-in_err-ending.ensures.1 in
-    stops_in_run c.args.checked.now.plan c.args.checked.now.script (left_of g.R.Read.remaining c.args.answers.now) _ _ (sends_events (g.W.Write.contents (inner_of c.args.out.now)) _ _ (header Two) c.in_ok-write_header.ensures.text) _
+    stops_in_run c.args.telling c.args.checked.now.plan c.args.checked.now.script (left_of g.R.Read.remaining c.args.answers.now) _ _ _ (sends_events (g.W.Write.contents (inner_of c.args.out.now)) _ _ (header Two) c.in_ok-write_header.ensures.text) _
     c.in_err-ending.field-0.0 c.from_residual-in_err-ending.result (p.1 ∙ ap Err p.2) c.in_err-ending.ensures.feeds
 
 pub returns-clause-plays : goal.returns-clause-plays
 returns-clause-plays g c =
-    finishes c.args.checked.now.plan c.args.checked.now.script (left_of g.R.Read.remaining c.args.answers.now) _ _ (sends_events (g.W.Write.contents (inner_of c.args.out.now)) _ _ (header Two) c.in_ok-write_header.ensures.text) _ _
-    c.in_ok-ending.ending c.in_ok-ending.count c.finish.result c.in_ok-ending.ensures.feeds c.finish.ensures.value c.finish.ensures.fault
-    (by_listing c.finish.result _ _ _ (ending_text c.in_ok-ending.ending c.in_ok-ending.count) c.finish.ensures.text)
-
-pub returns-in_err-write_header-clause-headline : goal.returns-in_err-write_header-clause-headline
-returns-in_err-write_header-clause-headline g c =
-    let p = err_from_is_err_and c.from_residual.result c.from_residual.ensures.1 in
-    nothing_kept c.args.checked.now.plan c.args.checked.now.script c.args.checked.now.bounds (left_of g.R.Read.remaining c.args.answers.now) _ _ c.from_residual.result (p.1 ∙ ap Err p.2)
-
-pub returns-in_err-ending-clause-headline : goal.returns-in_err-ending-clause-headline
-returns-in_err-ending-clause-headline g c =
-    let p = err_from_is_err_and c.from_residual-in_err-ending.result c.from_residual-in_err-ending.ensures.1 in
-    stops_by_headline c.args.checked.now.plan c.args.checked.now.script c.args.checked.now.bounds (left_of g.R.Read.remaining c.args.answers.now) c.runs_by_headline.ensures.headline _ _ (sends_events (g.W.Write.contents (inner_of c.args.out.now)) _ _ (header Two) c.in_ok-write_header.ensures.text) _
-    c.in_err-ending.field-0.0 c.from_residual-in_err-ending.result (p.1 ∙ ap Err p.2) c.in_err-ending.ensures.feeds
-
-pub returns-clause-headline : goal.returns-clause-headline
-returns-clause-headline g c =
-    ends_by_headline c.args.checked.now.plan c.args.checked.now.script c.args.checked.now.bounds (left_of g.R.Read.remaining c.args.answers.now) c.runs_by_headline.ensures.headline _ _ (sends_events (g.W.Write.contents (inner_of c.args.out.now)) _ _ (header Two) c.in_ok-write_header.ensures.text) _ _
-    c.in_ok-ending.ending c.in_ok-ending.count c.finish.result c.finish.ensures.few c.in_ok-ending.ensures.feeds c.finish.ensures.fault
-    (by_listing c.finish.result _ _ _ (ending_text c.in_ok-ending.ending c.in_ok-ending.count) c.finish.ensures.text)
-
-pub returns-in_err-write_header-clause-in_turn : goal.returns-in_err-write_header-clause-in_turn
-returns-in_err-write_header-clause-in_turn g c =
-    let p = err_from_is_err_and c.from_residual.result c.from_residual.ensures.1 in
-    header_in_turn c.args.checked.now.plan c.args.checked.now.script (left_of g.R.Read.remaining c.args.answers.now) _ _ _ c.from_residual.result (p.1 ∙ ap Err p.2)
-    (left_is g.R.Read.remaining c.args.answers.now 0 c.requires.running c.requires.given) (prefix_events _ _ _ (header Two) c.in_err-write_header.ensures.text)
-
-pub returns-in_err-ending-clause-in_turn : goal.returns-in_err-ending-clause-in_turn
-returns-in_err-ending-clause-in_turn g c =
-    let p = err_from_is_err_and c.from_residual-in_err-ending.result c.from_residual-in_err-ending.ensures.1 in
-    run_in_turn c.args.checked.now.plan c.args.checked.now.script (left_of g.R.Read.remaining c.args.answers.now) _ _ _ (sends_events (g.W.Write.contents (inner_of c.args.out.now)) _ _ (header Two) c.in_ok-write_header.ensures.text) _
-    c.in_err-ending.field-0.0 c.from_residual-in_err-ending.result (p.1 ∙ ap Err p.2) c.in_err-ending.ensures.in_turn
-
-pub returns-clause-in_turn : goal.returns-clause-in_turn
-returns-clause-in_turn g c =
-    end_in_turn c.args.checked.now.plan c.args.checked.now.script (left_of g.R.Read.remaining c.args.answers.now) _ _ _ (sends_events (g.W.Write.contents (inner_of c.args.out.now)) _ _ (header Two) c.in_ok-write_header.ensures.text) _ _
-    c.in_ok-ending.ending c.in_ok-ending.count c.finish.result c.in_ok-ending.ensures.feeds c.in_ok-ending.ensures.in_turn c.finish.ensures.value c.finish.ensures.fault
+    finishes c.args.telling c.args.checked.now.plan c.args.checked.now.script (left_of g.R.Read.remaining c.args.answers.now) _ _ _ (sends_events (g.W.Write.contents (inner_of c.args.out.now)) _ _ (header Two) c.in_ok-write_header.ensures.text) _ _
+    c.in_ok-ending.ending c.in_ok-ending.count c.finish.result c.finish.ensures.few c.in_ok-ending.ensures.feeds c.finish.ensures.value c.finish.ensures.fault
     (by_listing c.finish.result _ _ _ (ending_text c.in_ok-ending.ending c.in_ok-ending.count) c.finish.ensures.text)

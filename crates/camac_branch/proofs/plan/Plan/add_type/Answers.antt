@@ -11,6 +11,6 @@ invariant_of-self c =
     let few : length plan.types < 64 = search rules in
     let IsPlanWith : List Kind → Type 0 = λ types. IsPlan (record plan { types = types }) in
     elim c.match-push.branch [
-      | in-Ok w ↦ subst IsPlanWith (sym (w.in-Ok.ensures {u = tt}).items) (is_plan-with_type plan c.args.name c.args.commands few c.is_command_map.ensures c.self.invariant)
-      | in-Err w ↦ subst IsPlanWith (sym (w.in-Err.ensures {u = tt}).items) c.self.invariant
+      | in-Ok w ↦ (subst IsPlanWith (sym (w.in-Ok.ensures {u = tt}).items) (is_plan-with_type plan c.args.name c.args.commands few c.is_command_map.ensures c.self.invariant.0), c.self.invariant.1)
+      | in-Err w ↦ (subst IsPlanWith (sym (w.in-Err.ensures {u = tt}).items) c.self.invariant.0, c.self.invariant.1)
     ]

@@ -4,4 +4,4 @@ use Rattle.camac_branch.proofs.Allowed.{allows_commands}
 use Rattle.camac_branch.proofs.plan.Plan.allows_commands.Goals as goal
 
 pub returns : goal.returns
-returns c = subst AllowsCommands c.self.view_is (allows_commands _ c.self.invariant)
+returns c = subst AllowsCommands c.self.view_is (allows_commands _ c.self.invariant.0)

@@ -1,10 +1,11 @@
-use Rattle.std.proofs.Common.{ℕ, ◌+◌, sym, subst, arith, rules, map}
-use Rattle.std.specs.Prelude.{None}
+use Rattle.std.proofs.Common.{◌≡◌, ℕ, ◌+◌, Bool, sym, ap, subst, arith, rules, map}
+use Rattle.std.specs.Prelude.{Option, Some, None, is_some}
 use Rattle.camac_lang.specs.Tree.{assign, set_register, put, single, crate_call, lam_call, address_scan, q_stop, q_repeat, choose, choose_else, for_, while_, locked, call}
 use Rattle.camac_lang.specs.View.{condition_of, expression_of, keep_of, move_of, statement_of, statements_of}
 use Rattle.camac_model.specs.Fine.{most_turns}
 use Rattle.camac_model.specs.Meaning.{turns, block_meaning}
-use Rattle.camac_run_machine.specs.MachineState.{free, reach, Advances}
+use Rattle.camac_run_machine.specs.declared.machine.Wanting.{Wanting}
+use Rattle.camac_run_machine.specs.MachineState.{free, reach, wanted_if, Advances}
 use Rattle.camac_run_machine.proofs.Actions.{begun}
 use Rattle.camac_run_machine.proofs.Courses.{proceeds_advance, proceeds_pace}
 use Rattle.camac_run_machine.proofs.Frames.{room_stepped, wants_advance, enter_advances, step_advances}
@@ -12,6 +13,11 @@ use Rattle.camac_run_machine.proofs.Loops.{while_begins}
 use Rattle.camac_run_machine.proofs.Fine.{turns_are}
 use Rattle.camac_run_machine.proofs.Trees.{assign_is, register_is, put_is, single_is, crate_is, lam_is, scan_is, q_stop_is, q_repeat_is, choose_is, choose_else_is, lock_is, for_is, while_is, call_is}
 use Rattle.camac_run_machine.proofs.machine.Machine.begin.Goals as goal
+
+-- what a transfer wants is told by whether it wants something
+wanted_same : (o : Option Wanting) (b : Bool) → b ≡ is_some o → wanted_if b o ≡ o
+wanted_same None b e = ap (λ c. wanted_if c None) e
+wanted_same (Some w) b e = ap (λ c. wanted_if c (Some w)) e
 
 pub overflow_add-self : goal.overflow_add-self
 overflow_add-self g c =
@@ -110,7 +116,7 @@ scan-requires g c =
 pub returns-in-Scan-clause-advances : goal.returns-in-Scan-clause-advances
 returns-in-Scan-clause-advances g c =
     let w = c.in-Scan in
-    rw (w.is, scan_is w.line w.function w.first w.last w.max w.tally)
+    rw (w.is, scan_is w.line w.function w.first w.last w.max w.tally, wanted_same c.scan.result c.is_some.result c.is_some.ensures)
     (proceeds_advance c.args.self.now (address_scan 0 w.function w.first w.last (expression_of w.max) w.tally) c.scan.result c.scan.new.self c.scan.ensures)
 
 pub returns-in-Scan-clause-pace : goal.returns-in-Scan-clause-pace
@@ -129,7 +135,7 @@ q_stop-requires g c =
 pub returns-in-QStop-clause-advances : goal.returns-in-QStop-clause-advances
 returns-in-QStop-clause-advances g c =
     let w = c.in-QStop in
-    rw (w.is, q_stop_is w.line w.function w.register w.table w.max w.tally)
+    rw (w.is, q_stop_is w.line w.function w.register w.table w.max w.tally, wanted_same c.q_stop.result c.is_some-in-QStop.result c.is_some-in-QStop.ensures)
     (proceeds_advance c.args.self.now (q_stop 0 w.function w.register w.table (expression_of w.max) w.tally) c.q_stop.result c.q_stop.new.self c.q_stop.ensures)
 
 pub returns-in-QStop-clause-pace : goal.returns-in-QStop-clause-pace
@@ -143,12 +149,12 @@ q_repeat-requires g c =
     let w = c.in-QRepeat in
     let e = q_repeat_is w.line w.function w.register w.table w.max w.limit w.tally in
     let fits = rw (w.is, e) at c.requires.fits in
-    (search, (room_stepped h (h.steps + 1) c.requires.room, (fits.0, (fits.1, (fits.2, (fits.3, rw (w.is, e) at c.requires.fine))))))
+    (search rules, (room_stepped h (h.steps + 1) c.requires.room, (fits.0, (fits.1, (fits.2, (fits.3, rw (w.is, e) at c.requires.fine))))))
 
 pub returns-in-QRepeat-clause-advances : goal.returns-in-QRepeat-clause-advances
 returns-in-QRepeat-clause-advances g c =
     let w = c.in-QRepeat in
-    rw (w.is, q_repeat_is w.line w.function w.register w.table w.max w.limit w.tally)
+    rw (w.is, q_repeat_is w.line w.function w.register w.table w.max w.limit w.tally, wanted_same c.q_repeat.result c.is_some-in-QRepeat.result c.is_some-in-QRepeat.ensures)
     (proceeds_advance c.args.self.now (q_repeat 0 w.function w.register w.table (expression_of w.max) (expression_of w.limit) w.tally) c.q_repeat.result c.q_repeat.new.self c.q_repeat.ensures)
 
 pub returns-in-QRepeat-clause-pace : goal.returns-in-QRepeat-clause-pace

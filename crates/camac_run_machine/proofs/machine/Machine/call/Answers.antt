@@ -49,8 +49,8 @@ pass-requires-clause-room g c =
 pub pass-requires-clause-have_values : goal.pass-requires-clause-have_values
 pass-requires-clause-have_values g c = call_has c.args.self.now c.args.procedure (map expression_of c.args.arguments.now) c.requires.fine
 
-pub unset-requires-clause-room : goal.unset-requires-clause-room
-unset-requires-clause-room g c =
+pub wipe-requires-clause-room : goal.wipe-requires-clause-room
+wipe-requires-clause-room g c =
     let h = c.args.self.now in
     let s = h.checked.now.script in
     let i = c.args.procedure in
@@ -89,14 +89,14 @@ returns g c =
     let k = callee h i es c.requires.room c.requires.fits in
     let there : slice_get s.procedures i ≡ Some (procedure_of r) = procedure_at c.procedures.result.now s.procedures i r e (number_below s.procedures i k.procedure k.there) c.index-procedures-procedure.is in
     enters_filled h i es c.requires.room c.requires.fits (procedure_of r) there sc c.of_procedure-scope.ensures (subst F c.script-script.ensures c.well_formed-2.ensures)
-    c.as_slice.result (ap statements_of c.as_slice.ensures.value) ws c.unset.new.registers c.push.new.self
+    c.as_slice.result (ap statements_of c.as_slice.ensures.value) ws c.wipe.new.all c.push.new.self
     (record {
       values = c.pass.ensures.values ∙ ap (λ n. Some (slice_range ws sc.variables.start (sc.variables.start + n))) (sym (length-map c.args.arguments.now expression_of));
       variables_before = c.pass.ensures.before;
       variables = c.pass.ensures.count;
-      unset = c.unset.ensures.unset;
-      registers_before = c.unset.ensures.before;
-      registers = c.unset.ensures.count;
+      unset = c.wipe.ensures.wiped;
+      registers_before = c.wipe.ensures.before;
+      registers = c.wipe.ensures.count;
     })
     c.push.ensures.items
 
@@ -111,8 +111,8 @@ pass-requires-clause-after g c =
 pub pass-requires-clause-declared : goal.pass-requires-clause-declared
 pass-requires-clause-declared g c = c.requires.fits.refer
 
-pub unset-requires-clause-order : goal.unset-requires-clause-order
-unset-requires-clause-order g c =
+pub wipe-requires-clause-order : goal.wipe-requires-clause-order
+wipe-requires-clause-order g c =
     let a : c.of_procedure-scope.result.registers.start ≡ c.args.self.now.scope.registers.end = ap (λ (s : Scope). s.registers.start) c.of_procedure-scope.ensures in
     let b : c.of_procedure-scope.result.registers.end ≡ c.args.self.now.scope.registers.end + length (procedure_of c.index-procedures-procedure.result).registers = ap (λ (s : Scope). s.registers.end) c.of_procedure-scope.ensures in
     omega (arith, a, b)

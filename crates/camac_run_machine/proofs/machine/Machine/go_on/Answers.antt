@@ -1,13 +1,13 @@
-use Rattle.std.proofs.Common.{◌≡◌, [], ◌∷◌, ◌++◌, refl, rules, ap, sym, subst, ◌∙◌, arith, length, ◌+◌}
+use Rattle.std.proofs.Common.{◌≡◌, ◌≤◌, List, [], ◌∷◌, ◌++◌, refl, rules, ap, sym, subst, ◌∙◌, arith, length, ◌+◌}
 use Rattle.std.specs.Prelude.{None}
-use Rattle.std.proofs.lemmas.Bool.{false≢true}
+use Rattle.camac_branch.specs.Branch.{Answer}
 use Rattle.camac_lang.specs.View.{statement_of, statements_of}
-use Rattle.camac_lang.specs.Tree.{Block, Statement}
+use Rattle.camac_lang.specs.Tree.{Statement}
 use Rattle.arrayvec.specs.ArrayVec.{ArrayVec, with_items}
 use Rattle.camac_run_machine.specs.declared.machine.Frame.{Frame}
 use Rattle.camac_run_machine.specs.declared.machine.Machine.{Machine}
-use Rattle.camac_run_machine.specs.MachineState.{state_of, owner_in, open_in, opens_in, FineThen, HasRoomFor, Advances}
-use Rattle.camac_run_machine.specs.Rest.{Open, left_of}
+use Rattle.camac_run_machine.specs.MachineState.{state_of, open_in, stands, IsFineHere, HasRoom, LastIsOver, GoesOn}
+use Rattle.camac_run_machine.specs.Rest.{Open}
 use Rattle.camac_run_machine.proofs.Frames.{room_begun, goes_begun, room_popped, goes_popped, fine_along}
 use Rattle.camac_run_machine.proofs.Lists.{filled, longer}
 use Rattle.camac_run_machine.proofs.machine.Machine.go_on.Goals as goal
@@ -38,8 +38,8 @@ begin-requires g c =
       ),
     )
 
-pub returns-in-Some : goal.returns-in-Some
-returns-in-Some g c =
+pub returns-in-Some-clause-goes : goal.returns-in-Some-clause-goes
+returns-in-Some-clause-goes g c =
     let h = c.args.self.now in
     let t = c.in-Some.ensures.begun in
     let fs : ArrayVec Frame = with_items h.frames c.next_statement.new.frames in
@@ -70,42 +70,20 @@ returns-in-Some g c =
       };
     }
 
-pub leave-requires : goal.leave-requires
-leave-requires g c =
-    let h = c.args.self.now in
-    let frame = c.in-Some-pop.frame in
-    let over = c.in-None.ensures.over in
-    let same : c.next_statement.new.frames ≡ h.frames.items = over.1 ∙ c.as_mut_slice.ensures.value in
-    let was : h.frames.items ≡ c.pop.new.self.items ++ frame ∷ [] = sym same ∙ sym (filled h.frames.items c.next_statement.new.frames (ap length same)) ∙ c.in-Some-pop.ensures.items in
-    let o = owner_in h frame.owner in
-    let mid : Machine g.row.V g.row.DEPTH g.row.CAP = record h { frames = c.pop.new.self } in
-    let e = ap statements_of (over.0 c.pop.new.self.items frame (c.as_mut_slice.ensures.value ∙ was)) in
-    let P : Block → Type 0 = λ b. HasRoomFor mid (opens_in mid ++ record { block = b; owner = o } ∷ []) in
-    let F : Block → Type 0 = λ b. FineThen mid (λ k. left_of k (record { block = b; owner = o })) in (
-      search rules,
-      (
-        subst P e (room_popped h frame c.pop.new.self was c.requires.room),
-        subst F e (λ answers. fine_along mid h refl refl _ _ (sym (goes_popped h frame c.pop.new.self was (state_of h answers))) (c.requires.fine answers)),
-      ),
-    )
-
-pub unreachable-requires : goal.unreachable-requires
-unreachable-requires g c =
+pub close-requires : goal.close-requires
+close-requires g c =
     let h = c.args.self.now in
     let same : c.next_statement.new.frames ≡ h.frames.items = c.in-None.ensures.over.1 ∙ c.as_mut_slice.ensures.value in
-    let all = ap length (filled h.frames.items c.next_statement.new.frames (ap length same) ∙ same) in
-    let open' = c.requires.open in
-    false≢true (c.in-None-pop.ensures.variant.1 (omega (arith, all, open')))
+    let fs : ArrayVec Frame = with_items h.frames c.next_statement.new.frames in
+    let back : fs ≡ h.frames = ap (λ (gs : List Frame). record { items = gs }) (filled h.frames.items c.next_statement.new.frames (ap length same) ∙ same) in
+    let P : ArrayVec Frame → Type 0 = λ gs. HasRoom (record h { frames = gs }) × (1 ≤ length gs.items) × LastIsOver gs.items × ((answers : List Answer) → IsFineHere (record h { frames = gs }) (stands None (record h { frames = gs }) answers)) in
+    let k = subst P (sym back) (c.requires.room, c.requires.open, subst (λ gs. LastIsOver gs) c.as_mut_slice.ensures.value c.in-None.ensures.over.0, c.requires.fine) in
+    (search rules, (k.0, (k.1, (k.2, k.3))))
 
-pub returns-in-Some-pop : goal.returns-in-Some-pop
-returns-in-Some-pop g c =
+pub returns-in-None-clause-goes : goal.returns-in-None-clause-goes
+returns-in-None-clause-goes g c =
     let h = c.args.self.now in
-    let frame = c.in-Some-pop.frame in
-    let over = c.in-None.ensures.over in
-    let same : c.next_statement.new.frames ≡ h.frames.items = over.1 ∙ c.as_mut_slice.ensures.value in
-    let was : h.frames.items ≡ c.pop.new.self.items ++ frame ∷ [] = sym same ∙ sym (filled h.frames.items c.next_statement.new.frames (ap length same)) ∙ c.in-Some-pop.ensures.items in
-    let o = owner_in h frame.owner in
-    let mid : Machine g.row.V g.row.DEPTH g.row.CAP = record h { frames = c.pop.new.self } in
-    let e = ap statements_of (over.0 c.pop.new.self.items frame (c.as_mut_slice.ensures.value ∙ was)) in
-    let A : Block → Type 0 = λ b. Advances mid (λ k. left_of k (record { block = b; owner = o })) None c.leave.new.self in
-    record { before = c.pop.new.self.items; last = frame; was = was; advances = subst A (sym e) c.leave.ensures }
+    let same : c.next_statement.new.frames ≡ h.frames.items = c.in-None.ensures.over.1 ∙ c.as_mut_slice.ensures.value in
+    let fs : ArrayVec Frame = with_items h.frames c.next_statement.new.frames in
+    let back : fs ≡ h.frames = ap (λ (gs : List Frame). record { items = gs }) (filled h.frames.items c.next_statement.new.frames (ap length same) ∙ same) in
+    subst (λ gs. GoesOn (record h { frames = gs }) None c.close.new.self) back c.close.ensures

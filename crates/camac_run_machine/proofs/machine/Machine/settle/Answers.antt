@@ -1,5 +1,6 @@
 use Rattle.std.proofs.Common.{[], refl, ◌∙◌, rules}
-use Rattle.std.specs.Prelude.{Some, None}
+use Rattle.std.specs.Prelude.{Option, Some, None, IsSome, IfNone}
+use Rattle.std.proofs.lemmas.Bool.{false≢true}
 use Rattle.arrayvec.specs.ArrayVec.{ArrayVec}
 use Rattle.camac_run_machine.specs.declared.machine.Frame.{Frame}
 use Rattle.camac_run_machine.specs.MachineState.{bounds_of, state_of}
@@ -7,6 +8,11 @@ use Rattle.camac_run_machine.proofs.Fine.{keeps_rest, fine_says}
 use Rattle.camac_run_machine.proofs.Frames.{goes_further, fine_along, smaller}
 use Rattle.camac_run_machine.proofs.Lists.{some_of, none_of}
 use Rattle.camac_run_machine.proofs.machine.Machine.settle.Goals as goal
+
+-- nothing holds only where something is wanted
+none_if_some : {A : Type 0} (o : Option A) (P : Type 0) → IsSome o → IfNone o P
+none_if_some None P some = absurd (false≢true some)
+none_if_some (Some x) P some = tt
 
 pub loop-self-init : goal.loop-self-init
 loop-self-init g c = record { room = c.requires.room; checked = refl; service = refl; goes = λ answers. rw c.requires.quiet refl }
@@ -26,30 +32,30 @@ go_on-requires g c =
       ),
     )
 
-pub returns-in-Some : goal.returns-in-Some
-returns-in-Some g c =
+pub returns-then-go_on : goal.returns-then-go_on
+returns-then-go_on g c =
     let h = c.loop-self.self in
     let v = c.loop-self.invariant in
-    let e = c.go_on.ensures in
-    let a = rw c.in-Some.is at e.advances in
+    let e = c.go_on.ensures.goes in
+    let a = rw c.if-go_on.true at e.advances in
     let new = c.go_on.new.self in
-    let w = c.in-Some.next in
+    let w = c.go_on.new.wanting in
     let before : ArrayVec Frame = record { items = e.before } in
     record {
       room = a.room;
       checked = a.checked ∙ v.checked;
       service = a.service ∙ v.service;
       wants = a.wants;
-      over = tt;
-      goes = λ answers. goes_further h new e.last before e.was a.released a.unlocks (Some w) answers (a.goes answers) ∙ v.goes answers;
+      over = none_if_some w _ (c.go_on.ensures.some c.if-go_on.true);
+      goes = λ answers. goes_further h new e.last before e.was a.released a.unlocks w answers (a.goes answers) ∙ v.goes answers;
     }
 
 pub loop-self-smaller : goal.loop-self-smaller
 loop-self-smaller g c =
     let h = c.loop-self.self in
     let v = c.loop-self.invariant in
-    let e = c.go_on.ensures in
-    let a = rw c.in_default.is at e.advances in
+    let e = c.go_on.ensures.goes in
+    let a = rw c.if-go_on.false at e.advances in
     let new = c.go_on.new.self in
     let before : ArrayVec Frame = record { items = e.before } in
     let same = goes_further h new e.last before e.was a.released a.unlocks None [] (a.goes []) ∙ v.goes [] in
@@ -61,8 +67,8 @@ pub loop-self-preserved : goal.loop-self-preserved
 loop-self-preserved g c =
     let h = c.loop-self.self in
     let v = c.loop-self.invariant in
-    let e = c.go_on.ensures in
-    let a = rw c.in_default.is at e.advances in
+    let e = c.go_on.ensures.goes in
+    let a = rw c.if-go_on.false at e.advances in
     let new = c.go_on.new.self in
     let before : ArrayVec Frame = record { items = e.before } in
     record {

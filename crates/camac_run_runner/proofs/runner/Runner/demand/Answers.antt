@@ -81,7 +81,7 @@ close-event-requires g c =
     let i = c.in-Some.called.number in
     let p = place r.machine.checked.now.script.services i c.in-Some.ensures.known in
     let s = c.serve.ensures p.0 p.1 in
-    let few : r.fed < 1000000 = subst (λ (h : RunnerState). h.fed < 1000000) (sym c.self.view_is) c.requires.fed in
+    let few : r.fed < 4294967295 = subst (λ (h : RunnerState). h.fed < 4294967295) (sym c.self.view_is) c.requires.fed in
     let most = inv.events in
     (search, (below_along c.serve.new.self r.machine.checked i s.checked s.service c.in-Some.ensures.known, (omega (arith, most), omega (arith, few))))
 

@@ -56,7 +56,7 @@ close-event-requires g c =
     let r = c.self.inside in
     let t = c.in-Ok.ensures.took in
     let s = rw wanting at c.go_further.ensures in
-    let few : r.fed < 1000000 = subst (λ (h : RunnerState). h.fed < 1000000) (sym c.self.view_is) c.requires.fed in
+    let few : r.fed < 4294967295 = subst (λ (h : RunnerState). h.fed < 4294967295) (sym c.self.view_is) c.requires.fed in
     let most = inv.events in
     (search, (below_along c.go_further.new.self r.machine.checked r.machine.service (s.checked ∙ t.checked) (s.service ∙ t.service) (rw wanting at inv.service), (omega (arith, most), omega (arith, few))))
 

@@ -3,7 +3,7 @@ use Rattle.camac_run_runner.specs.Operation.{CanLock}
 use Rattle.camac_run_runner.specs.Runner.{RunnerState}
 use Rattle.camac_run_runner.specs.Sound.{runner_state}
 use Rattle.camac_run_runner.specs.declared.progress.Wanted.{Wanted}
-use Rattle.camac_run_runner.proofs.Operation.{not_some, can_lock, wanted_begins, idle_begins}
+use Rattle.camac_run_runner.proofs.Operation.{not_some, can_lock, wants_some, wants_none}
 use Rattle.camac_run_runner.proofs.runner.Runner.wants.Goals as goal
 
 pub returns-in-Some-clause-wants : goal.returns-in-Some-clause-wants
@@ -11,7 +11,7 @@ returns-in-Some-clause-wants g c =
     let r = c.self.inside in
     let first : r.overrun ≡ None = not_some r.overrun (sym c.is_some.ensures ∙ c.if-is_some.false) in
     rw (c.operation.ensures, ← c.self.view_is)
-    (first, λ a answers. wanted_begins r.machine a answers r.fed r.events r.has_event r.overrun r.wanting c.in-Some.wanting c.in-Some.is c.self.invariant.wants)
+    (wants_some r.machine r.fed r.events r.has_event r.overrun first r.wanting c.in-Some.wanting c.in-Some.is c.self.invariant.wants)
 
 pub returns-in-Some-clause-lock : goal.returns-in-Some-clause-lock
 returns-in-Some-clause-lock g c =
@@ -24,4 +24,4 @@ pub returns-in-None-clause-wants : goal.returns-in-None-clause-wants
 returns-in-None-clause-wants g c =
     let r = c.self.inside in
     let first : r.overrun ≡ None = not_some r.overrun (sym c.is_some.ensures ∙ c.if-is_some.false) in
-    rw (← c.self.view_is) (first, λ a answers. idle_begins r.machine a answers r.fed r.events r.has_event r.overrun r.wanting c.in-None.is)
+    rw (← c.self.view_is) (wants_none r.machine r.fed r.events r.has_event r.overrun first r.wanting c.in-None.is)

@@ -1,0 +1,7 @@
+pub mod Answered
+pub mod Calls
+pub mod Found
+pub mod Ran
+pub mod Read
+pub mod Taken
+pub mod Values

@@ -1,0 +1,138 @@
+// What crosses to C, in numbers, and what passes between a call and a run.
+
+ghost use Rattle.std.specs.Prelude.{◌≡◌};
+ghost use Rattle.camac_c.specs.Plain.{no_want, no_progress, only_code};
+
+/// An answer of the branch. `x` and `q` are true where they are not 0.
+#[repr(C)]
+#[derive(Clone, Copy)]
+pub struct CamacAnswer {
+    pub word: u32,
+    pub gl: u32,
+    pub x: u8,
+    pub q: u8,
+    pub wait: u8,
+    pub unused: u8,
+}
+
+/// What the next answer is for.
+#[repr(C)]
+#[derive(Clone, Copy)]
+pub struct CamacWant {
+    pub kind: u8,
+    pub c: u8,
+    pub n: u8,
+    pub a: u8,
+    pub f: u8,
+    pub data: u8,
+    pub unused: u16,
+    pub word: u32,
+}
+
+/// What an answer did.
+#[repr(C)]
+#[derive(Clone, Copy)]
+pub struct CamacProgress {
+    pub kind: u8,
+    pub c: u8,
+    pub wait: u8,
+    pub unlocked: u8,
+    pub pattern: u32,
+    pub service: u32,
+    pub event: u32,
+    pub event_gl: u32,
+    pub event_words: u32,
+    pub event_cycles: u32,
+    pub event_missed: u32,
+}
+
+/// What a call asks of a run.
+#[derive(Clone, Copy)]
+pub enum Ask {
+    /// What the next answer is for.
+    Wants,
+    /// To take an answer.
+    Next(CamacAnswer),
+    /// The words of the event that the last answer left.
+    Words,
+}
+
+/// What a run tells: a code, and what was asked for. The rest is zeros.
+#[derive(Clone, Copy)]
+pub struct Told {
+    pub code: u32,
+    pub want: CamacWant,
+    pub progress: CamacProgress,
+    pub words: usize,
+}
+
+/// Done.
+pub const OK: u32 = 0;
+
+/// Plan, script, answers or event file broke a rule.
+pub const REFUSED: u32 = 1;
+
+/// There is no session, or it is open already.
+pub const MISUSE: u32 = 2;
+
+/// A growth of memory was refused.
+pub const NO_MEMORY: u32 = 3;
+
+/// A wait that is not permitted.
+pub const OVERRUN: u32 = 4;
+
+/// An answer out of its range.
+pub const RANGE: u32 = 5;
+
+/// The run has used 4,294,967,295 answers.
+pub const SPENT: u32 = 6;
+
+/// A text above its limit.
+pub const LONG: u32 = 7;
+
+pub const DEMAND: u8 = 1;
+
+pub const CYCLE: u8 = 2;
+
+pub const LOCK: u8 = 3;
+
+pub const STOPPED: u8 = 4;
+
+/// Nothing wanted.
+pub const NO_WANT: CamacWant = CamacWant {
+    kind: 0,
+    c: 0,
+    n: 0,
+    a: 0,
+    f: 0,
+    data: 0,
+    unused: 0,
+    word: 0,
+};
+
+/// Nothing done.
+pub const NO_PROGRESS: CamacProgress = CamacProgress {
+    kind: 0,
+    c: 0,
+    wait: 0,
+    unlocked: 0,
+    pattern: 0,
+    service: 0,
+    event: 0,
+    event_gl: 0,
+    event_words: 0,
+    event_cycles: 0,
+    event_missed: 0,
+};
+
+/// Nothing but a code.
+pub fn only_code(code: u32) -> Told
+    ensures { result ≡ only_code code }
+{
+    Told {
+        code,
+        want: NO_WANT,
+        progress: NO_PROGRESS,
+        words: 0,
+    }
+}

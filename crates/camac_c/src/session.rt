@@ -1,0 +1,272 @@
+// A run in progress: what is asked of it, and what it tells.
+
+ghost use Rattle.std.specs.Prelude.{◌≡◌, ◌↔◌, ◌^◌, length, IfOk, IfSome, IsSome};
+ghost use Rattle.camac_run_runner.specs.Runner.{last_words_in};
+ghost use Rattle.camac_c.specs.Filled.{filled};
+ghost use Rattle.camac_c.specs.Talk.{StartsOn, Steps, TellsNext, TellsWant};
+ghost use Rattle.camac_c.specs.Told.{InRange, answer_in, crates_in, did, event_in, item_in, movement_in, service_in, want_in, written_in};
+
+use crate::loose::Loose;
+use crate::plain::{
+    Ask, CYCLE, CamacAnswer, CamacProgress, CamacWant, DEMAND, LOCK, NO_PROGRESS, NO_WANT, OK,
+    OVERRUN, RANGE, SPENT, STOPPED, Told, only_code,
+};
+use camac_branch::{Answer, Command};
+use camac_check_result::Checked;
+use camac_event::Usage;
+use camac_func::DataMove;
+use camac_run_machine::Item;
+use camac_run_runner::{FullRunner, Progress, Wanted};
+use camac_word::{CrateNo, GlBit, Word24};
+use std::alloc::Global;
+
+/// The most answers of a run.
+const MOST_ANSWERS: u32 = 4_294_967_295;
+
+/// A run in progress.
+#[derive(Drop)]
+pub struct Session<'a> {
+    runner: FullRunner<'a>,
+}
+
+/// A run before its first demand, or the allocator where there is no memory.
+pub fn start<'a>(alloc: Global, checked: &'a Checked) -> Result<Loose<Session<'a>, Global>, Global>
+    ensures { IfOk result (λ l. StartsOn checked.now l.value) }
+{
+    checked.fits_greatest();
+    match Box::new(
+        alloc,
+        Session {
+            runner: FullRunner::start(checked),
+        },
+    ) {
+        Ok(session) => Ok(Loose::of(session)),
+        Err(_) => Err(alloc),
+    }
+}
+
+/// Does what is asked.
+#[inline(always)]
+pub fn step<'a>(
+    run: Loose<Session<'a>, Global>,
+    ask: Ask,
+    words: &mut [u32],
+) -> (Loose<Session<'a>, Global>, Told)
+    ensures { Steps run.entry.value ask result.0.value words.old words.new result.1 }
+{
+    let mut session = run.into_box();
+    let told = match ask {
+        Ask::Wants => wants(&session),
+        Ask::Next(answer) => next(&mut session, answer),
+        Ask::Words => Told {
+            words: write_words(session.runner.last_words(), words),
+            ..only_code(OK)
+        },
+    };
+    (Loose::of(session), told)
+}
+
+/// Drops a run, and returns its allocator.
+pub fn finish<'a>(run: Loose<Session<'a>, Global>) -> Global {
+    let run = run.into_box();
+    let alloc = *Box::allocator(&run);
+    drop(run);
+    alloc
+}
+
+#[inline(always)]
+fn wants(session: &Session) -> Told
+    ensures { TellsWant session.now session.now result }
+{
+    match session.runner.wants() {
+        None => only_code(OVERRUN),
+        Some(wanted) => Told {
+            want: want_of(wanted),
+            ..only_code(OK)
+        },
+    }
+}
+
+fn want_of(wanted: Wanted) -> CamacWant
+    ensures { result ≡ want_in wanted }
+{
+    match wanted {
+        Wanted::Demand => CamacWant {
+            kind: DEMAND,
+            ..NO_WANT
+        },
+        Wanted::Cycle(command) => cycle_of(command),
+        Wanted::Lock(c) => CamacWant {
+            kind: LOCK,
+            c: c.get() as u8,
+            ..NO_WANT
+        },
+    }
+}
+
+fn cycle_of(command: Command) -> CamacWant
+    ensures { result ≡ want_in (Wanted.Cycle command) }
+{
+    CamacWant {
+        kind: CYCLE,
+        c: command.c.get() as u8,
+        n: command.n.get() as u8,
+        a: command.a.get() as u8,
+        f: command.f.get() as u8,
+        data: movement_of(command.mv),
+        unused: 0,
+        word: written_of(command.mv),
+    }
+}
+
+fn movement_of(mv: DataMove) -> u8
+    ensures { result ≡ movement_in mv }
+{
+    match mv {
+        DataMove::None => 0,
+        DataMove::In => 1,
+        DataMove::Out(_) => 2,
+    }
+}
+
+fn written_of(mv: DataMove) -> u32
+    ensures { result ≡ written_in mv }
+{
+    match mv {
+        DataMove::Out(word) => word.get(),
+        _ => 0,
+    }
+}
+
+#[inline(always)]
+fn next(session: &mut Session, answer: CamacAnswer) -> Told
+    ensures { TellsNext answer session.old session.new result }
+{
+    let Some(answer) = answer_of(answer) else {
+        return only_code(RANGE);
+    };
+    if session.runner.fed() >= MOST_ANSWERS {
+        return only_code(SPENT);
+    }
+    let progress = session.runner.next(answer);
+    told_of(&progress, session.runner.last_words().len() as u32)
+}
+
+fn answer_of(answer: CamacAnswer) -> Option<Answer>
+    ensures in_range { IsSome result ↔ InRange answer }
+    ensures kept { IfSome result (λ a. a ≡ answer_in answer) }
+{
+    let word = Word24::new(answer.word)?;
+    let gl = Word24::new(answer.gl)?;
+    Answer::new(answer.x != 0, answer.q != 0, word, answer.wait, gl)
+}
+
+#[inline(always)]
+fn told_of(progress: &Progress, words: u32) -> Told
+    ensures { result ≡ did progress.now words }
+{
+    match progress {
+        Progress::Overrun(overrun) => Told {
+            progress: CamacProgress {
+                kind: STOPPED,
+                c: overrun.c.get() as u8,
+                wait: overrun.wait,
+                ..NO_PROGRESS
+            },
+            ..only_code(OVERRUN)
+        },
+        Progress::Went {
+            item,
+            unlocks,
+            event,
+        } => {
+            let unlocked = crates_of(unlocks.as_slice());
+            let told = CamacProgress {
+                unlocked,
+                ..item_of(item)
+            };
+            Told {
+                progress: with_event(told, event, words),
+                ..only_code(OK)
+            }
+        }
+    }
+}
+
+fn item_of(item: &Item) -> CamacProgress
+    ensures { result ≡ item_in item.now }
+{
+    match item {
+        Item::Demand(pattern, service) => CamacProgress {
+            kind: DEMAND,
+            pattern: pattern.get(),
+            service: service_of(*service),
+            ..NO_PROGRESS
+        },
+        Item::Cycle(done) => CamacProgress {
+            kind: CYCLE,
+            wait: done.wait,
+            ..NO_PROGRESS
+        },
+        Item::Lock(c, wait) => CamacProgress {
+            kind: LOCK,
+            c: c.get() as u8,
+            wait: *wait,
+            ..NO_PROGRESS
+        },
+        Item::Unlock(_) => NO_PROGRESS,
+    }
+}
+
+// A script has at most 24 services, so that the number is never cut.
+fn service_of(service: Option<usize>) -> u32
+    ensures { result ≡ service_in service }
+{
+    match service {
+        None => 0,
+        Some(number) => number.min(4_294_967_294) as u32 + 1,
+    }
+}
+
+fn with_event(told: CamacProgress, event: &Option<(u32, GlBit, Usage)>, words: u32) -> CamacProgress
+    ensures { result ≡ event_in event.now words told }
+{
+    match event {
+        None => told,
+        Some((number, gl, usage)) => CamacProgress {
+            event: *number,
+            event_gl: gl.get(),
+            event_words: words,
+            event_cycles: usage.cycles,
+            event_missed: u32::from(usage.missed),
+            ..told
+        },
+    }
+}
+
+fn crates_of(crates: &[CrateNo]) -> u8
+    ensures { result ≡ crates_in crates.now }
+{
+    match crates {
+        [] => 0,
+        [first, rest @ ..] => bit_of(*first) | crates_of(rest),
+    }
+}
+
+fn bit_of(c: CrateNo) -> u8
+    ensures { result ≡ 2 ^ c }
+{
+    1 << c.get()
+}
+
+// As many words as there is room for; returns the number of all.
+fn write_words(held: &[Word24], words: &mut [u32]) -> usize
+    ensures all { result ≡ length held.now }
+    ensures written { words.new ≡ filled held.now words.old }
+{
+    let n = held.len().min(words.len());
+    for i in 0..n {
+        words[i] = held[i].get();
+    }
+    held.len()
+}

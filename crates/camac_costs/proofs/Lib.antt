@@ -1,0 +1,5 @@
+pub mod Found
+pub mod Before
+pub mod Lams
+pub mod Trees
+pub mod Whole

@@ -1,0 +1,35 @@
+-- A body's bound and rows, from what its walk found or refused.
+use Rattle.std.proofs.Common.{◌≡◌, ℕ, ◌<◌, ◌≤◌, List, [], ◌∷◌, ◌++◌, length, get_or, map, Option, Some, None, Result, Ok, Err, sym, ap, ap₂, ◌∙◌, append_assoc, append-nil}
+use Rattle.std.specs.Prelude.{option_map, option_to_list, slice_get}
+use Rattle.std.proofs.lemmas.Option.{slice_get-map, slice_get-get_or, slice_get_past}
+use Rattle.camac_lang.specs.Tree.{Block, Script}
+use Rattle.camac_lang.specs.View.{procedure_of, service_of}
+use Rattle.camac_lang.specs.declared.script.Procedure as rust_procedure
+use Rattle.camac_lang.specs.declared.script.Service as rust_service
+use Rattle.camac_branch.specs.Plan.{Layout}
+use Rattle.camac_model.specs.Fine.{Bounds}
+use Rattle.camac_check_rules.specs.Fault.{Fault}
+use Rattle.camac_check_rules.specs.Refusal.{if_reached}
+use Rattle.camac_check_rules.specs.Known.{Known}
+use Rattle.camac_check_rules.specs.Costs.{Verdict, no_costs, unreached}
+use Rattle.camac_check_rules.specs.Cycles.{Context, Around}
+use Rattle.camac_check_rules.specs.Statements.{accept_block}
+use Rattle.camac_costs.specs.declared.bodies.Owner.{Owner}
+use Rattle.camac_costs.specs.declared.row.Row.{Row}
+use Rattle.camac_costs.specs.Rows.{block_rows, found}
+use Rattle.camac_costs.specs.Body.{BodyRows}
+use Rattle.camac_costs.specs.Bodies.{body_costs, context_after, procedure_at, procedure_costs, rows_if, service_at, service_costs}
+
+abbrev pub body_of : Owner → Bounds → List Row → BodyRows
+body_of whose costs rows = record { owner = whose; costs = costs; rows = rows }
+
+abbrev pub told : Owner → Result Verdict Fault → List Row → BodyRows
+told whose q rows = body_of whose (found unreached q).costs (rows_if q rows)
+
+pub body_found : (c : Context) (whose : Owner) (around : Around) (b : Block) (k : Known) (v : Verdict) (rows : List Row)
+    → if_reached unreached k (accept_block c around b) ≡ Ok v → rows ≡ block_rows c around b k → body_of whose v.costs rows ≡ body_costs c whose around b k
+body_found c whose around b k v rows e er = ap₂ (told whose) (sym e) er
+
+pub body_refused : (c : Context) (whose : Owner) (around : Around) (b : Block) (k : Known) (f : Fault)
+    → if_reached unreached k (accept_block c around b) ≡ Err f → body_of whose no_costs [] ≡ body_costs c whose around b k
+body_refused c whose around b k f e = ap (λ q. told whose q (block_rows c around b k)) (sym e)

@@ -1,0 +1,6 @@
+pub mod Statements
+pub mod Weights
+pub mod Rows
+pub mod Walked
+pub mod Body
+pub mod Bodies

@@ -1,0 +1,13 @@
+//! What the bounds of a script consist of: for each statement of a service or procedure how often it can be made, what one time can cost,
+//! and its share of the bound. All is own.
+#![tactic(auto)]
+
+mod bodies;
+mod inside;
+mod row;
+mod statement;
+mod unreached;
+mod walk;
+
+pub use bodies::{BodyCosts, Owner, context_after, procedure_costs, service_costs};
+pub use row::{Detail, Kind, Row};

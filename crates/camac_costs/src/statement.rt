@@ -1,0 +1,166 @@
+// What the text of a statement tells of its row.
+
+ghost use Rattle.std.specs.Prelude.{◌≡◌};
+ghost use Rattle.camac_lang.specs.View.{statement_of};
+ghost use Rattle.camac_check_rules.specs.Calls.{lam_region};
+ghost use Rattle.camac_check_simple.specs.Gives.{by_code};
+ghost use Rattle.camac_check_rules.specs.Costs.{no_costs};
+ghost use Rattle.camac_costs.specs.Statements.{at_region, crate_kind, detail_of, first_row, kind_of, lam_kind, line_of, register_detail, single_kind};
+
+use crate::row::{Detail, Kind, Row};
+use camac_check::Context;
+use camac_check_known::{Costs, Facts, Region};
+use camac_lang::{CrateCall, LamCall, Stmt, WordSize};
+use camac_range::Range;
+
+/// The row of a statement that is made so many times, before it is counted how often its block is.
+pub fn first_row(statement: &Stmt, times: u64, each: Costs, share: Costs, detail: Detail) -> Row
+    ensures { result ≡ first_row (line_of (statement_of statement.now)) (kind_of (statement_of statement.now)) times each share detail }
+{
+    Row {
+        line: line_of(statement),
+        depth: 1,
+        kind: kind_of(statement),
+        times,
+        each,
+        share,
+        detail,
+    }
+}
+
+/// The row of the `else` of a choice: it has no share.
+pub fn else_row(statement: &Stmt, times: u64, each: Costs) -> Row
+    ensures { result ≡ first_row (line_of (statement_of statement.now)) Kind.Else times each no_costs Detail.Nothing }
+{
+    Row {
+        line: line_of(statement),
+        depth: 1,
+        kind: Kind::Else,
+        times,
+        each,
+        share: Costs::new(0, 0, 0),
+        detail: Detail::Nothing,
+    }
+}
+
+fn line_of(statement: &Stmt) -> u32
+    ensures { result ≡ line_of (statement_of statement.now) }
+{
+    match statement {
+        Stmt::Assign { line, .. }
+        | Stmt::SetRegister { line, .. }
+        | Stmt::Single { line, .. }
+        | Stmt::Scan { line, .. }
+        | Stmt::QStop { line, .. }
+        | Stmt::QRepeat { line, .. }
+        | Stmt::Put { line, .. }
+        | Stmt::CrateCall { line, .. }
+        | Stmt::LamCall { line, .. }
+        | Stmt::If { line, .. }
+        | Stmt::IfElse { line, .. }
+        | Stmt::For { line, .. }
+        | Stmt::While { line, .. }
+        | Stmt::Lock { line, .. }
+        | Stmt::Call { line, .. } => *line,
+    }
+}
+
+fn kind_of(statement: &Stmt) -> Kind
+    ensures { result ≡ kind_of (statement_of statement.now) }
+{
+    match statement {
+        Stmt::Assign { .. } => Kind::Assign,
+        Stmt::SetRegister { .. } => Kind::Cdreg,
+        Stmt::Single { size, .. } => single_kind(*size),
+        Stmt::Scan { .. } => Kind::Cfmad,
+        Stmt::QStop { .. } => Kind::Cfubc,
+        Stmt::QRepeat { .. } => Kind::Cfubr,
+        Stmt::Put { .. } => Kind::Put,
+        Stmt::CrateCall { call, .. } => crate_kind(*call),
+        Stmt::LamCall { call, .. } => lam_kind(*call),
+        Stmt::If { .. } | Stmt::IfElse { .. } => Kind::If,
+        Stmt::For { .. } => Kind::For,
+        Stmt::While { .. } => Kind::While,
+        Stmt::Lock { .. } => Kind::Lock,
+        Stmt::Call { .. } => Kind::Call,
+    }
+}
+
+fn single_kind(size: WordSize) -> Kind
+    ensures { result ≡ single_kind size }
+{
+    match size {
+        WordSize::Full => Kind::Cfsa,
+        WordSize::Short => Kind::Cssa,
+    }
+}
+
+fn crate_kind(call: CrateCall) -> Kind
+    ensures { result ≡ crate_kind call }
+{
+    match call {
+        CrateCall::Initialise => Kind::Cccz,
+        CrateCall::Clear => Kind::Cccc,
+        CrateCall::InhibitOn | CrateCall::InhibitOff => Kind::Ccci,
+        CrateCall::TestInhibit => Kind::Ctci,
+        CrateCall::DemandOn | CrateCall::DemandOff => Kind::Cccd,
+        CrateCall::TestDemandOutput => Kind::Ctcd,
+        CrateCall::TestDemand => Kind::Ctgl,
+    }
+}
+
+fn lam_kind(call: LamCall) -> Kind
+    ensures { result ≡ lam_kind call }
+{
+    match call {
+        LamCall::Enable | LamCall::Disable => Kind::Cclm,
+        LamCall::Clear => Kind::Cclc,
+        LamCall::Test => Kind::Ctlm,
+    }
+}
+
+/// What the text of a statement tells, and what is known of its register: where the statement can't be reached, nothing is.
+pub fn detail_of(context: &Context, statement: &Stmt, known: &Option<Facts>) -> Detail
+    ensures { result ≡ detail_of (by_code context.now) (statement_of statement.now) known.now }
+{
+    match statement {
+        Stmt::Single { register, .. }
+        | Stmt::QStop { register, .. }
+        | Stmt::QRepeat { register, .. } => register_detail(known, *register),
+        Stmt::Scan { first, .. } => register_detail(known, *first),
+        Stmt::LamCall { lam, .. } => at_region(lam_region(context, *lam)),
+        Stmt::Call { procedure, .. } => Detail::Procedure(*procedure),
+        _ => Detail::Nothing,
+    }
+}
+
+fn register_detail(known: &Option<Facts>, register: usize) -> Detail
+    ensures { result ≡ register_detail known.now register }
+{
+    match known {
+        Some(known) => at_region(known.register(register)),
+        None => Detail::Nothing,
+    }
+}
+
+fn at_region(region: Option<Region>) -> Detail
+    ensures { result ≡ at_region region }
+{
+    match region {
+        Some(region) => Detail::At(region),
+        None => Detail::Nothing,
+    }
+}
+
+fn lam_region(context: &Context, lam: usize) -> Option<Region>
+    ensures { result ≡ lam_region (by_code context.now) lam }
+{
+    match context.lams.get(lam) {
+        Some(lam) => Some(Region::new(
+            Range::only(lam.crate_no),
+            Range::only(lam.station),
+            Range::only(lam.sub_address.get()),
+        )),
+        None => None,
+    }
+}

@@ -1,0 +1,6 @@
+//! What holds of the costs of a script, by statement.
+#![tactic(auto)]
+
+mod laws;
+
+pub use laws::shares_add_up;

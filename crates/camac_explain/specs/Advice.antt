@@ -1,0 +1,201 @@
+-- What is told of each rule: why it is there, and what to do where it is broken.
+use Rattle.std.specs.Prelude.{ℕ, ◌^◌, ◌-◌, ◌&&◌, Bool, false, List, ◌++◌, codes, nat_lt, nat_le, if◌then◌else◌}
+use Rattle.camac_plan.specs.declared.fault.PlanRule.{PlanRule}
+use Rattle.camac_plan.specs.declared.fault.PlanRule.TheVariants as plan
+use Rattle.camac_text_tokens.specs.declared.fault.TextRule.{TextRule}
+use Rattle.camac_text_tokens.specs.declared.fault.TextRule.TheVariants as text
+use Rattle.camac_names.specs.declared.fault.LinkRule.{LinkRule}
+use Rattle.camac_names.specs.declared.fault.LinkRule.TheVariants as link
+use Rattle.camac_check_rules.specs.declared.rule.CheckRule.{CheckRule}
+use Rattle.camac_check_rules.specs.declared.rule.CheckRule.TheVariants as check
+use Rattle.camac_func.specs.declared.code.FunctionClass.{FunctionClass}
+use Rattle.camac_func.specs.declared.code.FunctionClass.TheVariants.{Read, Write, Control}
+use Rattle.camac_check_rules.specs.Loops.{turn_limit}
+use Rattle.camac_check_rules.specs.declared.case.Case.{Case}
+use Rattle.camac_check_rules.specs.declared.case.Case.TheVariants.{Direction, Operation, Turns, Budget}
+use Rattle.camac_check_rules.specs.declared.case.Numbers.{Numbers}
+use Rattle.camac_check_rules.specs.declared.case.Operator.TheVariants.{Sub}
+use Rattle.camac_report_text.specs.Codes.{plan_code, text_code, link_code, check_code}
+
+pub record Told : Type 0 where
+  pub why : List ℕ
+  pub mend : List ℕ
+
+abbrev pub told : List ℕ → List ℕ → Told
+told why mend = record { why = why; mend = mend }
+
+abbrev pub plan_told : PlanRule → Told
+plan_told plan.NotToml =
+    told (codes "a plan is a text in TOML, and here it breaks the grammar of TOML.")
+    (codes "correct it at the place that is named; texts stand in double quotes, each key has one value, and a comment begins with `#`.")
+plan_told plan.UnknownKey =
+    told (codes "each table of a plan has its own keys, and one that camac does not know may be mistyped.")
+    (codes "write one of the keys that docs/PLANS.md lists for this table, or remove it.")
+plan_told plan.MissingOrWrongKind =
+    told (codes "some keys have to be there, and each holds one kind of value: a number, a text, true or false, or tables.")
+    (codes "add the key, or give it a value of its kind, as docs/PLANS.md lists them.")
+plan_told plan.OutOfRange =
+    told (codes "crates have numbers 1 to 7, stations 1 to 23, sub-addresses 0 to 15, functions 0 to 31, GL bits 1 to 24, and data have 1 to 24 bits.")
+    (codes "write a value in the range that docs/PLANS.md lists for this key.")
+plan_told plan.CrateTwice =
+    told (codes "each crate of the branch has a number of its own.")
+    (codes "give this crate its own number, or move its stations to the first one.")
+plan_told plan.StationTwice =
+    told (codes "a station holds one module.")
+    (codes "give this module the number of its own station, or remove the one that is not installed.")
+plan_told plan.UnknownType =
+    told (codes "the type of a station says which commands its module knows, and no type has this name.")
+    (codes "add a type of this name, or correct the name; upper and lower case differ.")
+plan_told plan.DeclaredTwice =
+    told (codes "a type has its name alone, and each command of a type has one width.")
+    (codes "remove one of the two, or end the range of sub-addresses before the other begins.")
+plan_told plan.BitTwice =
+    told (codes "a bit of the graded-L pattern tells which station calls, so it belongs to one station.")
+    (codes "give one of the stations another bit, as it is wired.")
+
+abbrev pub text_told : TextRule → Told
+text_told text.BadByte =
+    told (codes "outside of comments a script has letters, digits, blanks, `_` and the signs that docs/LANGUAGE.md lists.")
+    (codes "remove the byte, or begin a comment before it with `#`.")
+text_told text.UnexpectedToken =
+    told (codes "the grammar has no place for this word, number or sign here.")
+    (codes "look here and at the end of the line before: a word may be mistyped or missing, or a `{` or `(` not closed.")
+text_told text.NumberTooLarge =
+    told (codes "a function is at most 31, a sub-address at most 15, a word at most 16777215, and any number at most 4294967295.")
+    (codes "write a number in this range.")
+text_told text.DeclaredTwice =
+    told (codes "a name stands for one thing alone, and a loop keeps neither a variable twice nor its own.")
+    (codes "choose another name for one of the two, or remove the second.")
+text_told text.NotDeclared =
+    told (codes "a name is declared before it is used; upper and lower case differ; a procedure sees no variable of the script.")
+    (codes "correct the name, or declare it above; give a procedure what it needs as a parameter.")
+text_told text.LimitPassed =
+    told (codes "the language has limits, so that each script is judged and run in a bounded memory.")
+    (codes "make it shorter or fewer; docs/LANGUAGE.md lists the limits.")
+text_told text.BranchNotOne =
+    told (codes "the first number of an address is the branch, and there is branch 1 alone.")
+    (codes "write 1, then the crate, the station and the sub-address.")
+
+abbrev pub link_told : LinkRule → Told
+link_told link.LamNotInstalled =
+    told (codes "a LAM comes from a module, and the plan has none at this station.")
+    (codes "correct the crate or the station of the `cdlam`, or add the station to the plan.")
+link_told link.StationWithoutBit =
+    told (codes "a service runs when its station's bit stands in the graded-L pattern, and the plan gives this station no bit.")
+    (codes "add `gl` to the station in the plan, or serve the LAM of another station.")
+link_told link.StationServedTwice =
+    told (codes "a station has one bit of the graded-L pattern, and a bit calls one service.")
+    (codes "join the two services into one, which asks each LAM with `ctlm`.")
+link_told link.EventAboveBuffer =
+    told (codes "an event is kept in the buffer of the plan until its service has ended.")
+    (codes "write a smaller number after `event`, or a larger `buffer` in the plan, at most 4096.")
+
+-- E3: by what the function does
+abbrev pub class_mend : FunctionClass → List ℕ
+class_mend Read = codes "with a function that reads write `-> v` after the register of `cfsa` or `cssa`, and name no `table` in `cfubc` or `cfubr`."
+class_mend Write = codes "with a function that writes write `<- e` after the register of `cfsa` or `cssa`, and name a `table` in `cfubc` or `cfubr`; `cfmad` reads alone."
+class_mend Control = codes "with a function that moves no data write `cfsa` or `cssa` without an arrow."
+
+abbrev pub direction_mend : Case → List ℕ
+direction_mend (Direction f class moves) = class_mend class
+direction_mend case = class_mend Control
+
+-- several numbers may stand there
+abbrev pub is_open : Numbers → Bool
+is_open n = nat_lt n.low n.high
+
+-- E4: a difference of two unknown numbers
+abbrev pub is_difference : Case → Bool
+is_difference (Operation Sub left right) = is_open left && is_open right
+is_difference case = false
+
+abbrev pub operation_mend : Case → List ℕ
+operation_mend case =
+    if is_difference case then codes "ranges know no relation between two variables: add the greatest number of the right side first, as in `v + 4095 - w`, and test the result by `if`."
+    else codes "test the variables by `if` before, bound them by `%`, or let a loop `keep` them in a range."
+
+-- E10: a larger number after `turns`, where that is allowed
+abbrev pub turns_mend : Case → List ℕ
+turns_mend (Turns needed allowed) =
+    if nat_le needed turn_limit then codes "write a larger number after `turns`, or begin with a smaller value."
+    else codes "no larger number is allowed: bound the variable after `by` or the ends of the `for` by `if` or `%`, or write two loops, one in the other."
+turns_mend case = codes "write at most 65535 after `turns`; for more turns write two loops, one in the other."
+
+-- E11, E12, E18: a larger number in the heading, where one is large enough
+abbrev pub can_be_allowed : Case → Bool
+can_be_allowed (Budget body needed allowed) = nat_lt needed (2 ^ 32)
+can_be_allowed case = false
+
+abbrev pub words_mend : Case → List ℕ
+words_mend case =
+    if can_be_allowed case then codes "write a larger number after `event`, as `camac bounds` prints it, or keep fewer words."
+    else codes "keep fewer words, or make fewer turns: no number after `event` is so large."
+
+abbrev pub cycles_mend : Case → List ℕ
+cycles_mend case =
+    if can_be_allowed case then codes "write a larger number after `within`, as `camac bounds` prints it, make fewer cycles, or make several in one `lock`."
+    else codes "make fewer cycles, or fewer turns: no number after `within` is so large."
+
+abbrev pub steps_mend : Case → List ℕ
+steps_mend case =
+    if can_be_allowed case then codes "write a larger number after `steps`, as `camac bounds` prints it, or make fewer turns."
+    else codes "make fewer turns: no heading allows more than 4294967295 steps."
+
+abbrev pub check_told : CheckRule → Case → Told
+check_told check.StationNotInstalled case =
+    told (codes "a command goes only to a station with a module, or to station 28 or 30 of a crate's controller, whatever address the register may hold.")
+    (codes "correct the `cdreg`, add the station to the plan, or bound a computed number before the `cdreg` by `if` or `%`.")
+check_told check.CommandNotDeclared case =
+    told (codes "a module is sent only what the plan declares for its type, at every sub-address that the register may hold.")
+    (codes "correct the function or the `cdreg`, add the command to the type in the plan, or bound a computed number by `if` or `%`.")
+check_told check.WrongDirection case =
+    told (codes "F0 to F7 read, F16 to F23 write, and the others move no data; `cfmad` reads, and a block transfer writes where it names a table.")
+    (direction_mend case)
+check_told check.ValueOutOfRange case =
+    told (codes "no result may be below 0 or above 4294967295, for all values that the variables may have here.")
+    (operation_mend case)
+check_told check.ValueTooWide case =
+    told (codes "a write sends all bits of its value, so the value has to fit the register's width in the plan, and for `cssa` 16 bits.")
+    (codes "bound the value by `%` or `if`, write a smaller word into the table, or correct the `width` in the plan.")
+check_told check.RegisterUnset case =
+    told (codes "on some way to this line no `cdreg` has set the register; at the begin of a loop's turn, those that its body sets count as unset.")
+    (codes "set it before the `if` or the loop, or in the same block before it is used.")
+check_told check.MeasureBroken case =
+    told (codes "the variable after `by` shows that the loop ends: its body lowers it once, by a number from 1, and nothing else in it writes it.")
+    (codes "write one `m = m - 1` into the body itself, in no `if` and no inner loop, and let nothing else write `m`.")
+check_told check.KeepFailsAtEntry case =
+    told (codes "a kept variable is in its range when the loop begins, for all values that it may have.")
+    (codes "set the variable before the loop, or widen its range after `keep`.")
+check_told check.KeepFailsAfterTurn case =
+    told (codes "a kept variable is in its range again after each turn, for all values that it may have.")
+    (codes "change it in the body only where an `if` bounds it, or widen its range after `keep`.")
+check_told check.TooManyTurns case =
+    told (codes "a loop makes at most 65535 turns, and a `while` at most those after `turns`.")
+    (turns_mend case)
+check_told check.TooManyWords case =
+    told (codes "each `put` is a word, and so is each that a block read or an address scan may keep.")
+    (words_mend case)
+check_told check.TooManyCycles case =
+    told (codes "auxiliary controllers may take up to the crate's `waits` before each of ours, and each of their cycles counts.")
+    (cycles_mend case)
+check_told check.ScanCratesDiffer case =
+    told (codes "an address scan goes from station to station of one crate.")
+    (codes "give both registers the same crate, a known one, and scan each crate by its own `cfmad`.")
+check_told check.CountAboveTable case =
+    told (codes "a block write sends a word of its table for each that it counts.")
+    (codes "write a smaller `max`, or a longer table.")
+check_told check.CrateUnfit case =
+    told (codes "a crate call or a `lock` is for one crate of the plan, which is known before the run, and no crate is locked twice.")
+    (codes "write the number of a crate of the plan, or remove the inner `lock`.")
+check_told check.WordTooWide case =
+    told (codes "a word of an event has 24 bits.")
+    (codes "bound the value by `% 16777216` or `if`, let a loop `keep` it in a range, or put it as two words.")
+check_told check.LoopVariableAssigned case =
+    told (codes "a `for` counts its variable itself, so nothing in its body may write it.")
+    (codes "use another variable in the body.")
+check_told check.TooManySteps case =
+    told (codes "each statement, each turn of a loop and each cycle of a transfer is a step; a service may take 4294967295.")
+    (steps_mend case)
+check_told check.ArgumentOutOfRange case =
+    told (codes "a procedure's body is checked once, for the ranges in its heading, so each argument has to be in the range of its parameter.")
+    (codes "bound the argument by `%` or `if`, or widen the range in the heading.")

@@ -1,0 +1,4 @@
+pub mod Advice
+pub mod Finding
+pub mod Source
+pub mod Explanation

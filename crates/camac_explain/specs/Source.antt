@@ -1,0 +1,63 @@
+-- The line of a script as it is shown.
+use Rattle.std.specs.Prelude.{ℕ, zero, suc, ◌+◌, ◌-◌, Bool, ◌&&◌, ◌||◌, not, List, [], ◌∷◌, ◌++◌, codes, decimal, drop, take, take_while, length, map, min, nat_eq, nat_lt, if◌then◌else◌}
+use Rattle.camac_text_tokens.specs.Scanning.{is_no_line_feed}
+use Rattle.camac_explain.specs.declared.finding.Finding.{Finding}
+use Rattle.camac_explain.specs.declared.finding.Finding.TheVariants.{Plan, Text, Link, Check}
+
+-- the bytes before the first line feed, and those after it
+abbrev pub line_length : List ℕ → ℕ
+line_length text = length (take_while is_no_line_feed text)
+
+abbrev pub first_line : List ℕ → List ℕ
+first_line text = take (line_length text) text
+
+abbrev pub after_line : List ℕ → List ℕ
+after_line text = drop (line_length text + 1) text
+
+-- the text after so many lines
+abbrev pub after_lines : ℕ → List ℕ → List ℕ
+after_lines zero text = text
+after_lines (suc n) text = after_lines n (after_line text)
+
+-- the text from the line of this number on, from 1
+abbrev pub from_line : ℕ → List ℕ → List ℕ
+from_line n text = after_lines (n - 1) text
+
+-- control bytes other than tabs are shown as `?`
+abbrev pub shown_byte : ℕ → ℕ
+shown_byte b = if (nat_lt b 32 && not (nat_eq b 9)) || nat_eq b 127 then 63 else b
+
+-- the first of the 120 bytes that are shown: 60 before the one of the column, but none too late
+abbrev pub begin_of : List ℕ → ℕ → ℕ
+begin_of line column = min (column - 60) (length line - 120)
+
+-- for what is left out
+abbrev pub dots : Bool → List ℕ
+dots left_out = if left_out then codes ".." else []
+
+abbrev pub part_from : List ℕ → ℕ → List ℕ
+part_from line begin =
+    dots (nat_lt 0 begin) ++ map shown_byte (take 120 (drop begin line)) ++ dots (nat_lt begin (length line - 120))
+
+abbrev pub shown_line : List ℕ → ℕ → List ℕ
+shown_line line column = part_from line (begin_of line column)
+
+-- an empty line is that after the last one
+abbrev pub shown_or_end : List ℕ → ℕ → List ℕ
+shown_or_end [] column = codes "(end of the script)"
+shown_or_end (b ∷ bs) column = shown_line (b ∷ bs) column
+
+-- the number in five columns, and a bar
+abbrev pub number_column : ℕ → List ℕ
+number_column n = drop (min (length (decimal n)) 5) (codes "     ") ++ decimal n ++ codes " | "
+
+-- the first line of a text, which has this number, with a token after so many of its bytes
+abbrev pub source_text : List ℕ → ℕ → ℕ → List ℕ
+source_text text n column = number_column n ++ shown_or_end (first_line text) column ++ codes "\n"
+
+-- of a script's text; of a token, which stands at so many bytes before the text's end, the line around it
+abbrev pub source_of : List ℕ → Finding → List ℕ
+source_of text (Plan rule) = []
+source_of text (Text rule line left) = source_text (from_line line text) line (length (from_line line text) - left)
+source_of text (Link rule line case) = source_text (from_line line text) line 0
+source_of text (Check rule line case) = source_text (from_line line text) line 0

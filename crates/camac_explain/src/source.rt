@@ -1,0 +1,152 @@
+// The line of a script as it is shown.
+
+ghost use Rattle.std.specs.Prelude.{◌≡◌, ◌≤◌, ◌++◌, length, map, take, OnOk};
+ghost use Rattle.camac_explain.specs.Source.{shown_byte, line_length, first_line, after_line, from_line, dots, shown_line, shown_or_end, number_column, source_text, source_of};
+
+use crate::finding::Finding;
+use itoa::Buffer;
+use std::alloc::AllocError;
+
+/// The greatest number of bytes of a line that are shown.
+const LONGEST_SHOWN: usize = 120;
+
+/// Puts the line of a finding at the end: its number in five columns, and at most 120 of its bytes, control bytes other than tabs as `?`.
+/// They are its first bytes; or, where the place of a token is known, those around it. `..` stands for the others. An empty line is told
+/// as the end of the script, since a rule is broken on no other.
+pub fn push_source(lines: &mut Vec<u8>, text: &[u8], finding: Finding) -> Result<(), AllocError>
+    ensures { OnOk result (lines.new.items ≡ lines.old.items ++ source_of text.now finding) }
+{
+    match finding {
+        Finding::Plan(_) => Ok(()),
+        Finding::Text { line, left, .. } => {
+            let rest = from_line(text, line);
+            push_line(lines, rest, line, rest.len().saturating_sub(left))
+        }
+        Finding::Link { line, .. } => push_line(lines, from_line(text, line), line, 0),
+        Finding::Check { line, .. } => push_line(lines, from_line(text, line), line, 0),
+    }
+}
+
+// Puts the first line of a text at the end, which has this number, with a token after so many of its bytes.
+fn push_line(lines: &mut Vec<u8>, text: &[u8], line: u32, column: usize) -> Result<(), AllocError>
+    ensures { OnOk result (lines.new.items ≡ lines.old.items ++ source_text text.now line column) }
+{
+    push_number(lines, line)?;
+    push_shown_line(lines, first_line(text), column)?;
+    lines.push(b'\n')?;
+    Ok(())
+}
+
+fn push_shown_line(lines: &mut Vec<u8>, line: &[u8], column: usize) -> Result<(), AllocError>
+    ensures { OnOk result (lines.new.items ≡ lines.old.items ++ shown_or_end line.now column) }
+{
+    if line.is_empty() {
+        lines.extend_from_slice(b"(end of the script)")?;
+        Ok(())
+    } else {
+        push_part(lines, line, column)
+    }
+}
+
+// Puts a line's number and a bar at the end.
+fn push_number(lines: &mut Vec<u8>, line: u32) -> Result<(), AllocError>
+    ensures { OnOk result (lines.new.items ≡ lines.old.items ++ number_column line) }
+{
+    let mut buffer = Buffer::new();
+    let digits = buffer.format(line);
+    let blanks = b"     ";
+    lines.extend_from_slice(&blanks[digits.len().min(5)..])?;
+    lines.extend_from_slice(digits.as_bytes())?;
+    lines.extend_from_slice(b" | ")
+}
+
+// The text from the line of this number on, from 1.
+fn from_line(text: &[u8], line: u32) -> &[u8]
+    ensures { result.now ≡ from_line line text.now }
+{
+    let mut rest = text;
+    let mut lines = line.saturating_sub(1);
+    while lines > 0 {
+        rest = after_line(rest);
+        lines -= 1;
+    }
+    rest
+}
+
+fn first_line(text: &[u8]) -> &[u8]
+    ensures { result.now ≡ first_line text.now }
+{
+    &text[..line_length(text)]
+}
+
+// What stands after the first line feed.
+fn after_line(text: &[u8]) -> &[u8]
+    ensures { result.now ≡ after_line text.now }
+{
+    let end = line_length(text);
+    if end < text.len() {
+        &text[end + 1..]
+    } else {
+        &[]
+    }
+}
+
+#[tactic(auto, using(camac_text_tokens::proofs::Scans::run_le))]
+fn line_length(text: &[u8]) -> usize
+    ensures length { result ≡ line_length text.now }
+    ensures fits { result ≤ length text.now }
+{
+    text.iter().take_while(|b| **b != b'\n').count()
+}
+
+// Puts at most 120 bytes of a line at the end, with the one of this column among them.
+fn push_part(lines: &mut Vec<u8>, line: &[u8], column: usize) -> Result<(), AllocError>
+    ensures { OnOk result (lines.new.items ≡ lines.old.items ++ shown_line line.now column) }
+{
+    let last_begin = line.len().saturating_sub(LONGEST_SHOWN);
+    let begin = column.saturating_sub(LONGEST_SHOWN / 2).min(last_begin);
+    push_dots(lines, begin > 0)?;
+    push_shown(lines, prefix(&line[begin..]))?;
+    push_dots(lines, begin < last_begin)
+}
+
+// Puts `..` at the end in the place of what is left out.
+fn push_dots(lines: &mut Vec<u8>, left_out: bool) -> Result<(), AllocError>
+    ensures { OnOk result (lines.new.items ≡ lines.old.items ++ dots left_out) }
+{
+    if left_out {
+        lines.extend_from_slice(b"..")?;
+    }
+    Ok(())
+}
+
+// The bytes that are shown of these.
+fn prefix(bytes: &[u8]) -> &[u8]
+    ensures { result.now ≡ take LONGEST_SHOWN bytes.now }
+{
+    if bytes.len() < LONGEST_SHOWN {
+        bytes
+    } else {
+        &bytes[..LONGEST_SHOWN]
+    }
+}
+
+/// Puts bytes at the end, control bytes other than tabs as `?`.
+pub fn push_shown(lines: &mut Vec<u8>, bytes: &[u8]) -> Result<(), AllocError>
+    ensures { OnOk result (lines.new.items ≡ lines.old.items ++ map shown_byte bytes.now) }
+{
+    'bytes: for byte in bytes {
+        lines.push(shown_byte(*byte))?;
+    }
+    Ok(())
+}
+
+fn shown_byte(byte: u8) -> u8
+    ensures { result ≡ shown_byte byte }
+{
+    if (byte < 32 && byte != b'\t') || byte == 127 {
+        b'?'
+    } else {
+        byte
+    }
+}

@@ -1,0 +1,22 @@
+-- The keys of a plan's tables as they stand in its text.
+use Rattle.std.specs.Prelude.{ℕ, List, codes}
+use Rattle.camac_plan.specs.declared.key.PlanKey.{PlanKey}
+use Rattle.camac_plan.specs.declared.key.PlanKey.TheVariants.{Buffer, Types, Crates, Name, Commands, F, A, To, Probe, Width, Number, Waits, Stations, N, TypeName, Gl}
+
+abbrev pub key_text : PlanKey → List ℕ
+key_text Buffer = codes "buffer"
+key_text Types = codes "type"
+key_text Crates = codes "crate"
+key_text Name = codes "name"
+key_text Commands = codes "commands"
+key_text F = codes "f"
+key_text A = codes "a"
+key_text To = codes "to"
+key_text Probe = codes "probe"
+key_text Width = codes "width"
+key_text Number = codes "number"
+key_text Waits = codes "waits"
+key_text Stations = codes "station"
+key_text N = codes "n"
+key_text TypeName = codes "type"
+key_text Gl = codes "gl"

@@ -1,1 +1,0 @@
-use Rattle.camac_tool_play.proofs.following.request.Goals as goal

@@ -1,0 +1,1 @@
+"""Makes plans, scripts, answers and event files by a seed, and changes them."""

@@ -1,0 +1,172 @@
+"""The checker's rules: what is known after each statement, what it costs, and the first rule that is broken."""
+from __future__ import annotations
+
+from typing import Dict, FrozenSet, List, Tuple
+
+from oracle.reader import loops, transfers
+from oracle.reader.addresses import widths_of
+from oracle.reader.costs import STEP, Cost, one_cycle
+from oracle.reader.linking import gl_of, link
+from oracle.reader.plan import Plan, kind_of
+from oracle.reader.ranges import Address, Known, Range, State, is_inside, join, test_values, value_of, where
+from oracle.reader.refusals import MOST, Refused
+from oracle.reader.tree import (
+    Assign, Body, Call, CrateCall, Cycle, Expression, For, If, LamCall, Lock, Put, Scan, Script, SetRegister, Statement, While,
+)
+from oracle.reader.tree import Block as Transfer
+
+GREATEST_WORD = 16_777_215
+SHORT_WORD = 65_535
+LAM_FUNCTIONS = {"cclm on": 26, "cclm off": 24, "cclc": 10, "ctlm": 8}
+
+
+class Checker:
+    """Judges the bodies of a script in text order. `costs` has those of the bodies that were judged.
+
+    With `is_least` no heading's numbers are looked at: a call costs what its procedure's body does.
+    """
+
+    def __init__(self, script: Script, plan: Plan, is_least: bool = False) -> None:
+        self.script, self.plan, self.is_least = script, plan, is_least
+        self.costs: List[Cost] = []
+        self.headings: Dict[str, Cost] = {}
+        # The variables of the `for` loops around.
+        self.loop_variables: Tuple[str, ...] = ()
+
+    def judge(self) -> None:
+        link(self.script, self.plan, not self.is_least)
+        for body in self.script.bodies:
+            cost = self.body(body)
+            self.costs.append(cost)
+            if not body.is_service:
+                self.headings[body.name] = cost if self.is_least else Cost(body.cycles, body.words, body.steps)
+
+    def body(self, body: Body) -> Cost:
+        variables: Dict[str, Range] = {it.name: (it.first, it.last) for it in body.parameters}
+        if body.is_service:
+            variables = {name: (0, 0) for name in self.script.variables}
+        is_possible = all(first <= last for first, last in variables.values())
+        _, cost = self.block(Known(variables, {}, frozenset()) if is_possible else None, body.block)
+        most = Cost(body.cycles, body.words, MOST if body.is_service else body.steps)
+        if self.is_least:
+            most = Cost(MOST, MOST, MOST)
+        if cost.words > most.words:
+            raise Refused("E11", body.line)
+        if self.is_least and body.is_service and cost.words > self.plan.buffer:
+            raise Refused("L4", body.line)
+        if cost.cycles > most.cycles:
+            raise Refused("E12", body.line)
+        if cost.steps > most.steps:
+            raise Refused("E18", body.line)
+        return cost
+
+    def block(self, state: State, statements: List[Statement]) -> Tuple[State, Cost]:
+        cost = Cost()
+        for statement in statements:
+            if state is None:
+                break
+            state, one = RULES[type(statement)](self, state, statement)
+            cost = cost.plus(one)
+        return state, cost
+
+    def writes(self, name: str, line: int) -> None:
+        """E17 where the variable of an enclosing `for` is written."""
+        if name in self.loop_variables:
+            raise Refused("E17", line)
+
+    def address(self, known: Known, register: str, line: int) -> Address:
+        if register not in known.registers:
+            raise Refused("E6", line)
+        return known.registers[register]
+
+    def assign(self, known: Known, it: Assign) -> Tuple[State, Cost]:
+        value = value_of(known, it.value, it.line)
+        self.writes(it.name, it.line)
+        return known.with_variable(it.name, value), STEP
+
+    def set_register(self, known: Known, it: SetRegister) -> Tuple[State, Cost]:
+        address = Address(*(value_of(known, part, it.line) for part in it.address))
+        return known._replace(registers={**known.registers, it.register: address}), STEP
+
+    def cycle(self, known: Known, it: Cycle) -> Tuple[State, Cost]:
+        value = value_of(known, it.value, it.line) if it.value is not None else None
+        if it.into is not None:
+            self.writes(it.into, it.line)
+        address = self.address(known, it.register, it.line)
+        widths = widths_of(self.plan, address, it.function, it.line)
+        moves = "read" if it.into is not None else "control" if value is None else "write"
+        if kind_of(it.function) != moves:
+            raise Refused("E3", it.line)
+        if value is not None and (value[1] >= 2**widths.least or it.is_short and value[1] > SHORT_WORD):
+            raise Refused("E5", it.line)
+        cost = Cost(one_cycle(self.plan, address.crate, known.locked), 0, 1)
+        if it.into is not None:
+            greatest = 2**widths.greatest - 1
+            known = known.with_variable(it.into, (0, min(greatest, SHORT_WORD) if it.is_short else greatest))
+        return known, cost
+
+    def lam_call(self, known: Known, it: LamCall) -> Tuple[State, Cost]:
+        lam = self.script.lams[it.lam]
+        address = Address((lam.crate, lam.crate), (lam.station, lam.station), (lam.sub, lam.sub))
+        widths_of(self.plan, address, LAM_FUNCTIONS[it.call], it.line)
+        return known, Cost(one_cycle(self.plan, address.crate, known.locked), 0, 1)
+
+    def one_crate(self, known: Known, expression: Expression, line: int, refused: FrozenSet[int]) -> Range:
+        """The range of a crate that has to be one number, in the plan and not among the refused ones."""
+        crate = value_of(known, expression, line)
+        if crate[0] != crate[1] or crate[0] not in self.plan.crates or crate[0] in refused:
+            raise Refused("E15", line)
+        return crate
+
+    def crate_call(self, known: Known, it: CrateCall) -> Tuple[State, Cost]:
+        crate = self.one_crate(known, it.crate, it.line, frozenset())
+        return known, Cost(one_cycle(self.plan, crate, known.locked), 0, 1)
+
+    def put(self, known: Known, it: Put) -> Tuple[State, Cost]:
+        if value_of(known, it.value, it.line)[1] > GREATEST_WORD:
+            raise Refused("E16", it.line)
+        return known, Cost(0, 1, 1)
+
+    def choice(self, known: Known, it: If) -> Tuple[State, Cost]:
+        test_values(known, it.condition, it.line)
+        after, cost = self.block(where(known, it.condition, True, it.line), it.body)
+        other, other_cost = self.block(where(known, it.condition, False, it.line), it.otherwise or [])
+        return join(after, other), STEP.plus(cost.greater(other_cost))
+
+    def lock(self, known: Known, it: Lock) -> Tuple[State, Cost]:
+        crate, _ = self.one_crate(known, it.crate, it.line, known.locked)
+        after, cost = self.block(known._replace(locked=known.locked | {crate}), it.body)
+        if after is not None:
+            after = after._replace(locked=known.locked)
+        return after, cost.plus(Cost(self.plan.waits(crate), 0, 2))
+
+    def call(self, known: Known, it: Call) -> Tuple[State, Cost]:
+        values = [value_of(known, argument, it.line) for argument in it.arguments]
+        parameters = self.script.procedures[it.procedure].parameters
+        if not all(is_inside(value, (one.first, one.last)) for value, one in zip(values, parameters)):
+            raise Refused("E21", it.line)
+        return known, STEP.plus(self.headings[it.procedure])
+
+    def verdict(self) -> List[str]:
+        lines = ["accepted"]
+        for it, (cycles, words, steps) in zip(self.script.bodies, self.costs):
+            if it.is_service:
+                gl = gl_of(self.script, self.plan, it.name)
+                lines.append(f"service {it.name} gl {gl} cycles {cycles} of {it.cycles} words {words} of {it.words} steps {steps}")
+        return lines
+
+    def least_headings(self) -> List[str]:
+        """What `bounds` prints, once the script was judged with `is_least`."""
+        lines = []
+        for it, (cycles, words, steps) in zip(self.script.bodies, self.costs):
+            numbers = f"within {cycles} cycles event {words} words"
+            ranges = ", ".join(f"{one.name} in {one.first}..{one.last}" for one in it.parameters)
+            lines.append(f"service {it.name} {numbers}" if it.is_service else f"proc {it.name}({ranges}) {numbers} steps {steps}")
+        return lines
+
+
+RULES = {
+    Assign: Checker.assign, SetRegister: Checker.set_register, Cycle: Checker.cycle, LamCall: Checker.lam_call, Put: Checker.put,
+    CrateCall: Checker.crate_call, If: Checker.choice, Lock: Checker.lock, Call: Checker.call,
+    Scan: transfers.scan, Transfer: transfers.block, For: loops.for_, While: loops.while_,
+}

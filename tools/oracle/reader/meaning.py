@@ -1,0 +1,230 @@
+"""What a script does with a list of answers: cycles, locks and events, as `run` lists and as `drive` asks for them."""
+from __future__ import annotations
+
+from typing import Callable, Dict, List, Tuple
+
+from oracle.reader.answers import Answer, Answers
+from oracle.reader.branch import Branch, Command, Overrun
+from oracle.reader.event_file import HEADER, Event, record_of
+from oracle.reader.linking import gl_of
+from oracle.reader.plan import Plan, kind_of
+from oracle.reader.refusals import Refused
+from oracle.reader.tree import (
+    Assign, Block, Body, Call, Condition, CrateCall, Cycle, Expression, For, If, Lam, LamCall, Lock, Put, Scan, Script, SetRegister,
+    Statement, While,
+)
+
+MOST_MISSED = 65_535
+SHORT_BITS = 16
+LAST_SUB = 15
+LAM_FUNCTIONS = {"cclm on": 26, "cclm off": 24, "cclc": 10, "ctlm": 8}
+CRATE_COMMANDS = {
+    "cccz": (28, 8, 26), "cccc": (28, 9, 26), "ccci on": (30, 9, 26), "ccci off": (30, 9, 24), "ctci": (30, 9, 27),
+    "cccd on": (30, 10, 26), "cccd off": (30, 10, 24), "ctcd": (30, 10, 27), "ctgl": (30, 11, 27),
+}
+COMPARED: Dict[str, Callable[[int, int], bool]] = {
+    "<": int.__lt__, "<=": int.__le__, ">": int.__gt__, ">=": int.__ge__, "==": int.__eq__, "!=": int.__ne__,
+}
+COMPUTED: Dict[str, Callable[[int, int], int]] = {
+    "+": int.__add__, "-": int.__sub__, "*": int.__mul__, "/": int.__floordiv__, "%": int.__mod__,
+}
+
+
+class Short(Exception):
+    """The answers are used up inside a service."""
+
+
+class Run:
+    """A run of an accepted script. `listing` has its lines, `requests` those of a live run, `events` the bytes of the event file."""
+
+    def __init__(self, script: Script, plan: Plan, answers: Answers) -> None:
+        self.script, self.plan, self.answers = script, plan, answers
+        self.branch = Branch(plan)
+        self.listing: List[str] = []
+        self.requests: List[str] = []
+        self.events = bytearray(HEADER)
+        self.count = 0
+        self.is_refused = False
+        self.services = {gl_of(script, plan, it.name): it for it in script.services()}
+        self.begin()
+
+    def begin(self) -> None:
+        """The state at a service's start."""
+        self.variables: Dict[str, int] = dict.fromkeys(self.script.variables, 0)
+        self.registers: Dict[str, Tuple[int, int, int]] = {}
+        self.q = self.x = self.cost = self.missed = 0
+        self.words: List[int] = []
+
+    def play(self) -> None:
+        """The whole run, to its last line."""
+        try:
+            how = self.demands()
+        except Short:
+            how = "short"
+        except Overrun as overrun:
+            how, self.is_refused = f"overrun {overrun.crate} wait {overrun.wait}", True
+        except Refused as refused:
+            how, self.is_refused = "", True
+            last = refused.line()
+        if how:
+            last = f"{how} events {self.count}"
+        self.listing.append(last)
+        self.requests.append(last)
+
+    def demands(self) -> str:
+        while True:
+            self.requests.append("demand")
+            answer = self.answers.next()
+            if answer is None:
+                return "ended"
+            pattern = self.branch.demand(answer.gl)
+            called = [bit for bit in sorted(self.services) if pattern >> bit - 1 & 1]
+            self.listing.append(f"demand {pattern:06x} {self.services[called[0]].name if called else '-'}")
+            if called:
+                self.serve(called[0], self.services[called[0]])
+
+    def serve(self, bit: int, service: Body) -> None:
+        self.begin()
+        self.block(service.block)
+        self.count += 1
+        self.events += record_of(self.count, Event(bit, self.cost, min(self.missed, MOST_MISSED), self.words))
+
+    def answer(self) -> Answer:
+        answer = self.answers.next()
+        if answer is None:
+            raise Short
+        return answer
+
+    def cycle(self, command: Command) -> int:
+        """Makes a cycle, and returns the word of its reply."""
+        move = f"out {command.out:06x}" if command.moves == "write" else "in" if command.moves == "read" else "none"
+        self.requests.append(f"{command.address()} {move}")
+        answer = self.answer()
+        reply = self.branch.cycle(command, answer)
+        self.q, self.x = reply.q, reply.x
+        self.cost += 1 + answer.wait
+        self.missed += not reply.x
+        if command.moves == "read":
+            move = f"in {reply.word:06x}"
+        self.listing.append(f"{command.address()} {move} x{reply.x} q{reply.q} wait {answer.wait}")
+        return reply.word
+
+    def cut(self, word: int, command: Command, bits: int = 24) -> int:
+        """The low bits of a word that a read keeps."""
+        width = self.plan.width(command.crate, command.station, command.sub, command.function) or 24
+        return word % 2 ** min(width, bits)
+
+    def value(self, expression: Expression) -> int:
+        if isinstance(expression, int):
+            return expression
+        if isinstance(expression, str):
+            return self.variables[expression]
+        return COMPUTED[expression.sign](self.value(expression.left), self.value(expression.right))
+
+    def holds(self, condition: Condition) -> bool:
+        for part in condition:
+            if part.left is None:
+                is_true = bool(self.q if part.sign == "q" else self.x)
+            else:
+                is_true = COMPARED[part.sign](self.value(part.left), self.value(part.right))
+            if is_true == part.is_negated:
+                return False
+        return True
+
+    def block(self, statements: List[Statement]) -> None:
+        for it in statements:
+            DOES[type(it)](self, it)
+
+    def assign(self, it: Assign) -> None:
+        self.variables[it.name] = self.value(it.value)
+
+    def set_register(self, it: SetRegister) -> None:
+        crate, station, sub = (self.value(part) for part in it.address)
+        self.registers[it.register] = crate, station, sub
+
+    def single(self, it: Cycle) -> None:
+        moves = "read" if it.into is not None else "control" if it.value is None else "write"
+        command = Command(*self.registers[it.register], it.function, moves, None if it.value is None else self.value(it.value))
+        word = self.cycle(command)
+        if it.into is not None:
+            self.variables[it.into] = self.cut(word, command, SHORT_BITS if it.is_short else 24)
+
+    def scan(self, it: Scan) -> None:
+        crate, station, sub = self.registers[it.first]
+        _, last_station, last_sub = self.registers[it.last]
+        most, kept = self.value(it.most), 0
+        while kept < most and (station, sub) <= (last_station, last_sub):
+            command = Command(crate, station, sub, it.function, "read")
+            word = self.cycle(command)
+            if self.q:
+                self.words.append(self.cut(word, command))
+                kept += 1
+            station, sub = (station, sub + 1) if self.q and sub < LAST_SUB else (station + 1, 0)
+        self.variables[it.tally] = kept
+
+    def transfer(self, it: Block) -> None:
+        """Q-stop ends after a Q = 0; Q-repeat goes on, up to its limit."""
+        most, done, cycles = self.value(it.most), 0, 0
+        limit = most if it.limit is None else self.value(it.limit)
+        table = self.script.tables[it.table] if it.table else []
+        address = self.registers[it.register]
+        while done < most and cycles < limit:
+            command = Command(*address, it.function, "write" if it.table else "read", table[done] if it.table else None)
+            word = self.cycle(command)
+            cycles += 1
+            if self.q and not it.table:
+                self.words.append(self.cut(word, command))
+            done += self.q
+            if not self.q and it.limit is None:
+                break
+        self.variables[it.tally] = done
+
+    def put(self, it: Put) -> None:
+        self.words.append(self.value(it.value))
+
+    def crate_call(self, it: CrateCall) -> None:
+        station, sub, function = CRATE_COMMANDS[it.call]
+        self.cycle(Command(self.value(it.crate), station, sub, function, kind_of(function)))
+
+    def lam_call(self, it: LamCall) -> None:
+        lam: Lam = self.script.lams[it.lam]
+        self.cycle(Command(lam.crate, lam.station, lam.sub, LAM_FUNCTIONS[it.call], "control"))
+
+    def choice(self, it: If) -> None:
+        self.block(it.body if self.holds(it.condition) else it.otherwise or [])
+
+    def for_(self, it: For) -> None:
+        for number in range(self.value(it.first), self.value(it.last) + 1):
+            self.variables[it.name] = number
+            self.block(it.body)
+
+    def while_(self, it: While) -> None:
+        while self.holds(it.condition):
+            self.block(it.body)
+
+    def lock(self, it: Lock) -> None:
+        crate = self.value(it.crate)
+        self.requests.append(f"lock {crate}")
+        answer = self.answer()
+        self.branch.permit(crate, answer.wait)
+        self.branch.locked.add(crate)
+        self.cost += answer.wait
+        self.listing.append(f"lock {crate} wait {answer.wait}")
+        self.block(it.body)
+        self.branch.locked.discard(crate)
+        self.listing.append(f"unlock {crate}")
+        self.requests.append(f"unlock {crate}")
+
+    def call(self, it: Call) -> None:
+        procedure = self.script.procedures[it.procedure]
+        values = [self.value(argument) for argument in it.arguments]
+        around = self.variables, self.registers
+        self.variables, self.registers = {one.name: value for one, value in zip(procedure.parameters, values)}, {}
+        self.block(procedure.block)
+        self.variables, self.registers = around
+
+
+DOES: Dict[type, Callable[..., None]] = {
+    Assign: Run.assign, SetRegister: Run.set_register, Cycle: Run.single, Scan: Run.scan, Block: Run.transfer, Put: Run.put,
+    CrateCall: Run.crate_call, LamCall: Run.lam_call, If: Run.choice, For: Run.for_, While: Run.while_, Lock: Run.lock, Call: Run.call,
+}

@@ -1,0 +1,193 @@
+"""A plan, as the tables of its TOML text spell it."""
+from __future__ import annotations
+
+from typing import Any, Dict, List, NamedTuple, Optional, Tuple
+
+from oracle.reader.refusals import Refused
+from oracle.reader.toml_text import read_toml
+
+NAME_BYTES = frozenset("ABCDEFGHIJKLMNOPQRSTUVWXYZabcdefghijklmnopqrstuvwxyz0123456789_-")
+LONGEST_NAME = 32
+TYPES = 64
+WIDEST = 24
+# Controller commands by station, sub-address and function, and what each does.
+CONTROLLER = {
+    (28, 8, 26): "initialise", (28, 9, 26): "clear", (30, 0, 0): "read GL",
+    (30, 9, 24): "remove I", (30, 9, 26): "set I", (30, 9, 27): "test I",
+    (30, 10, 24): "disable demand", (30, 10, 26): "enable demand", (30, 10, 27): "test demand", (30, 11, 27): "test GL",
+}
+CONTROLLER_STATIONS = (28, 30)
+
+
+def kind_of(function: int) -> str:
+    """Whether a function reads, writes, or moves no data."""
+    return "read" if function <= 7 else "write" if 16 <= function <= 23 else "control"
+
+
+class Module(NamedTuple):
+    """A type: widths by (function, sub-address), and which of these are probes."""
+
+    name: str
+    widths: Dict[Tuple[int, int], int]
+    probes: int
+
+
+class Station(NamedTuple):
+    module: Module
+    gl: Optional[int]
+
+
+class Crate(NamedTuple):
+    waits: int
+    stations: Dict[int, Station]
+
+
+class Plan:
+    def __init__(self, buffer: int) -> None:
+        self.buffer = buffer
+        self.modules: Dict[str, Module] = {}
+        self.crates: Dict[int, Crate] = {}
+
+    def waits(self, crate: int) -> int:
+        """Of a crate that is not in the plan 0."""
+        return self.crates[crate].waits if crate in self.crates else 0
+
+    def station(self, crate: int, station: int) -> Optional[Station]:
+        return self.crates[crate].stations.get(station) if crate in self.crates else None
+
+    def width(self, crate: int, station: int, sub: int, function: int) -> Optional[int]:
+        """The width of an allowed command, None of any other."""
+        if crate in self.crates and (station, sub, function) in CONTROLLER:
+            return WIDEST
+        there = self.station(crate, station)
+        return there.module.widths.get((function, sub)) if there else None
+
+    def bits(self, crate: int) -> int:
+        """The graded-L bits of a crate's stations."""
+        return sum(1 << it.gl - 1 for it in self.crates[crate].stations.values() if it.gl)
+
+    def listing(self) -> List[str]:
+        lines = [f"buffer {self.buffer}"]
+        lines += [f"type {it.name} commands {len(it.widths)} probes {it.probes}" for it in self.modules.values()]
+        for number, crate in sorted(self.crates.items()):
+            lines.append(f"crate {number} waits {crate.waits}")
+            lines += [f"station {n} {it.module.name} gl {it.gl or '-'}" for n, it in sorted(crate.stations.items())]
+        return lines
+
+
+class Table:
+    """A table of the text: what each call asks for is one of its keys, in the order of docs/PLANS.md."""
+
+    def __init__(self, values: Dict[str, Any], keys: str) -> None:
+        self.values = values
+        if set(values) - set(keys.split()):
+            raise Refused("P2")
+
+    def value(self, key: str, kind: type) -> Any:
+        value = self.values.get(key)
+        if type(value) is not kind:
+            raise Refused("P3")
+        return value
+
+    def number(self, key: str, least: int, most: int, missing: Optional[int] = None) -> Optional[int]:
+        """A whole number; where the key is not there, what stands for it. It must be there where `missing` is None."""
+        if key not in self.values and missing is not None:
+            return missing
+        number = self.value(key, int)
+        if not least <= number <= most:
+            raise Refused("P4")
+        return number
+
+    def tables(self, key: str, is_needed: bool = False) -> List[Dict[str, Any]]:
+        if key not in self.values and not is_needed:
+            return []
+        tables = self.value(key, list)
+        if any(type(it) is not dict for it in tables):
+            raise Refused("P3")
+        return tables
+
+
+def read_plan(text: bytes) -> Plan:
+    """The plan of a text, or the first fault of the walk (`Refused`). `LeftOut` where this reader does not judge it."""
+    top = Table(read_toml(text), "buffer type crate")
+    plan = Plan(top.number("buffer", 1, 4096, 4096))
+    types, crates = top.tables("type"), top.tables("crate")
+    for values in types:
+        if len(plan.modules) == TYPES:
+            raise Refused("P4")
+        module = read_module(Table(values, "name commands"), plan)
+        plan.modules[module.name] = module
+    bits: List[int] = []
+    for values in crates:
+        read_crate(Table(values, "number waits station"), plan, bits)
+    return plan
+
+
+def read_module(table: Table, plan: Plan) -> Module:
+    name = table.value("name", str)
+    if not 1 <= len(name) <= LONGEST_NAME or set(name) - NAME_BYTES:
+        raise Refused("P4")
+    commands = table.tables("commands", True)
+    if name in plan.modules:
+        raise Refused("P8")
+    widths: Dict[Tuple[int, int], int] = {}
+    probes = 0
+    for values in commands:
+        command = Table(values, "f a to probe width")
+        function, first = command.number("f", 0, 31), command.number("a", 0, 15)
+        last = command.number("to", first, 15, first)
+        is_probe = "probe" in command.values and command.value("probe", bool)
+        width = command.number("width", WIDEST if is_probe else 1, WIDEST, WIDEST)
+        for sub in range(first, last + 1):
+            if (function, sub) in widths:
+                raise Refused("P8")
+            widths[function, sub] = width
+            probes += is_probe
+    return Module(name, widths, probes)
+
+
+def read_crate(table: Table, plan: Plan, bits: List[int]) -> None:
+    number, waits = table.number("number", 1, 7), table.number("waits", 0, 15, 0)
+    stations = table.tables("station")
+    if number in plan.crates:
+        raise Refused("P5")
+    crate = plan.crates[number] = Crate(waits, {})
+    for values in stations:
+        station = Table(values, "n type gl")
+        n, name = station.number("n", 1, 23), station.value("type", str)
+        gl = station.number("gl", 1, 24) if "gl" in values else None
+        if n in crate.stations:
+            raise Refused("P6")
+        if name not in plan.modules:
+            raise Refused("P7")
+        if gl in bits and gl is not None:
+            raise Refused("P9")
+        bits.append(gl or 0)
+        crate.stations[n] = Station(plan.modules[name], gl)
+
+
+def sample_plan() -> Plan:
+    """The plan that the word `@sample` stands for."""
+    return read_plan(SAMPLE)
+
+
+SAMPLE = b"""[[type]]
+name = "ADC"
+commands = [ { f = 0, a = 0, to = 11, width = 12 },
+  { f = 0, a = 12, to = 15, probe = true }, { f = 8, a = 12 },
+  { f = 10, a = 12 }, { f = 24, a = 12 }, { f = 26, a = 12 } ]
+[[type]]
+name = "REG"
+commands = [ { f = 16, a = 0, width = 8 }, { f = 0, a = 0 },
+  { f = 27, a = 0 }, { f = 5, a = 0 } ]
+[[crate]]
+number = 1
+waits = 2
+[[crate.station]]
+n = 5
+type = "ADC"
+gl = 3
+[[crate.station]]
+n = 6
+type = "REG"
+"""
