@@ -1,7 +1,7 @@
 #!/usr/bin/env python3
 """Measures how many operations a second a live run makes through pipes, beside `cat` at the other end of the same pipes.
 
-usage: bench/live.py [PROGRAM]     PROGRAM is crates/camac/out/camac unless given (built by: cd crates/camac && rt run)
+usage: bench/live.py [PROGRAM]     PROGRAM is, unless given, what CAMAC_PROGRAM names, or `camac` in PATH, or that of this clone
 
 Each operation is one request that is read and one answer that is written, in turn. `cat` gives each line back, so its loop is what the
 pipes and this computer take for themselves. The third loop is that of `camac.drive` with a branch whose operations take no time. The
@@ -70,13 +70,13 @@ def rate(name, seconds, least):
 
 
 def main():
-    program = sys.argv[1] if len(sys.argv) > 1 else os.path.join(TOP, "crates/camac/out/camac")
+    program = sys.argv[1] if len(sys.argv) > 1 else camac.find_program()
     with tempfile.TemporaryDirectory() as folder:
-        script, events = os.path.join(folder, "script"), os.path.join(folder, "events")
+        script, events = os.path.join(folder, "script"), os.path.join(folder, "python.events")
         with open(script, "w") as file:
             file.write(SCRIPT)
         cat = exchange(["cat"], DEMAND)
-        drive = exchange([program, "drive", "@sample", script, events])
+        drive = exchange([program, "drive", "@sample", script, os.path.join(folder, "drive.events")])
         began = time.perf_counter()
         end = camac.drive("@sample", script, Branch(), events, program=program)
         python = time.perf_counter() - began

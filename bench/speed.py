@@ -46,6 +46,11 @@ def long_statements(count):
     return f"{large_inputs.OPENING}var {' '.join(words)}\nservice adc within 0 cycles event 0 words {{\n{line * (count - 1)}}}\n"
 
 
+def too_many_turns():
+    """14 loops in one another, and in the innermost at the end of its statements a difference that may be below 0."""
+    return large_inputs.nested_loops(4095, 14).replace("}", "v = v - 2\n}", 1)
+
+
 def record(version, number, words):
     usage = struct.pack(">IH", words, 0) if version == 2 else b""
     return struct.pack(">2sHI", b"\xcaM", 3, number) + usage + struct.pack(">H", words) + b"\0\x12\x3f\xff" * words
@@ -86,6 +91,17 @@ def checked(name, text):
     return Case(name, ["check", "@sample", "INPUT"], text)
 
 
+def explained(name, text):
+    """An input that is refused at its end, judged and explained."""
+    yield checked(f"check, refused: {name}", text)
+    yield Case(f"explain: {name}", ["explain", "@sample", "INPUT"], text)
+
+
+def explained_plan(name, text):
+    yield Case(f"plan, refused: {name}", ["plan", "INPUT"], text)
+    yield Case(f"explain: {name}", ["explain", "INPUT"], text)
+
+
 def listed(name, version, words, size=EVENTS):
     return Case(name, ["events", "INPUT"], event_file(version, words, size))
 
@@ -102,6 +118,11 @@ def cases():
     yield checked("check: 1 MB of comments", large_inputs.comments(TEXT))
     yield checked("check: 1 MB of blanks", large_inputs.blanks(TEXT))
     yield Case("plan: the greatest", ["plan", "INPUT"], large_inputs.greatest_plan())
+    yield from explained("1 MB on one line", long_statements(4096).replace("\n", " ") + "}")
+    yield from explained("4,096 statements", large_inputs.service(4096, 0))
+    yield from explained("110,000 tokens", long_statements(4096) + "}")
+    yield from explained("14 loops", too_many_turns())
+    yield from explained_plan("64 full types", large_inputs.greatest_plan() + 'gl=1\n')
     yield ran("run: mixed", MIXED, MIXED_ANSWERS)
     yield ran("run: demands without a service", long_runs.SCRIPT, QUIET)
     yield services(ANSWERS)

@@ -25,7 +25,13 @@ _camac() {
   0:*) offered='plan check explain bounds run drive events help --help --version -h -V' ;;
   1:help) offered='plan check explain bounds run drive events help' ;;
   *:help) ;;
-  [1-4]:plan | [1-4]:check | [1-4]:explain | [1-4]:bounds | [1-4]:run | [1-4]:drive | [1-4]:events)
+  [1-4]:plan)
+    case $word in
+    -*) offered='--commands --help -h' ;;
+    *) _camac_file "${words[1]}:$place" "$word" && return ;;
+    esac
+    ;;
+  [1-4]:check | [1-4]:explain | [1-4]:bounds | [1-4]:run | [1-4]:drive | [1-4]:events)
     case $word in
     -*) offered='--help -h' ;;
     *) _camac_file "${words[1]}:$place" "$word" && return ;;

@@ -1,17 +1,21 @@
 #!/usr/bin/env python3
 """Texts and event files that are cut after each byte, and that have each byte changed: each is answered, by lines of its own or by one refusal.
 
-usage: tests/changes_test.py [-v] [TEST ..]     from any folder; takes about half a minute
+usage: tests/changes_test.py [-v] [TEST ..]     from any folder; takes about a minute
 
 The program is crates/camac/out/camac (cd crates/camac && rt run makes it), or what the environment variable CAMAC_PROGRAM names.
 """
 import concurrent.futures
 import os
+import re
 import subprocess
 import sys
 import unittest
 
 from rows_test import FILE_ONE, FILE_TWO, PROGRAM, SAMPLE, STRAIGHT_LINE
+
+# A refusal with a whole explanation: the line of a script, a sentence of the case, and what is told of the rule.
+EXPLANATION = re.compile(rb"\Arefused ([PSLE]\d+)(?: line (\d+))?: [^\n]+\n(?(2) *\2 \| [^\n]*\n)[^\n]*[.`]\nWhy: [^\n]+\nMend: [^\n]+\nMore: docs/REFUSALS\.md, \1\n\Z")
 
 BYTES = (0x00, 0x0A, 0x21, 0x7B, 0xFF)
 
@@ -67,6 +71,20 @@ class Changes(unittest.TestCase):
 
     def test_plan(self):
         self.expect_answers("plan @in", SAMPLE, b"P")
+
+    def expect_sentences(self, words, text):
+        """Each refusal of a changed text has its source line, a sentence of the case, and the texts of its rule, and begins as that of `check`."""
+        with concurrent.futures.ThreadPoolExecutor(2) as pool:
+            for it, (status, out, err) in zip(changed(text), pool.map(lambda it: answer(words, it), changed(text))):
+                if status:
+                    self.assertEqual((status, err), (1, b""), it)
+                    self.assertRegex(out, EXPLANATION, it)
+
+    def test_explanations(self):
+        self.expect_sentences("explain @sample @in", FORMS)
+
+    def test_explanations_of_plans(self):
+        self.expect_sentences("explain @in", SAMPLE)
 
     def test_scripts(self):
         self.assertEqual(answer("check @sample @in", FORMS)[0], 0)

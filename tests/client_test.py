@@ -196,11 +196,26 @@ class Client(Case):
         self.assertEqual(raised.exception.args, (2,))
         self.assertEqual(branch.asked[3:], [("unlock", 2), ("unlock", 1)])
 
-    def test_the_limit_of_answers(self):
-        with mock.patch.object(sys.modules["camac.drive"], "MOST_ANSWERS", 2):
-            branch = Listed(*[Answer()] * 5)
-            self.assertEqual(self.drive(branch, *["demand"] * 5, at_end="ended events 0").how, Ending.ENDED)
-        self.assertEqual((branch.asked, len(self.answers())), ([("demand",)] * 2, 2))
+    def test_an_interrupt_while_lockouts_are_released(self):
+        """Ctrl-C in a cycle, and again in each `unlock` that it calls for: each lockout is released, and the first interrupt is raised."""
+        branch = Listed(Answer(gl=4), Answer(), Answer(), KeyboardInterrupt())
+        asked = []
+
+        def unlock(crate):
+            asked.append(crate)
+            raise KeyboardInterrupt
+
+        branch.unlock = unlock
+        with self.assertRaises(KeyboardInterrupt):
+            self.drive(branch, "demand", "lock 1", "lock 2", "cycle 2 1 0 0 in", at_end="short events 0")
+        self.assertEqual(asked, [2, 1])
+
+    def test_an_interrupt_inside_a_lock(self):
+        """It may have been taken, so it is released."""
+        branch = Listed(Answer(gl=4), KeyboardInterrupt())
+        with self.assertRaises(KeyboardInterrupt):
+            self.drive(branch, "demand", "lock 1", at_end="short events 0")
+        self.assertEqual(branch.asked, [("demand",), ("lock", 1), ("unlock", 1)])
 
     def test_nothing_is_left_open(self):
         before = os.listdir("/proc/self/fd")

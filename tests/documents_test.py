@@ -6,9 +6,19 @@ usage: tests/documents_test.py [-v] [TEST ..]     from any folder; takes a few s
 Each fenced block of a page is of one of these kinds, and is tried:
 
   ```console                  lines '$ COMMAND', each with the output that follows it; '> ' before a line goes on with the command
-  ```camac VERDICT [FILE]     a whole script, and the verdict on the plan @sample: 'accepted', or a code and line as 'E2 line 7'
+  ```camac VERDICT [FILE] [on PLAN]    a whole script, and the verdict on a plan (@sample, unless one is named): 'accepted', or a code and
+                              line as 'E2 line 7'
   ```output                   right after a script: all that `check` prints
-  ```python FILE, ```toml FILE, ```sh FILE    a file that a later command of the page uses
+  ```python FILE, ```toml FILE, ```sh FILE, ```c FILE    a file that a later command of the page uses, or a part of an example of that name
+
+A console block is left out where its first line calls a compiler (cc, c++) that is not here, or asks for the library for C (by pkg-config, or
+by a program in Python named in_this_process.py) and that is not here (tests/of_c.py).
+
+A page of `KEPT` has a folder in examples. Each file there has to be what a block or a command of the page made of that name, to the byte;
+pictures, too. `tests/documents_test.py --keep` writes them anew, to be looked at before they are committed.
+
+In a table whose last heading ends in 'write', the pieces of script in the last cell of each row are tried, too: each has to be accepted as a
+statement, an expression or a condition on variables that were read. A piece of one word, or with '..' or capitals, is a form.
 
 A block that is not tried (a form, a picture, a command that builds or proves) is indented instead. A command of camac or a statement of a
 script in one is a failure, unless its words are in capitals (camac run PLAN ..): then it is a form. The manual page has console blocks
@@ -26,6 +36,8 @@ import sys
 import tempfile
 import unittest
 
+import of_c
+
 TOP = pathlib.Path(__file__).resolve().parent.parent
 PROGRAM = os.path.abspath(os.environ.get("CAMAC_PROGRAM") or TOP / "crates/camac/out/camac")
 PAGES = [TOP / "README.md", *sorted((TOP / "docs").glob("*.md"))]
@@ -33,7 +45,20 @@ BLOCK = re.compile(r"^```([^\n]*)\n(.*?)^```$", re.M | re.S)
 INDENTED = re.compile(r"^    .*$", re.M)
 COMMAND = re.compile(r"^\$ |(?:^|[|;&(] *)(?:\./)?camac\b(?! [a-z]+ [A-Z]+\b)(?= \S)")
 STATEMENT = re.compile(r"^(?:cdlam|cdreg|cfsa|cssa|service|proc) (?!.*\b[A-Z]{2,}\b).*\d")
-FILE = re.compile(r"(?:python|toml|sh|camac (?:accepted|\w+ line \d+)) (\S+)")
+FILE = re.compile(r"(?:python|toml|sh|c|cpp|camac (?:accepted|\w+ line \d+)) (\S+)(?: on \S+)?")
+# Pages whose files stand in a folder of examples, too, and where the page makes them.
+KEPT = {"TUTORIAL.md": ("tutorial", "."), "BENCHES.md": ("benches", "benches"), "LIVE.md": ("live", ".")}
+COMPILER = re.compile(r"\$ (?:cc|c\+\+) ")
+LIBRARY = re.compile(r"pkg-config|in_this_process\.py")
+CELL = re.compile(r"^\|(?:[^|\n]*\|)*([^|\n]*)\|$")
+# What a piece of a script may be: a statement, its begin, a condition, the end of one, an expression, the end of one.
+PLACES = ("{}", "{} {{ }}", "if {} {{ }}", "if v > 0 {} {{ }}", "put ({}) % 2", "put (v {}) % 2")
+READ = """cdlam adc 1 1 5 12
+var a b c d k v
+service adc within 15 cycles event 1 words {
+  cdreg r 1 1 5 0
+  cfsa 0 r -> a  cfsa 0 r -> b  cfsa 0 r -> c  cfsa 0 r -> k  cfsa 0 r -> v
+"""
 WAIT = 60
 SCRIPT = "cdlam adc 1 1 5 12\nservice adc within 3 cycles event 0 words { }\n"
 
@@ -43,10 +68,20 @@ class Wrong(Exception):
 
 
 def run(command, room, given=b""):
-    """Returns what the command prints, standard error too."""
+    """Returns what the command prints, standard error too, but for what a program without `costs` lacks."""
     words = {"cwd": room, "input": given, "stdout": subprocess.PIPE, "stderr": subprocess.STDOUT, "timeout": WAIT}
     places = {"PATH": f"{room}{os.pathsep}{os.environ['PATH']}", "PYTHONPATH": str(TOP / "python"), "PYTHONDONTWRITEBYTECODE": "1"}
-    return subprocess.run(["bash", "-c", command], env={**os.environ, **places}, **words).stdout.decode()
+    places.update({} if of_c.lacking() else of_c.environment())
+    printed = subprocess.run(["bash", "-c", command], env={**os.environ, **places}, **words).stdout.decode()
+    return re.sub(r"^camac: this program has no `costs`.*\n", "", printed, flags=re.M)
+
+
+def is_left_out(text):
+    """Whether a console block needs a compiler or the library for C where there is none."""
+    first = text.partition("\n")[0]
+    lacks_compiler = not (shutil.which("cc") and shutil.which("c++"))
+    lacks_library = bool(of_c.lacking()) or not shutil.which("pkg-config")
+    return bool(COMPILER.match(first) and lacks_compiler or LIBRARY.search(first) and lacks_library)
 
 
 def compare(what, wanted, found):
@@ -72,12 +107,12 @@ def try_console(text, room):
 
 def try_script(words, text, room):
     """Compares the verdict on a script, and returns all that `check` prints."""
-    verdict = re.fullmatch(r"(accepted|[A-Z]\d+(?: line \d+)?)(?: (\S+))?", words)
+    verdict = re.fullmatch(r"(accepted|[A-Z]\d+(?: line \d+)?)(?: (\S+?))??(?: on (\S+))?", words)
     if not verdict:
         raise Wrong(f"no verdict: {words}")
     if verdict[2]:
         (room / verdict[2]).write_text(text)
-    printed = run("./camac check @sample @in", room, text.encode())
+    printed = run(f"./camac check {verdict[3] or '@sample'} @in", room, text.encode())
     first = printed.partition("\n")[0].removeprefix("refused ").partition(":")[0]
     compare(text, verdict[1], first)
     return printed
@@ -98,26 +133,66 @@ def refuse_unused(blocks):
             raise Wrong(f"no command uses {file[1]}")
 
 
+def pieces(text):
+    """The pieces of script in the last cells of the tables that say what to write."""
+    found = []
+    for table in re.findall(r"(?:^\|.*\|\n)+", BLOCK.sub("", text), re.M):
+        head, _, *rows = table.splitlines()
+        if head.rstrip("| ").endswith("write"):
+            cells = [CELL.match(row)[1] for row in rows]
+            found += [it for cell in cells for it in re.findall(r"`([^`]+)`", cell) if " " in it and ".." not in it and not re.search("[A-Z]", it)]
+    return found
+
+
+def try_piece(piece, room):
+    """Tries a piece of a script at each place where it may stand."""
+    scripts = [f"{READ}  {place.format(piece)}\n}}\n" for place in PLACES]
+    if not any(run("./camac check @sample @in", room, it.encode()).startswith("accepted") for it in scripts):
+        raise Wrong(f"this is accepted nowhere: {piece}")
+
+
+def write_file(file, body):
+    """Writes a file of a page. An example shows a part of itself."""
+    if not file.exists():
+        file.write_text(body)
+    elif body not in file.read_text():
+        raise Wrong(f"this is no part of {file.name}:\n{body}")
+
+
 def try_page(text, room):
     """Tries all blocks of a page in their order, and returns how many commands and scripts it ran."""
     blocks = BLOCK.findall(text)
     refuse_untried(text)
     refuse_unused(blocks)
     tried, printed = 0, None
+    for piece in pieces(text):
+        try_piece(piece, room)
     for words, body in blocks:
         kind, _, rest = words.partition(" ")
         before, printed = printed, None
-        if kind == "console":
+        if kind == "console" and is_left_out(body):
+            print("left out:", body.partition("\n")[0])
+        elif kind == "console":
             tried += try_console(body, room)
         elif kind == "camac":
             tried, printed = tried + 1, try_script(rest, body, room)
         elif kind == "output" and before is not None:
             compare("the script before", body, before)
-        elif kind in ("python", "toml", "sh") and rest:
-            (room / rest).write_text(body)
+        elif kind in ("python", "toml", "sh", "c", "cpp") and rest:
+            write_file(room / rest, body)
         else:
             raise Wrong(f"a block of no kind that is tried: ```{words}\n{body}")
     return tried
+
+
+def compare_kept(folder, room):
+    """Compares the files of a folder with those of the same names that a page made, and returns how many there are."""
+    kept = [it for it in sorted(folder.rglob("*")) if it.is_file() and "__pycache__" not in it.parts]
+    for file in kept:
+        made = room / file.relative_to(folder)
+        if not made.exists() or made.read_bytes() != file.read_bytes():
+            raise Wrong(f"{file} is not what the page makes" if made.exists() else f"the page makes no {file}")
+    return len(kept)
 
 
 def anchors(text):
@@ -156,6 +231,9 @@ class Documents(unittest.TestCase):
             with self.subTest(page=page.name):
                 try:
                     tried += try_page(page.read_text(), self.room)
+                    if page.name in KEPT:
+                        folder, place = KEPT[page.name]
+                        self.assertGreater(compare_kept(TOP / "examples" / folder, self.room / place), 0)
                 except Wrong as why:
                     self.fail(f"{page.name}: {why}")
         self.assertGreater(tried, 50)
@@ -174,12 +252,6 @@ class Documents(unittest.TestCase):
         blocks = re.findall(r"^\.Bd [^\n]*\n(.*?)^\.Ed$", examples, re.M | re.S)
         tried = sum(try_console(it.replace("\\e", "\\"), self.room) for it in blocks)
         self.assertEqual(tried, examples.count("camac "))
-
-    def test_each_rule_has_a_script(self):
-        page = (TOP / "docs/CHECKER.md").read_text()
-        rules = re.findall(r"^\| (E\d+) \|", page, re.M)
-        self.assertEqual({*re.findall(r"^```camac (E\d+) ", page, re.M)}, {*rules})
-        self.assertEqual(sorted(rules), sorted(re.findall(r"`refused (E\d+) line N", (TOP / "docs/LANGUAGE.md").read_text())))
 
     def refuse(self, text):
         with self.subTest(text=text), self.assertRaises(Wrong):
@@ -212,12 +284,41 @@ class Documents(unittest.TestCase):
         self.refuse("```python a.py\nprint(1)\n```\n\n```console\n$ echo\n\n```\n")
         self.assertEqual(try_page("A form.\n\n    camac run PLAN SCRIPT ANSWERS EVENTS\n    cdreg NAME 1 CRATE\n", self.room), 0)
 
+    def test_pieces_in_tables(self):
+        table = "| not there | write |\n|---|---|\n| `a | b` | `PIECE`, or `while .. by k` |\n".replace("`a | b`", "`or`")
+        for piece in ("d = a + 4095 - b", "if v > 3", "v != 0", "% 16", "(v / 8) % 2", "v = 0  if q { v = 1 }"):
+            self.assertEqual(pieces(table.replace("PIECE", piece)), [piece])
+            self.assertEqual(try_page(table.replace("PIECE", piece), self.room), 0)
+        for piece in ("if a >= b { d = a - b } else { d = b - a }", "a - b", "v += 1", "v = v / k"):
+            self.refuse(table.replace("PIECE", piece))
+        self.assertEqual(pieces(table.replace("write", "wrong")), [])
+
     def test_commands_of_more_lines(self):
         self.assertEqual(try_page("```console\n$ ./camac plan @sample |\n>   grep buffer\nbuffer 4096\n$ true\n```\n", self.room), 2)
         self.refuse("```console\n$ ./camac plan @sample |\n>   grep buffer\nbuffer 4095\n```\n")
 
 
+def keep():
+    """Writes the files that the pages of KEPT make into their folders anew, whatever the pages show."""
+    for name, (folder, place) in KEPT.items():
+        case = Documents()
+        case.enter_room()
+        for words, body in BLOCK.findall((TOP / "docs" / name).read_text()):
+            file = FILE.fullmatch(words)
+            if file:
+                write_file(case.room / file[1], body)
+            for command, _ in calls(body) if words == "console" else ():
+                run(command.replace("\n> ", "\n"), case.room)
+        for kept in (TOP / "examples" / folder).rglob("*"):
+            made = case.room / place / kept.relative_to(TOP / "examples" / folder)
+            if kept.is_file() and made.is_file():
+                kept.write_bytes(made.read_bytes())
+        case.doCleanups()
+
+
 if __name__ == "__main__":
     if not os.access(PROGRAM, os.X_OK):
         sys.exit(f"{PROGRAM} is not there: cd crates/camac && rt run makes it, or CAMAC_PROGRAM names another")
+    if sys.argv[1:] == ["--keep"]:
+        sys.exit(keep())
     unittest.main()

@@ -1,12 +1,15 @@
 #!/usr/bin/env python3
 """Tests that each rule has a worked explanation, and what is said of typical mistakes; compares the texts with docs/REFUSALS.md.
 
-usage: tests/explain_test.py [-v] [TEST ..]     from any folder; takes a few seconds
+usage: tests/explain_test.py [-v] [TEST ..]     from any folder; takes about half a minute
+
+CAMAC_CASES tells how many random scripts two of the tests try, 300 where it is not set. SEED begins them, 1 where it is not set.
 
 The program is crates/camac/out/camac (cd crates/camac && rt run makes it), or what the environment variable CAMAC_PROGRAM names.
 """
 import os
 import pathlib
+import random
 import re
 import subprocess
 import sys
@@ -31,6 +34,28 @@ def procedure(call, numbers="within 3 cycles event 1 words steps 3", body="put s
     lines = ["cdlam adc 1 1 5 12", "var v", f"proc get(s in 0..11) {numbers} {{", "  cdreg r 1 1 5 s", "  cfsa 0 r -> s", f"  {body}", "}"]
     return "\n".join([*lines, "service adc within 9 cycles event 9 words {", f"  {call}", "}"]) + "\n"
 
+
+def deep(statement):
+    """A statement in fourteen loops of 65535 turns each."""
+    names = [f"n{i}" for i in range(14)]
+    return service(*(f"for {it} = 1 to 65535 {{" for it in names), statement, "}" * 14, more=" " + " ".join(names))
+
+
+# Two words of 24 bits.
+READ_TWO = ("cdreg r 1 1 6 0", "cfsa 0 r -> v", "cfsa 0 r -> k")
+
+# A register at sub-address 0 to 20 of the converter, and one at its last sub-address.
+COMPUTED = ("cdreg r 1 1 6 0", "cfsa 0 r -> v", "v = v % 21", "cdreg a 1 1 5 v", "cdreg b 1 1 5 15")
+
+TWO_PARAMETERS = """cdlam adc 1 1 5 12
+proc get(s in 0..11, n in 1..8) within 3 cycles event 0 words steps 2 {
+  cdreg r 1 1 5 s
+  cfsa 0 r -> n
+}
+service adc within 3 cycles event 0 words {
+  call get(3, 9)
+}
+"""
 
 # A mistake, a script with it, the rule and the line, and what is said of the case.
 MISTAKES = [
@@ -57,12 +82,12 @@ MISTAKES = [
     ("conditions joined by or", service("if q or x { }"), "S2", 4, "Found `or`; here may stand `{` or `and`. There is no or: write one `if` after the other."),
     ("= to compare", service("if v = 3 { }"), "S2", 4, "Found `=`; here may stand an operator or a comparison. Perhaps `==` is meant."),
     ("== to set a variable", service("v == 3"), "S2", 4, "Found `==`; here may stand `=`. Perhaps `=` is meant."),
-    ("+= to add", service("v += 1"), "S2", 4, "Found `+`; here may stand `=`."),
-    ("else if", service("if q { } else if x { }"), "S2", 4, "Found `if`; here may stand `{`."),
-    ("a number below 0", service("v = -1"), "S2", 4, "Found `-`; here may stand an expression."),
-    ("division by a variable", service("v = v / k"), "S2", 4, "Found `k`; here may stand a number."),
-    ("division by 0", service("v = v / 0"), "S2", 4, "Found `0`; here may stand a number."),
-    ("two points in a for", service("for i = 1 .. 3 { }"), "S2", 4, "Found `..`; here may stand an operator or `to`."),
+    ("+= to add", service("v += 1"), "S2", 4, "Found `+`; here may stand `=`. The variable stands again behind the `=`, as in `v = v + 1`."),
+    ("else if", service("if q { } else if x { }"), "S2", 4, "Found `if`; here may stand `{`. The block of `else` stands in braces, and an `if` may stand in it."),
+    ("a number below 0", service("v = -1"), "S2", 4, "Found `-`; here may stand an expression. There are no numbers below 0."),
+    ("division by a variable", service("v = v / k"), "S2", 4, "Found `k`; here may stand a number. A divisor is a number from 1 on."),
+    ("division by 0", service("v = v / 0"), "S2", 4, "Found `0`; here may stand a number. A divisor is a number from 1 on."),
+    ("two points in a for", service("for i = 1 .. 3 { }"), "S2", 4, "Found `..`; here may stand an operator or `to`. Perhaps `to` is meant."),
     ("half an arrow", service("cdreg r 1 1 5 0", "cfsa 0 r > v"), "S2", 5, "Found `>`; here may stand a statement, `}`, `->` or `<-`. Perhaps `->` is meant."),
     ("a variable that is not declared", service("put w"), "S5", 4, "The name `w` is not declared before as a variable."),
     ("a variable mistyped", service("put tiem", more=" time"), "S5", 4, "The name `tiem` is not declared before as a variable. Perhaps `time` is meant."),
@@ -70,13 +95,39 @@ MISTAKES = [
     ("a register without cdreg", service("cfsa 0 r -> v"), "S5", 4, "The name `r` is not declared before as a register."),
     ("a service without its LAM", "service adc within 3 cycles event 1 words { }\n", "S5", 1, "The name `adc` is not declared before as a LAM."),
     ("a procedure that is not there", procedure("call got(0)"), "S5", 9, "The name `got` is not declared before as a procedure. Perhaps `get` is meant."),
-    ("a variable of the script in a procedure", procedure("call get(0)", body="put v"), "S5", 6, "The name `v` is not declared before as a variable."),
-    ("no argument", procedure("call get()"), "S2", 9, "Found `)`; here may stand an expression."),
-    ("an argument too many", procedure("call get(0, 1)"), "S2", 9, "Found `,`; here may stand an operator or `)`."),
+    ("a variable of the script in a procedure", procedure("call get(0)", body="put v"), "S5", 6, "The variable `v` of the script is not seen in a procedure."),
+    ("no argument", procedure("call get()"), "S2", 9, "Found `)`; here may stand an expression. The procedure `get` takes 1 argument."),
+    ("an argument too many", procedure("call get(0, 1)"), "S2", 9, "Found `,`; here may stand an operator or `)`. The procedure `get` takes 1 argument."),
     ("a name twice", "cdlam adc 1 1 5 12\nvar v v\n", "S4", 2, "The name `v` is taken: it stands first on line 2."),
     ("a word of the language as a name", "var on\n", "S2", 1, "Found `on`; here may stand a name."),
     ("a function above 31", service("cdreg r 1 1 5 0", "cfsa 42 r -> v"), "S3", 5, "The number `42` is above 31, the greatest that may stand here."),
     ("the crate in the place of the branch", service("cdreg r 5 0 1 1"), "S7", 4, "The branch is `5` here, and there is branch 1 alone."),
+    ("a LAM without the branch", "cdlam adc 1 5 12\nvar v\n", "S2", 2, "Found `var`; here may stand a number. An address is the branch, which is 1, then crate, station and sub-address."),
+    ("a register without the branch", service("cdreg r 1 5 0", "cfsa 0 r -> v"), "S2", 5, "Found `cfsa`; here may stand an expression or an operator. An address is the branch, which is 1, then crate, station and sub-address."),
+    ("an address in a cycle", service("cfsa 0 1 1 5 0 -> v"), "S2", 4, "Found `1`; here may stand a name. A register is set to an address before, by `cdreg`."),
+    ("a call as in FORTRAN", service("cfsa(0, r, v, q)"), "S2", 4, "Found `(`; here may stand a number. What follows is written without brackets and commas."),
+    ("a value after the arrow of a read", service("cdreg r 1 1 6 0", "cfsa 16 r -> 1"), "S2", 5, "Found `1`; here may stand a name. A read sets a variable after `->`; a write has `<-` and a value."),
+    ("a register in the place of a variable", service("cdreg r 1 1 5 0", "put r"), "S5", 5, "The name `r` is declared on line 4 as a register, and here may stand a variable."),
+    ("a flag that is compared", service("if q = 1 { }"), "S2", 4, "Found `=`; here may stand `{` or `and`. A flag stands alone: `q`, or `not q`."),
+    ("a condition in brackets", service("if (v > 3) { }"), "S2", 4, "Found `>`; here may stand an operator or `)`. Brackets enclose expressions, and no conditions."),
+    ("a flag in brackets", service("if (q) { }"), "S2", 4, "Found `q`; here may stand an expression. Brackets enclose expressions, and no conditions."),
+    ("a crate in the place of a LAM", service("cclc 1"), "S2", 4, "Found `1`; here may stand a name. Here stands the name of a LAM, which `cdlam` declares."),
+    ("a dash in a name", "cdlam my-adc 1 1 5 12\n", "S2", 1, "Found `-`; here may stand a number. A name has letters, digits and `_`, and no dash."),
+    ("a test with an arrow", service("ctlm adc -> v"), "S2", 4, "Found `->`; here may stand a statement or `}`. The answer is the flag `q`."),
+    ("an assignment outside", "cdlam adc 1 1 5 12\nvar v\nv = 1\n", "S4", 3, "The name `v` is taken: it stands first on line 2. A statement stands in the braces of a service or a procedure."),
+    ("a word of the event outside", "cdlam adc 1 1 5 12\nput 1\n", "S2", 2, "Found `put`; here may stand a declaration. A statement stands in the braces of a service or a procedure."),
+    ("a lock in a procedure", procedure("call get(0)", body="lock 1 { }"), "S2", 6, "Found `lock`; here may stand a statement or `}`. A procedure has no `lock`."),
+    ("a procedure that calls itself", procedure("call get(0)", body="call get(0)"), "S5", 6, "The procedure `get` can be called after its end alone."),
+    ("a variable that is kept twice", service("for i = 1 to 3 keep k in 0..3, k in 0..3 { }"), "S4", 4, "The variable `k` is kept already, or is the loop's own."),
+    ("an else mistyped after a block", service("if q { v = 1 } els { }"), "S5", 4, "The name `els` is not declared before as a variable. Perhaps `else` is meant."),
+    ("an else after a loop", service("for i = 1 to 3 { v = 1 } else { }"), "S2", 4, "Found `else`; here may stand a statement or `}`."),
+    ("a second else", service("if q { } else { v = 1 } else { }"), "S2", 4, "Found `else`; here may stand a statement or `}`."),
+    ("a number of 2 to the power of 32", service("v = 4294967296"), "S3", 4, "The number `4294967296` is above 4294967295, the greatest of all."),
+    ("a statement too many", service(*["v = 1"] * 4097), "S6", 4100, "The limit is passed at `v`: a script has at most 4096 statements in all."),
+    ("a parameter too many", "proc p(" + ",\n".join(f"a{n} in 0..1" for n in range(9)) + ") within 1 cycles event 1 words steps 1 { }\n", "S6", 9, "The limit is passed at `a8`: a procedure has at most 8 parameters."),
+    ("an operator too many", service("v = 1" + "+1" * 33), "S6", 4, "The limit is passed at `+`: an expression has at most 32 operators."),
+    ("a part of a condition too many", service("if x" + " and q" * 16 + " { }"), "S6", 4, "The limit is passed at `q`: a condition has at most 16 parts."),
+    ("a block too many", service("if q { " * 16), "S6", 4, "The limit is passed at `{`: at most 16 brackets and braces are open at once, calls counted."),
     ("the wrong crate", "cdlam adc 1 2 5 12\n", "L1", 1, "The LAM `adc` is at crate 2, station 5, where the plan has no module."),
     ("a service on a station without bit", "cdlam reg 1 1 6 0\nservice reg within 3 cycles event 1 words { }\n", "L2", 2, "The LAM `reg` is at crate 1, station 6, which has no GL bit in the plan."),
     ("an event above the buffer", service(heading="within 3 cycles event 5000 words"), "L4", 3, "The heading allows 5000 event words, and the plan's buffer holds 4096."),
@@ -93,14 +144,111 @@ MISTAKES = [
     ("the waits forgotten", service("for i = 1 to 10 { cclc adc }", heading="within 10 cycles event 0 words"), "E12", 3, "The service may take 30 dataway cycles, its heading allows 10."),
     ("a call of a crate that is not in the plan", service("cccz 2"), "E15", 4, "The crate is 2 here, which is not one crate of the plan."),
     ("a lock in a lock", service("lock 1 { lock 1 { } }"), "E15", 4, "Crate 1 is locked already."),
+    ("a later part of an if", service(*READ_TWO, "if v <= 10 and 10 - v > 3 and 5 - k > 0 { }"), "E4", 7, "On the left of `-` may stand 5, on the right 0 to 16777215."),
+    ("a later part of a while", service(*READ_TWO, "i = 5", "while v >= 5 and v - 5 < 100 and k - 5 < 3 turns 5 by i { i = i - 1 }"), "E4", 8, "On the left of `-` may stand 0 to 16777215, on the right 5."),
+    ("a part after a not", service(*READ_TWO, "if not v < 5 and v - 5 < 100 and k - 7 < 3 { }"), "E4", 7, "On the left of `-` may stand 0 to 16777215, on the right 7."),
+    ("a scan in one arm, a wrong function in the other", service(*COMPUTED, "if v > 3 { cdreg a 1 1 5 v", "cfmad 0 a b max 5 tally t } else {", "cfsa 9 r }"), "E2", 10, "The plan declares no F0 at crate 1, station 5, A16."),
+    ("a scan from past the last sub-address", service(*COMPUTED, "cfmad 0 a b max 5 tally t"), "E2", 9, "The plan declares no F0 at crate 1, station 5, A16."),
+    ("a sub-address far too great", service("cdreg r 1 1 5 20", "cfsa 0 r -> v"), "E2", 5, "The plan declares no F0 at crate 1, station 5, A20."),
+    ("a scan over sub-addresses without the command", service("cdreg a 1 1 5 0", "cdreg b 1 1 6 15", "cfmad 0 a b max 5 tally t"), "E2", 6, "The plan declares no F0 at crate 1, station 6, A1."),
+    ("a scan that begins past a station's last sub-address", service("cdreg a 1 1 4 16", "cdreg b 1 1 7 0", "cfmad 0 a b max 5 tally t"), "E1", 6, "The plan has no module at crate 1, station 7."),
+    ("a block write without a table", service("cdreg r 1 1 6 0", "cfubc 16 r max 3 tally t"), "E3", 5, "F16 writes, and the statement reads."),
+    ("a difference of two words", service("cdreg r 1 1 5 0", "cfsa 0 r -> v", "cfsa 0 r -> k", "if v >= k { i = v - k }"), "E4", 7, "On the left of `-` may stand 0 to 4095, on the right 0 to 4095."),
+    ("a measure that falls by three", service("k = 30", "while k > 2 turns 9 by k { k = k - 3 }"), "E10", 5, "The loop may take 10 turns, and 9 are allowed."),
+    ("a number after turns that no loop may have", service("k = 5", "while k > 0 turns 70000 by k { k = k - 1 }"), "E10", 5, "The number after `turns` is 70000, and no loop may take more than 65535 turns."),
+    ("more turns than any loop may take", service("k = 100000", "while k > 0 turns 100 by k { k = k - 1 }"), "E10", 5, "The loop may take 100000 turns, and 100 are allowed."),
+    ("a for with too many turns", service("for i = 0 to 70000 { }"), "E10", 4, "The loop may take 70001 turns, and 65535 are allowed."),
+    ("words past 64 bits", deep("put 1"), "E11", 3, "The service may keep more than 18446744073709551615 event words, its heading allows 100."),
+    ("cycles past 64 bits", deep("cclc adc"), "E12", 3, "The service may take more than 18446744073709551615 dataway cycles, its heading allows 100."),
+    ("steps past 64 bits", deep(""), "E18", 3, "The service may take more than 18446744073709551615 steps, and 4294967295 are allowed."),
+    ("the second argument", TWO_PARAMETERS, "E21", 7, "Argument 2 may be 9, and `n` takes 1 to 8."),
     ("too few steps", procedure("call get(0)", numbers="within 3 cycles event 1 words steps 2"), "E18", 3, "The procedure may take 3 steps, its heading allows 2."),
     ("an argument out of range", procedure("call get(12)"), "E21", 9, "Argument 1 may be 12, and `s` takes 0 to 11."),
 ]
 
 
+TYPE = '[[type]]\nname = "ADC"\ncommands = [ { f = 0, a = 0, to = 11 } ]\n'
+CRATE = '[[crate]]\nnumber = 1\n[[crate.station]]\nn = 5\ntype = "ADC"\n'
+
+# A mistake in a plan, the plan, the rule, and what is said of the case.
+PLANS = [
+    ("a table's name in the plural", TYPE.replace("type", "types"), "P2", "`types`: there is no such key. Perhaps `type` is meant. The keys of the plan itself are `buffer`, `type` and `crate`."),
+    ("stations in the plural", TYPE + CRATE.replace("station", "stations"), "P2", "crate 1, `stations`: there is no such key. Perhaps `station` is meant. The keys of a `[[crate]]` are `number`, `waits` and `station`."),
+    ("a station at the top", TYPE + '[[station]]\nn = 5\n', "P2", "`station`: there is no such key. It is a key of a `[[crate]]`. The keys of the plan itself are `buffer`, `type` and `crate`."),
+    ("a key of the crate after its station", TYPE + CRATE + "waits = 2\n", "P2", "crate 1, station 5, `waits`: there is no such key. It is a key of a `[[crate]]`. The keys of a `[[crate.station]]` are `n`, `type` and `gl`."),
+    ("a bit as a text", TYPE + CRATE + 'gl = "3"\n', "P3", "crate 1, station 5, gl: the value is of the kind string, and a whole number from 1 to 24 has to stand here."),
+    ("a range as an array", TYPE.replace("a = 0, to = 11", "a = [0, 11]"), "P3", "type number 1, command number 1, a: the value is of the kind array, and a whole number from 0 to 15 has to stand here. A range is written as `a = 0, to = 11`."),
+    ("a range as a text", TYPE.replace("a = 0, to = 11", 'a = "0-11"'), "P3", "type number 1, command number 1, a: the value is of the kind string, and a whole number from 0 to 15 has to stand here. A range is written as `a = 0, to = 11`."),
+    ("a probe as a number", TYPE.replace("to = 11", "to = 11, probe = 1"), "P3", "type number 1, command number 1, probe: the value is of the kind integer, and `true` or `false` has to stand here."),
+    ("a type by a number", TYPE + CRATE.replace('"ADC"', "2249"), "P3", "crate 1, station 5, type: the value is of the kind integer, and a text in double quotes has to stand here."),
+    ("types without brackets", "type = 3\n", "P3", "type: the value is of the kind integer, and an array of tables has to stand here."),
+    ("a range that ends before it begins", TYPE.replace("a = 0, to = 11", "a = 5, to = 3"), "P4", "type number 1, command number 1, to: the value is 3, and 5 to 15 may stand here."),
+    ("a width of a probe", TYPE.replace("to = 11", "to = 11, probe = true, width = 12"), "P4", "type number 1, command number 1, width: the value is 12, and a probe has 24 bits."),
+    ("a blank in a name", TYPE.replace("ADC", "A DC"), "P4", "type number 1, name: the value is `A DC`, and a name has 1 to 32 letters, digits, `_` or `-`."),
+    ("a type too many", "".join(TYPE.replace("ADC", f"T{i}") for i in range(65)), "P4", "type number 65: there are at most 64 types."),
+    ("a name twice", TYPE + TYPE, "P8", "type number 2, name: the value is `ADC`, which stands before already, at type number 1."),
+    ("a bit in two crates", TYPE + CRATE + "gl = 3\n" + CRATE.replace("number = 1", "number = 2").replace("n = 5", "n = 7") + "gl = 3\n", "P9", "crate 2, station 7, gl: the value is 3, which stands before already, at crate 1, station 5."),
+    ("a comment of another language", TYPE + "// the crates\n", "P1", "Line 4, column 1: "),
+]
+
+# A case whose mend is one of several, the script, the mend's begin, the script with the mend.
+MENDS = [
+    ("a read without an arrow", service("cdreg r 1 1 5 0", "cfsa 0 r"), "with a function that reads ", service("cdreg r 1 1 5 0", "cfsa 0 r -> v")),
+    ("a read with a table", service("cdreg r 1 1 5 0", "cfubc 0 r table g max 1 tally t", more=" table g = 1"), "with a function that reads ", service("cdreg r 1 1 5 0", "cfubc 0 r max 1 tally t")),
+    ("a write with the other arrow", service("cdreg r 1 1 6 0", "cfsa 16 r -> v"), "with a function that writes ", service("cdreg r 1 1 6 0", "cfsa 16 r <- v")),
+    ("a write without a table", service("cdreg r 1 1 6 0", "cfubc 16 r max 1 tally t"), "with a function that writes ", service("cdreg r 1 1 6 0", "cfubc 16 r table g max 1 tally t", more=" table g = 1")),
+    ("a test with an arrow", service("cdreg r 1 1 6 0", "cfsa 27 r -> v"), "with a function that moves no data ", service("cdreg r 1 1 6 0", "cfsa 27 r")),
+    ("a known number less", service("cdreg r 1 1 5 0", "cfsa 0 r -> v", "put v - 3"), "test the variables by `if` ", service("cdreg r 1 1 5 0", "cfsa 0 r -> v", "if v >= 3 { put v - 3 }")),
+    ("a sum", service("cdreg r 1 1 5 0", "cfsa 0 r -> v", "k = v * 4294967295"), "test the variables by `if` ", service("cdreg r 1 1 5 0", "cfsa 0 r -> v", "k = v % 2 * 4294967295")),
+    ("two variables", service("cdreg r 1 1 5 0", "cfsa 0 r -> v", "cfsa 0 r -> k", "if v >= k { put v - k }"), "ranges know no relation ", service("cdreg r 1 1 5 0", "cfsa 0 r -> v", "cfsa 0 r -> k", "i = v + 4095 - k", "if i >= 4095 { put i - 4095 }")),
+    ("a few turns more", service("k = 10", "while k > 0 turns 9 by k { k = k - 1 }"), "write a larger number after `turns`", service("k = 10", "while k > 0 turns 10 by k { k = k - 1 }")),
+    ("far more turns", service("k = 70000", "while k > 0 turns 9 by k { k = k - 1 }"), "no larger number is allowed: ", service("k = 70000 % 100", "while k > 0 turns 99 by k { k = k - 1 }")),
+    ("a for too long", service("for i = 1 to 70000 { }"), "no larger number is allowed: ", service("for i = 1 to 7 { for k = 1 to 10000 { } }")),
+    ("a number that no loop may have", service("k = 5", "while k > 0 turns 100000 by k { k = k - 1 }"), "write at most 65535 ", service("k = 5", "while k > 0 turns 65535 by k { k = k - 1 }")),
+    ("a few words", service("put 1", heading="within 0 cycles event 0 words"), "write a larger number after `event`", service("put 1", heading="within 0 cycles event 1 words")),
+    ("words without end", deep("put 1"), "keep fewer words, ", service("put 1")),
+    ("a few cycles", service("cclc adc", heading="within 2 cycles event 0 words"), "write a larger number after `within`", service("cclc adc", heading="within 3 cycles event 0 words")),
+    ("cycles without end", deep("cclc adc"), "make fewer cycles, ", service("cclc adc")),
+    ("a few steps", procedure("call get(0)", numbers="within 3 cycles event 1 words steps 2"), "write a larger number after `steps`", procedure("call get(0)")),
+    ("steps without end", deep(""), "make fewer turns: ", service("")),
+]
+
+
+def part_of(rule):
+    """What the page says of a rule."""
+    return PAGE.partition(f"\n### {rule}: ")[2].partition("\n#")[0]
+
+
 def told(rule):
-    """The two texts of a rule on the page."""
-    return re.search(rf"(?m)^### {rule}: .*\n\n\*\*Why:\*\* (.*)\n\n\*\*Mend:\*\* (.*)$", PAGE).groups()
+    """The texts of a rule on the page: why it is there, and each mend."""
+    (why,) = re.findall(r"(?m)^\*\*Why:\*\* (.*)$", part_of(rule))
+    return why, re.findall(r"(?m)^\*\*Mend(?:, [^*]*)?:\*\* (.*)$", part_of(rule))
+
+
+class Chance(random.Random):
+    """Random parts of scripts."""
+
+    def expression(self, depth=1):
+        if depth == 0 or self.random() < 0.4:
+            return self.choice(("v", "k", "i", *map(str, (0, 1, 3, 7, 16, 100, 4095, 65536, 16777215))))
+        if self.random() < 0.7:
+            return f"{self.expression(depth - 1)} {self.choice('+-*')} {self.expression(depth - 1)}"
+        return f"{self.expression(depth - 1)} {self.choice('%/')} {self.choice((1, 3, 16, 100))}"
+
+    def part(self):
+        return f"{self.choice(('', '', '', 'not '))}{self.expression()} {self.choice(('<', '<=', '>', '>='))} {self.expression()}"
+
+    def body(self):
+        """Statements that break no rule but those on numbers, and a measure."""
+        self.start, self.step = self.choice((self.randint(1, 40), self.randint(1, 70000))), self.randint(1, 3)
+        statements = ("put 1", "cclc adc", "lock 1 { cclc adc cclc adc }", "for i = 1 to 7 { put i }", "for i = 0 to 3 { cclm adc on }", "if q { put 2 } else { ctlm adc }")
+        return [self.choice(statements) for _ in range(self.randint(1, 6))]
+
+
+def chances(name):
+    """A source of chance for each random script."""
+    seed = os.environ.get("SEED", "1")
+    return (Chance(f"{name} {seed} {i}") for i in range(int(os.environ.get("CAMAC_CASES", "300"))))
 
 
 class Explain(unittest.TestCase):
@@ -123,6 +271,12 @@ class Explain(unittest.TestCase):
         self.assertTrue(text.startswith(checked[1]))
         return text.splitlines()
 
+    def assert_told(self, rule, why, mend, more):
+        """The last lines of an explanation have the texts of the page."""
+        self.assertEqual(why, f"Why: {told(rule)[0]}")
+        self.assertIn(mend.removeprefix("Mend: "), told(rule)[1])
+        self.assertEqual(more, f"More: docs/REFUSALS.md, {rule}")
+
     def test_explanations(self):
         """Each rule has its row, whose case `check` refuses by the same first line."""
         self.assertEqual([name.partition("_")[0] for name in ROWS["explanations"]], RULES)
@@ -143,33 +297,96 @@ class Explain(unittest.TestCase):
                 self.assertRegex(first, rf"^refused {rule} line {line}: ")
                 self.assertEqual(source, f"{line:5} | " + (script.split("\n")[line - 1] or "(end of the script)"))
                 self.assertEqual(sentence, said)
-                why, mend = told(rule)
-                self.assertEqual(rest, [f"Why: {why}", f"Mend: {mend}", f"More: docs/REFUSALS.md, {rule}"])
+                self.assert_told(rule, *rest)
+
+    def test_mistakes_in_plans(self):
+        for what, plan, rule, said in PLANS:
+            with self.subTest(what=what):
+                (self.room / "plan.toml").write_text(plan)
+                status, text = self.call("explain", "plan.toml")
+                first, sentence, *rest = text.splitlines()
+                self.assertEqual((status, first), self.listed("plan.toml"))
+                self.assertRegex(first, f"^refused {rule}: ")
+                self.assertEqual(sentence[: len(said)], said)
+                self.assert_told(rule, *rest)
+
+    def listed(self, plan):
+        """Status of `plan` and the line that it prints."""
+        status, text = self.call("plan", plan)
+        return status, text.rstrip("\n")
+
+    def test_mends(self):
+        """Of several mends of a rule the one that helps in this case is told."""
+        found = set()
+        for what, script, mend, mended in MENDS:
+            with self.subTest(what=what):
+                lines = self.explain(script)
+                self.assertEqual(lines[-2][:6] + lines[-2][6 : 6 + len(mend)], f"Mend: {mend}")
+                self.assertEqual(self.explain(mended)[0], "accepted")
+                found.add(lines[-2].removeprefix("Mend: "))
+        several = [told(rule)[1] for rule in RULES if len(told(rule)[1]) > 1]
+        self.assertEqual(found, {mend for mends in several for mend in mends})
 
     def test_page(self):
         """Each rule has its place on the page, with an example whose explanation has the texts of the page."""
         self.assertEqual(re.findall(r"(?m)^### (\w+): ", PAGE), RULES)
         for rule in RULES:
             with self.subTest(rule=rule):
-                part = PAGE.partition(f"\n### {rule}: ")[2].partition("\n#")[0]
+                part = part_of(rule)
                 meaning = part.partition("\n")[0]
                 example = re.search(r"```(?:camac|toml) [^\n]*\n(.*?)```", part, re.S)[1]
                 if rule[0] == "P":
                     (self.room / "plan.toml").write_text(example)
-                    status, text = self.call("explain", "plan.toml", "/dev/null")
+                    status, text = self.call("explain", "plan.toml")
                 else:
                     status, text = self.call("explain", "@sample", "@in", given=example)
                 first, *_, why, mend, more = text.splitlines()
-                self.assertEqual((status, why, mend, more), (1, *(f"{name}: {it}" for name, it in zip(("Why", "Mend"), told(rule))), f"More: docs/REFUSALS.md, {rule}"))
+                self.assertEqual(status, 1)
+                self.assert_told(rule, why, mend, more)
                 self.assertRegex(first, rf"^refused {rule}(?: line \d+)?: {re.escape(meaning)}$")
 
+    def test_conditions(self):
+        """In each part of a condition the case is that of the same part as an `if` in those before it."""
+        tried = 0
+        for chance in chances("conditions"):
+            parts = [chance.part() for _ in range(chance.randint(2, 3))]
+            head = [*READ_TWO, f"v = v % {chance.choice((5, 30, 200))}"]
+            joined = self.explain(service(*head, f"if {' and '.join(parts)} {{ }}"))
+            nested = self.explain(service(*head, f"{' '.join(f'if {it} {{' for it in parts)} {'}' * len(parts)}"))
+            with self.subTest(parts=parts):
+                self.assertEqual(joined[0], nested[0])
+                self.assertEqual(joined[2:], nested[2:])
+            tried += joined[0].startswith("refused E4 ")
+        self.assertGreater(tried, 20)
+
+    def test_numbers(self):
+        """A number that is told as needed is enough: put in, its rule is broken no more."""
+        tried = 0
+        for chance in chances("numbers"):
+            body, turns = chance.body(), 5
+            words, cycles = chance.randint(0, 9), chance.randint(0, 9)
+            for _ in range(4):
+                script = service(*body, f"k = {chance.start}", f"while k >= {chance.step} turns {turns} by k {{ k = k - {chance.step} }}", heading=f"within {cycles} cycles event {words} words")
+                first, *lines = self.explain(script)
+                told = re.fullmatch(r"The (?:loop|service) may (?:take|keep) (\d+) (turns|event words|dataway cycles), .*", lines[1] if len(lines) > 1 else "")
+                if first == "accepted" or int(told[1]) > 65535:
+                    break
+                tried += 1
+                old = {"turns": turns, "event words": words, "dataway cycles": cycles}[told[2]]
+                self.assertGreater(int(told[1]), old)
+                turns, words, cycles = (int(told[1]) if told[2] == it else now for it, now in (("turns", turns), ("event words", words), ("dataway cycles", cycles)))
+            else:
+                self.fail(f"after three mends: {first}")
+        self.assertGreater(tried, 100)
+
     def test_words(self):
-        """The words of the language, on the page and among those that may be meant."""
+        """The words of the language, on its page and in the order in which those that may be meant are sought."""
         language = (TOP / "docs/LANGUAGE.md").read_text()
         words = re.search(r"as its name:\n\n((?:    .*\n)+)", language)[1].split()
-        self.assertEqual(re.search(r"## Reserved words\n\n[^\n]*\n\n((?:    .*\n)+)", PAGE)[1].split(), words)
-        near = (TOP / "crates/camac_explain_words/src/near.rt").read_text()
-        self.assertEqual(re.findall(r'"(\w+)"', re.search(r"KEYWORDS: [^=]*= \[(.*?)\];", near, re.S)[1]), words)
+        table = (TOP / "crates/camac_text_tokens/src/words.rt").read_text()
+        order = re.findall(r"Keyword::(\w+)", re.search(r"KEYWORDS: [^=]*= \[(.*?)\];", table, re.S)[1])
+        spelling = dict(re.findall(r'Keyword::(\w+) => "(\w+)"', table))
+        self.assertEqual([spelling[it] for it in order], words)
 
     def test_accepted(self):
         self.assertEqual(self.explain(""), ["accepted"])
@@ -182,16 +399,30 @@ class Explain(unittest.TestCase):
         for length in (119, 120, 121):
             line = "!" + "a" * (length - 1)
             self.assertEqual(self.explain(line)[1], "    1 | " + (line if length <= 120 else line[:120] + ".."))
+        for before, after in ((100, 100), (2, 300), (300, 2)):
+            line = "v " * (before // 2) + "!" + " v" * (after // 2)
+            shown = self.explain(line)[1].removeprefix("    1 | ")
+            part = shown.removeprefix("..").removesuffix("..")
+            begin = line.index(part)
+            self.assertIn("!", part)
+            self.assertEqual(len(part), 120)
+            self.assertEqual(shown, ".." * (begin > 0) + part + ".." * (begin + 120 < len(line)))
         self.assertEqual(self.explain("\n" * 99_999 + "!")[1], "100000 | !")
+
+    def test_long_line(self):
+        """A fault at the end of a line of nearly 1 MB, with some 64,000 tokens: a search by parses of the text before it would take hours."""
+        name = "a" * 32
+        line = f"cdlam adc 1 1 5 12 var {name} service adc within 0 cycles event 0 words {{ " + f"{name} = {'+'.join([name] * 6)} " * 4000 + "put }"
+        self.assertEqual(self.explain(line)[2], "Found `}`; here may stand an expression.")
 
     def test_other_plans(self):
         (self.room / "plan.toml").write_text("buffer = 10\n[[crate]]\nnumber = 9\n")
-        status, text = self.call("explain", "plan.toml", "/dev/null")
+        status, text = self.call("explain", "plan.toml")
         self.assertEqual((status, *text.splitlines()[:2]), (1, "refused P4: value out of range", "crate 9, number: the value is 9, and 1 to 7 may stand here."))
         (self.room / "plan.toml").write_text("buffer = true\n")
-        self.assertEqual(self.call("explain", "plan.toml", "/dev/null")[1].splitlines()[1], "buffer: the value is of the kind boolean.")
+        self.assertEqual(self.call("explain", "plan.toml")[1].splitlines()[1], "buffer: the value is of the kind boolean, and a whole number from 1 to 4096 has to stand here.")
         (self.room / "plan.toml").write_text("[[crate]]\nnumber = 1\n[[crate.station]]\nn = 5\n")
-        self.assertEqual(self.call("explain", "plan.toml", "/dev/null")[1].splitlines()[1], "crate 1, station 5, type: the key is missing.")
+        self.assertEqual(self.call("explain", "plan.toml")[1].splitlines()[1], "crate 1, station 5, type: the key is missing, and a text in double quotes has to stand here.")
 
 
 if __name__ == "__main__":

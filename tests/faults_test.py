@@ -1,5 +1,5 @@
 #!/usr/bin/env python3
-"""Tries the built program where one call of the system fails once and the next ones don't, and looks at the order of its calls. A small
+"""Tries the built program where each call of the system fails, once or from there on, and looks at the order of its calls. A small
 library in front of the C library writes all calls of the program into one log. It is compiled here by cc or clang.
 
 usage: tests/faults_test.py [-v] [TEST ..]     from any folder; takes about half a minute
@@ -8,17 +8,17 @@ The program is crates/camac/out/camac (cd crates/camac && rt run makes it), or w
 """
 import collections
 import os
-import pathlib
 import shutil
 import subprocess
 import sys
 import tempfile
 import unittest
 
-from program_test import ANSWERS, DEMAND, EVENT_FILE, LISTING, PROGRAM, READ, REQUESTS, TWICE, WRITE, Case
+from program_test import ANSWERS, DEMAND, EVENT_FILE, LISTING, PROGRAM, READ, REQUESTS, STRAIGHT_LINE, TWICE, WRITE, Case
 
-# FAILING_TURN is the number of the call that fails, and FAILING_ERROR its error, or 0 for a write that takes nothing. PIECE is how many bytes
-# a read or a write takes at most, or 0. Each call is a line of CALLS: its name, its file, how much was asked for, the answer, the bytes.
+# FAILING_TURN is the number of the call that fails, and FAILING_ERROR its error, 0 for a write that takes nothing, or SHORT for a read or
+# write that moves one byte. With FAILING_LATER each later call of this name on this file fails too. PIECE is how many bytes a read or a
+# write takes at most, or 0. Each call is a line of CALLS: its name, its file, how much was asked for, the answer, the bytes.
 SHIM = r"""
 #define _GNU_SOURCE
 #include <errno.h>
@@ -67,14 +67,24 @@ static void write_down(const char *name, const char *place, long asked, long ans
     raw(SYS_close, fd, 0, 0, 0, 0);
 }
 
-/* Whether it is the turn of this call to fail. */
-static int fails(void) {
+/* Whether this call fails. */
+static int fails(const char *name, const char *place) {
     static long turn;
-    return ++turn == number("FAILING_TURN");
+    static char failed[8192];
+    char call[8192];
+    snprintf(call, sizeof call, "%s %s", name, place);
+    if (++turn == number("FAILING_TURN")) {
+        if (getenv("FAILING_LATER")) strcpy(failed, call);
+        return 1;
+    }
+    return *failed && !strcmp(failed, call);
 }
 
 static long move(const char *name, long call, int fd, const void *bytes, size_t size) {
-    long answer = fails() ? -number("FAILING_ERROR") : raw(call, fd, (long)bytes, least(size, number("PIECE")), 0, 0);
+    long piece = number("PIECE"), error = number("FAILING_ERROR");
+    int is_failing = fails(name, place(fd));
+    if (is_failing && error == SHORT) piece = 1;
+    long answer = is_failing && error != SHORT ? -error : raw(call, fd, (long)bytes, least(size, piece), 0, 0);
     write_down(name, place(fd), size, answer, bytes);
     return end(answer);
 }
@@ -84,13 +94,13 @@ ssize_t read(int fd, void *bytes, size_t size) { return move("read", SYS_read, f
 ssize_t write(int fd, const void *bytes, size_t size) { return move("write", SYS_write, fd, bytes, size); }
 
 int fsync(int fd) {
-    long answer = fails() ? -number("FAILING_ERROR") : raw(SYS_fsync, fd, 0, 0, 0, 0);
+    long answer = fails("fsync", place(fd)) ? -number("FAILING_ERROR") : raw(SYS_fsync, fd, 0, 0, 0, 0);
     write_down("fsync", place(fd), 0, answer, 0);
     return end(answer);
 }
 
 int statx(int fd, const char *path, int flags, unsigned mask, struct statx *about) {
-    long answer = fails() ? -number("FAILING_ERROR") : raw(SYS_statx, fd, (long)path, flags, mask, (long)about);
+    long answer = fails("statx", *path ? path : place(fd)) ? -number("FAILING_ERROR") : raw(SYS_statx, fd, (long)path, flags, mask, (long)about);
     write_down("statx", *path ? path : place(fd), 0, answer, 0);
     return end(answer);
 }
@@ -100,12 +110,32 @@ int open(const char *path, int flags, ...) {
     va_start(more, flags);
     int mode = flags & O_CREAT ? va_arg(more, int) : 0;
     va_end(more);
-    long answer = fails() ? -number("FAILING_ERROR") : raw(SYS_openat, AT_FDCWD, (long)path, flags, mode, 0);
+    long answer = fails("open", path) ? -number("FAILING_ERROR") : raw(SYS_openat, AT_FDCWD, (long)path, flags, mode, 0);
     write_down("open", path, 0, least(answer, 1), 0);
     return end(answer);
 }
+
+/* What is closed is closed, whatever the answer. */
+int close(int fd) {
+    char name[4096];
+    snprintf(name, sizeof name, "%s", place(fd));
+    long answer = raw(SYS_close, fd, 0, 0, 0, 0);
+    if (fails("close", name)) answer = -number("FAILING_ERROR");
+    write_down("close", name, 0, answer, 0);
+    return end(answer);
+}
 """
-EINTR, EIO, NOTHING = 4, 5, 0
+EINTR, EIO, EAGAIN, EMFILE, ENOSPC, NOTHING, SHORT = 4, 5, 11, 24, 28, 0, 9999
+SHIM = SHIM.replace("SHORT", str(SHORT))
+# How each call may fail.
+ERRORS = {
+    "read": (EINTR, EIO, EAGAIN),
+    "write": (EINTR, EIO, EAGAIN, ENOSPC, NOTHING),
+    "open": (EINTR, EIO, ENOSPC, EMFILE),
+    "fsync": (EINTR, EIO, ENOSPC),
+    "statx": (EIO,),
+    "close": (EINTR, EIO, ENOSPC),
+}
 HEADER, RECORD = EVENT_FILE[:8], EVENT_FILE[8:]
 SECOND_RECORD = RECORD[:4] + bytes([0, 0, 0, 2]) + RECORD[8:]
 LOCKOUT = b"""cdlam adc 1 1 5 12
@@ -120,19 +150,28 @@ lock 1 {
 }
 }
 """
+WRITING = b"""cdlam adc 1 1 5 12
+service adc within 3 cycles event 0 words {
+cdreg r 1 1 6 0
+cfsa 16 r <- 255
+}
+"""
 LINES, ASKED = LISTING.splitlines(True), REQUESTS.splitlines(True)
 Call = collections.namedtuple("Call", "name place asked answer bytes")
 
 
 class Ran:
-    """What the program answered, what is in EVENTS after it, and its calls but those on standard error, each with its number."""
+    """What the program answered, what is in EVENTS after it, and its calls but those on standard error, each with its number. The calls
+    that close a file stand apart: what is closed at the end has no part in the order."""
 
     def __init__(self, answer, events, log):
         self.status, self.out, self.err = answer
-        self.events, self.calls, self.turns = events, [], []
+        self.events, self.calls, self.turns, self.closes = events, [], [], []
         for turn, line in enumerate(log.splitlines(), 1):
             name, place, asked, answer, text = line.split(" ")
-            if place != "err":
+            if name == "close":
+                self.closes.append(turn)
+            elif place != "err":
                 self.calls.append(Call(name, place, int(asked), int(answer), bytes.fromhex(text)))
                 self.turns.append(turn)
 
@@ -157,18 +196,28 @@ class Logged(Case):
         compiler = shutil.which("cc") or shutil.which("clang")
         subprocess.run([compiler, "-shared", "-fPIC", "-O1", "-xc", "-o", cls.library, "-"], input=SHIM.encode(), check=True)
 
-    def ran(self, line, given=None, turn=0, error=0, piece=0, there=None):
-        """The program on the words of a line. `given` names the file behind standard input, `there` is what stands in EVENTS before."""
+    def ran(self, line, given=None, turn=0, error=0, piece=0, there=None, later=False):
+        """The program on the words of a line. `given` names the file behind standard input (`|NAME`: a pipe from it), `there` is what stands in EVENTS before. The
+        call number `turn` fails, and with `later` all later ones of its kind."""
         log, events = self.room / "calls", self.room / "e"
         log.write_text("")
         events.unlink(missing_ok=True)
         if there is not None:
             events.write_bytes(there)
-        about = {"CALLS": log, "FAILING_TURN": turn, "FAILING_ERROR": error, "PIECE": piece}
+        about = {"CALLS": log, "FAILING_TURN": turn, "FAILING_ERROR": error, "PIECE": piece, **({"FAILING_LATER": 1} if later else {})}
         env = {**os.environ, "LD_PRELOAD": self.library, **{name: str(it) for name, it in about.items()}}
-        with open(self.room / given if given else os.devnull, "rb") as file:
-            answer = self.call(*line.split(), given=None, stdin=file, env=env)
+        if given and given.startswith("|"):
+            answer = self.call(*line.split(), given=self.file(given[1:]), env=env)
+        else:
+            with open(self.room / given if given else os.devnull, "rb") as file:
+                answer = self.call(*line.split(), given=None, stdin=file, env=env)
         return Ran(answer, events.read_bytes() if events.exists() else None, log.read_text())
+
+
+def is_reading(line, call):
+    """Whether it is the call of an input."""
+    command, *_, output = line.split()
+    return call.name == "read" or call.name == "open" and (command not in ("run", "drive") or call.place != output)
 
 
 class InTurn(Logged):
@@ -226,6 +275,10 @@ class InTurn(Logged):
     def test_each_request_is_one_write(self):
         asked = self.ran("drive plan.toml straight.script e", "answers").writes()
         self.assertEqual([it for it in asked if it[0] == "out"], [("out", it) for it in ASKED])
+        (self.room / "writing.script").write_bytes(WRITING)
+        asked = self.ran("drive plan.toml writing.script e", "answers").writes()
+        lines = [b"demand\n", b"cycle 1 6 0 16 out 0000ff\n", b"demand\n", b"ended events 1\n"]
+        self.assertEqual([it for it in asked if it[0] == "out"], [("out", it) for it in lines])
 
     def test_a_refused_script_reads_no_answer(self):
         (self.room / "bad").write_bytes(b"!")
@@ -243,7 +296,7 @@ class InTurn(Logged):
             self.assertEqual({it.place for it in ran.moves()}, {"bad", "out"})
 
 
-class FailsOnce(Logged):
+class Fails(Logged):
     """A call that fails is the last one but for those that tell it, even where the next one would go well."""
 
     def setUp(self):
@@ -252,26 +305,50 @@ class FailsOnce(Logged):
         records = [RECORD[:6] + n.to_bytes(2, "big") + RECORD[8:] for n in range(1, 2001)]
         (self.room / "many.events").write_bytes(HEADER + b"".join(records))
 
-    def expect_each(self, line, given=None, piece=0, there=None):
-        """Has each call fail in turn. Returns the names of the calls."""
+    def expect_each(self, line, given=None, piece=0, there=None, status=0):
+        """Has each call fail in turn, alone and with all later ones of its kind. Returns the names of the calls."""
         whole = self.ran(line, given, piece=piece, there=there)
-        self.assertEqual((whole.status, whole.err), (0, b""))
-        command, *_, output = line.split()
+        self.assertEqual((whole.status, whole.err), (status, b""))
         for place, (turn, call) in enumerate(zip(whole.turns, whole.calls)):
-            for error in {"write": (EINTR, EIO, NOTHING), "statx": (EIO,)}.get(call.name, (EINTR, EIO)):
-                with self.subTest(line=line, call=call[:3], error=error):
-                    ran = self.ran(line, given, turn, error, piece, there)
-                    wanted = whole.calls[:place] + [call._replace(answer=-error, bytes=b"")]
-                    if call.name in ("open", "fsync") and error == EINTR:
-                        # std makes these again
-                        self.expect_calls(ran, wanted + whole.calls[place:])
-                        self.assertEqual((ran.status, ran.out, ran.err, ran.events), (0, whole.out, b"", whole.events))
-                        continue
-                    self.expect_calls(ran, wanted)
-                    is_read = call.name == "read" or call.name == "open" and (command not in ("run", "drive") or call.place != output)
-                    self.assertEqual((ran.status, ran.err), (3, READ if is_read else WRITE))
-                    self.expect_left(ran, there)
+            for error in ERRORS[call.name]:
+                # std makes an interrupted open or sync again
+                is_repeated = call.name in ("open", "fsync") and error == EINTR
+                for later in (False,) if is_repeated else (False, True):
+                    is_good = False
+                    with self.subTest(line=line, call=call[:3], error=error, later=later):
+                        ran = self.ran(line, given, turn, error, piece, there, later)
+                        wanted = whole.calls[:place] + [call._replace(answer=-error, bytes=b"")]
+                        if is_repeated:
+                            self.expect_calls(ran, wanted + whole.calls[place:])
+                            self.expect_whole(ran, whole)
+                        else:
+                            self.expect_calls(ran, wanted)
+                            self.assertEqual((ran.status, ran.err), (3, READ if is_reading(line, call) else WRITE))
+                            self.expect_left(ran, there)
+                        is_good = True
+                    if not is_good:
+                        # a call that is made again would never end
+                        break
+        self.expect_closes(line, whole, given, piece, there)
+        self.expect_short(line, whole, given, piece, there)
         return [it.name for it in whole.calls]
+
+    def expect_closes(self, line, whole, given, piece, there):
+        """An error of the call that closes a file is not told: nothing is lost by it."""
+        for turn in whole.closes:
+            for error in ERRORS["close"]:
+                with self.subTest(line=line, closing=turn, error=error):
+                    self.expect_whole(self.ran(line, given, turn, error, piece, there, error == EIO), whole)
+
+    def expect_short(self, line, whole, given, piece, there):
+        """After a read or write that moves one byte there is one for the rest."""
+        for turn, call in zip(whole.turns, whole.calls):
+            if call.name in ("read", "write"):
+                with self.subTest(line=line, short=call[:3]):
+                    self.expect_whole(self.ran(line, given, turn, SHORT, piece, there), whole)
+
+    def expect_whole(self, ran, whole):
+        self.assertEqual((ran.status, ran.out, ran.err, ran.events), (whole.status, whole.out, whole.err, whole.events))
 
     def expect_calls(self, ran, wanted):
         self.assertEqual([it[:4] for it in ran.calls], [it[:4] for it in wanted])
@@ -314,8 +391,32 @@ class FailsOnce(Logged):
 
     def test_live_runs(self):
         self.expect_each("drive plan.toml straight.script e", "answers")
-        self.expect_each("drive @sample straight.script e", "answers", there=b"of an earlier run")
+        self.expect_each("drive @sample straight.script e", "answers", there=b"")
         self.expect_each("drive @sample straight.script e", "answers", piece=9)
+
+    def test_live_runs_through_pipes(self):
+        (self.room / "locked.script").write_bytes(LOCKOUT)
+        (self.room / "waits").write_bytes((DEMAND + b"0 0 000000 2 000000\n" + b"1 1 000abc 0 000000\n" * 4) * 2)
+        self.expect_each("drive plan.toml straight.script e", "|answers")
+        self.expect_each("drive @sample locked.script e", "|waits")
+
+    def test_refusals(self):
+        """Lines of a refusal, and those of `explain`, in many writes."""
+        (self.room / "refused.script").write_bytes(STRAIGHT_LINE.replace(b"within 3", b"within 2"))
+        for name in ("check", "explain"):
+            self.expect_each(f"{name} plan.toml refused.script", status=1)
+        self.expect_each("run plan.toml refused.script answers e", status=1)
+        (self.room / "cut.events").write_bytes(EVENT_FILE[:-1])
+        self.expect_each("events cut.events", status=1)
+
+    def test_overruns_wait_for_the_disk(self):
+        """A run that a wait stops has ended without a fault, so its event file is on the disk."""
+        (self.room / "answers").write_bytes(DEMAND + b"1 1 123fff 3 000000\n")
+        for line, given in (("run plan.toml straight.script answers e", None), ("drive plan.toml straight.script e", "answers")):
+            whole = self.ran(line, given)
+            self.assertEqual((whole.status, [it.name for it in whole.calls[-2:]]), (1, ["statx", "fsync"]))
+            ran = self.ran(line, given, whole.turns[-1], EIO)
+            self.assertEqual((ran.status, ran.out, ran.err, ran.events), (3, whole.out, WRITE, whole.events))
 
     def test_device_in_the_place_of_events(self):
         """What is no file is not waited for."""

@@ -17,7 +17,7 @@ import time
 import unittest
 
 TOP = pathlib.Path(__file__).resolve().parent.parent
-TAKEN = ("camac", "install", "crates.txt", "crates", "tools", "man", "completions", "editors", "include", "python", "examples", "docs", "tests", "CHANGELOG.md")
+TAKEN = ("camac", "install", "crates.txt", "crates", "tools", "man", "completions", "editors", "include", "python", "examples", "docs", "tests", "CHANGELOG.md", "README.md", "LICENSE")
 VERDICT = "accepted\nservice adc gl 3 cycles 3 of 3 words 1 of 1 steps 3\n"
 NOT_PROVED = "It is not proved; to prove it (about an hour) and keep that: cd crates/camac && rt run\n"
 NEEDED = "bash env readlink find sort stat xargs sha256sum mkdir mv rm cat".split()
@@ -283,28 +283,121 @@ class Proved(unittest.TestCase):
 
 
 class Install(unittest.TestCase):
+    """The library for C that is put in place is a stand-in, where gcc is there to make one."""
+
     folder = Launcher.folder
+    lacking = [it for it in ("gcc", "ld", "ar", "objcopy") if not shutil.which(it)]
+    of_c = "include/camac.h include/camac.hpp include/camac_esone.h lib/libcamac.a lib/libcamac.so lib/libcamac.so.0 lib/pkgconfig/camac.pc"
+
+    def archive(self):
+        """A stand-in for the archive of the library."""
+        folder = self.folder()
+        (folder / "it.c").write_text("unsigned camac_raw_version(void) { return 200; }\n")
+        subprocess.run(["gcc", "-fPIC", "-c", "it.c"], cwd=folder, check=True)
+        subprocess.run(["ar", "rcs", "it.a", "it.o"], cwd=folder, check=True)
+        return folder / "it.a"
+
+    def keep_archive(self):
+        """Puts the stand-in where the library of these sources is kept."""
+        line = "top=$1; source $top/tools/program.bash; cd $top; texts_of crates/*/src tools/library_main.text; rt version | sha256sum"
+        texts, kit = call("bash", "-c", line.replace("$top", '"$top"'), "bash", COPY)[1].splitlines()
+        its = COPY / f"out/libcamac.{texts}.{kit[:16]}.a"
+        shutil.copy(self.archive(), its)
+        its.chmod(0o755)
+        self.addCleanup(its.unlink)
+
+    def said_of_library(self, how):
+        return f"install: no library for C: {self.lacking[0]} is not here" if self.lacking else f"install: the library for C, {how}"
 
     def test_install_call_and_remove(self):
         place, elsewhere = self.folder() / "of a user", self.folder()
+        if not self.lacking:
+            self.keep_archive()
         status, out, err = call(COPY / "install", place)
         self.assertEqual((status, err), (0, ""))
         lines = out.splitlines()
-        self.assertEqual(lines[-2:], ["install: camac 0.2.0, not proved: ./install --prove proves it", f"install: {place}/bin is not in PATH"])
+        not_proved = "not proved: ./install --prove proves it"
+        last = [f"install: camac 0.2.0, {not_proved}", self.said_of_library(not_proved), f"install: {place}/bin is not in PATH"]
+        self.assertEqual(lines[-3:], last)
         wanted = "bin/camac share/man/man1/camac.1 share/bash-completion/completions/camac share/zsh/site-functions/_camac"
         wanted += " share/fish/vendor_completions.d/camac.fish share/nvim/site/syntax/camac.vim share/vim/vimfiles/syntax/camac.vim"
-        wanted += " share/emacs/site-lisp/camac-mode.el share/camac/vscode/package.json"
+        wanted += " share/emacs/site-lisp/camac-mode.el share/camac/vscode/package.json bin/camac-report share/man/man1/camac-report.1"
+        wanted += " share/bash-completion/completions/camac-report share/zsh/site-functions/_camac-report"
+        wanted += " share/fish/vendor_completions.d/camac-report.fish share/doc/camac/README.md share/doc/camac/docs/REFUSALS.md"
+        wanted += " share/doc/camac/examples/tutorial/crate.toml share/doc/camac/tests/pictures/plan.svg"
+        wanted += "" if self.lacking else f" {self.of_c}"
         for name in wanted.split():
             self.assertTrue((place / name).is_file(), name)
             self.assertIn(f"{place}/{name}", lines)
         path = {"PATH": f"{place}/bin:/usr/bin:/bin"}
         script = COPY / "examples/straight_line.script"
         self.assertEqual(call("camac", "check", "@sample", script, cwd=elsewhere, env=path), (0, VERDICT, ""))
+        (elsewhere / "answers").write_text("0 0 000000 0 000004\n1 1 123fff 2 000000\n")
+        words = ["@sample", script, "answers", "-o", "run.html"]
+        self.assertEqual(call("camac-report", *words, cwd=elsewhere, env=path), (0, "", ""))
+        self.assertEqual(call(place / "bin/camac-report", *words, cwd=elsewhere, env={"PATH": "/usr/bin:/bin"}), (0, "", ""))
+        self.assertIn("ended events 1", (elsewhere / "run.html").read_text())
         status, out, err = call(COPY / "install", place, env={**os.environ, "PATH": f"{place}/bin:{os.environ['PATH']}"})
-        self.assertEqual((status, out.splitlines()[-1].startswith("install: camac 0.2.0"), err), (0, True, ""))
+        self.assertEqual((status, out.splitlines()[-2].startswith("install: camac 0.2.0"), err), (0, True, ""))
+        if not self.lacking and shutil.which("pkg-config"):
+            words = ["pkg-config", "--cflags", "--libs", "--modversion", "camac"]
+            status, out, err = call(*words, env={**os.environ, "PKG_CONFIG_PATH": f"{place}/lib/pkgconfig"})
+            self.assertEqual((status, out.splitlines()[0], err), (0, "0.2.0", ""))
+            program = elsewhere / "it.c"
+            program.write_text("#include <camac.h>\nint main(void) { return camac_version() == CAMAC_VERSION_NUMBER ? 0 : 1; }\n")
+            words = ["gcc", program, f"-I{place}/include", f"-L{place}/lib", "-lcamac", "-o", elsewhere / "it"]
+            self.assertEqual(call(*words), (0, "", ""))
+            self.assertEqual(call(elsewhere / "it", env={"LD_LIBRARY_PATH": f"{place}/lib"}), (0, "", ""))
         self.assertEqual(call(COPY / "install", "--remove", place)[0], 0)
         self.assertEqual([it for it in place.rglob("*") if it.is_file()], [])
         self.assertEqual(call(COPY / "install", "--remove", place)[0], 1)
+
+    def test_what_is_told(self):
+        """The pages that explanations name; and where Python does not look, the line that mends it."""
+        place = self.folder() / "of a user"
+        lines = call(COPY / "install", place)[1].splitlines()
+        self.assertIn(f"install: the pages that explanations name (More: docs/..) are in {place}/share/doc/camac", lines)
+        script = COPY / "examples/too_few_cycles.script"
+        *_, more = call(place / "bin/camac", "explain", "@sample", script)[1].splitlines()
+        self.assertTrue((place / "share/doc/camac" / more.removeprefix("More: ").partition(",")[0]).is_file(), more)
+        line = next(it for it in lines if it.startswith("install: python3 does not look into ")).partition("~/.profile: ")[2]
+        ran = call("bash", "-c", f"{line}; python3 -c 'import camac; print(camac.__file__)'", env={**os.environ, "PYTHONPATH": ""})
+        self.assertTrue(ran[1].startswith(f"{place}/lib/"), ran)
+        again = call(COPY / "install", place, env={**os.environ, "PYTHONPATH": str(pathlib.Path(ran[1].strip()).parent.parent)})[1]
+        self.assertNotIn("does not look into", again)
+
+    def test_file_of_another(self):
+        place = self.folder()
+        (place / "bin").mkdir()
+        (place / "bin/camac").write_text("mine\n")
+        status, out, err = call(COPY / "install", place)
+        wanted = f"install: {place}/bin/camac is there, and ./install did not put it there: move it away. Nothing was put\n"
+        self.assertEqual((status, out, err), (1, "", wanted))
+        self.assertEqual([it for it in place.rglob("*") if it.is_file()], [place / "bin/camac"])
+        self.assertEqual((place / "bin/camac").read_text(), "mine\n")
+        (place / "bin/camac").unlink()
+        (place / "bin/camac-report").symlink_to("nowhere")
+        self.assertEqual(call(COPY / "install", place)[0], 1)
+        (place / "bin/camac-report").unlink()
+        self.assertEqual(call(COPY / "install", place)[0], 0)
+        (place / "share/camac/installed").unlink()
+        self.assertEqual(call(COPY / "install", place)[0], 0, "the same files are taken, whoever put them there")
+
+    def test_pack(self):
+        place, elsewhere = self.folder(), self.folder()
+        status, out, err = call(COPY / "install", "--pack", place)
+        packed = place / "camac-0.2.0-x86_64.tar.gz"
+        self.assertEqual((status, out.splitlines()[0], err), (0, str(packed), ""))
+        self.assertEqual([*place.iterdir()], [packed])
+        call(COPY / "install", "--pack", cwd=elsewhere)
+        self.assertEqual((elsewhere / packed.name).read_bytes(), packed.read_bytes())
+        call("tar", "-xzf", packed, "-C", place, "--strip-components=1")
+        put = self.folder()
+        call(COPY / "install", put)
+        its = {it.relative_to(place) for it in place.rglob("*") if it.is_file() and it != packed}
+        self.assertEqual(its, {it.relative_to(put) for it in put.rglob("*") if it.is_file() and "__pycache__" not in it.parts})
+        path = {"PATH": f"{place}/bin:/usr/bin:/bin"}
+        self.assertEqual(call("camac", "check", "@sample", place / "share/doc/camac/examples/straight_line.script", env=path), (0, VERDICT, ""))
 
     def test_prove(self):
         folder, place = self.folder(), self.folder()
@@ -312,15 +405,20 @@ class Install(unittest.TestCase):
         toolchain(folder, "exit 1")
         status, out, err = call(COPY / "install", "--prove", place, env=path)
         self.assertEqual((status, out), (1, ""))
-        self.assertTrue(err.startswith("install: proves all that the program stands on: from nothing about an hour"), err)
+        self.assertTrue(err.startswith("install: proves all that camac stands on: from nothing about an hour"), err)
         self.assertTrue(err.endswith("install: the program is not proved\n"), err)
         self.assertEqual([*place.iterdir()], [])
         self.addCleanup(shutil.rmtree, COPY / "crates/camac/out")
         self.addCleanup((COPY / "out/proved").unlink)
-        toolchain(folder, "mkdir -p out && printf '#!/bin/sh\\necho camac proved\\n' >out/camac && chmod 755 out/camac")
+        line = "mkdir -p out && printf '#!/bin/sh\\necho camac proved\\n' >out/camac && chmod 755 out/camac"
+        if not self.lacking:
+            line += f" && cp {self.archive()} out/libcamac_c.a"
+            self.addCleanup(shutil.rmtree, COPY / "crates/camac_c/out")
+            self.addCleanup((COPY / "out/proved_library").unlink)
+        toolchain(folder, line)
         status, out, err = call(COPY / "install", "--prove", place, env=path)
         self.assertEqual(status, 0, err)
-        self.assertIn("install: camac proved, proved\n", out)
+        self.assertIn(f"install: camac proved, proved\n{self.said_of_library('proved')}\n", out)
         self.assertEqual(call(place / "bin/camac")[1], "camac proved\n")
 
     def test_home(self):

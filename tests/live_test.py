@@ -112,6 +112,7 @@ class Rows(Case):
     def talk(self, text, answers, plan="@sample", events="run.events"):
         """All that the program wrote, and its status, where each answer was given to its request."""
         path = self.write("script", text)
+        (self.room / events).unlink(missing_ok=True)
         with Pipes(self.room, plan, path, events) as pipes:
             output = pipes.requests()
             for answer in answers:
@@ -124,12 +125,18 @@ class Rows(Case):
     def drive(self, text, answers, wanted, status=0, events=HEADER):
         wanted = "".join(f"{line}\n" for line in wanted).encode()
         self.assertEqual(self.talk(text, answers), (wanted, status))
-        self.assertEqual(self.file("run.events"), events)
+        self.expect_events("run.events", events)
         given = "".join(f"{line}\n" for line in answers).encode()
         for given in (given, given[:-1]):
             done = subprocess.run([PROGRAM, "drive", "@sample", "script", "at.once"], input=given, capture_output=True, cwd=self.room)
             self.assertEqual((done.stdout, done.returncode, done.stderr), (wanted, status, b""))
-            self.assertEqual(self.file("at.once"), events)
+            self.expect_events("at.once", events)
+
+    def expect_events(self, name, events):
+        """EVENTS holds these bytes, or it was not made; then it is taken away."""
+        path = self.room / name
+        self.assertEqual(path.read_bytes() if path.exists() else None, events)
+        path.unlink(missing_ok=True)
 
     def test_straight_line(self):
         demand, cycle = "demand", "cycle 1 5 0 0 in"
@@ -169,11 +176,35 @@ class Rows(Case):
         self.assertEqual((output.decode().splitlines()[1:-2], status), ([f"cycle 1 {it}" for it in wanted], 0))
 
     def test_refused(self):
-        refusal = ["refused E12 line 3: more cycles than annotated"]
-        self.drive(STRAIGHT_LINE.replace("within 3", "within 2"), [], refusal, 1, b"")
+        """EVENTS is not touched."""
+        refused, line = STRAIGHT_LINE.replace("within 3", "within 2"), "refused E12 line 3: more cycles than annotated"
+        self.drive(refused, [], [line], 1, None)
         self.write("plan.toml", "buffer = 0\n")
         self.assertEqual(self.talk(STRAIGHT_LINE, [], "plan.toml"), (b"refused P4: value out of range\n", 1))
-        self.assertEqual(self.file("run.events"), b"")
+        self.expect_events("run.events", None)
+        self.write("script", refused)
+        (self.room / "night").write_bytes(EVENT_FILE)
+        done = subprocess.run([PROGRAM, "drive", "@sample", "script", "night"], input=b"", capture_output=True, cwd=self.room)
+        self.assertEqual((done.returncode, done.stdout, done.stderr), (1, f"{line}\n".encode(), b""))
+        self.assertEqual(self.file("night"), EVENT_FILE)
+
+    def test_events_that_hold_bytes(self):
+        """A live run cannot be made again: no byte is lost, and nothing is asked for. An empty file is taken, and what is no file."""
+        self.write("script", STRAIGHT_LINE)
+        words, given = [PROGRAM, "drive", "@sample", "script"], f"{DEMAND}\n{CYCLE}\n".encode()
+        for there in (b"\n", EVENT_FILE):
+            (self.room / "night").write_bytes(there)
+            done = subprocess.run([*words, "night"], input=given, capture_output=True, cwd=self.room)
+            self.assertEqual((done.returncode, done.stdout, done.stderr), (3, b"", b"fault write\n"))
+            self.assertEqual(self.file("night"), there)
+        (self.room / "night").write_bytes(b"")
+        self.assertEqual(subprocess.run([*words, "night"], input=given, capture_output=True, cwd=self.room).returncode, 0)
+        self.assertEqual(self.file("night"), EVENT_FILE)
+        os.mkfifo(self.room / "pipe")
+        with subprocess.Popen(["cat", "pipe"], stdout=subprocess.PIPE, cwd=self.room) as reader:
+            self.assertEqual(subprocess.run([*words, "pipe"], input=given, capture_output=True, cwd=self.room).returncode, 0)
+            self.assertEqual(reader.communicate(timeout=PATIENCE)[0], EVENT_FILE)
+        self.assertEqual(subprocess.run([*words, "/dev/null"], input=given, capture_output=True, cwd=self.room).returncode, 0)
 
     def test_words(self):
         self.write("script", STRAIGHT_LINE)
@@ -209,8 +240,7 @@ class Rows(Case):
                 how = {"stdin": subprocess.DEVNULL, "capture_output": True, "cwd": self.room, "env": {**os.environ, "camac": PROGRAM}}
                 done = subprocess.run(["bash", "-c", ending], timeout=PATIENCE, **how)
                 self.assertEqual((done.returncode, done.stdout, done.stderr), (3, output, errors))
-                if events is not None:
-                    self.assertEqual(self.file("e"), events)
+                self.expect_events("e", events)
 
     def test_requests_that_nobody_reads(self):
         self.write("script", STRAIGHT_LINE)
@@ -249,13 +279,11 @@ class Rows(Case):
             self.assertEqual(pipes.end(), (b"ended events 1\n", 0, b""))
         self.assertEqual(list(camac.read_events(self.room / "e")), [camac.Event(1, 3, 29_997, 9_999, ())])
 
-    def test_the_limit_of_answers(self):
+    def test_more_answers_than_an_answer_file_may_have(self):
         self.write("script", STRAIGHT_LINE)
-        quiet = f"{WAIT_0}\n".encode()
-        words = [PROGRAM, "drive", "@sample", "script", "e"]
-        for count, last in [(1_000_000, b"ended events 0\n"), (1_000_001, b"refused A4 line 1000001: too many answers\n")]:
-            done = subprocess.run(words, input=quiet * count, capture_output=True, cwd=self.room)
-            self.assertEqual((done.stdout == b"demand\n" * 1_000_001 + last, done.stderr), (True, b""))
+        given = f"{WAIT_0}\n".encode() * 1_000_001
+        done = subprocess.run([PROGRAM, "drive", "@sample", "script", "e"], input=given, capture_output=True, cwd=self.room)
+        self.assertEqual((done.stdout == b"demand\n" * 1_000_002 + b"ended events 0\n", done.returncode, done.stderr), (True, 0, b""))
 
 
 class Driver(Case):
@@ -263,6 +291,7 @@ class Driver(Case):
 
     def drive(self, text, branch, plan="@sample"):
         path = self.write("script", text)
+        (self.room / "run.events").unlink(missing_ok=True)
         return camac.drive(plan, path, branch, self.room / "run.events", program=PROGRAM, timeout=PATIENCE)
 
     def events(self):
@@ -326,6 +355,31 @@ class Driver(Case):
         self.assertEqual((raised.exception.text, raised.exception.end), ("fault write", None))
 
 
+class ShellDriver(Case):
+    """The driver in the shell of docs/LIVE.md, interrupted by a terminal at each request: it and the program get the signal."""
+
+    def test_ctrl_c(self):
+        page = (TOP / "docs/LIVE.md").read_text()
+        driver = page.partition("```sh driver.sh\n")[2].partition("```")[0]
+        loop = "while read -r request; do\n"
+        self.assertEqual(driver.count(loop), 1)
+        self.write("script", LOCKOUT)
+        # Who is started in the background of a script ignores this signal, and so do its children.
+        how = {"preexec_fn": lambda: signal.signal(signal.SIGINT, signal.SIG_DFL), "start_new_session": True, "cwd": self.room}
+        line = '"$camac" drive @sample script e <answers | sh driver.sh >answers'
+        for count in range(1, 10):
+            with self.subTest(request=count):
+                (self.room / "e").unlink(missing_ok=True)
+                self.write("driver.sh", driver.replace(loop, f"{loop}  count=$((count + 1))\n  [ $count != {count} ] || kill -INT 0\n"))
+                words = ["bash", "-c", f"rm -f answers; mkfifo answers; {line}"]
+                env = {**os.environ, "camac": PROGRAM}
+                with subprocess.Popen(words, env=env, stdout=subprocess.PIPE, stderr=subprocess.PIPE, **how) as shell:
+                    output, errors = shell.communicate(timeout=PATIENCE)
+                # demand, lock, four cycles, unlock: the lockout is held from the third request up to the seventh.
+                released = b"lockout of crate 1 released\n" if 3 <= count <= 7 else b""
+                self.assertEqual((output, errors), (b"", released))
+
+
 class EndToEnd(Case):
     """Example scripts on the branch without hardware. The event file holds what the modules gave, and a run of the recorded answers makes the
     same file."""
@@ -333,6 +387,7 @@ class EndToEnd(Case):
     def drive(self, plan, name, branch):
         recorder = Recorder(branch)
         path, file = TOP / "examples" / name, self.room / "run.events"
+        file.unlink(missing_ok=True)
         end = camac.drive(plan, path, recorder, file, program=PROGRAM, timeout=PATIENCE)
         answers = self.write("answers", recorder.answer_lines())
         words = [PROGRAM, "run", plan, path, answers, self.room / "again.events"]
@@ -389,6 +444,80 @@ class EndToEnd(Case):
         station = 14
         kept = [word for event in events for start in (0, station, 2 * station) for word in event.words[start + 1 : start + 13]]
         self.assertEqual(kept, read)
+
+
+
+START = """cdlam adc 1 1 5 12
+service adc within 12 cycles event 0 words { cccz 1 cccd 1 on ccci 1 off cclm adc on }
+"""
+
+
+class Calls(Case):
+    """The start of a cold crate, by `camac.call`."""
+
+    def cold(self, triggers=3):
+        modules = {(1, 5): Adc(seed=7), (1, 6): Register(width=8)}
+        return MockBranch.of_plan(self.plan(), modules, [[(1, 5)]] * triggers, is_cold=True)
+
+    def plan(self):
+        return camac.plan("@sample", PROGRAM)
+
+    def call(self, service, branch, text=START, **more):
+        return camac.call("@sample", self.write("start.script", text), service, branch, program=PROGRAM, timeout=PATIENCE, **more)
+
+    def readout(self, branch):
+        file = self.room / "run.events"
+        file.unlink(missing_ok=True)
+        return camac.drive("@sample", TOP / "examples/straight_line.script", branch, file, program=PROGRAM, timeout=PATIENCE)
+
+    def test_nothing_calls_before_the_start(self):
+        self.assertEqual(self.readout(self.cold()).line, "ended events 0")
+
+    def test_start(self):
+        branch = self.cold()
+        recorder = Recorder(branch)
+        self.assertEqual(self.call("adc", recorder).line, "ended events 1")
+        wanted = ["cycle 1 28 8 26 none", "cycle 1 30 10 26 none", "cycle 1 30 9 24 none", "cycle 1 5 12 26 none"]
+        self.assertEqual([it.request for it in recorder.operations], wanted)
+        self.assertEqual(self.readout(branch).line, "ended events 3")
+
+    def test_event(self):
+        self.call("adc", self.cold(), events=self.room / "start.events")
+        self.assertEqual([(it.gl, it.words) for it in camac.read_events(self.room / "start.events")], [(3, ())])
+
+    def test_name_of_no_service(self):
+        branch = Listed()
+        with self.assertRaisesRegex(ValueError, "no service 'tick', but adc"):
+            self.call("tick", branch)
+        with self.assertRaises(camac.Refused):
+            self.call("adc", branch, text=START.replace("within 12", "within 11"))
+        self.assertEqual(branch.asked, [])
+
+    def test_wait_that_is_not_permitted(self):
+        end = self.call("adc", Listed(Answer(wait=3)))
+        self.assertEqual((end.how, end.crate, end.wait), (Ending.OVERRUN, 1, 3))
+
+    def test_bits_and_waits_of_the_plan(self):
+        branch = MockBranch.of_plan(self.plan(), {(1, 5): Adc(), (1, 6): Register()})
+        self.assertEqual((branch.gl, sorted(branch.auxiliaries), branch.auxiliaries[1].greatest), ({(1, 5): 3}, [1], 2))
+        with self.assertRaisesRegex(ValueError, "no station 7 in a crate 1"):
+            MockBranch.of_plan(self.plan(), {(1, 7): Adc()})
+
+    def test_state_of_the_crate(self):
+        """After Z nothing calls and nothing is triggered; a disabled demand output hides a look-at-me, and the controller still tells it."""
+        branch = MockBranch.of_plan(self.plan(), {(1, 5): Adc()}, [[(1, 5)]] * 9)
+        self.assertEqual(branch.demand().gl, 4)
+        branch.cycle(1, 30, 10, 24, None)
+        self.assertEqual((branch.demand().gl, branch.cycle(1, 30, 11, 27, None).gl), (0, 4))
+        branch.cycle(1, 30, 10, 26, None)
+        self.assertEqual(branch.demand().gl, 4)
+        branch.cycle(1, 5, 12, 10, None)
+        branch.cycle(1, 30, 9, 26, None)
+        self.assertEqual(branch.demand().gl, 0)
+        branch.cycle(1, 30, 9, 24, None)
+        self.assertEqual(branch.demand().gl, 4)
+        branch.cycle(1, 28, 8, 26, None)
+        self.assertEqual((branch.inhibited, branch.silent, branch.demand().gl), ({1}, {1}, 0))
 
 
 if __name__ == "__main__":

@@ -34,7 +34,9 @@ LISTING = b"demand 000004 adc\ncycle 1 5 0 0 in 123fff x1 q1 wait 2\nended event
 REQUESTS = b"demand\ncycle 1 5 0 0 in\ndemand\nended events 1\n"
 EVENT_FILE = bytes.fromhex("43414d4143455632 ca4d 0003 00000001 00000003 0000 0001 00000fff")
 EVENT_FILE_ONE = bytes.fromhex("43414d4143455631 ca4d 0003 00000001 0001 00000fff")
-WORDS = {"plan": ["PLAN"], "check": ["PLAN", "SCRIPT"], "explain": ["PLAN", "SCRIPT"], "bounds": ["PLAN", "SCRIPT"], "run": ["PLAN", "SCRIPT", "ANSWERS", "EVENTS"], "drive": ["PLAN", "SCRIPT", "EVENTS"], "events": ["FILE"]}
+WORDS = {"plan": ["PLAN"], "check": ["PLAN", "SCRIPT"], "explain": ["PLAN", "[SCRIPT]"], "bounds": ["PLAN", "SCRIPT"], "run": ["PLAN", "SCRIPT", "ANSWERS", "EVENTS"], "drive": ["PLAN", "SCRIPT", "EVENTS"], "events": ["FILE"]}
+# The options of a command but those of help.
+OPTIONS = {"plan": ["commands"]}
 READ, WRITE, TOO_LONG, TWICE = (f"fault {it}\n".encode() for it in ("read", "write", "input too long", "@in twice"))
 
 
@@ -121,7 +123,7 @@ class Usage(Case):
 
     def test_words_that_clap_refuses(self):
         tried = [[], ["chekc"], ["--frob"], ["plan"], ["check", "@sample"], ["run", "a", "b", "c"], ["drive", "a", "b"], ["events"]]
-        tried += [["plan", "a", "b"], ["events", "a", "b"], ["check", "a", "b", "c"], ["plan", "--frob"], ["plan", "--version"]]
+        tried += [["plan", "a", "b"], ["plan", "--commands"], ["plan", "a", "--commands=x"], ["explain"], ["explain", "a", "b", "c"], ["events", "a", "b"], ["check", "a", "b", "c"], ["plan", "--frob"], ["plan", "--version"]]
         tried += [["run", "a", "b", "c", "d", "e"], ["drive", "a", "b", "c", "d"]]
         for words in tried:
             status, out, err = self.call(*words)
@@ -136,7 +138,7 @@ class Usage(Case):
 
     def test_standard_input_once(self):
         """These words are a job, which ends as its files do. The last word of run and drive is the name of an output."""
-        for words in ("plan @in", "check @in none", "check none @in", "run @in none none e", "run none @in none e", "run none none @in e", "run none none none @in", "run none none @in @in", "drive none none @in", "events @in"):
+        for words in ("plan @in", "plan @in --commands", "explain @in", "check @in none", "check none @in", "run @in none none e", "run none @in none e", "run none none @in e", "run none none none @in", "run none none @in @in", "drive none none @in", "events @in"):
             status, _, err = self.call(*words.split())
             self.assertIn((status, err), [(0, b""), (1, b""), (3, READ)], words)
 
@@ -161,11 +163,14 @@ class Help(Case):
     def test_each_subcommand_and_its_words(self):
         for name, words in WORDS.items():
             text = self.help(name, "--help")
-            self.assertIn(f"Usage: camac {name} {' '.join(f'<{it}>' for it in words)}\n", text)
+            named = [it if it.startswith("[") else f"<{it}>" for it in words]
+            self.assertIn(" ".join([f"Usage: camac {name}", *["[OPTIONS]"] * (name in OPTIONS), *named]) + "\n", text)
             self.assertEqual(text, self.help("help", name))
             self.assertEqual(text, self.help(name, "-h"))
             for word in words:
-                self.assertRegex(text, rf"(?m)^  <{word}> +[A-Z][^\n]{{10}}", "a word without a text")
+                self.assertRegex(text, rf"(?m)^  [<[]{word.strip('[]')}[]>] +[A-Z][^\n]{{10}}", "a word without a text")
+            for option in OPTIONS.get(name, []):
+                self.assertRegex(text, rf"(?m)^ +--{option} +[A-Z][^\n]{{10}}", "an option without a text")
             self.assertEqual("@sample" in text, "PLAN" in words)
             self.assertEqual("@in" in text, name != "drive", "the answers of drive are standard input")
             self.assertIn("Examples:\n", text)
@@ -421,6 +426,25 @@ class Kept(Case):
             self.assertEqual(self.shell(line), (3, b"", WRITE), name)
             self.assertEqual(self.file("e"), b"of an earlier run", name)
 
+    def test_events_is_standard_error(self):
+        """A fault that is told there would stand in the event file."""
+        for command, there in (("run plan.toml straight.script answers", b"of an earlier run"), ("drive plan.toml straight.script", b"")):
+            for name in ("e", "soft", "/dev/stderr", "/proc/self/fd/2"):
+                (self.room / "soft").unlink(missing_ok=True)
+                (self.room / "soft").symlink_to(self.room / "e")
+                (self.room / "e").write_bytes(there)
+                self.assertEqual(self.shell(f'"$camac" {command} {name} 2>>e <answers'), (3, b"", b""), (command, name))
+                self.assertEqual(self.file("e"), there + WRITE, (command, name))
+
+    def test_events_of_a_live_run_is_a_standard_stream(self):
+        """An empty file is taken, but not where a standard stream is it."""
+        for redirect in (">>e", "2>>e"):
+            (self.room / "e").write_bytes(b"")
+            self.assertEqual(self.shell(f'"$camac" drive plan.toml straight.script e {redirect} <answers')[0], 3, redirect)
+        (self.room / "none").write_bytes(b"")
+        with open(self.room / "none", "rb") as file:
+            self.assertEqual(self.call("drive", "plan.toml", "straight.script", "none", given=None, stdin=file), (3, b"", WRITE))
+
     def test_events_that_is_no_file(self):
         self.assertEqual(self.call("run", "@sample", "straight.script", "answers", "/dev/null"), (0, LISTING, b""))
         line = '"$camac" run plan.toml straight.script answers /dev/stdout | wc -c'
@@ -464,8 +488,10 @@ class Pages(Case):
         plain = " ".join(page.split())
         for name, said in subcommands(self.help).items():
             if name != "help":
-                self.assertIn(f"\n.It Cm {name} " + " ".join(f"Ar {it}" for it in WORDS[name]) + "\n", page)
-                self.assertIn(f"\n.Cm {name}\n" + "".join(f".Ar {it}\n" for it in WORDS[name]), page)
+                words = [f"Op Ar {it[1:-1]}" if it.startswith("[") else f"Ar {it}" for it in WORDS[name]]
+                words += [f"Op Fl -{it}" for it in OPTIONS.get(name, [])]
+                self.assertIn(f"\n.It Cm {name} " + " ".join(words) + "\n", page)
+                self.assertIn(f"\n.Cm {name}\n" + "".join(f".{it}\n" for it in words), page)
                 self.assertIn(said, plain)
         for short, long in options(self.help):
             self.assertIn(f"\n.It Fl {short} , Fl -{long}\n", page)
@@ -477,6 +503,8 @@ class Pages(Case):
         self.assertIn({*subcommands(self.help), *names}, offered)
         self.assertIn({*subcommands(self.help)}, offered)
         self.assertIn({"-h", "--help"}, offered)
+        for names in OPTIONS.values():
+            self.assertIn({"-h", "--help", *[f"--{it}" for it in names]}, offered)
 
     def test_zsh(self):
         text = (TOP / "completions/_camac").read_text()
@@ -485,13 +513,16 @@ class Pages(Case):
         self.assertEqual(said, {name: it for (short, long), it in options(self.help).items() for name in (f"-{short}", f"--{long}")})
         for name, words in WORDS.items():
             line = re.search(rf"(?m)^    {name}\) _arguments (.*);;$", text)[1]
-            self.assertEqual(re.findall(r"':([A-Z]+):", line), words)
+            self.assertEqual([f"[{it}]" if colon else it for colon, it in re.findall(r"':(:?)([A-Z]+):", line)], words)
+            self.assertEqual(re.findall(r"'--(\w+)\[", line), OPTIONS.get(name, []))
 
     def test_fish(self):
         text = (TOP / "completions/camac.fish").read_text()
         self.assertEqual(dict(re.findall(r"(?m)^complete -c camac -n __fish_use_subcommand -a (\w+) -d '(.*)'$", text)), subcommands(self.help))
         found = {(short, long): said for short, long, said in re.findall(r"-s (\w) -l ([\w-]+) -d '(.*)'$", text, re.M)}
         self.assertEqual(found, options(self.help))
+        for name, names in OPTIONS.items():
+            self.assertEqual(re.findall(rf"__fish_seen_subcommand_from {name}' -l (\w+) -d ", text), names)
         self.assertIn("@sample", text)
         self.assertIn("@in", text)
 
@@ -535,20 +566,14 @@ class RunningPage(Case):
         status, out, err = self.call("events", "run.events")
         self.assertEqual((status, err), (1, b""))
         self.assertRegex(out, rb"^refused V7 byte 655\d\d: truncated\n$")
+        (self.room / "run.events").rename(self.room / "cut.events")
         commands = "\n".join(re.findall(r"(?m)^\$ (.*whole\.events.*)$", self.page))
         events = (65_536 - 8) // 20
-        status, out, err = self.shell(f'camac() {{ "$camac" "$@"; }}; python3() {{ "{sys.executable}" "$@"; }}; {commands}')
+        python = f'PYTHONPATH="{TOP}/python" PYTHONDONTWRITEBYTECODE=1 "{sys.executable}" "$@"'
+        status, out, err = self.shell(f'camac() {{ "$camac" "$@"; }}; python3() {{ {python}; }}; {commands}')
         self.assertEqual((status, err), (0, b""))
         listed = "".join(f"event {n} gl 3 cycles 1 missed 0 words 1 000001\n" for n in range(1, events + 1))
         self.assertEqual(out.decode(), f"{listed}events {events}\n")
-
-    def test_whole_events_of_each_prefix(self):
-        (self.room / "whole.py").write_text(re.search(r"```python whole\.py\n(.*?)```", self.page, re.S)[1])
-        for file, record in ((EVENT_FILE, 20), (EVENT_FILE_ONE, 14)):
-            for size in range(8, len(file) + 1):
-                (self.room / "cut").write_bytes(file[:size])
-                ran = subprocess.run([sys.executable, "whole.py", "cut"], cwd=self.room, capture_output=True)
-                self.assertEqual((ran.returncode, ran.stdout), (0, file if size == len(file) else file[:8]), ran.stderr)
 
     def test_one_answer_for_every_operation(self):
         answer = re.search(r"`(\d \d [0-9a-f]{6} \d [0-9a-f]{6})` calls the service", self.page)[1]

@@ -14,13 +14,19 @@ import subprocess
 import sys
 import tempfile
 import tracemalloc
+import time
 import unittest
+
+try:
+    import numpy
+except ImportError:
+    numpy = None
 
 TOP = pathlib.Path(__file__).resolve().parent.parent
 PROGRAM = os.path.abspath(os.environ.get("CAMAC_PROGRAM") or TOP / "crates/camac/out/camac")
 sys.path.insert(0, str(TOP / "python"))
 sys.dont_write_bytecode = True
-from camac import Event, EventFileFault, read_events  # noqa: E402
+from camac import Event, EventFileFault, event_arrays, read_events, whole  # noqa: E402
 
 ONE = bytes.fromhex("43414d4143455631 ca4d 0003 00000001 0002 00000fff 00ffffff ca4d 0018 00000002 0000")
 TWO = bytes.fromhex("43414d4143455632 ca4d 0003 00000001 00000003 0000 0001 00000fff ca4d 0001 00000002 00010000 ffff 0000")
@@ -102,11 +108,103 @@ class EventFiles(unittest.TestCase):
                 self.assertEqual(listing(data), done.stdout.decode())
 
     @staticmethod
-    def changed(whole):
-        yield from (whole[:end] for end in range(len(whole) + 1))
-        for place in range(len(whole)):
-            for byte in {0, 1, 0x10, 0x7F, 0xFF} - {whole[place]}:
-                yield whole[:place] + bytes([byte]) + whole[place + 1 :]
+    def changed(file):
+        yield from (file[:end] for end in range(len(file) + 1))
+        for place in range(len(file)):
+            for byte in {0, 1, 0x10, 0x7F, 0xFF} - {file[place]}:
+                yield file[:place] + bytes([byte]) + file[place + 1 :]
+
+    def test_a_pipe_that_stays_open(self):
+        """An event is given while the writer of a pipe still writes."""
+        for mode in (0, -1):
+            reading, writing = os.pipe()
+            with open(reading, "rb", mode) as file, open(writing, "wb", 0) as pipe:
+                events = read_events(file)
+                pipe.write(TWO[:28])
+                self.assertEqual(next(events), Event(1, 3, 3, 0, (0xFFF,)))
+                pipe.write(TWO[28:])
+                self.assertEqual(next(events).number, 2)
+                pipe.close()
+                self.assertEqual(list(events), [])
+
+    def test_reader_that_waits_for_all_it_was_asked_for(self):
+        """Of a reader with `read` alone no more is asked for than a record needs."""
+
+        class Strict:
+            def __init__(self, data):
+                self.data, self.at = data, 0
+
+            def read(self, size):
+                if self.at < len(self.data) < self.at + size:
+                    raise AssertionError(f"{size} bytes are asked for where {len(self.data) - self.at} are left")
+                self.at += size
+                return self.data[self.at - size : self.at]
+
+        for data in (ONE, TWO):
+            self.assertEqual(list(read_events(Strict(data))), list(read_events(io.BytesIO(data))))
+
+    def test_whole(self):
+        """Of each cut of both files the events before it, and where the last of them ends."""
+        for data, ends in ((ONE, (8, 26, 36)), (TWO, (8, 28, 44))):
+            for cut in range(len(data) + 1):
+                found = whole(io.BytesIO(data[:cut]))
+                size = max([end for end in ends if end <= cut], default=0)
+                events = list(read_events(io.BytesIO(data)))[: ends.index(size) if size else 0]
+                self.assertEqual((found.events, found.size), (events, size), cut)
+                self.assertEqual(found.fault is None, cut in ends, cut)
+                if found.fault:
+                    self.assertEqual(found.fault.code, "V7" if cut >= 8 else "V1")
+                    self.assertEqual(list(read_events(io.BytesIO(data[:size]))) if size else [], events)
+        self.assertEqual(whole(io.BytesIO(TWO[:28] + b"\0" * 16)).fault.args, ("refused V2 byte 28: marker",))
+
+    def many(self, count):
+        """A file with so many events, of up to 20 words each."""
+        records = (struct.pack(f">HHIIHH{k % 21}I", 0xCA4D, 1 + k % 24, k + 1, 40, k % 3, k % 21, *[k] * (k % 21)) for k in range(count))
+        return b"CAMACEV2" + b"".join(records)
+
+    def test_time(self):
+        data = self.many(500_000)
+        began = time.process_time()
+        count = sum(1 for _ in read_events(io.BytesIO(data)))
+        seconds = time.process_time() - began
+        self.assertEqual(count, 500_000)
+        self.assertLess(seconds, 3, "1.5 seconds on a machine that does nothing else")
+
+
+@unittest.skipUnless(numpy, "numpy is not here")
+class Arrays(unittest.TestCase):
+    def compare(self, data):
+        events, arrays = list(read_events(io.BytesIO(data))), event_arrays(io.BytesIO(data))
+        self.assertEqual(arrays.gl.tolist(), [event.gl for event in events])
+        self.assertEqual(len(arrays.first), len(events) + 1)
+        for at, event in enumerate(events):
+            self.assertEqual(arrays.words[arrays.first[at] : arrays.first[at + 1]].tolist(), list(event.words))
+        if data[:8] == b"CAMACEV2":
+            self.assertEqual(arrays.cycles.tolist(), [event.cycles for event in events])
+            self.assertEqual(arrays.missed.tolist(), [event.missed for event in events])
+        else:
+            self.assertEqual((arrays.cycles, arrays.missed), (None, None))
+
+    def test_events(self):
+        looks_like_a_marker = struct.pack(">HHIIHHI", 0xCA4D, 1, 1, 0xCA4D0001, 0xCA4D, 1, 7)
+        for data in (ONE, TWO, ONE[:8], TWO[:8], EventFiles().many(1000), TWO[:8] + looks_like_a_marker):
+            self.compare(data)
+
+    def test_faults(self):
+        for good in (ONE, TWO):
+            for data in EventFiles.changed(good):
+                try:
+                    self.compare(data)
+                except EventFileFault as fault:
+                    self.assertEqual(str(fault), listing(data).splitlines()[-1])
+
+    def test_time(self):
+        data = EventFiles().many(500_000)
+        began = time.process_time()
+        arrays = event_arrays(io.BytesIO(data))
+        seconds = time.process_time() - began
+        self.assertEqual(len(arrays.gl), 500_000)
+        self.assertLess(seconds, 0.6, "0.2 seconds on a machine that does nothing else")
 
 
 if __name__ == "__main__":

@@ -91,6 +91,21 @@ void *aligned_alloc(size_t align, size_t size) {
 }
 """
 
+# Refused by the checker, by the grammar, by a token, by a name, by a link; a procedure; the plan's text and its walk.
+BROKEN = {
+    "E2": b"cdlam adc 1 1 5 12\nvar v\nservice adc within 9 cycles event 0 words {\ncdreg r 1 1 5 v + 16\ncfsa 0 r -> v\n}\n",
+    "E10": b"cdlam adc 1 1 5 12\nvar k\nservice adc within 9 cycles event 0 words {\nk = 9\nwhile k > 0 turns 3 by k { k = k - 1 }\n}\n",
+    "S1": b"cdlam adc 1 1 5 12\nvar v !\n",
+    "S4": b"cdlam adc 1 1 5 12\nvar adc\n",
+    "S5": b"cdlam adc 1 1 5 12\nservcie adc\n",
+    "L1": b"cdlam adc 1 1 4 12\n",
+}
+PROCEDURE = (TOP / "examples/procedure.script").read_bytes()
+BROKEN_PLANS = {
+    "P1": b"[[type]\n",
+    "P2": b"[[crate]]\nnumber = 1\nwiats = 2\n",
+    "P9": b"[[type]]\nname = 'A'\ncommands = []\n[[crate]]\nnumber = 1\nstation = [{ n = 1, type = 'A', gl = 3 }, { n = 2, type = 'A', gl = 3 }]\n",
+}
 STRAIGHT_LINE = (TOP / "examples/straight_line.script").read_bytes()
 REFUSED = (TOP / "examples/too_few_cycles.script").read_bytes()
 UNREAD = b"cdlam adc 1 1 5 12\nput\n"
@@ -141,7 +156,7 @@ class RefusedMemory(unittest.TestCase):
                     if (ended, events) != ample:
                         refused += 1
                         self.assertEqual(ended, MEMORY)
-                        # EVENTS is made before anything is judged, and stays empty.
+                        # EVENTS of `run` is made before anything is judged, and stays empty; that of `drive` is not made.
                         self.assertIn(events, (None, b"") if made else (None,))
         self.assertGreater(refused, 0)
 
@@ -152,6 +167,17 @@ class RefusedMemory(unittest.TestCase):
     def test_check(self):
         for script in (STRAIGHT_LINE, REFUSED, UNREAD, LOCKED):
             self.refuse_each("check @sample @in", script)
+
+    def test_bounds(self):
+        for script in (STRAIGHT_LINE, REFUSED, UNREAD, LOCKED, PROCEDURE, BROKEN["E2"]):
+            self.refuse_each("bounds @sample @in", script)
+        self.refuse_each("bounds @in script", SAMPLE_PLAN, PROCEDURE)
+
+    def test_explain(self):
+        for script in (STRAIGHT_LINE, REFUSED, UNREAD, *BROKEN.values()):
+            self.refuse_each("explain @sample @in", script)
+        for plan in (SAMPLE_PLAN, *BROKEN_PLANS.values()):
+            self.refuse_each("explain @in script", plan)
 
     def test_run(self):
         self.refuse_each("run @sample script @in run.events", ANSWERS)

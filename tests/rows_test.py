@@ -17,9 +17,14 @@ import unittest
 TOP = pathlib.Path(__file__).resolve().parent.parent
 PROGRAM = os.path.abspath(os.environ.get("CAMAC_PROGRAM") or TOP / "crates/camac/out/camac")
 INPUTS = ("PLAN", "SCRIPT", "ANSWERS")
-PLAYED = re.compile(r"(plan|check|explain|bounds|run|drive) ([01])")
+PLAYED = re.compile(r"(plan|plan --commands|check|explain|bounds|run|drive) ([01])")
+# What needs no script.
+OF_A_PLAN = ("plan", "plan --commands", "explain")
 EVENT = re.compile(r"gl (\d+) cycles (\d+) missed (\d+) words((?: [0-9a-f]{6})*)")
 NO_EVENTS = b"CAMACEV2"
+# Where there is no event file; what a row says of an event file without a byte.
+NOT_MADE = b"no file"
+NOTHING = {"EVENTS none": b"", "EVENTS not made": NOT_MADE}
 
 
 class Wrong(Exception):
@@ -56,10 +61,12 @@ def read_cases(text):
         played = PLAYED.fullmatch(head)
         if head in INPUTS:
             inputs = {**inputs, head: body.encode()}
-        elif played and (played[1] == "plan" or "SCRIPT" in inputs):
+        elif played and (played[1] in OF_A_PLAN or "SCRIPT" in inputs):
             cases.append(Case(played[1], int(played[2]), body.encode(), inputs, None))
-        elif head in ("EVENTS", "EVENTS none") and before in ("run", "drive") and not (body and head == "EVENTS none"):
-            cases[-1] = cases[-1]._replace(events=event_file(body.splitlines()) if head == "EVENTS" else b"")
+        elif head == "EVENTS" and before in ("run", "drive"):
+            cases[-1] = cases[-1]._replace(events=event_file(body.splitlines()))
+        elif head in NOTHING and before in ("run", "drive") and not body:
+            cases[-1] = cases[-1]._replace(events=NOTHING[head])
         else:
             raise Wrong(f"-- {head} may not stand here")
         before = head.partition(" ")[0]
@@ -100,14 +107,15 @@ class Playing(unittest.TestCase):
         return ran.returncode, ran.stdout
 
     def play(self, command, inputs):
-        """Status, standard output, and the event file where one is written."""
+        """Status, standard output, and the event file."""
         for it in self.room.iterdir():
             it.unlink()
         for name, text in inputs.items():
             (self.room / name).write_bytes(text)
         (self.room / "ANSWERS").touch()
-        words = [command, "PLAN" if "PLAN" in inputs else "@sample"]
-        if command != "plan":
+        name, *options = command.split()
+        words = [name, "PLAN" if "PLAN" in inputs else "@sample", *options]
+        if name != "plan" and "SCRIPT" in inputs:
             words.append("SCRIPT")
         if command == "run":
             words += ["ANSWERS", "events"]
@@ -115,13 +123,18 @@ class Playing(unittest.TestCase):
             words.append("events")
         status, printed = self.call(*words, given=inputs.get("ANSWERS", b"") if command == "drive" else b"")
         written = self.room / "events"
-        return status, printed, written.read_bytes() if written.exists() else None
+        return status, printed, written.read_bytes() if written.exists() else NOT_MADE
 
     def expect(self, command, status, printed, **inputs):
         self.assertEqual(self.play(command, inputs)[:2], (status, printed))
 
 
 class Rows(Playing):
+    def test_explanations_of_plans_without_a_script(self):
+        for name, (case, *_) in ROWS["explanations"].items():
+            if "PLAN" in case.inputs:
+                self.expect("explain", 1, case.printed, PLAN=case.inputs["PLAN"])
+
     def test_rows(self):
         for file, rows in ROWS.items():
             for name, cases in rows.items():
@@ -131,7 +144,7 @@ class Rows(Playing):
                         self.assertEqual(printed.decode(), case.printed.decode())
                         self.assertEqual(status, case.status)
                         if case.events not in (None, events):
-                            self.fail(f"another event file: {self.call('events', 'events')[1].decode()}")
+                            self.fail(f"another event file: {self.call('events', 'events')[1].decode() if events != NOT_MADE else events}")
 
     def test_form(self):
         """What is no row is not passed over."""
@@ -237,6 +250,17 @@ class NoRows(Playing):
                 if words:
                     self.expect("check", 1, b"refused E11 line 3: more event words than annotated\n", SCRIPT=service(body, cycles, words - 1))
 
+    def test_the_longest_event(self):
+        """4,096 words, through a run, a live run and `events`."""
+        words = range(1, 4097)
+        script = service("for i = 1 to 4096 { put i }", 0, 4096)
+        file = NO_EVENTS + struct.pack(">HHIIHH4096I", 0xCA4D, 3, 1, 0, 0, 4096, *words)
+        for command, printed in (("run", b"demand 000004 adc\nended events 1\n"), ("drive", b"demand\ndemand\nended events 1\n")):
+            played = self.play(command, {"SCRIPT": script, "ANSWERS": b"0 0 000000 0 000004\n"})
+            self.assertTrue(played == (0, printed, file), command)
+            listed = f"event 1 gl 3 cycles 0 missed 0 words 4096{''.join(f' {word:06x}' for word in words)}\nevents 1\n"
+            self.assertTrue(self.call("events", "events") == (0, listed.encode()))
+
     def expect_refused_plans(self, table):
         for old, new, refusal in table:
             with self.subTest(new=new):
@@ -283,7 +307,7 @@ class NoRows(Playing):
         self.expect("check", 1, b"refused S2 line 1: unexpected token\n", SCRIPT=b"table g =")
         self.expect("check", 1, b"refused S1 line 1: bad byte\n", SCRIPT=b"!")
         answers = ROWS["drive"]["live_refused_script"][0].inputs["ANSWERS"]
-        self.assertEqual(self.play("drive", {"SCRIPT": b"!", "ANSWERS": answers}), (1, b"refused S1 line 1: bad byte\n", b""))
+        self.assertEqual(self.play("drive", {"SCRIPT": b"!", "ANSWERS": answers}), (1, b"refused S1 line 1: bad byte\n", NOT_MADE))
 
     def test_line_ends(self):
         script = STRAIGHT_LINE.inputs["SCRIPT"]

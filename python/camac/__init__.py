@@ -1,27 +1,68 @@
 """What stands around the program camac in Python.
 
-Event files are read here, and tested as `camac events` tests them (`read_events`). A branch driver in Python is run by a checked script
-(`drive`), and `camac.mock` has a branch without hardware.
+What the program prints is given as values: `plan`, `check`, `bounds`, `costs` and `run` call its subcommands, and `warnings` tells what is
+accepted and hardly meant. `read_events` reads an event file and tests it as `camac events` does (`whole`: one that was cut; `event_arrays`:
+as arrays, where numpy is). A branch driver in Python is run by a checked script (`drive`, and `call` for one service once), and `camac.mock`
+has a branch without hardware. `play` does what `drive` does in this process, over the library for C (`camac.library`). `python3 -m camac`
+judges scripts, draws pictures and makes a report of a run (`camac.pictures`, `camac.report`).
 
 Python 3.8 or newer, and its standard library alone."""
+from camac.arrays import EventArrays, event_arrays
+from camac.bodies import Body, Cost, Row, costs
+from camac.call import call
 from camac.drive import Answer, Branch, DriveFault, Ending, ProgramFault, ProtocolFault, Refused, RunEnd, TimeFault, UsageFault
 from camac.drive import drive, find_program
-from camac.events import Event, EventFileFault, read_events
+from camac.events import Event, EventFileFault, Whole, read_events, whole
+from camac.library import play
+from camac.listings import Command, Cycle, Demand, Lock, Move, Unlock, parse_listing, run
+from camac.plans import Crate, Declaration, ModuleType, Plan, Station, plan
+from camac.scripts import Heading, Service, bounds, check
+from camac.warn import Warned, warnings
 
 __all__ = [
     "Answer",
+    "Body",
     "Branch",
+    "Command",
+    "Cost",
+    "Crate",
+    "Cycle",
+    "Declaration",
+    "Demand",
     "DriveFault",
     "Ending",
     "Event",
+    "EventArrays",
     "EventFileFault",
+    "Heading",
+    "Lock",
+    "ModuleType",
+    "Move",
+    "Plan",
     "ProgramFault",
     "ProtocolFault",
     "Refused",
+    "Row",
     "RunEnd",
+    "Service",
+    "Station",
     "TimeFault",
+    "Unlock",
     "UsageFault",
+    "Warned",
+    "Whole",
+    "bounds",
+    "call",
+    "check",
+    "costs",
     "drive",
+    "event_arrays",
     "find_program",
+    "parse_listing",
+    "plan",
+    "play",
     "read_events",
+    "run",
+    "warnings",
+    "whole",
 ]

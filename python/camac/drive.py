@@ -15,7 +15,6 @@ import tempfile
 from typing import List, NoReturn, Optional, Protocol, Union
 
 File = Union[str, bytes, "os.PathLike[str]", "os.PathLike[bytes]"]
-MOST_ANSWERS = 1_000_000
 GREATEST_LINE = 4096
 GREATEST = {"x": 1, "q": 1, "word": 0xFF_FFFF, "wait": 15, "gl": 0xFF_FFFF}
 # After a failure the program has this many seconds for its end, before it is killed.
@@ -153,13 +152,13 @@ def find_program(program: Optional[File] = None) -> File:
 def drive(
     plan: File, script: File, branch: Branch, events: File, *, program: Optional[File] = None, timeout: Optional[float] = None
 ) -> RunEnd:
-    """Plays a script against a branch, and returns how the run ended. `plan` may be "@sample". The event file is created anew.
+    """Plays a script against a branch, and returns how the run ended. `plan` may be "@sample". `events` must not hold bytes.
 
     `program` is found by `find_program` unless given. `timeout` is how many seconds the program may take for its next line, and for its
-    end; the time that the branch takes does not count. The limit of answers of a run (1,000,000) ends the input: no operation is made
-    whose answer the program would not take.
+    end; the time that the branch takes does not count.
 
-    The lockouts that are held when the requests end are released by `branch.unlock`, however the run ends.
+    The lockouts that are held when the requests end are released by `branch.unlock`, however the run ends. An interrupt (Ctrl-C) inside
+    `branch.lock` may come after the lockout was taken, so this one is released too.
 
     Raises what the branch raises. The run ends first: the events of all services that ended are in the file. Raises Refused,
     UsageFault, ProgramFault, ProtocolFault or TimeFault, all of them DriveFault, and OSError where the program cannot be started."""
@@ -167,61 +166,27 @@ def drive(
         run = _Run(started, branch)
         try:
             end = run.serve()
-            run.release()
+            run.lockouts.release()
         except BaseException as error:
             run.abandon(error)
         return started.end(end)
 
 
-class _Run:
-    """A run in progress: the program, the branch, and the crates whose lockout is held."""
+class Lockouts:
+    """The lockouts that a branch holds in a run."""
 
-    def __init__(self, program: "_Program", branch: Branch) -> None:
-        self.program, self.branch = program, branch
+    def __init__(self, branch: Branch) -> None:
+        self.branch = branch
         self.held: List[int] = []
-        self.answers = 0
-        self.is_open = True
 
-    def serve(self) -> Optional[RunEnd]:
-        """Has the branch make all that is requested, and returns the end that the last line tells, or None where there is no last line."""
-        while (line := self.program.read_line()) is not None:
-            if requested := CYCLE.fullmatch(line) or DEMAND.fullmatch(line) or LOCK.fullmatch(line):
-                self.answer(requested)
-            elif found := UNLOCK.fullmatch(line):
-                self.unlock(int(found[1]))
-            elif end := _read_end(line):
-                return end
-            else:
-                raise ProtocolFault(f"camac wrote what is no request: {line!r}")
-        return None
-
-    def answer(self, requested: "re.Match[bytes]") -> None:
-        """Has the branch answer a request. With no more answers to give, the input is ended."""
-        if not self.is_open:
-            raise ProtocolFault(f"camac wrote a request after the end of its input: {requested[0]!r}")
-        answer = self.make(requested) if self.answers < MOST_ANSWERS else None
-        if answer is None:
-            self.is_open = False
-            self.program.end_input()
-        elif isinstance(answer, Answer):
-            self.answers += 1
-            self.program.write(answer.line().encode() + b"\n")
-        else:
-            raise TypeError(f"the branch has to answer {requested[0].decode()!r} with an Answer, not {answer!r}")
-
-    def make(self, requested: "re.Match[bytes]") -> Optional[Answer]:
-        """Has the branch make an operation. Only a demand may be without an answer."""
-        if requested.re is CYCLE:
-            c, n, a, f = map(int, requested.group(1, 2, 3, 4))
-            answer = self.branch.cycle(c, n, a, f, int(requested[5], 16) if requested[5] else None)
-        elif requested.re is DEMAND:
-            return self.branch.demand()
-        else:
-            answer = self.branch.lock(int(requested[1]))
-            self.held.append(int(requested[1]))
-        if answer is None:
-            raise TypeError(f"the branch has to answer {requested[0].decode()!r}: only a demand may be without an answer")
-        return answer
+    def lock(self, crate: int) -> Answer:
+        """Takes a lockout. Where that fails it is not held; where it was interrupted it may be."""
+        self.held.append(crate)
+        try:
+            return self.branch.lock(crate)
+        except Exception:
+            self.held.remove(crate)
+            raise
 
     def unlock(self, crate: int) -> None:
         """Releases a lockout. Where that fails, it is still held."""
@@ -235,18 +200,69 @@ class _Run:
         for crate in reversed(self.held):
             try:
                 self.branch.unlock(crate)
-            except Exception as error:
+            except BaseException as error:
                 failure = failure or error
         self.held = []
         if failure:
             raise failure
 
-    def abandon(self, error: BaseException) -> NoReturn:
-        """Ends a run that failed: lockouts are released, the program comes to its end, and what failed is raised."""
+    def release_after(self, error: BaseException) -> None:
+        """Releases all that is held in a run that failed. What fails here is a note of that error."""
         try:
             self.release()
-        except Exception as other:
+        except BaseException as other:
             _add_note(error, f"a lockout could not be released either: {other!r}")
+
+
+class _Run:
+    """A run in progress: the program, the branch, and the crates whose lockout is held."""
+
+    def __init__(self, program: "_Program", branch: Branch) -> None:
+        self.program, self.branch, self.lockouts = program, branch, Lockouts(branch)
+        self.is_open = True
+
+    def serve(self) -> Optional[RunEnd]:
+        """Has the branch make all that is requested, and returns the end that the last line tells, or None where there is no last line."""
+        while (line := self.program.read_line()) is not None:
+            if requested := CYCLE.fullmatch(line) or DEMAND.fullmatch(line) or LOCK.fullmatch(line):
+                self.answer(requested)
+            elif found := UNLOCK.fullmatch(line):
+                self.lockouts.unlock(int(found[1]))
+            elif end := read_end(line):
+                return end
+            else:
+                raise ProtocolFault(f"camac wrote what is no request: {line!r}")
+        return None
+
+    def answer(self, requested: "re.Match[bytes]") -> None:
+        """Has the branch answer a request. Where it has no more answers to give, the input is ended."""
+        if not self.is_open:
+            raise ProtocolFault(f"camac wrote a request after the end of its input: {requested[0]!r}")
+        answer = self.make(requested)
+        if answer is None:
+            self.is_open = False
+            self.program.end_input()
+        elif isinstance(answer, Answer):
+            self.program.write(answer.line().encode() + b"\n")
+        else:
+            raise TypeError(f"the branch has to answer {requested[0].decode()!r} with an Answer, not {answer!r}")
+
+    def make(self, requested: "re.Match[bytes]") -> Optional[Answer]:
+        """Has the branch make an operation. Only a demand may be without an answer."""
+        if requested.re is CYCLE:
+            c, n, a, f = map(int, requested.group(1, 2, 3, 4))
+            answer = self.branch.cycle(c, n, a, f, int(requested[5], 16) if requested[5] else None)
+        elif requested.re is DEMAND:
+            return self.branch.demand()
+        else:
+            answer = self.lockouts.lock(int(requested[1]))
+        if answer is None:
+            raise TypeError(f"the branch has to answer {requested[0].decode()!r}: only a demand may be without an answer")
+        return answer
+
+    def abandon(self, error: BaseException) -> NoReturn:
+        """Ends a run that failed: lockouts are released, the program comes to its end, and what failed is raised."""
+        self.lockouts.release_after(error)
         if isinstance(error, (ProtocolFault, TimeFault)):
             self.program.kill()
         else:
@@ -306,7 +322,7 @@ class _Program:
         self.timeout = PATIENCE if self.timeout is None else self.timeout
         end = None
         while (line := self.read_line()) is not None:
-            end = _read_end(line)
+            end = read_end(line)
         return end
 
     def write(self, line: bytes) -> None:
@@ -353,7 +369,7 @@ def _judge(end: Optional[RunEnd], status: int, errors: str) -> RunEnd:
     return end
 
 
-def _read_end(last: bytes) -> Optional[RunEnd]:
+def read_end(last: bytes) -> Optional[RunEnd]:
     """Reads the last line of a run; None where it is none."""
     line = last.decode(errors="replace")
     if REFUSAL.fullmatch(line):

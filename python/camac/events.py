@@ -1,10 +1,12 @@
 """Event files of camac, of both versions and of any size."""
 import contextlib
+import io
 import os
 import struct
-from typing import NamedTuple, Optional, Tuple
+from typing import Any, BinaryIO, Callable, Dict, Iterator, List, NamedTuple, Optional, Tuple, Union
 
-HEADERS = {b"CAMACEV1": 1, b"CAMACEV2": 2}
+File = Union[str, bytes, "os.PathLike[str]", "os.PathLike[bytes]", BinaryIO]
+HEADER = 8
 MARKER = 0xCA4D
 GREATEST_GL = 24
 GREATEST_COUNT = 4096
@@ -19,6 +21,31 @@ MEANINGS = {
     "V7": "truncated",
     "V9": "X count",
 }
+# How many bytes are asked for at once, of a file that gives what it has.
+BLOCK = 65_536
+
+
+class Form(NamedTuple):
+    """How the head of a record is written: its numbers, and of each field the code of its fault, its place and its size in bytes.
+    `unpack` gives marker, bit, event number, cycles, missed and count of the head at a place; cycles and missed None in version one."""
+
+    head: struct.Struct
+    fields: Tuple[Tuple[str, int, int], ...]
+    unpack: Callable[[bytes, int], Tuple[Any, ...]]
+
+
+_HEAD_ONE, _HEAD_TWO = struct.Struct(">HHIH"), struct.Struct(">HHIIHH")
+
+
+def _unpack_one(data: bytes, at: int, unpack: Callable[[bytes, int], Tuple[Any, ...]] = _HEAD_ONE.unpack_from) -> Tuple[Any, ...]:
+    marker, gl, number, count = unpack(data, at)
+    return marker, gl, number, None, None, count
+
+
+ONE = Form(_HEAD_ONE, (("V2", 0, 2), ("V3", 2, 2), ("V4", 4, 4), ("V5", 8, 2)), _unpack_one)
+TWO = Form(_HEAD_TWO, (("V2", 0, 2), ("V3", 2, 2), ("V4", 4, 4), ("", 8, 4), ("V9", 12, 2), ("V5", 14, 2)), _HEAD_TWO.unpack_from)
+NEW_FILE = b"CAMACEV2"
+FORMS = {b"CAMACEV1": ONE, NEW_FILE: TWO}
 
 
 class Event(NamedTuple):
@@ -32,92 +59,134 @@ class Event(NamedTuple):
     words: Tuple[int, ...]
 
 
+def record(event: Event) -> bytes:
+    """An event as it stands in an event file of version two, behind the header `NEW_FILE` and the events before it."""
+    head = TWO.head.pack(MARKER, event.gl, event.number, event.cycles, event.missed, len(event.words))
+    return head + struct.pack(f">{len(event.words)}I", *event.words)
+
+
 class EventFileFault(ValueError):
     """The first wrong field of an event file: its code, and the offset of its first byte. It reads as the program says it."""
 
-    def __init__(self, code, byte):
+    def __init__(self, code: str, byte: int) -> None:
         super().__init__(f"refused {code} byte {byte}: {MEANINGS[code]}")
         self.code, self.byte = code, byte
 
 
-class _Fields:
-    """A file that is read field by field."""
+class Whole(NamedTuple):
+    """The events of a file up to its first fault. `size` is the number of bytes that hold them, with the header: a file that is cut
+    there is good. It is 0 where the header is not there. `fault` is None for a good file."""
 
-    def __init__(self, file):
-        self.file, self.place = file, 0
-
-    def bytes(self, size):
-        """Returns the next bytes: fewer only where the file ends."""
-        pieces = []
-        while size > 0:
-            piece = self.file.read(size)
-            if not piece:
-                break
-            pieces.append(piece)
-            size -= len(piece)
-        return b"".join(pieces)
-
-    def number(self, size, code=None, wanted=lambda number: True):
-        """Returns the next field, which has to be as wanted."""
-        field = self.bytes(size)
-        if len(field) < size:
-            raise EventFileFault("V7", self.place)
-        number = int.from_bytes(field, "big")
-        if not wanted(number):
-            raise EventFileFault(code, self.place)
-        self.place += size
-        return number
-
-    def words(self, count):
-        """Returns the words of an event."""
-        data = self.bytes(4 * count)
-        words = struct.unpack(f">{len(data) // 4}I", data[: len(data) // 4 * 4])
-        for at, word in enumerate(words):
-            if word > GREATEST_WORD:
-                raise EventFileFault("V6", self.place + 4 * at)
-        if len(words) < count:
-            raise EventFileFault("V7", self.place + 4 * len(words))
-        self.place += 4 * count
-        return words
+    events: List[Event]
+    size: int
+    fault: Optional[EventFileFault]
 
 
-def read_events(file):
+class _Words(Dict[int, Callable[[bytes, int], Tuple[int, ...]]]):
+    """Reads so many words at a place."""
+
+    def __missing__(self, count: int) -> Callable[[bytes, int], Tuple[int, ...]]:
+        self[count] = struct.Struct(f">{count}I").unpack_from
+        return self[count]
+
+
+_WORDS = _Words()
+
+
+class _Source:
+    """A file that is read as its bytes come: what is there is given before more is waited for."""
+
+    def __init__(self, file: BinaryIO) -> None:
+        self.gives_what_is_there = hasattr(file, "read1") or isinstance(file, io.RawIOBase)
+        self.read = getattr(file, "read1", file.read)
+
+    def more(self, lacking: int) -> bytes:
+        """Returns further bytes: at least one, and none at the end of the file. `lacking` is how many are needed."""
+        return self.read(max(lacking, BLOCK) if self.gives_what_is_there else lacking) or b""
+
+
+def read_events(file: File) -> Iterator[Event]:
     """Yields the events of a file, named by its path or open for reading bytes, one after another. Each event is given as soon as it is
-    read, so a file may be longer than memory, and what stands before a fault is not lost.
+    read, so a file may be longer than memory, and what stands before a fault is not lost. Bytes behind it may have been read by then.
 
     Raises EventFileFault at the first wrong field, and OSError where the file cannot be read."""
     with contextlib.ExitStack() as opened:
         if isinstance(file, (str, bytes, os.PathLike)):
             file = opened.enter_context(open(file, "rb"))
-        fields = _Fields(file)
-        version = HEADERS.get(fields.bytes(8))
-        if version is None:
+        source = _Source(file)
+        data = b""
+        while len(data) < HEADER:
+            piece = source.more(HEADER - len(data))
+            if not piece:
+                raise EventFileFault("V1", 0)
+            data += piece
+        form = FORMS.get(data[:HEADER])
+        if form is None:
             raise EventFileFault("V1", 0)
-        fields.place = 8
-        number = 1
-        while True:
-            event = _read_event(fields, version, number)
-            if event is None:
-                return
-            yield event
-            number += 1
+        yield from _read_records(source, form, data[HEADER:])
 
 
-def _read_event(fields, version, number):
-    """Returns the event of this number, or None at the end of the file."""
-    marker = fields.bytes(2)
-    if not marker:
-        return None
-    if len(marker) < 2:
-        raise EventFileFault("V7", fields.place)
-    if int.from_bytes(marker, "big") != MARKER:
-        raise EventFileFault("V2", fields.place)
-    fields.place += 2
-    gl = fields.number(2, "V3", lambda gl: 1 <= gl <= GREATEST_GL)
-    fields.number(4, "V4", lambda found: found == number)
-    cycles = missed = None
-    if version == 2:
-        cycles = fields.number(4)
-        missed = fields.number(2, "V9", lambda missed: missed <= cycles)
-    count = fields.number(2, "V5", lambda count: count <= GREATEST_COUNT)
-    return Event(number, gl, cycles, missed, fields.words(count))
+def _read_records(source: _Source, form: Form, data: bytes) -> Iterator[Event]:
+    """Yields the events behind the header; `data` are the bytes of them that were read."""
+    unpack, head = form.unpack, form.head.size
+    number, at, place = 1, 0, HEADER
+    while True:
+        end, there = at + head, len(data)
+        while end <= there:
+            marker, gl, found, cycles, missed, count = unpack(data, at)
+            if marker != MARKER or not 0 < gl <= GREATEST_GL or found != number or count > GREATEST_COUNT or (missed and missed > cycles):
+                break
+            words_at, end = end, end + 4 * count
+            if end > there or any(data[words_at:end:4]):
+                break
+            yield Event(number, gl, cycles, missed, _WORDS[count](data, words_at))
+            number, at, end = number + 1, end, end + head
+        # What is left is no record, or not yet a whole one.
+        _refuse(form, data[at : end if end <= there else at + head], number, place + at, is_whole=end <= there)
+        piece = source.more(end - there)
+        if not piece:
+            _refuse(form, data[at:], number, place + at, is_whole=True)
+            return
+        data, at, place = data[at:] + piece, 0, place + at
+
+
+def _refuse(form: Form, record: bytes, number: int, place: int, is_whole: bool) -> None:
+    """Raises the fault of the first wrong field in a record. One of which more is to come (`is_whole` is False) has no end to judge."""
+    found = _wrong_field(form, record, number) if record else None
+    if found and (is_whole or found[0] != "V7"):
+        raise EventFileFault(found[0], place + found[1])
+
+
+def _wrong_field(form: Form, record: bytes, number: int) -> Optional[Tuple[str, int]]:
+    """Returns the code and the place of the first wrong field; V7 is the one in which the bytes end."""
+    head = form.head.size
+    marker, gl, found, cycles, missed, count = form.unpack(record[:head].ljust(head, b"\0"), 0)
+    right = {"V2": marker == MARKER, "V3": 1 <= gl <= GREATEST_GL, "V4": found == number, "V5": count <= GREATEST_COUNT}
+    right["V9"] = not missed or missed <= cycles
+    for code, place, size in form.fields:
+        if len(record) < place + size:
+            return "V7", place
+        if not right.get(code, True):
+            return code, place
+    there = min(count, (len(record) - head) // 4)
+    for at, word in enumerate(_WORDS[there](record, head)):
+        if word > GREATEST_WORD:
+            return "V6", head + 4 * at
+    return ("V7", head + 4 * there) if there < count else None
+
+
+def whole(file: File) -> Whole:
+    """Returns the events of a file up to its first fault, and where it breaks: for a file that a full disk or a signal has cut.
+
+    Raises OSError where the file cannot be read."""
+    events: List[Event] = []
+    fault = None
+    try:
+        for event in read_events(file):
+            events.append(event)
+    except EventFileFault as found:
+        fault = found
+    if fault and fault.code == "V1":
+        return Whole(events, 0, fault)
+    heads = [(ONE if event.cycles is None else TWO).head.size for event in events]
+    return Whole(events, HEADER + sum(heads) + 4 * sum(len(event.words) for event in events), fault)

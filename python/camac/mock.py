@@ -17,14 +17,18 @@ A module is a class with one method. This one holds a word: F16 writes it, F0 re
 from a seed, so that two runs are alike."""
 import dataclasses
 import random
-from typing import Dict, Iterable, List, Mapping, NamedTuple, Optional, Tuple
+from typing import Dict, Iterable, List, Mapping, NamedTuple, Optional, Tuple, Union
 
-from camac.drive import Answer, Branch
+from camac.drive import Answer, Branch, File
+from camac.plans import Plan
+from camac.plans import plan as read_plan
 
 Place = Tuple[int, int]
 GREATEST_WORD = 0xFF_FFFF
 CONTROLLER = (28, 30)
 INITIALISE, CLEAR = (28, 8, 26), (28, 9, 26)
+INHIBIT_OFF, INHIBIT_ON = (30, 9, 24), (30, 9, 26)
+DEMANDS_OFF, DEMANDS_ON = (30, 10, 24), (30, 10, 26)
 
 
 class Reply(NamedTuple):
@@ -220,7 +224,10 @@ class MockBranch:
                  used up, `demand` answers None, and the run ends. A look-at-me stays raised until the script clears it
     auxiliaries  the auxiliary controllers of each crate that has some
 
-    Where no module stands, X is 0. Z and C (the commands at station 28) initialise and clear all modules of the crate."""
+    `MockBranch.of_plan` takes bits and waits from a plan. Where no module stands, X is 0.
+
+    Z and C (the commands at station 28) initialise and clear all modules of the crate. Z also sets inhibit and disables the demand output
+    of the crate. A crate whose demand output is disabled adds no bits to a demand, and in one with inhibit nothing is triggered."""
 
     def __init__(
         self,
@@ -233,11 +240,33 @@ class MockBranch:
         self.triggers = iter(triggers)
         self.auxiliaries: Dict[int, Auxiliary] = dict(auxiliaries or {})
         self.locked: set = set()
+        self.inhibited: set = set()
+        self.silent: set = set()
+
+    @classmethod
+    def of_plan(
+        cls, plan: Union[File, Plan], modules: Mapping[Place, Module], triggers: Iterable[Iterable[Place]] = (), *, is_cold: bool = False
+    ) -> "MockBranch":
+        """A branch with these modules at stations of a plan: graded-L bits are the plan's, and in each crate auxiliary controllers wait as
+        long as the plan's `waits` allows. Where `is_cold`, each crate is as after Z: inhibit on, its demand output and all look-at-mes
+        disabled. So nothing calls before a start has enabled it.
+
+        Raises ValueError where the plan has no such station, and what `camac.plan` raises."""
+        its = plan if isinstance(plan, Plan) else read_plan(plan)
+        stations = {(crate.number, it.number): it.gl for crate in its.crates for it in crate.stations}
+        for place in modules:
+            if place not in stations:
+                raise ValueError(f"the plan has no station {place[1]} in a crate {place[0]}")
+        gl = {place: bit for place, bit in stations.items() if bit and place in modules}
+        auxiliaries = {it.number: Auxiliary(it.waits, seed=it.number) for it in its.crates if it.waits}
+        branch = cls(modules, gl, triggers, auxiliaries)
+        for crate in its.crates if is_cold else ():
+            branch.initialise(crate.number)
+        return branch
 
     def pattern(self) -> int:
         """The graded-L pattern of all modules whose look-at-me is raised."""
-        bits = {bit for place, bit in self.gl.items() if self.modules[place].calls()}
-        return sum(1 << (bit - 1) for bit in bits)
+        return sum(1 << (bit - 1) for bit in {bit for place, bit in self.gl.items() if self.modules[place].calls()})
 
     def wait(self, crate: int) -> int:
         auxiliary = self.auxiliaries.get(crate)
@@ -248,8 +277,10 @@ class MockBranch:
         if places is None:
             return None
         for place in places:
-            self.modules[place].trigger()
-        return Answer(gl=self.pattern())
+            if place[0] not in self.inhibited:
+                self.modules[place].trigger()
+        silent = sum(1 << (bit - 1) for (crate, _), bit in self.gl.items() if crate in self.silent)
+        return Answer(gl=self.pattern() & ~silent)
 
     def cycle(self, c: int, n: int, a: int, f: int, data: Optional[int]) -> Answer:
         wait = self.wait(c)
@@ -261,12 +292,26 @@ class MockBranch:
 
     def control(self, c: int, command: Tuple[int, int, int], wait: int) -> Answer:
         """A command of the crate's controller, of whose reply only the wait and the pattern count."""
-        for (crate, _), module in self.modules.items():
-            if crate == c and command == INITIALISE:
-                module.initialise()
-            elif crate == c and command == CLEAR:
+        if command == INITIALISE:
+            self.initialise(c)
+        elif command == CLEAR:
+            for module in self.modules_of(c):
                 module.clear()
+        elif command in (INHIBIT_OFF, INHIBIT_ON):
+            _put(c, self.inhibited, command == INHIBIT_ON)
+        elif command in (DEMANDS_OFF, DEMANDS_ON):
+            _put(c, self.silent, command == DEMANDS_OFF)
         return Answer(wait=wait, gl=self.pattern())
+
+    def modules_of(self, c: int) -> List[Module]:
+        return [module for (crate, _), module in self.modules.items() if crate == c]
+
+    def initialise(self, c: int) -> None:
+        """Z in crate c."""
+        for module in self.modules_of(c):
+            module.initialise()
+        self.inhibited.add(c)
+        self.silent.add(c)
 
     def lock(self, c: int) -> Answer:
         wait = self.wait(c)
@@ -275,6 +320,14 @@ class MockBranch:
 
     def unlock(self, c: int) -> None:
         self.locked.remove(c)
+
+
+def _put(crate: int, crates: set, is_in: bool) -> None:
+    """Puts a crate into a set, or takes it out."""
+    if is_in:
+        crates.add(crate)
+    else:
+        crates.discard(crate)
 
 
 @dataclasses.dataclass(frozen=True)

@@ -1,0 +1,51 @@
+/* library.c: plays so many answers of a script through the library for C, and prints how many nanoseconds of the processor one took.
+ *
+ *     library PLAN SCRIPT ANSWERS */
+#define _POSIX_C_SOURCE 200809L
+#include <camac.h>
+#include <stdio.h>
+#include <stdlib.h>
+#include <time.h>
+
+static char *read_file(const char *path, size_t *size) {
+    FILE *file = fopen(path, "rb");
+    char *bytes = malloc(CAMAC_TEXT_BYTES);
+    if (!file || !bytes) exit(3);
+    *size = fread(bytes, 1, CAMAC_TEXT_BYTES, file);
+    fclose(file);
+    return bytes;
+}
+
+static double now(void) {
+    struct timespec its;
+    clock_gettime(CLOCK_PROCESS_CPUTIME_ID, &its);
+    return (double)its.tv_sec * 1e9 + (double)its.tv_nsec;
+}
+
+/* Every demand calls, and every cycle has X and Q. */
+static long play(camac_session *s, long answers) {
+    static uint32_t words[CAMAC_EVENT_WORDS];
+    const camac_answer demand = {0, 4, 0, 0, 0, 0}, cycle = {0x123, 0, 1, 1, 0, 0};
+    camac_want want;
+    camac_progress did;
+    long count = 0;
+    for (long i = 0; i < answers; i++) {
+        if (camac_wants(s, &want) || camac_next(s, want.kind == CAMAC_DEMAND ? &demand : &cycle, &did)) return -1;
+        if (did.event) count += (long)camac_words(s, words, CAMAC_EVENT_WORDS);
+    }
+    return count;
+}
+
+int main(int count, char **words) {
+    size_t plan_size, script_size, size;
+    camac_session s = CAMAC_NONE;
+    if (count != 4) return 2;
+    char *plan = read_file(words[1], &plan_size), *script = read_file(words[2], &script_size);
+    const long answers = atol(words[3]);
+    if (camac_open(&s, plan, plan_size, script, script_size, NULL, 0, &size)) return 1;
+    const double begun = now();
+    const long its_words = play(&s, answers);
+    printf("%.1f %ld\n", (now() - begun) / (double)answers, its_words);
+    camac_close(&s);
+    return its_words < 0;
+}

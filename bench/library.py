@@ -1,0 +1,96 @@
+#!/usr/bin/env python3
+"""Measures what an answer costs through the library for C: `camac_wants`, `camac_next`, and `camac_words` where an event ends.
+
+usage: bench/library.py [--openings N] [ARCHIVE]     ARCHIVE is crates/camac_c/out/libcamac_c.a unless given (built by: cd crates/camac_c && rt lib)
+
+The instructions are those of valgrind's callgrind. They are told for the interface (the exports, and what they copy), for the runner that
+it calls, and for the loop in C around them. The time is the processor's, in nanoseconds, the least of five runs. It needs gcc, and valgrind
+for the instructions. With --openings N sessions are opened and closed (a million shows that memory is flat), and nothing else is measured.
+"""
+import argparse
+import os
+import re
+import shutil
+import subprocess
+import sys
+import tempfile
+
+TOP = os.path.dirname(os.path.dirname(os.path.abspath(__file__)))
+sys.dont_write_bytecode = True
+PLAN = f"{TOP}/examples/sample_plan.toml"
+SCRIPTS = ("straight_line", "lockout", "all_channels")
+FEW, MANY = 10_000, 20_000
+ANSWERS = 1_000_000
+BEST = 5
+LOOP = ("play", "main", "camac_wants", "camac_next", "camac_words")
+INTERFACE = re.compile(r"camac_raw_|camac_c::|^mem(?:cpy|move|set)|^__mem")
+
+
+def compiled(archive, room, source):
+    """A program over the archive, with the names of all functions."""
+    subprocess.run([f"{TOP}/tools/library", archive, room], check=True)
+    words = ["gcc", "-std=c99", "-O2", "-fno-inline", f"-I{TOP}/include", source, f"{room}/libcamac.a", "-pthread", "-o", f"{room}/library"]
+    subprocess.run(words, check=True)
+    return f"{room}/library"
+
+
+def costs(program, script, answers, room):
+    """Instructions of each function, by its name."""
+    told = f"{room}/callgrind"
+    words = ["valgrind", "-q", "--tool=callgrind", f"--callgrind-out-file={told}", program, PLAN, script, str(answers)]
+    subprocess.run(words, check=True, stdout=subprocess.DEVNULL)
+    names, found, name, is_call = {}, {}, "", False
+    with open(told, encoding="utf-8") as lines:
+        for line in lines:
+            if line.startswith("fn="):
+                number, text = re.match(r"fn=\((\d+)\)(?: (.*))?", line).groups()
+                name = names.setdefault(number, text)
+            elif line.startswith("cfn="):
+                number, text = re.match(r"cfn=\((\d+)\)(?: (.*))?", line).groups()
+                names.setdefault(number, text)
+            elif line.startswith("calls="):
+                is_call = True
+            elif re.match(r"[+*\-\d]", line):
+                # the line behind a call has the cost of what is called, which is told there, too
+                if not is_call:
+                    found[name] = found.get(name, 0) + int(line.split()[1])
+                is_call = False
+    return found
+
+
+def instructions(program, script, room):
+    """Instructions for an answer: of the interface, of the runner, and of the loop. What comes before the first answer is left out."""
+    few, many = (costs(program, script, count, room) for count in (FEW, MANY))
+    parts = [0.0, 0.0, 0.0]
+    for name, cost in many.items():
+        part = 0 if INTERFACE.search(name) else 2 if name.split("'")[0] in LOOP else 1
+        parts[part] += (cost - few.get(name, 0)) / (MANY - FEW)
+    return parts
+
+
+def measure(program, room):
+    """Prints the table."""
+    print("| script | interface | runner | loop in C | ns an answer |\n|---|---|---|---|---|")
+    for name in SCRIPTS:
+        script = f"{TOP}/examples/{name}.script"
+        parts = instructions(program, script, room) if shutil.which("valgrind") else [float("nan")] * 3
+        words = [program, PLAN, script, str(ANSWERS)]
+        least = min(float(subprocess.run(words, check=True, stdout=subprocess.PIPE).stdout.split()[0]) for _ in range(BEST))
+        print(f"| {name} | {parts[0]:.0f} | {parts[1]:.0f} | {parts[2]:.0f} | {least:.0f} |", flush=True)
+
+
+def main():
+    words = argparse.ArgumentParser(usage=__doc__)
+    words.add_argument("--openings", type=int)
+    words.add_argument("archive", nargs="?", default=f"{TOP}/crates/camac_c/out/libcamac_c.a")
+    asked = words.parse_args()
+    with tempfile.TemporaryDirectory() as room:
+        if asked.openings:
+            program = compiled(asked.archive, room, f"{TOP}/tests/library/calls.c")
+            subprocess.run([program, PLAN, f"{TOP}/examples/{SCRIPTS[0]}.script", str(asked.openings)], check=True)
+        else:
+            measure(compiled(asked.archive, room, f"{TOP}/bench/library.c"), room)
+
+
+if __name__ == "__main__":
+    main()

@@ -1,0 +1,18 @@
+# Completion of camac-report for bash.
+
+_camac_report() {
+  local word=${COMP_WORDS[COMP_CWORD]} offered=
+  COMPREPLY=()
+  case $word in
+  -*)
+    mapfile -t COMPREPLY < <(compgen -W '--help --out -h -o' -- "$word")
+    return
+    ;;
+  esac
+  ((COMP_CWORD == 1)) && offered=@sample
+  mapfile -t COMPREPLY < <(compgen -W "$offered" -- "$word")
+  compopt -o filenames 2>/dev/null
+  mapfile -t -O "${#COMPREPLY[@]}" COMPREPLY < <(compgen -f -- "$word")
+}
+
+complete -F _camac_report camac-report

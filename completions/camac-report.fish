@@ -1,0 +1,5 @@
+# Completion of camac-report for fish.
+
+complete -c camac-report -s h -l help -d 'Print help'
+complete -c camac-report -s o -l out -r -F -d 'the file to write'
+complete -c camac-report -n 'test (count (commandline -opc)) -eq 1' -a @sample -d 'the built-in plan'

@@ -1,0 +1,8 @@
+import sys
+import camac
+from my_branch import MyBranch
+
+plan, start, service, script, events, *patience = sys.argv[1:]
+branch = MyBranch(plan, float(patience[0]) if patience else None)
+print("start:", camac.call(plan, start, service, branch).line)
+print("readout:", camac.drive(plan, script, branch, events).line)

@@ -1,0 +1,168 @@
+"""The picture of a body's cost: what its bound consists of, as bars below bars, and then by line."""
+from typing import Dict, List, NamedTuple, Optional, Sequence, Tuple
+
+from camac.bodies import Body, Row
+from camac.pictures.lines import draw_lines, parts_of
+from camac.pictures.svg import MONO_11, NO_POINTER, SANS_11, WIDTH, Canvas, count, cut, number, share
+from camac.runs import Seen
+
+WIDE = WIDTH - 2
+FIRST_BAR, BAR, STEP = 22, 20, 21
+DEEPEST = 16
+# Where the heading promises more than FAR times what is needed, the picture is cut at SHOWN times, so that what is needed has room.
+FAR, SHOWN = 1.5, 1.3
+# Narrower bars are not drawn, and marks narrower than MARK tell nothing.
+NARROWEST, MARK = 0.8, 2
+
+
+class Node:
+    """A statement with what is in its block: the cycles of both, of them waits and what is not needed; and the statement that it stands
+    in, by its place."""
+
+    __slots__ = ("row", "cycles", "waits", "slack", "parent", "has_block")
+
+    def __init__(self, row: Row, parent: Optional[int]) -> None:
+        self.row, self.parent, self.has_block = row, parent, False
+        self.cycles, self.waits, self.slack = row.share.cycles, row.waits, row.slack
+
+
+class Scale(NamedTuple):
+    """How wide a cycle is, and whether the heading's number lies outside of the picture."""
+
+    cycle: float
+    whole: int
+    is_cut: bool
+
+
+def draw_costs(body: Body, source: Sequence[str], seen: Optional[Seen] = None) -> Canvas:
+    """Draws the cost of a service or procedure. `source` are the lines of the script; `seen` are the cycles of the services of a run."""
+    name = f"{body.kind.value} {body.name}"
+    canvas = Canvas(f"What the cycles of {name} consist of")
+    most, annotated = body.most.cycles, body.annotated[0]
+    canvas.text(0, 16, f"{name} (line {body.line}): at most {count(most, 'cycle')} of {annotated:,} annotated", "b s14")
+    y = 40 if seen else 26
+    whole = max(annotated, most, 1)
+    is_cut = whole > FAR * most > 0
+    scale = Scale(WIDE / (SHOWN * most if is_cut else whole), whole, is_cut)
+    _draw_whole(canvas, y, body, scale)
+    if seen:
+        _draw_seen(canvas, y, seen, scale)
+    nodes = nodes_of(body.rows)
+    y += FIRST_BAR + 2
+    _draw_nodes(canvas, y, nodes, scale, (body, source))
+    deepest = max((it.row.depth for it in nodes if it.cycles), default=0)
+    y += min(deepest, DEEPEST) * STEP + 6
+    _draw_legend(canvas, y, body)
+    wholes = [(it.row, it.cycles) for it in nodes]
+    return draw_lines(canvas, y + 28, body, wholes, source)
+
+
+def nodes_of(rows: Sequence[Row]) -> List[Node]:
+    """The statements in the order of the text, each with what is in its block."""
+    nodes: List[Node] = []
+    around: List[int] = []
+    for at, row in enumerate(rows):
+        while around and rows[around[-1]].depth >= row.depth:
+            around.pop()
+        nodes.append(Node(row, around[-1] if around else None))
+        around.append(at)
+    for it in reversed(nodes):
+        if it.parent is not None:
+            parent = nodes[it.parent]
+            parent.has_block = True
+            parent.cycles += it.cycles
+            parent.waits += it.waits
+            parent.slack += it.slack
+    return nodes
+
+
+def _draw_whole(canvas: Canvas, y: float, body: Body, scale: Scale) -> None:
+    """The first bar: dashed what the heading promises, filled what is needed."""
+    most, waits, slack = body.most.cycles, body.waits(), body.slack()
+    left = scale.whole - most
+    canvas.rect((0.5, y, WIDE, FIRST_BAR), "l-mute dash", f"annotated: {count(scale.whole, 'cycle')}, of them {left:,} not needed")
+    wide = most * scale.cycle
+    if most:
+        tip = f"at most {count(most, 'cycle')}, of them {count(waits, 'wait')} for auxiliary controllers"
+        canvas.rect((0.5, y, wide, FIRST_BAR), "face l-ink", tip)
+    text = f"at most {most:,} = {most - waits - slack:,} ours + {waits:,} waits"
+    if slack:
+        text += f" + {slack:,} promised by procedures, not needed"
+    if wide > SANS_11 * len(text) + 12:
+        canvas.text(6, y + 15, text, "s11")
+    text = f"{left:,} not needed" + (" …" if scale.is_cut else "")
+    if WIDE - wide > SANS_11 * len(text) + 12:
+        canvas.text(WIDE - 6, y + 15, text, "mute s11 r")
+
+
+def _draw_seen(canvas: Canvas, y: float, seen: Seen, scale: Scale) -> None:
+    """Two triangles above the first bar: the mean and the most of a run. Where they are near to each other, one text tells both."""
+    for value in (seen.mean, seen.most):
+        x = min(value * scale.cycle, WIDE)
+        canvas.path(f"M{number(x)} {number(y - 1)}l-4 -7h8z", "ink")
+    mean, most = f"seen: mean {seen.mean:,.1f}", f"most {seen.most:,}"
+    texts = [(seen.mean, mean), (float(seen.most), most)]
+    if (seen.most - seen.mean) * scale.cycle < SANS_11 * (len(mean) + len(most)) / 2 + 8:
+        texts = [(seen.mean, f"{mean}, {most}")]
+    for value, text in texts:
+        half = SANS_11 * len(text) / 2
+        canvas.text(min(max(value * scale.cycle, half), WIDE - half), y - 11, text, "s11 m")
+
+
+def _draw_nodes(canvas: Canvas, y: float, nodes: List[Node], scale: Scale, of: Tuple[Body, Sequence[str]]) -> None:
+    """The bars of the statements, each below the one that it stands in and as wide as its cycles."""
+    begins: List[float] = []
+    free: Dict[Optional[int], float] = {None: 0.0}
+    for at, node in enumerate(nodes):
+        x = free[node.parent]
+        begins.append(x)
+        free[node.parent] = x + node.cycles * scale.cycle
+        free[at] = x + node.row.share.cycles * scale.cycle
+        if node.cycles * scale.cycle >= NARROWEST and node.row.depth <= DEEPEST:
+            top = y + (node.row.depth - 1) * STEP
+            _draw_node(canvas, (x, top), node, scale, of)
+
+
+def _draw_node(canvas: Canvas, corner: Tuple[float, float], node: Node, scale: Scale, of: Tuple[Body, Sequence[str]]) -> None:
+    (x, top), (body, source) = corner, of
+    wide = node.cycles * scale.cycle
+    own = node.row.share.cycles * scale.cycle if node.has_block else 0.0
+    gap = 1 if wide > 3 else 0
+    text = statement_text(node.row, source)
+    tip = _node_tip(node, text, body) if wide >= MARK else None
+    if node.has_block:
+        if own:
+            canvas.rect((x, top, max(own - gap, NARROWEST), BAR), "waits", tip)
+        canvas.rect((x + own + 0.5, top + 0.5, max(wide - own - gap - 1, NARROWEST), BAR - 1), "face l-mute", tip)
+    else:
+        at, ends = x, x + wide - gap
+        for kind, cycles in parts_of(node.cycles, node.waits, node.slack):
+            part = wide * cycles / node.cycles
+            canvas.rect((at, top, max(min(part, ends - at), NARROWEST), BAR), kind, tip)
+            at += part
+    room = int((wide - own - 8) / MONO_11)
+    if room >= 4:
+        label = f"{node.row.line}: {text}"
+        shown = str(node.row.line) if room < min(8, len(label)) else cut(label, room)
+        if len(shown) <= room:
+            canvas.text(x + own + 4, top + 14, shown, "mono s11" if node.has_block else "mono s11 on", NO_POINTER)
+
+
+def statement_text(row: Row, source: Sequence[str]) -> str:
+    """The line on which a statement begins, without its comment."""
+    return source[row.line - 1].split("#")[0].strip() if row.line <= len(source) else row.word
+
+
+def _node_tip(node: Node, text: str, body: Body) -> str:
+    row = node.row
+    tip = f"line {row.line}: {text}\n{count(row.times, 'time')} at most {count(row.each.cycles, 'cycle')}: "
+    tip += f"{count(node.cycles, 'cycle')}, {share(node.cycles, body.most.cycles)} of the bound\nof them {count(node.waits, 'wait')}"
+    return tip + (f", {node.slack:,} promised by the heading of a procedure, not needed" if node.slack else "")
+
+
+def _draw_legend(canvas: Canvas, y: float, body: Body) -> None:
+    names = [("ours", "our cycles"), ("waits", "waits, at most")]
+    if body.slack():
+        names.append(("slack", "not needed by a procedure"))
+    x = canvas.legend(0, y + 2, names, lambda word: 30 + SANS_11 * len(word))
+    canvas.text(x + 10, y + 12, "The wider, the more of the bound. Below: the same by line; an outline counts the block too.", "mute s11")

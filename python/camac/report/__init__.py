@@ -1,0 +1,62 @@
+"""The report: one page of HTML with all that is known of a run. It fetches nothing, and opens from a file."""
+from typing import List, NamedTuple, Optional
+
+from camac.bodies import Body, costs
+from camac.drive import File, Refused
+from camac.plans import plan as read_plan
+from camac.program import knows_command, version
+from camac.report import sections
+from camac.report.page import page
+from camac.report.refused import refused_page
+from camac.runs import Check, Inputs, collect
+from camac.scripts import check, source_lines
+
+__all__ = ["Report", "report"]
+
+
+class Report(NamedTuple):
+    """The page, and the status: 0; 1 where plan, script, an answer or the event file is refused, where a wait was not permitted, or where
+    numbers that have to agree differ."""
+
+    text: str
+    status: int
+
+
+def report(inputs: Inputs, program: Optional[File] = None) -> Report:
+    """Makes the page of a run, or of the refusal of plan or script.
+
+    Raises OSError where a file cannot be read, and UsageFault and ProgramFault as `camac.run`."""
+    try:
+        plan = read_plan(inputs.plan, program)
+        services = check(inputs.plan, inputs.script, program)
+        run = collect(inputs, plan, services, program)
+    except Refused as refusal:
+        return Report(refused_page(inputs, str(refusal), program), 1)
+    bodies = costs(inputs.plan, inputs.script, program) if knows_command("costs", program) else None
+    if bodies is not None:
+        run.checks.append(_shares_check(bodies))
+    facts = sections.Facts(inputs, version(program), plan, services, source_lines(inputs.script), bodies, run)
+    parts = [
+        sections.tiles(run),
+        sections.last_line(run),
+        sections.bounds(facts),
+        sections.cost(facts),
+        sections.plan(facts),
+        sections.run_section(facts),
+        sections.histograms(facts),
+        sections.services(facts),
+        sections.checks(run),
+    ]
+    text = page(f"{sections.base_name(inputs.script)}: report", sections.head(facts), parts)
+    return Report(text, 0 if run.agrees() and run.is_good() else 1)
+
+
+def _shares_check(bodies: List[Body]) -> Check:
+    """Whether the shares of each body's statements add up to its bound."""
+    differ = [
+        f"{body.kind.value} {body.name}"
+        for body in bodies
+        if any(sum(row.share[k] for row in body.rows) != body.most[k] for k in range(3))
+    ]
+    text = f"the shares of the lines add up to the bounds ({len(bodies)} bodies; cycles, words and steps)"
+    return Check(text + (f", but for {', '.join(differ)}" if differ else ""), not differ)

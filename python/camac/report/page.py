@@ -1,0 +1,155 @@
+"""HTML: the frame of a page, its style, its script, and tables that can be sorted."""
+import base64
+import hashlib
+from typing import List, NamedTuple, Sequence, Union
+
+from camac.pictures.svg import DARK, LIGHT, MONO, SANS, Canvas, escape, page_style, variables
+
+THEMES = (
+    f":root{{{variables(LIGHT)}color-scheme:light dark}}"
+    f"@media (prefers-color-scheme:dark){{:root:not([data-theme=light]){{{variables(DARK)}}}}}"
+    f":root[data-theme=light]{{color-scheme:light}}:root[data-theme=dark]{{{variables(DARK)}color-scheme:dark}}"
+    f"@media print{{:root:root:root{{{variables(LIGHT)}color-scheme:light}}}}"
+)
+STYLE = f"""
+*{{box-sizing:border-box}}
+body{{margin:0;background:var(--ground);color:var(--ink);font:15px/1.45 {SANS}}}
+main,header{{max-width:1000px;margin:0 auto;padding:0 20px}}
+h1{{font-size:24px;margin:22px 0 4px;overflow-wrap:anywhere}}
+h2{{font-size:19px;margin:34px 0 8px;padding-top:8px;border-top:1px solid var(--grid)}}
+h3{{font-size:15px;margin:20px 0 6px}}
+p{{margin:6px 0;max-width:76ch;overflow-wrap:anywhere}}
+nav{{margin:8px 0}}
+a{{color:var(--ours)}}
+.figure{{overflow-x:auto;margin:8px 0 14px}}
+.figure svg{{display:block;max-width:none}}
+table{{border-collapse:collapse;font-size:13px;margin:8px 0}}
+th,td{{padding:3px 7px;border-bottom:1px solid var(--grid);text-align:right;white-space:nowrap}}
+td.t,th.t{{text-align:left}}
+thead th{{position:sticky;top:0;background:var(--face)}}
+th button{{all:unset;cursor:pointer;font-weight:600}}
+th button:focus-visible{{outline:2px solid var(--ours)}}
+th[aria-sort=ascending] button:after{{content:' \\25B2'}}
+th[aria-sort=descending] button:after{{content:' \\25BC'}}
+.wrap{{max-height:420px;overflow:auto;border:1px solid var(--grid);margin:8px 0;width:fit-content;max-width:100%}}
+.wrap table{{margin:0}}
+.tiles{{display:flex;flex-wrap:wrap;gap:10px;margin:12px 0}}
+.tile{{background:var(--face);border:1px solid var(--grid);padding:8px 14px;min-width:120px}}
+.tile b{{display:block;font-size:20px}}
+.tile span{{color:var(--mute);font-size:13px}}
+.bad{{color:var(--nox);font-weight:600}}
+.good{{color:var(--control);font-weight:600}}
+.mute{{color:var(--mute)}}
+code,pre{{font-family:{MONO};font-size:13px}}
+pre{{overflow-x:auto}}
+.checks td{{white-space:normal}}
+nav a{{margin-right:14px;display:inline-block}}
+#tip{{position:fixed;pointer-events:none;background:var(--ink);color:var(--ground);font-size:12px;padding:3px 7px;display:none;z-index:9}}
+.theme{{float:right;margin-top:22px;background:var(--face);color:var(--ink);border:1px solid var(--grid);padding:4px 10px;cursor:pointer}}
+@page{{size:A4;margin:14mm}}
+@media print{{
+body{{font-size:11pt}}
+main,header{{padding:0}}
+.theme,nav{{display:none}}
+thead th{{position:static}}
+h2,h3,p{{break-after:avoid}}
+.wrap{{max-height:none;overflow:visible;border:0}}
+.wrap table{{font-size:8pt}}
+.wrap th,.wrap td{{padding:2px 4px}}
+.figure{{overflow:visible;break-inside:avoid}}
+.figure.long{{break-inside:auto}}
+.figure svg{{max-width:100%;height:auto}}
+thead,tr,.tile{{break-inside:avoid}}
+pre{{white-space:pre-wrap}}
+}}
+"""
+# Sorts a table by a column, tells the bin below the pointer, and changes the theme.
+SCRIPT = """
+var commas=function(n){return String(n).replace(/\\B(?=(\\d{3})+$)/g,',')};
+document.querySelectorAll('table.sort').forEach(function(t){
+var heads=t.querySelectorAll('th');
+heads.forEach(function(head,i){head.firstChild.onclick=function(){
+var down=head.getAttribute('aria-sort')!=='descending';
+heads.forEach(function(other){other.removeAttribute('aria-sort')});
+head.setAttribute('aria-sort',down?'descending':'ascending');
+var value=function(row){var cell=row.cells[i],v=cell.dataset.v;
+return head.className==='t'&&v===undefined?cell.textContent:v===undefined?-Infinity:+v};
+Array.from(t.tBodies[0].rows).map(function(row,k){return{v:value(row),k:k,row:row}})
+.sort(function(a,b){return(a.v<b.v?-1:a.v>b.v?1:0)*(down?-1:1)||a.k-b.k})
+.forEach(function(it){t.tBodies[0].appendChild(it.row)})}})});
+var tip=document.getElementById('tip');
+document.querySelectorAll('rect[data-counts]').forEach(function(r){
+var counts=r.dataset.counts.split(' ').map(Number),first=+r.dataset.first,width=+r.dataset.width;
+r.onmousemove=function(e){
+var b=r.getBoundingClientRect(),k=Math.floor((e.clientX-b.left)/b.width/r.dataset.part*counts.length);
+if(k<0||k>=counts.length){tip.style.display='none';return}
+var from=first+k*width,range=width>1?commas(from)+' to '+commas(from+width-1):commas(from);
+tip.textContent=range+': '+commas(counts[k]);tip.style.display='block';
+tip.style.left=Math.min(e.clientX+14,innerWidth-160)+'px';tip.style.top=e.clientY+14+'px'};
+r.onmouseleave=function(){tip.style.display='none'}});
+var root=document.documentElement;
+document.querySelector('.theme').onclick=function(){
+var theme=root.dataset.theme||(matchMedia('(prefers-color-scheme:dark)').matches?'dark':'light');
+root.dataset.theme=theme==='dark'?'light':'dark'};
+"""
+
+
+class Column(NamedTuple):
+    """The head of a column of a table, and whether its cells are texts."""
+
+    title: str
+    is_text: bool = False
+
+
+class Cell(NamedTuple):
+    """A number by which is sorted, and what is shown."""
+
+    value: float
+    text: str
+
+
+Row = Sequence[Union[str, int, float, Cell]]
+
+
+def table(columns: Sequence[Column], rows: Sequence[Row]) -> str:
+    """A table that can be sorted by each column."""
+    heads = "".join(f'<th scope="col"{_kind(it)}><button>{escape(it.title)}</button></th>' for it in columns)
+    lines = ("<tr>" + "".join(_cell(column, cell) for column, cell in zip(columns, row)) + "</tr>" for row in rows)
+    return f'<div class="wrap"><table class="sort"><thead><tr>{heads}</tr></thead><tbody>{"".join(lines)}</tbody></table></div>'
+
+
+def _kind(column: Column) -> str:
+    return ' class="t"' if column.is_text else ""
+
+
+def _cell(column: Column, cell: Union[str, int, float, Cell]) -> str:
+    if isinstance(cell, int):
+        cell = Cell(cell, f"{cell:,}")
+    elif isinstance(cell, float):
+        cell = Cell(round(cell, 4), f"{cell:,.1f}")
+    if isinstance(cell, Cell):
+        return f"<td{_kind(column)} data-v={cell.value}>{escape(cell.text)}</td>"
+    return f"<td{_kind(column)}>{escape(cell)}</td>"
+
+
+def figure(canvas: Canvas, is_long: bool = False) -> str:
+    """A picture in the page; a long one may go on at the next sheet of paper."""
+    return f'<div class="figure{" long" if is_long else ""}">{canvas.figure()}</div>'
+
+
+def header(title: str, parts: Sequence[str] = ()) -> str:
+    """The head of a page; its button changes the theme."""
+    return f'<header><button class="theme">dark / light</button><h1>{escape(title)}</h1>{"".join(parts)}</header>'
+
+
+def page(title: str, head: str, parts: List[str]) -> str:
+    """A page that stands alone: it fetches nothing, and runs no script but its own."""
+    digest = base64.b64encode(hashlib.sha256(SCRIPT.encode()).digest()).decode()
+    policy = f"default-src 'none';style-src 'unsafe-inline';script-src 'sha256-{digest}'"
+    return (
+        '<!DOCTYPE html>\n<html lang="en"><head><meta charset="utf-8">'
+        f'<meta http-equiv="Content-Security-Policy" content="{policy}">'
+        '<meta name="viewport" content="width=device-width,initial-scale=1">'
+        f"<title>{escape(title)}</title><style>{THEMES}{STYLE}{page_style()}</style></head>\n"
+        f'<body>{head}<main>{"".join(parts)}</main><div id="tip"></div><script>{SCRIPT}</script></body></html>\n'
+    )

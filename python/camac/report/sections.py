@@ -1,0 +1,255 @@
+"""The parts of the page of a run, from its head to the checks."""
+import hashlib
+import heapq
+import os
+from typing import Dict, List, NamedTuple, Optional, Sequence, Tuple
+
+from camac import functions
+from camac.bodies import Body, Kind
+from camac.drive import Ending, File
+from camac.pictures import draw_bounds, draw_costs, draw_events, draw_places, draw_plan, draw_run, draw_strip, draw_words
+from camac.pictures.svg import escape, share
+from camac.plans import Plan
+from camac.report.page import Cell, Column, figure, header, table
+from camac.runs import Inputs, Kept, Run, Why
+from camac.scripts import Service
+
+SECTIONS = (
+    ("bounds", "Bounds"),
+    ("cost", "Cost by line"),
+    ("plan", "Plan"),
+    ("run", "Run"),
+    ("histograms", "Histograms"),
+    ("services", "Services"),
+    ("checks", "Checks"),
+)
+ENDS = {
+    Ending.ENDED: "the answers were used up at a demand",
+    Ending.SHORT: "the answers were used up inside a service, which left no event",
+    Ending.OVERRUN: "a wait that the plan does not permit: the run stopped",
+    Ending.REFUSED: "an answer that the program could not take: the run stopped",
+}
+# So many strips are shown; of the services, the first ones and those with most missed cycles, then most cycles.
+MOST_STRIPS, FIRST_SERVICES, WORST_SERVICES = 6, 150, 50
+NO_DEMAND_WAS_SERVED = (
+    "No demand called a service. Is the look-at-me of the module enabled (F26), the demand output on, and the GL bit the one of the plan?"
+)
+
+
+class Facts(NamedTuple):
+    """All that the page tells. `bodies` is None where the program does not tell the cost of lines."""
+
+    inputs: Inputs
+    version: str
+    plan: Plan
+    services: List[Service]
+    source: List[str]
+    bodies: Optional[List[Body]]
+    run: Run
+
+    def service(self, gl: int) -> Optional[Service]:
+        return next((it for it in self.services if it.gl == gl), None)
+
+    def name(self, gl: int) -> str:
+        service = self.service(gl)
+        return service.name if service else f"GL {gl}"
+
+
+def base_name(path: File) -> str:
+    return os.path.basename(os.fsdecode(path))
+
+
+def head(facts: Facts) -> str:
+    """The script's name, what the page is made of, and the way to its sections."""
+    word = "answers" if facts.run.has_listing else "events"
+    files = "; ".join(
+        f"{word} <code>{escape(base_name(path))}</code> {_digest(path)}" for word, path in zip(("plan", "script", word), facts.inputs)
+    )
+    links = "".join(f'<a href="#{name}">{word}</a>' for name, word in SECTIONS)
+    return header(
+        base_name(facts.inputs.script),
+        [f'<p class="mute">{files} (the first digits of each SHA-256); {escape(facts.version)}</p><nav>{links}</nav>'],
+    )
+
+
+def _digest(path: File) -> str:
+    """The first 12 digits of the SHA-256 of a file."""
+    if os.fspath(path) in ("@sample", b"@sample"):
+        return "(built in)"
+    total = hashlib.sha256()
+    with open(path, "rb") as file:
+        for piece in iter(lambda: file.read(1 << 20), b""):
+            total.update(piece)
+    return total.hexdigest()[:12]
+
+
+def tiles(run: Run) -> str:
+    cycles, waits, missed = sum(run.cycles), sum(run.waits), sum(run.no_x)
+    its = [(len(run.gl), "events", "")]
+    if run.has_cycles:
+        its.append((cycles, "cycles, waits counted", ""))
+    if run.has_listing:
+        its.append((waits, f"waits, {share(waits, cycles)} of the cycles", ""))
+    its.append((sum(run.words), "event words", ""))
+    if run.has_cycles:
+        its.append((missed, "cycles with X = 0", "bad" if missed else ""))
+    if run.has_listing:
+        its.append((sum(run.no_q), "cycles with Q = 0", ""))
+    if run.idle:
+        its.append((run.idle, "demands without a service", ""))
+    drawn = (f'<div class="tile"><b class="{kind}">{value:,}</b><span>{word}</span></div>' for value, word, kind in its)
+    return f'<div class="tiles">{"".join(drawn)}</div>'
+
+
+def last_line(run: Run) -> str:
+    """How the run ended, and what that means."""
+    if run.end:
+        meaning, is_good = ENDS[run.end.how], run.end.how is Ending.ENDED
+    elif run.fault:
+        meaning, is_good = "the event file has a wrong field there; the events before it are shown", False
+    else:
+        meaning, is_good = "read from an event file: nothing is known of waits, Q, addresses and locks", True
+    out = f'<p>The run: <b class="{"good" if is_good else "bad"}">{escape(run.last_line())}</b> ({meaning}).</p>'
+    if run.idle and not len(run.gl) and not run.kept:
+        out += f'<p class="bad">{NO_DEMAND_WAS_SERVED}</p>'
+    return out
+
+
+def bounds(facts: Facts) -> str:
+    return (
+        '<h2 id="bounds">What was promised, and what was seen</h2><p>The checker accepted the script: whatever the modules answer, no '
+        "service is longer than these bounds, as long as auxiliary controllers keep to the waits of the plan.</p>"
+        + figure(draw_bounds(facts.services, facts.run))
+    )
+
+
+def cost(facts: Facts) -> str:
+    out = ['<h2 id="cost">Cost by line</h2>']
+    if facts.bodies is None:
+        return out[0] + '<p class="mute">This program has no <code>costs</code>: the cost of each line is not known.</p>'
+    out.append("<p>Where the cycles of the bound come from. A dead time is the cycles times what one takes on your branch.</p>")
+    seen = facts.run.seen if facts.run.has_cycles else {}
+    for body in facts.bodies:
+        its = seen.get(body.gl) if body.kind is Kind.SERVICE else None
+        out.append(figure(draw_costs(body, facts.source, its.cycles if its else None), is_long=True))
+    return "".join(out)
+
+
+def plan(facts: Facts) -> str:
+    return '<h2 id="plan">The plan</h2>' + figure(draw_plan(facts.plan, facts.services, facts.run))
+
+
+def run_section(facts: Facts) -> str:
+    out = ['<h2 id="run">The run</h2>', figure(draw_run(facts.run, facts.services), is_long=True), _kinds_table(facts)]
+    if facts.run.kept:
+        out += ["<h3>Some services cycle by cycle</h3>", *_strips(facts)]
+    if facts.run.commands:
+        out.append("<h3>Commands that were sent</h3>")
+        if (Why.UNFINISHED, 0) in facts.run.kept:
+            out.append('<p class="mute">Those of the service that did not come to its end are counted here, and nowhere else.</p>')
+        out.append(_commands_table(facts))
+    return "".join(out)
+
+
+def _kinds_table(facts: Facts) -> str:
+    """A line for each service of the script: bounds, and what was seen."""
+    run, seen, rows = facts.run, facts.run.seen, []
+    for it in facts.services:
+        its = seen.get(it.gl)
+        cycles = (its.cycles.least, its.cycles.mean, its.cycles.most) if its and run.has_cycles else ("", "", "")
+        waits, words = (its.waits / its.cycles.count, its.words.mean) if its else ("", "")
+        row = (it.name, it.gl, its.cycles.count if its else 0, *cycles, it.cycles, it.annotated_cycles, waits, words, it.words)
+        rows.append((*row, *((its.no_q, its.no_x) if its else (0, 0))))
+    titles = "GL,events,cycles least,mean,most,bound,annotated,waits mean,words mean,words bound,Q = 0,X = 0".split(",")
+    columns = [Column("service", True), *map(Column, titles)]
+    return _known_table(run, columns, rows)
+
+
+# The columns of which an event file tells nothing, and those of which one of version one tells nothing either.
+OF_LISTINGS = ("waits mean", "waits", "in a lock", "Q = 0")
+OF_CYCLES = ("cycles least", "mean", "most", "cycles", "of bound", "X = 0")
+
+
+def _known_table(run: Run, columns: List[Column], rows: Sequence[Sequence]) -> str:
+    """The table without the columns of which nothing is known."""
+    unknown = (() if run.has_listing else OF_LISTINGS) + (() if run.has_cycles else OF_CYCLES)
+    kept = [k for k, it in enumerate(columns) if it.title not in unknown]
+    return table([columns[k] for k in kept], [[row[k] for k in kept] for row in rows])
+
+
+def _strips(facts: Facts) -> List[str]:
+    """The services that are shown cycle by cycle, each once: what missed X or did not end first, then those nearest to their bounds."""
+    reasons: Dict[int, List[str]] = {}
+    for (why, _), kept in facts.run.kept.items():
+        reasons.setdefault(kept.number, []).append(why.value)
+
+    def order(it: Tuple[Tuple[Why, int], Kept]) -> Tuple[bool, float, int]:
+        service = facts.service(it[1].gl)
+        return it[0][0] is Why.LONGEST, -it[1].cycles / max(service.cycles if service else 1, 1), it[1].number
+
+    chosen: Dict[int, Kept] = {}
+    for _, kept in sorted(facts.run.kept.items(), key=order):
+        if len(chosen) < MOST_STRIPS:
+            chosen.setdefault(kept.number, kept)
+    last = list(chosen)[-1]
+    return [
+        figure(draw_strip(kept, facts.service(kept.gl), ", ".join(reasons[number]), has_legend=number == last))
+        for number, kept in chosen.items()
+    ]
+
+
+def _commands_table(facts: Facts) -> str:
+    rows = []
+    for command, sent in sorted(facts.run.commands.items()):
+        crate, station, sub_address, function = command
+        order = ((crate * 32 + station) * 16 + sub_address) * 32 + function
+        where = Cell(order, f"{crate} {station} {sub_address} F{function}")
+        there = facts.plan.type_at(crate, station)
+        words = sent.words
+        told = (words.least, words.mean(), words.greatest) if words.count else ("", "", "")
+        name = there.name if there else "controller"
+        rows.append((where, name, functions.name(function), sent.count, sent.no_q, sent.no_x, sent.waits, *told))
+    texts = [Column(title, True) for title in ("crate station A F", "type", "meaning")]
+    return table([*texts, *map(Column, "cycles,Q = 0,X = 0,waits,word least,mean,most".split(","))], rows)
+
+
+def histograms(facts: Facts) -> str:
+    run = facts.run
+    out = ['<h2 id="histograms">Histograms</h2><h3>Cycles and words of an event</h3>']
+    out.append(figure(draw_events(run, facts.services), is_long=True))
+    if run.has_listing:
+        out.append("<h3>By channel: the words that modules gave with Q = 1, and the words that were sent</h3>")
+        out.append(figure(draw_words(run), is_long=True))
+    out.append("<h3>By the place of the word in its event</h3>")
+    out.append('<p class="mute">Where a script leaves words out, one place holds words of several channels.</p>')
+    return "".join(out + [figure(draw_places(run, it)) for it in facts.services])
+
+
+def services(facts: Facts) -> str:
+    """The table of the services of the run: the first ones, and the worst ones."""
+    run, total, rows = facts.run, len(facts.run.gl), []
+    worst = heapq.nsmallest(WORST_SERVICES, range(total), key=lambda k: (-run.no_x[k], -run.cycles[k], k))
+    chosen = sorted({*worst, *range(min(total, FIRST_SERVICES))})
+    for k in chosen:
+        service = facts.service(run.gl[k])
+        part = Cell(round(run.cycles[k] / max(service.cycles, 1), 4), share(run.cycles[k], service.cycles)) if service else ""
+        row = (k + 1, facts.name(run.gl[k]), run.cycles[k], part, run.waits[k], run.locked[k])
+        rows.append((*row, run.no_q[k], run.no_x[k], run.words[k]))
+    titles = "cycles,of bound,waits,in a lock,Q = 0,X = 0,words".split(",")
+    columns = [Column("event"), Column("service", True), *map(Column, titles)]
+    out = ['<h2 id="services">Services</h2>']
+    if total > len(chosen):
+        text = f"The first {FIRST_SERVICES}, and the {WORST_SERVICES} with most cycles with X = 0, then most cycles, of {total:,}."
+        out.append(f'<p class="mute">{text}</p>')
+    out.append(_known_table(run, columns, rows) if rows else '<p class="mute">none</p>')
+    return "".join(out)
+
+
+def checks(run: Run) -> str:
+    verdicts = {True: '<td class="t good">agrees</td>', False: '<td class="t bad">DIFFERS</td>'}
+    rows = "".join(f'<tr>{verdicts[it.agrees]}<td class="t">{escape(it.text)}</td></tr>' for it in run.checks)
+    return (
+        f'<h2 id="checks">Checks of this page</h2><table class="checks"><tbody>{rows}</tbody></table><p class="mute">The bounds hold for '
+        "every list of answers, as long as auxiliary controllers keep to the waits of the plan and the program is the proved one. What was "
+        "seen is of this run alone.</p>"
+    )

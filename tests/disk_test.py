@@ -1,0 +1,141 @@
+#!/usr/bin/env python3
+"""Tries the built program on disks that are full and files that may not grow: what is left is what the pages say, to the byte.
+
+usage: tests/disk_test.py [-v] [TEST ..]     from any folder; takes some seconds
+
+The program is crates/camac/out/camac (cd crates/camac && rt run makes it), or what the environment variable CAMAC_PROGRAM names. A small disk is
+mounted for one process alone, where the system lets us.
+"""
+import os
+import resource
+import signal
+import subprocess
+import unittest
+
+from program_test import ANSWERS, EVENT_FILE, LISTING, PROGRAM, REQUESTS, VERDICT, WRITE, Case
+
+HEADER, RECORD = 8, len(EVENT_FILE) - 8
+# What is written before the answers' end: the lines of the demand and the cycle, and the requests for them.
+LISTED, ASKED = 55, 24
+
+
+class Grown(Case):
+    """A limit on the size of files. The calls that pass it fail where its signal is ignored; else the signal ends the program."""
+
+    def limited(self, line, most, given=b"", how=signal.SIG_IGN):
+        """Status and standard error, and what is left of standard output and EVENTS, both of which are files."""
+        for name in ("out", "e"):
+            (self.room / name).unlink(missing_ok=True)
+
+        def limit():
+            signal.signal(signal.SIGXFSZ, how)
+            resource.setrlimit(resource.RLIMIT_FSIZE, (most, most))
+            resource.setrlimit(resource.RLIMIT_CORE, (0, 0))
+
+        with open(self.room / "out", "wb") as out:
+            ran = subprocess.run(
+                [PROGRAM, *line.split()], input=given, stdout=out, stderr=subprocess.PIPE, cwd=self.room, preexec_fn=limit, timeout=60, restore_signals=False
+            )
+        events = self.room / "e"
+        return ran.returncode, ran.stderr, self.file("out"), events.read_bytes() if events.exists() else None
+
+    def test_runs(self):
+        """The listing is handed on before the record; the header comes before both."""
+        for most in range(len(LISTING) + 2):
+            with self.subTest(most=most):
+                out = b"" if most < HEADER else LISTING[:most]
+                events = EVENT_FILE[:HEADER] if HEADER <= most < LISTED else EVENT_FILE[:most]
+                wanted = (3, WRITE) if most < len(LISTING) else (0, b"")
+                self.assertEqual(self.limited("run plan.toml straight.script answers e", most), (*wanted, out, events))
+
+    def test_live_runs(self):
+        """Each request is handed on by itself, and the record before the request after it."""
+        for most in range(len(REQUESTS) + 2):
+            with self.subTest(most=most):
+                out = b"" if most < HEADER else REQUESTS[: min(most, ASKED if most < len(EVENT_FILE) else most)]
+                events = EVENT_FILE[:HEADER] if HEADER <= most < ASKED else EVENT_FILE[:most]
+                wanted = (3, WRITE) if most < len(REQUESTS) else (0, b"")
+                self.assertEqual(self.limited("drive plan.toml straight.script e", most, ANSWERS), (*wanted, out, events))
+
+    def test_verdicts(self):
+        (self.room / "one.events").write_bytes(EVENT_FILE)
+        lines = [f"{it} plan.toml straight.script" for it in ("check", "explain", "bounds")]
+        for line in (*lines, "plan plan.toml", "events one.events"):
+            whole = self.limited(line, resource.RLIM_INFINITY)[2]
+            for most in range(len(whole) + 1):
+                wanted = (3, WRITE) if most < len(whole) else (0, b"")
+                self.assertEqual(self.limited(line, most), (*wanted, whole[:most], None), (line, most))
+        self.assertEqual(self.limited("check plan.toml straight.script", 1000)[2], VERDICT)
+
+    def test_the_signal(self):
+        """Where the signal is not ignored it may end the program. What is left is a prefix all the same."""
+        for most in range(0, len(LISTING) + 2, 3):
+            status, told, out, events = self.limited("run plan.toml straight.script answers e", most, how=signal.SIG_DFL)
+            self.assertIn((status, told), ((-signal.SIGXFSZ, b""), (3, WRITE)) if most < len(LISTING) else ((0, b""),))
+            self.assertTrue(LISTING.startswith(out) and EVENT_FILE.startswith(events))
+
+
+class Full(Case):
+    """A disk of 64 KiB, which is seen by the program alone."""
+
+    MOUNT = "mkdir -p small && mount -t tmpfs -o size=64k none small"
+
+    def setUp(self):
+        super().setUp()
+        words = ["unshare", "--mount", "--map-root-user"] if os.getuid() else ["unshare", "--mount"]
+        self.apart = [*words, "bash", "-c"]
+        try:
+            tried = subprocess.run([*self.apart, self.MOUNT], capture_output=True, cwd=self.room, timeout=60)
+        except FileNotFoundError:
+            self.skipTest("no unshare")
+        if tried.returncode:
+            self.skipTest("nothing can be mounted: /dev/full is tried by tests/program_test.py")
+
+    def apart_shell(self, line):
+        """A line of bash in which `small` is the disk; then what is on it is copied."""
+        text = f"{self.MOUNT} && {{ {line}\n}}; status=$?; mkdir -p kept && cp small/* kept/ 2>/dev/null; exit $status"
+        ran = subprocess.run([*self.apart, text], capture_output=True, cwd=self.room, env={**os.environ, "camac": PROGRAM}, timeout=60)
+        return ran.returncode, ran.stdout, ran.stderr
+
+    def whole(self):
+        """The listing and the event file of 4,000 events, with room."""
+        (self.room / "answers").write_bytes(b"1 1 000001 0 000004\n" * 8000)
+        status, listing, _ = self.call("run", "plan.toml", "straight.script", "answers", "whole.events")
+        self.assertEqual((status, len(self.file("whole.events"))), (0, HEADER + RECORD * 4000))
+        return listing, self.file("whole.events")
+
+    def test_events(self):
+        listing, events = self.whole()
+        status, out, told = self.apart_shell('"$camac" run plan.toml straight.script answers small/e')
+        self.assertEqual((status, told), (3, WRITE))
+        left = self.file("kept/e")
+        self.assertEqual(len(left), 65_536)
+        self.assertTrue(listing.startswith(out) and events.startswith(left))
+        self.assertFalse(listing == out)
+
+    def test_live_events(self):
+        _, events = self.whole()
+        status, out, told = self.apart_shell('"$camac" drive plan.toml straight.script small/e <answers')
+        self.assertEqual((status, told), (3, WRITE))
+        left = self.file("kept/e")
+        self.assertEqual(len(left), 65_536)
+        self.assertTrue(events.startswith(left))
+        # a demand is asked for only where the record before it is whole
+        self.assertEqual(out.count(b"demand\n"), (len(left) - HEADER) // RECORD + 1)
+
+    def test_listing(self):
+        listing, events = self.whole()
+        status, _, told = self.apart_shell('"$camac" run plan.toml straight.script answers e >small/out')
+        self.assertEqual((status, told), (3, WRITE))
+        left = self.file("kept/out")
+        self.assertEqual(len(left), 65_536)
+        self.assertTrue(listing.startswith(left) and events.startswith(self.file("e")))
+
+    def test_no_room_at_all(self):
+        """Not even the header has room."""
+        self.assertEqual(self.apart_shell('head -c 65536 /dev/zero >small/full; "$camac" run plan.toml straight.script answers small/e')[::2], (3, WRITE))
+        self.assertEqual(self.file("kept/e"), b"")
+
+
+if __name__ == "__main__":
+    unittest.main()

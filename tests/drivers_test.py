@@ -1,0 +1,296 @@
+#!/usr/bin/env python3
+"""Drivers that misbehave, over pipes: late, early, with two answers, with half a line, with garbage, gone, never reading, never answering. Each
+run ends as docs/LIVE.md says, with all events so far in the file. What it has to ask for and to leave is told by the reader of tools/oracle.
+The driver in C (examples/c/driver.c), where gcc is there: it answers, and a signal at any moment leaves no lockout held.
+
+usage: tests/drivers_test.py [-v] [TEST ..]     from any folder; takes some seconds
+
+The program is crates/camac/out/camac (cd crates/camac && rt run makes it), or what the environment variable CAMAC_PROGRAM names.
+"""
+import fcntl
+import select
+import shutil
+import signal
+import subprocess
+import sys
+import unittest
+
+from live import TOP, Case
+from live_test import LOCKOUT, PATIENCE, STRAIGHT_LINE, Pipes
+
+sys.path.insert(0, str(TOP / "tools"))
+
+from oracle.reader.engines import Inputs, tell
+
+# A call of a service, its cycles, and an idle demand between.
+LINES = [b"0 0 000000 0 000004\n", b"1 1 123fff 2 000000\n", b"0 0 000000 0 000000\n"] * 3
+LOCKED_LINES = [b"0 0 000000 0 000004\n", b"0 0 000000 2 000000\n", *[b"1 1 000abc 0 000000\n"] * 4] * 2
+RUNS = ((STRAIGHT_LINE, LINES), (LOCKOUT, LOCKED_LINES))
+BAD_LINES = (b"", b"hello", b"\xff" * 30, b"0 0 000000 0 000004 ", b"0,0,000000,0,000004", b"0 0 00000g 0 000004", b"2 0 000000 0 000004", b"0\n0")
+GARBAGE = [it + b"\n" for it in BAD_LINES]
+WRITE = b"fault write\n"
+PIPE_SIZE = 4096
+# fcntl.F_SETPIPE_SZ, which Python has from 3.10 on
+SET_PIPE_SIZE = 1031
+
+
+def wanted(script, answers):
+    """What has to be written on these answers: all requests and the last line, the status, and the event file."""
+    told = tell("drive", Inputs(None, script.encode(), answers))
+    return told.out, told.status, told.events
+
+
+class Misbehaving(Case):
+    def setUp(self):
+        super().setUp()
+        self.events = self.room / "run.events"
+
+    def pipes(self, script):
+        self.events.unlink(missing_ok=True)
+        return Pipes(self.room, "@sample", self.write("script", script), "run.events")
+
+    def expect_end(self, pipes, script, answers, output):
+        """The rest of the output, once the input has ended, and what is left."""
+        rest, status, errors = pipes.end()
+        self.assertEqual((output + rest, status, errors), (*wanted(script, answers)[:2], b""))
+        self.assertEqual(self.events.read_bytes(), wanted(script, answers)[2])
+
+    def expect_asked(self, output, script, answers):
+        """What was asked for so far, and the events so far in the file."""
+        told, _, events = wanted(script, answers)
+        self.assertEqual(output, told[: told.rstrip(b"\n").rfind(b"\n") + 1])
+        self.assertEqual(self.events.read_bytes(), events)
+
+    def give(self, pipes, data):
+        pipes.process.stdin.write(data)
+
+    def talk(self, pipes, script, lines):
+        """Gives each answer when its request is there. Returns all requests."""
+        output = pipes.requests()
+        for line in lines:
+            self.give(pipes, line)
+            output += pipes.requests()
+        self.expect_asked(output, script, b"".join(lines))
+        return output
+
+    def test_late(self):
+        """Nothing is written until the answer comes, and all events so far are in the file."""
+        for script, lines in RUNS:
+            with self.pipes(script) as pipes:
+                output = pipes.requests()
+                for count, line in enumerate(lines):
+                    self.assertTrue(pipes.is_quiet())
+                    self.expect_asked(output, script, b"".join(lines[:count]))
+                    self.give(pipes, line)
+                    output += pipes.requests()
+                self.expect_end(pipes, script, b"".join(lines), output)
+
+    def test_early(self):
+        """All answers before any request is read."""
+        for script, lines in RUNS:
+            with self.pipes(script) as pipes:
+                self.give(pipes, b"".join(lines))
+                self.expect_end(pipes, script, b"".join(lines), b"")
+
+    def test_two_answers(self):
+        """A second answer to a request is taken for the next one."""
+        for script, lines in RUNS:
+            for place in range(len(lines)):
+                given = lines[:place] + [lines[place]] + lines[place:]
+                with self.subTest(place=place), self.pipes(script) as pipes:
+                    for line in given:
+                        self.give(pipes, line)
+                    self.expect_end(pipes, script, b"".join(given), b"")
+
+    def test_half_a_line(self):
+        """The rest of a line comes later: nothing is done before it is there."""
+        for cut in range(1, 20):
+            with self.subTest(cut=cut), self.pipes(STRAIGHT_LINE) as pipes:
+                output = pipes.requests()
+                for count, line in enumerate(LINES[:2]):
+                    self.give(pipes, line[:cut])
+                    self.assertTrue(cut < 3 or cut > 17 or pipes.is_quiet())
+                    self.expect_asked(output, STRAIGHT_LINE, b"".join(LINES[:count]))
+                    self.give(pipes, line[cut:])
+                    output += pipes.requests()
+                self.expect_end(pipes, STRAIGHT_LINE, b"".join(LINES[:2]), output)
+
+    def test_half_a_line_and_gone(self):
+        for script, lines in RUNS:
+            for place in (0, 1, 3, 5):
+                for cut in (1, 10, 18, 19):
+                    given = b"".join(lines[:place]) + lines[place][:cut]
+                    with self.subTest(place=place, cut=cut), self.pipes(script) as pipes:
+                        self.give(pipes, given)
+                        self.expect_end(pipes, script, given, b"")
+
+    def test_garbage(self):
+        for script, lines in RUNS:
+            for place in range(len(lines)):
+                for garbage in GARBAGE:
+                    given = b"".join(lines[:place]) + garbage + b"".join(lines[place:])
+                    with self.subTest(place=place, garbage=garbage), self.pipes(script) as pipes:
+                        self.give(pipes, given)
+                        self.expect_end(pipes, script, given, b"")
+
+    def test_garbage_without_an_end(self):
+        """A line is refused at its twentieth byte: the program ends, though the input does not."""
+        for place in range(len(LINES)):
+            given = b"".join(LINES[:place]) + b"0 0 000000 0 0000000"
+            with self.subTest(place=place), self.pipes(STRAIGHT_LINE) as pipes:
+                self.give(pipes, given)
+                output = b""
+                while piece := pipes.read():
+                    output += piece
+                self.assertEqual((output, pipes.process.wait(PATIENCE)), wanted(STRAIGHT_LINE, given)[:2])
+                self.assertEqual(self.events.read_bytes(), wanted(STRAIGHT_LINE, given)[2])
+
+    def expect_fault(self, pipes, events):
+        """The requests have no reader any more."""
+        self.assertEqual((pipes.process.stderr.read(), pipes.process.wait(PATIENCE)), (WRITE, 3))
+        self.assertEqual(self.events.read_bytes(), events)
+
+    def test_gone(self):
+        """A driver that ends at a request: the last line is not taken, which is a fault, and the events so far are there."""
+        for script, lines in RUNS:
+            for count in range(len(lines) + 1):
+                with self.subTest(count=count), self.pipes(script) as pipes:
+                    self.talk(pipes, script, lines[:count])
+                    pipes.process.stdout.close()
+                    pipes.process.stdin.close()
+                    self.expect_fault(pipes, wanted(script, b"".join(lines[:count]))[2])
+                    pipes.process.stdout = pipes.process.stdin = None
+
+    def test_gone_with_an_answer(self):
+        """One that answers and reads no more. The record of an event comes after the lines that release its lockouts, and before the next
+        request."""
+        for script, lines in RUNS:
+            for count in range(len(lines)):
+                with self.subTest(count=count), self.pipes(script) as pipes:
+                    output = self.talk(pipes, script, lines[:count])
+                    pipes.process.stdout.close()
+                    self.give(pipes, lines[count])
+                    given = b"".join(lines[: count + 1])
+                    is_released = wanted(script, given)[0][len(output) :].startswith(b"unlock")
+                    self.expect_fault(pipes, wanted(script, b"".join(lines[:count]) if is_released else given)[2])
+                    pipes.process.stdin.close()
+                    pipes.process.stdout = pipes.process.stdin = None
+
+    def blocked(self, script, answers):
+        """How many answers the program has taken when a pipe of so many bytes has no room for its next request."""
+        size = 0
+        for number, request in enumerate(wanted(script, answers)[0].splitlines(True)):
+            size += len(request)
+            if size > PIPE_SIZE:
+                return number
+        raise AssertionError("there is room for all")
+
+    def test_never_reading(self):
+        """The program waits with its next request. It goes on when the requests are read, and fails when nobody can read them any more."""
+        answers = b"".join(LINES[:2]) * 400
+        for is_read in (True, False):
+            with self.subTest(is_read=is_read), self.pipes(STRAIGHT_LINE) as pipes:
+                fcntl.fcntl(pipes.process.stdout, SET_PIPE_SIZE, PIPE_SIZE)
+                self.give(pipes, answers)
+                taken = self.blocked(STRAIGHT_LINE, answers)
+                events = wanted(STRAIGHT_LINE, answers[: 20 * taken])[2]
+                self.wait_for(lambda: self.events.exists() and self.events.read_bytes() == events)
+                self.assertIsNone(pipes.process.poll())
+                if is_read:
+                    self.expect_end(pipes, STRAIGHT_LINE, answers, b"")
+                else:
+                    pipes.process.stdout.close()
+                    self.expect_fault(pipes, events)
+                    pipes.process.stdin.close()
+                    pipes.process.stdout = pipes.process.stdin = None
+
+    def wait_for(self, is_so):
+        for _ in range(PATIENCE * 100):
+            if is_so():
+                return
+            subprocess.run(["sleep", "0.01"], check=True)
+        self.fail("it does not come")
+
+    def test_never_answering(self):
+        for script, lines in RUNS:
+            for count in range(len(lines) + 1):
+                with self.subTest(count=count), self.pipes(script) as pipes:
+                    output = self.talk(pipes, script, lines[:count])
+                    self.assertTrue(pipes.is_quiet())
+                    self.expect_end(pipes, script, b"".join(lines[:count]), output)
+
+
+@unittest.skipUnless(shutil.which("gcc"), "gcc is not here")
+class InC(Case):
+    """The driver in C. Here the requests are written by the test, in the place of camac."""
+
+    REQUESTS = ["demand", "lock 1", *["cycle 1 5 0 0 in"] * 4, "unlock 1\ndemand", "lock 1", "lock 2", "cycle 1 6 0 16 out 0000ff", "unlock 2"]
+
+    def setUp(self):
+        super().setUp()
+        self.driver = self.room / "driver"
+        words = ["gcc", "-std=c99", "-Wall", "-Wextra", "-Wpedantic", "-Wconversion", "-Werror"]
+        subprocess.run([*words, TOP / "examples/c/driver.c", "-o", self.driver], check=True)
+
+    def start(self):
+        how = {"stdin": subprocess.PIPE, "stdout": subprocess.PIPE, "stderr": subprocess.PIPE}
+        return subprocess.Popen([self.driver], bufsize=0, **how)
+
+    def give(self, driver, requests):
+        """Gives each request when the one before is answered."""
+        for it in requests:
+            driver.stdin.write(it.encode() + b"\n")
+            if not it.startswith("unlock 2"):
+                self.assertTrue(select.select([driver.stdout], [], [], PATIENCE)[0], it)
+                self.assertEqual(len(driver.stdout.readline()), 20)
+
+    def expect_released(self, driver, given, answered):
+        """What it took is released, once. `answered` is how many answers were read."""
+        out, errors = driver.communicate(timeout=PATIENCE)
+        asked = [it for it in "\n".join(given).split("\n") if not it.startswith("unlock")]
+        taken = [f"lockout of crate {it[5:]} released" for it in asked[: answered + out.count(b"\n")] if it.startswith("lock")]
+        self.assertEqual((sorted(errors.decode().splitlines()), driver.returncode), (sorted(taken), 0))
+
+    def answers(self, requests):
+        return sum(not it.startswith("unlock 2") for it in requests)
+
+    def test_signals_at_each_request(self):
+        for number in (signal.SIGINT, signal.SIGTERM, signal.SIGHUP):
+            for count in range(len(self.REQUESTS) + 1):
+                with self.subTest(signal=number, count=count), self.start() as driver:
+                    # the first answer shows that it heeds signals
+                    self.give(driver, self.REQUESTS[: max(count, 1)])
+                    driver.send_signal(number)
+                    self.expect_released(driver, self.REQUESTS[: max(count, 1)], self.answers(self.REQUESTS[: max(count, 1)]))
+
+    def test_signals_beside_each_request(self):
+        for count in range(1, len(self.REQUESTS)):
+            for is_before in (False, True):
+                with self.subTest(count=count, is_before=is_before), self.start() as driver:
+                    self.give(driver, self.REQUESTS[:count])
+                    if is_before:
+                        driver.send_signal(signal.SIGINT)
+                    try:
+                        driver.stdin.write(self.REQUESTS[count].encode() + b"\n")
+                    except BrokenPipeError:
+                        pass
+                    if not is_before:
+                        driver.send_signal(signal.SIGINT)
+                    self.expect_released(driver, self.REQUESTS[: count + 1], self.answers(self.REQUESTS[:count]))
+
+    def test_no_reader_and_no_more_requests(self):
+        for count in range(1, len(self.REQUESTS)):
+            with self.subTest(count=count), self.start() as driver:
+                self.give(driver, self.REQUESTS[:count])
+                self.expect_released(driver, self.REQUESTS[:count], self.answers(self.REQUESTS[:count]))
+            with self.subTest(count=count), self.start() as driver:
+                self.give(driver, self.REQUESTS[:count])
+                driver.stdout.close()
+                driver.stdin.write(b"lock 3\ncycle 1 5 0 0 in\n")
+                errors = driver.stderr.read().decode()
+                self.assertEqual(errors.count("released"), "\n".join(self.REQUESTS[:count]).count("\nlock") + 1)
+                self.assertEqual(driver.wait(PATIENCE), 0)
+
+
+if __name__ == "__main__":
+    unittest.main()

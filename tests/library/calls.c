@@ -1,0 +1,241 @@
+/* calls.c: each code of each call, sessions in turn and in threads, and openings in flat memory.
+ *
+ *     calls PLAN SCRIPT OPENINGS */
+#define _GNU_SOURCE
+#include "common.h"
+
+#include <malloc.h>
+#include <pthread.h>
+
+static text plan, script;
+static const camac_want no_want;
+static const camac_progress no_progress;
+
+static void expect_zeros(const void *found, const void *zeros, size_t size, int line) {
+    if (memcmp(found, zeros, size)) fail("line %d: what is no result is not zeros", line);
+}
+
+/* A none: every call of a session is misuse, but close, which is harmless. */
+static void none(void) {
+    camac_session s = CAMAC_NONE;
+    camac_want want = {9, 9, 9, 9, 9, 9, 9, 9};
+    camac_progress did;
+    const camac_answer answer = {0, 0, 0, 0, 0, 0};
+    uint32_t words[1] = {7};
+    memset(&did, 9, sizeof did);
+    EXPECT(CAMAC_MISUSE, camac_wants(&s, &want));
+    expect_zeros(&want, &no_want, sizeof want, __LINE__);
+    EXPECT(CAMAC_MISUSE, camac_next(&s, &answer, &did));
+    expect_zeros(&did, &no_progress, sizeof did, __LINE__);
+    if (camac_words(&s, words, 1) != 0 || words[0] != 7) fail("a none has words");
+    camac_close(&s);
+    camac_close(&s);
+}
+
+/* Texts: whole, cut, without a buffer, refused, too long. */
+static void texts(void) {
+    static char out[65536], cut[65536], long_text[CAMAC_FILE_BYTES + 1];
+    size_t size, part;
+    EXPECT(CAMAC_OK, camac_check(plan.bytes, plan.size, script.bytes, script.size, out, sizeof out, &size));
+    for (size_t room = 0; room <= size + 1; room++) {
+        memset(cut, '#', size + 2);
+        EXPECT(CAMAC_OK, camac_check(plan.bytes, plan.size, script.bytes, script.size, cut, room, &part));
+        const size_t there = room < size ? room : size;
+        if (part != size || memcmp(cut, out, there) || cut[there] != '#') fail("a cut text differs at room %zu", room);
+    }
+    EXPECT(CAMAC_OK, camac_check(plan.bytes, plan.size, script.bytes, script.size, NULL, 9, &part));
+    if (part != size) fail("the length without a buffer is %zu, not %zu", part, size);
+    EXPECT(CAMAC_OK, camac_plan(plan.bytes, plan.size, out, sizeof out, &size));
+    EXPECT(CAMAC_OK, camac_explain_plan(plan.bytes, plan.size, out, sizeof out, &size));
+    EXPECT(CAMAC_OK, camac_explain(plan.bytes, plan.size, script.bytes, script.size, out, sizeof out, &size));
+    EXPECT(CAMAC_OK, camac_bounds(plan.bytes, plan.size, script.bytes, script.size, out, sizeof out, &size));
+    EXPECT(CAMAC_OK, camac_events("CAMACEV2", 8, out, sizeof out, &size));
+    EXPECT(CAMAC_REFUSED, camac_plan("[[", 2, out, sizeof out, &size));
+    EXPECT(CAMAC_REFUSED, camac_explain_plan("[[", 2, out, sizeof out, &size));
+    EXPECT(CAMAC_REFUSED, camac_check(plan.bytes, plan.size, "!", 1, out, sizeof out, &size));
+    if (size != 27 || memcmp(out, "refused S1 line 1: bad byte", 27)) size--;
+    if (size != 27 || memcmp(out, "refused S1 line 1: bad byte", 27)) fail("a refusal says otherwise");
+    EXPECT(CAMAC_REFUSED, camac_explain(plan.bytes, plan.size, "!", 1, out, sizeof out, &size));
+    EXPECT(CAMAC_REFUSED, camac_bounds(plan.bytes, plan.size, "!", 1, out, sizeof out, &size));
+    EXPECT(CAMAC_REFUSED, camac_events("CAMACEV", 7, out, sizeof out, &size));
+    EXPECT(CAMAC_REFUSED, camac_run(plan.bytes, plan.size, script.bytes, script.size, "?", 1, out, sizeof out, &size, cut, sizeof cut, &part));
+    memset(long_text, ' ', sizeof long_text);
+    EXPECT(CAMAC_OK, camac_check(plan.bytes, plan.size, long_text, CAMAC_TEXT_BYTES, out, sizeof out, &size));
+    out[0] = '#';
+#define IS_LONG(call) EXPECT(CAMAC_LONG, call); if (size || out[0] != '#') fail("line %d: a text too long has a result", __LINE__)
+    IS_LONG(camac_plan(long_text, CAMAC_TEXT_BYTES + 1, out, sizeof out, &size));
+    IS_LONG(camac_explain_plan(long_text, CAMAC_TEXT_BYTES + 1, out, sizeof out, &size));
+    IS_LONG(camac_check(plan.bytes, plan.size, long_text, CAMAC_TEXT_BYTES + 1, out, sizeof out, &size));
+    IS_LONG(camac_explain(plan.bytes, plan.size, long_text, CAMAC_TEXT_BYTES + 1, out, sizeof out, &size));
+    IS_LONG(camac_bounds(plan.bytes, plan.size, long_text, CAMAC_TEXT_BYTES + 1, out, sizeof out, &size));
+    IS_LONG(camac_run(plan.bytes, plan.size, long_text, CAMAC_TEXT_BYTES + 1, "", 0, out, sizeof out, &size, cut, sizeof cut, &part));
+    IS_LONG(camac_events(long_text, CAMAC_FILE_BYTES + 1, out, sizeof out, &size));
+    camac_session s = CAMAC_NONE;
+    IS_LONG(camac_open(&s, plan.bytes, plan.size, long_text, CAMAC_TEXT_BYTES + 1, out, sizeof out, &size));
+    if (s.camac_private[0]) fail("a text too long opens a session");
+}
+
+/* An open session: what is refused leaves it as it was. */
+static void open_once(void) {
+    camac_session s = CAMAC_NONE;
+    camac_want want, before;
+    camac_progress did;
+    camac_answer answer = {0, 4, 0, 0, 0, 0};
+    uint32_t seed = 1;
+    size_t size = 9;
+    char out[8] = "#";
+    EXPECT(CAMAC_REFUSED, camac_open(&s, plan.bytes, plan.size, "!", 1, out, 0, &size));
+    if (s.camac_private[0] || size == 0) fail("a refusal opens a session");
+    open_session(&s, &plan, &script);
+    play_some(&s, &seed, 7);
+    EXPECT(CAMAC_OK, camac_wants(&s, &before));
+    EXPECT(CAMAC_MISUSE, camac_open(&s, plan.bytes, plan.size, script.bytes, script.size, out, sizeof out, &size));
+    if (size || out[0] != '#') fail("an opening over an open session has a text");
+    const camac_answer wrong[] = {{1u << 24, 0, 0, 0, 0, 0}, {0, 1u << 24, 0, 0, 0, 0}, {0, 0, 0, 0, 16, 0}};
+    for (int i = 0; i < 3; i++) {
+        memset(&did, 9, sizeof did);
+        EXPECT(CAMAC_RANGE, camac_next(&s, &wrong[i], &did));
+        expect_zeros(&did, &no_progress, sizeof did, __LINE__);
+        EXPECT(CAMAC_OK, camac_wants(&s, &want));
+        if (memcmp(&want, &before, sizeof want)) fail("a refused answer changes what is wanted");
+    }
+    camac_close(&s);
+    open_session(&s, &plan, &script);
+    EXPECT(CAMAC_OK, camac_next(&s, &answer, &did));
+    answer.wait = 15;
+    for (int i = 0; i < 2; i++) {
+        EXPECT(CAMAC_OVERRUN, camac_next(&s, &answer, &did));
+        if (did.kind != CAMAC_STOPPED || did.c != 1 || did.wait != 15) fail("an overrun says otherwise");
+        EXPECT(CAMAC_OVERRUN, camac_wants(&s, &want));
+        expect_zeros(&want, &no_want, sizeof want, __LINE__);
+    }
+    camac_close(&s);
+    if (s.camac_private[0]) fail("a closed session is not none");
+}
+
+/* All answers spent. To give them takes a quarter of an hour, so the run's count of them is found in its memory and set: no user may do that. */
+static void spent(void) {
+    camac_session s = CAMAC_NONE;
+    camac_progress did;
+    uint32_t seed = 5, now;
+    open_session(&s, &plan, &script);
+    play_some(&s, &seed, 100003);
+    unsigned char *run = s.camac_private[0];
+    const size_t size = malloc_usable_size(run);
+    unsigned char *before = malloc(size);
+    memcpy(before, run, size);
+    play_some(&s, &seed, 1);
+    size_t found = 0, at = 0;
+    for (size_t i = 0; i + 4 <= size; i += 4) {
+        uint32_t then;
+        memcpy(&then, before + i, 4), memcpy(&now, run + i, 4);
+        if (then == 100003 && now == 100004) at = i, found++;
+    }
+    if (found != 1) fail("the count of answers stands in %zu places", found);
+    const camac_answer answer = {0, 0, 0, 0, 0, 0};
+    for (now = 0xfffffffe;;) {
+        memcpy(run + at, &now, 4);
+        EXPECT(now == 0xffffffff ? CAMAC_SPENT : CAMAC_OK, camac_next(&s, &answer, &did));
+        if (now++ == 0xffffffff) break;
+    }
+    expect_zeros(&did, &no_progress, sizeof did, __LINE__);
+    camac_want want;
+    EXPECT(CAMAC_OK, camac_wants(&s, &want));
+    free(before);
+    camac_close(&s);
+}
+
+/* Two sessions in turn do what each does alone. */
+static void in_turn(void) {
+    camac_session one = CAMAC_NONE, two = CAMAC_NONE, moved;
+    uint32_t seeds[2] = {11, 12};
+    uint64_t alone[2], sums[2] = {0, 0};
+    for (int i = 0; i < 2; i++) {
+        uint32_t seed = seeds[i];
+        open_session(&one, &plan, &script);
+        alone[i] = 0;
+        for (int k = 0; k < 100; k++) alone[i] = alone[i] * 7 + play_some(&one, &seed, 13);
+        camac_close(&one);
+    }
+    open_session(&one, &plan, &script);
+    open_session(&two, &plan, &script);
+    for (int k = 0; k < 100; k++) {
+        sums[0] = sums[0] * 7 + play_some(&one, &seeds[0], 13);
+        sums[1] = sums[1] * 7 + play_some(&two, &seeds[1], 13);
+        memcpy(&moved, &one, sizeof one); /* a session may be moved */
+        memcpy(&one, &moved, sizeof one);
+    }
+    if (memcmp(alone, sums, sizeof sums)) fail("two sessions in turn do otherwise");
+    camac_close(&one);
+    camac_close(&two);
+}
+
+static void *in_a_thread(void *sum) {
+    for (int i = 0; i < 50; i++) {
+        camac_session s = CAMAC_NONE;
+        uint32_t seed = (uint32_t)i;
+        open_session(&s, &plan, &script);
+        *(uint64_t *)sum = *(uint64_t *)sum * 7 + play_some(&s, &seed, 500);
+        camac_close(&s);
+    }
+    return NULL;
+}
+
+static void in_threads(void) {
+    pthread_t threads[4];
+    uint64_t sums[5] = {0, 0, 0, 0, 0};
+    in_a_thread(&sums[4]);
+    for (int i = 0; i < 4; i++)
+        if (pthread_create(&threads[i], NULL, in_a_thread, &sums[i])) fail("no thread");
+    for (int i = 0; i < 4; i++) {
+        pthread_join(threads[i], NULL);
+        if (sums[i] != sums[4]) fail("a thread does otherwise");
+    }
+}
+
+/* The greatest resident size so far, in KiB. (getrusage would tell that of the process that started this one, where it was greater.) */
+static long greatest_size(void) {
+    char line[256];
+    long size = 0;
+    FILE *file = fopen("/proc/self/status", "r");
+    while (file && fgets(line, sizeof line, file))
+        if (sscanf(line, "VmHWM: %ld kB", &size) == 1) break;
+    if (!file || !size) fail("the size is not told");
+    fclose(file);
+    return size;
+}
+
+static void openings(long many) {
+    long first = 0;
+    for (long i = 1; i <= many; i++) {
+        camac_session s = CAMAC_NONE;
+        uint32_t seed = (uint32_t)i;
+        open_session(&s, &plan, &script);
+        play_some(&s, &seed, 3);
+        camac_close(&s);
+        if (i == 1000) first = greatest_size();
+    }
+    const long last = greatest_size();
+    printf("%ld KiB after 1000 openings, %ld after %ld\n", first, last, many);
+    /* a page of the program may be touched late; one block lost at each of 9,000 openings takes more than twice as much */
+    if (many > 1000 && last > first + 128) fail("memory grows");
+}
+
+int main(int count, char **words) {
+    if (count != 4) return 2;
+    plan = read_file(words[1]);
+    script = read_file(words[2]);
+    if (atol(words[3]) > 0) {
+        openings(atol(words[3]));
+    } else {
+        none();
+        texts();
+        open_once();
+        spent();
+        in_turn();
+        in_threads();
+    }
+    free(plan.bytes);
+    free(script.bytes);
+    return 0;
+}

@@ -1,0 +1,91 @@
+/* refuse.c: refuses each allocation of each call in turn. Nothing may be lost, and between open and close none may be asked for.
+ *
+ *     refuse PLAN SCRIPT     tells how many allocations there were */
+#include "common.h"
+
+void *__libc_malloc(size_t size);
+void *__libc_realloc(void *block, size_t size);
+void __libc_free(void *block);
+
+static long left = -1; /* how many are granted before all are refused; -1: all are granted */
+static long blocks;    /* how many are held */
+
+static int is_refused(void) {
+    if (left > 0) left--;
+    else if (left == 0) return 1;
+    return 0;
+}
+
+void *malloc(size_t size) {
+    void *its = is_refused() ? NULL : __libc_malloc(size);
+    blocks += its != NULL;
+    return its;
+}
+
+void *realloc(void *block, size_t size) {
+    void *its = is_refused() ? NULL : __libc_realloc(block, size);
+    blocks += its && !block;
+    return its;
+}
+
+void free(void *block) {
+    blocks -= block != NULL;
+    __libc_free(block);
+}
+
+static text plan, script;
+static const char answers[] = "0 0 000000 0 000004\n1 1 123fff 0 000000\n";
+static char out[65536], file[65536];
+static camac_session s = CAMAC_NONE;
+
+static int call(int which) {
+    size_t size = 9, file_size = 9;
+    int code;
+    switch (which) {
+    case 0: code = camac_plan(plan.bytes, plan.size, out, sizeof out, &size); break;
+    case 1: code = camac_explain_plan(plan.bytes, plan.size, out, sizeof out, &size); break;
+    case 2: code = camac_check(plan.bytes, plan.size, script.bytes, script.size, out, sizeof out, &size); break;
+    case 3: code = camac_explain(plan.bytes, plan.size, script.bytes, script.size, out, sizeof out, &size); break;
+    case 4: code = camac_bounds(plan.bytes, plan.size, script.bytes, script.size, out, sizeof out, &size); break;
+    case 5:
+        code = camac_run(plan.bytes, plan.size, script.bytes, script.size, answers, sizeof answers - 1, out, sizeof out, &size, file, sizeof file,
+                         &file_size);
+        if (code == CAMAC_NO_MEMORY && file_size) fail("an event file is there without memory");
+        break;
+    case 6: code = camac_events("CAMACEV2", 8, out, sizeof out, &size); break;
+    default: code = camac_open(&s, plan.bytes, plan.size, script.bytes, script.size, out, sizeof out, &size); break;
+    }
+    if (code == CAMAC_NO_MEMORY && size) fail("call %d has a text without memory", which);
+    return code;
+}
+
+int main(int count, char **words) {
+    long refused = 0;
+    uint32_t seed = 3;
+    if (count != 3) return 2;
+    plan = read_file(words[1]);
+    script = read_file(words[2]);
+    for (int which = 0; which <= 7; which++) {
+        for (long granted = 0;; granted++) {
+            const long before = blocks;
+            left = granted;
+            const int code = call(which);
+            left = -1;
+            if (code == CAMAC_OK) break;
+            EXPECT(CAMAC_NO_MEMORY, code);
+            if (blocks != before || s.camac_private[0]) fail("call %d loses %ld blocks at allocation %ld", which, blocks - before, granted);
+            refused++;
+        }
+    }
+    const long open = blocks;
+    left = 0;
+    play_some(&s, &seed, 10000);
+    if (blocks != open) fail("a run takes memory");
+    camac_close(&s);
+    left = -1;
+    free(plan.bytes);
+    free(script.bytes);
+    if (blocks > 1) fail("%ld blocks are lost", blocks); /* printf's own may be there */
+    printf("%ld\n", refused);
+    return 0;
+}

@@ -1,0 +1,319 @@
+#!/usr/bin/env python3
+"""Tries the library for C: headers, calls and codes, the examples, the Python module over it, and the package. What a session, `camac_run` and
+the program make of the same answers has to be the same, byte for byte.
+
+usage: tests/library_test.py [-v] [TEST ..]     from any folder; takes a minute or two on four cores
+
+It needs gcc and the archive that tests/of_c.py names, else all is left out. The program is crates/camac/out/camac (cd crates/camac && rt run
+makes it), or what the environment variable CAMAC_PROGRAM names.
+"""
+import concurrent.futures
+import importlib.util
+import os
+import re
+import shutil
+import subprocess
+import sys
+import unittest
+import zipfile
+
+import of_c
+from live import PROGRAM, TOP, Broken, Case, Listed
+from live_test import LOCKOUT, STRAIGHT_LINE
+import camac
+from camac import Answer, Ending, ProgramFault, Refused, UsageFault, library
+from camac.mock import Adc, Auxiliary, MockBranch, Recorder, Register
+
+EXAMPLES = TOP / "examples"
+SAMPLE = EXAMPLES / "sample_plan.toml"
+HERE = TOP / "tests/library"
+LISTS = 1000
+OPENINGS = 10_000
+MOST_KIB = 4096
+ARCHIVE_BYTES = 1_200_000
+NEEDED = {"malloc", "realloc", "free", "memcpy", "memmove", "memset"}
+ESONE = """
+void cdreg(int *ext, int b, int c, int n, int a);
+void cfsa(int f, int ext, int *data, int *q);
+void ctstat(int *k);
+"""
+BY_REFERENCE = """
+void cdreg_(int *ext, const int *b, const int *c, const int *n, const int *a);
+void cfsa_(const int *f, const int *ext, int *data, int *q);
+void ctstat_(int *k);
+static inline void all_by_reference(int *ext, int b, int c, int n, int a) { cdreg_(ext, &b, &c, &n, &a); }
+static inline void cfsa_by_reference(int f, int *ext, int *data, int *q) { cfsa_(&f, ext, data, q); }
+#define CAMAC_CDREG(ext, b, c, n, a) all_by_reference(ext, b, c, n, a)
+#define CAMAC_CFSA(f, ext, data, q) cfsa_by_reference(f, ext, data, q)
+#define CAMAC_CTSTAT(k) ctstat_(k)
+"""
+DEMAND, CYCLE = Answer(gl=4), Answer(1, 1, 0x123)
+
+
+def setUpModule():
+    os.environ.update({"CAMAC_PROGRAM": PROGRAM, **of_c.environment()})
+
+
+def call(*words, **how):
+    """Status and what is printed, standard error too."""
+    ran = subprocess.run([str(it) for it in words], stdout=subprocess.PIPE, stderr=subprocess.STDOUT, timeout=170, **how)
+    return ran.returncode, ran.stdout.decode()
+
+
+def names(*words):
+    """The names that nm tells."""
+    return {it.split()[-1] for it in call("nm", *words)[1].splitlines() if len(it.split()) > 1}
+
+
+def pairs():
+    """Each example script with each plan that accepts it."""
+    every = [(plan, it) for plan in sorted(EXAMPLES.glob("*.toml")) for it in sorted(EXAMPLES.glob("*.script"))]
+    return [(plan, it) for plan, it in every if call(PROGRAM, "check", plan, it)[0] == 0]
+
+
+class Headers(Case):
+    def compile(self, name, text):
+        of_c.compiled(self.room, f"{name}.program", self.write(name, text))
+
+    def test_without_a_warning(self):
+        end = "int main(void) { return (int)camac_version() / 10000; }\n"
+        for name, head in (("a.c", "camac.h"), ("b.cpp", "camac.h"), ("c.cpp", "camac.hpp")):
+            self.compile(name, f"#include <{head}>\n#include <{head}>\n{end}")
+        for name, begin in (("d.c", ESONE), ("e.cpp", f'extern "C" {{ {ESONE} }}'), ("f.c", BY_REFERENCE)):
+            self.compile(name, f"{begin}\n#include <camac_esone.h>\n{end}")
+
+    def test_no_name_but_its_own(self):
+        text = "\n".join((TOP / "include" / name).read_text() for name in ("camac.h", "camac_esone.h"))
+        code = re.sub(r"/\*.*?\*/", "", text, flags=re.S)
+        self.assertEqual([it for it in re.findall(r"#define (\w+)", code) if not it.startswith("CAMAC_")], [])
+        self.assertEqual([it for it in re.findall(r"^\w[\w *]*?(\w+)\(", code, re.M) if not re.match("camac_|CAMAC_", it)], [])
+        exported = set(re.findall(r"\b(camac_raw_\w+)\(", code))
+        self.assertEqual(names("-D", "--defined-only", of_c.prefix() / "lib/libcamac.so.0"), exported)
+        self.assertEqual(names("-g", "--defined-only", of_c.prefix() / "lib/libcamac.a"), exported)
+
+    def test_archive(self):
+        archive = of_c.prefix() / "lib/libcamac.a"
+        undefined = {it.split()[-1] for it in call("nm", "-u", archive)[1].splitlines() if " U " in f" {it} "}
+        self.assertLessEqual(undefined - {"_GLOBAL_OFFSET_TABLE_"}, NEEDED)
+        self.assertLessEqual(archive.stat().st_size, ARCHIVE_BYTES)
+
+    def test_one_list_of_what_c_keeps(self):
+        header = (TOP / "include/camac.h").read_text().partition("YOU KEEP")[2].partition("*/")[0].replace(" *", "")
+        page = (TOP / "docs/C.md").read_text().partition("## What C has to keep")[2].partition("\n\nWhat the driver")[0].replace("`", "")
+        items = [[" ".join(it.split()) for it in re.split(r"\n\s*\d\. ", text)[1:]] for text in (header, page)]
+        self.assertEqual(items[0], items[1])
+        self.assertEqual(len(items[0]), 5)
+
+    def test_one_version(self):
+        header = (TOP / "include/camac.h").read_text()
+        text = re.search(r'CAMAC_VERSION "([\d.]+)"', header)[1]
+        first, second, third = map(int, text.split("."))
+        self.assertEqual(int(re.search(r"CAMAC_VERSION_NUMBER (\d+)u", header)[1]), 10_000 * first + 100 * second + third)
+        self.assertEqual(library.version(), text)
+        self.assertEqual(call(PROGRAM, "--version"), (0, f"camac {text}\n"))
+        self.assertIn(f"Version: {text}\n", (TOP / "tools/camac.pc").read_text())
+        self.assertIn(f'version = "{text}"\n', (TOP / "python/pyproject.toml").read_text())
+
+
+class Calls(Case):
+    def program(self, name, **how):
+        return of_c.compiled(self.room, name, HERE / f"{name}.c", **how)
+
+    def test_sessions_run_and_program_are_alike(self):
+        compare, every = self.program("compare"), pairs()
+        self.assertGreater(len(every), 10)
+
+        def ran(number):
+            plan, its = every[number]
+            folder = self.room / str(number)
+            folder.mkdir()
+            return call(compare, PROGRAM, plan, its, LISTS, number, folder)
+
+        with concurrent.futures.ThreadPoolExecutor(os.cpu_count()) as pool:
+            told = list(pool.map(ran, range(len(every))))
+        self.assertEqual([(pair, it) for pair, it in zip(every, told) if it[0]], [])
+        counts = [[int(number) for number in it[1].split()] for it in told]
+        print(f"\n{len(every)} pairs, {sum(it[0] for it in counts)} events, {sum(it[1] for it in counts)} overruns", flush=True)
+        self.assertTrue(all(overruns for _, overruns in counts))
+        self.assertGreater(sum(events for events, _ in counts), LISTS)
+
+    def test_codes_sessions_and_threads(self):
+        for static in (False, True):
+            self.assertEqual(call(self.program("calls", static=static), SAMPLE, EXAMPLES / "straight_line.script", 0), (0, ""))
+
+    def test_flat_memory(self):
+        status, told = call(self.program("calls"), SAMPLE, EXAMPLES / "straight_line.script", OPENINGS)
+        self.assertEqual(status, 0, told)
+        self.assertLess(int(re.findall(r"(\d+) after", told)[0]), MOST_KIB)
+
+    def test_each_allocation_refused(self):
+        status, told = call(self.program("refuse"), SAMPLE, EXAMPLES / "straight_line.script")
+        self.assertEqual(status, 0, told)
+        self.assertGreater(int(told), 50)
+
+    @unittest.skipUnless(shutil.which("valgrind"), "valgrind is not here")
+    def test_all_is_freed(self):
+        words = ["valgrind", "-q", "--leak-check=full", "--show-leak-kinds=all", "--errors-for-leak-kinds=all", "--error-exitcode=9"]
+        folder = self.room / "folder"
+        folder.mkdir()
+        its = (SAMPLE, EXAMPLES / "lockout.script")
+        status, told = call(*words, self.program("compare"), PROGRAM, *its, 3, 1, folder)
+        self.assertEqual(status, 0, told)
+        status, told = call(*words, self.program("calls"), *its, 5)
+        self.assertEqual(status, 0, told)
+
+
+class Examples(Case):
+    def test_readouts(self):
+        folder = EXAMPLES / "c"
+        events = "".join(f"event {number} gl 3 cycles 1 words 000100\n" for number in (1, 2, 3))
+        verdict = call(PROGRAM, "check", SAMPLE, EXAMPLES / "straight_line.script")[1]
+        for name, wanted in (("readout.c", events), ("readout.cpp", events.replace(" gl 3 cycles 1", ""))):
+            program = of_c.compiled(self.room, name + ".program", folder / name, folder / "branch.c")
+            self.assertEqual(call(program, SAMPLE, EXAMPLES / "straight_line.script"), (0, verdict + wanted))
+            status, told = call(program, SAMPLE, EXAMPLES / "lockout.script")
+            self.assertEqual((status, told.count("event")), (0, 3), told)
+            status, told = call(program, SAMPLE, EXAMPLES / "too_few_cycles.script")
+            self.assertEqual((status, told.splitlines()[0]), (1, "refused E12 line 4: more cycles than annotated"))
+
+
+class Python(Case):
+    def sample(self):
+        return SAMPLE.read_bytes()
+
+    def test_texts(self):
+        for plan, its in [*pairs(), (SAMPLE, EXAMPLES / "too_few_cycles.script")]:
+            for name in ("check", "explain", "bounds"):
+                verdict = getattr(library, name)(plan.read_bytes(), its.read_text())
+                self.assertEqual((0 if verdict.accepted else 1, verdict.text), call(PROGRAM, name, plan, its))
+        for name, of_program in (("plan", "plan"), ("explain_plan", "explain")):
+            for plan in sorted(EXAMPLES.glob("*.toml")):
+                verdict = getattr(library, name)(plan.read_bytes())
+                self.assertEqual((0 if verdict.accepted else 1, verdict.text), call(PROGRAM, of_program, plan))
+        with self.assertRaises(ProgramFault) as found:
+            library.check(self.sample(), b" " * (1 << 20) + b" ")
+        self.assertEqual((str(found.exception), found.exception.status), ("fault input too long", 3))
+
+    def test_run_and_events(self):
+        answers = EXAMPLES / "three_modules.answers"
+        its = (EXAMPLES / "three_crates.toml", EXAMPLES / "three_modules.script")
+        verdict, file = library.run(*(it.read_bytes() for it in (*its, answers)))
+        told = call(PROGRAM, "run", *its, answers, self.room / "events")
+        self.assertEqual(((0 if verdict.accepted else 1), verdict.text), told)
+        self.assertEqual(file, self.file("events"))
+        self.assertEqual(library.events(file).text, call(PROGRAM, "events", self.room / "events")[1])
+
+    def branch(self):
+        return MockBranch(
+            modules={(1, 5): Adc(channels=12, width=12, pedestal=100, peak=1800, seed=1), (1, 6): Register(width=8)},
+            gl={(1, 5): 3},
+            triggers=[[(1, 5)]] * 200,
+            auxiliaries={1: Auxiliary(2)},
+        )
+
+    def test_play_is_drive(self):
+        for its in (EXAMPLES / "lockout.script", EXAMPLES / "straight_line.script"):
+            ends = []
+            for number, by in enumerate((camac.drive, lambda plan, it, branch, events: camac.play(plan, it, branch, events=events))):
+                recorder = Recorder(self.branch())
+                (self.room / f"{number}").unlink(missing_ok=True)
+                ends.append((by(SAMPLE, its, recorder, self.room / f"{number}"), recorder.answer_lines(), self.file(f"{number}")))
+            self.assertEqual(ends[0], ends[1])
+            self.assertEqual(ends[0][0].events, 200)
+
+    def play(self, text, *answers, **how):
+        self.branch_asked = Listed(*answers)
+        return camac.play(SAMPLE, self.write("its.script", text), self.branch_asked, **how)
+
+    def test_ends_and_errors(self):
+        self.assertEqual(self.play(STRAIGHT_LINE, DEMAND, CYCLE).line, "ended events 1")
+        end = self.play(STRAIGHT_LINE, DEMAND, Answer(1, 1, 0, 3))
+        self.assertEqual((end.how, end.line, end.crate, end.wait), (Ending.OVERRUN, "overrun 1 wait 3 events 0", 1, 3))
+        with self.assertRaises(Refused) as found:
+            self.play("!")
+        self.assertEqual((found.exception.code, found.exception.line), ("S1", 1))
+        events = self.room / "events"
+        events.write_bytes(b"of the night before")
+        with self.assertRaises(ProgramFault) as found:
+            self.play(STRAIGHT_LINE, DEMAND, events=events)
+        self.assertEqual((str(found.exception), found.exception.status, events.read_bytes()), ("fault write", 3, b"of the night before"))
+        self.assertEqual(self.branch_asked.asked, [])
+        with self.assertRaises(ProgramFault) as found:
+            camac.play(self.room / "none", self.room / "none", None)
+        self.assertEqual((str(found.exception), found.exception.status), ("fault read", 3))
+        with self.assertRaises(TypeError):
+            self.play(STRAIGHT_LINE, DEMAND, None)
+
+    def test_lockouts_are_released(self):
+        lock = Answer()
+        for error in (Broken(), KeyboardInterrupt()):
+            for count in range(1, 7):
+                its = [DEMAND, lock, CYCLE, CYCLE, CYCLE, CYCLE][:count]
+                with self.subTest(error=error, count=count), self.assertRaises(type(error)):
+                    self.play(LOCKOUT, *its, error)
+                # a lockout that failed is not held; one that was interrupted may be
+                is_held = count > 1 or isinstance(error, KeyboardInterrupt)
+                self.assertEqual(self.branch_asked.asked.count(("unlock", 1)), int(is_held))
+
+    def test_sessions(self):
+        with library.Session(self.sample(), STRAIGHT_LINE) as session:
+            self.assertEqual(session.wants().kind, library.DEMAND)
+            self.assertEqual((session.next(DEMAND).service, session.words()), (1, ()))
+            want = session.wants()
+            self.assertEqual((want.kind, want.c, want.n, want.a, want.f, want.data), (library.CYCLE, 1, 5, 0, 0, library.READ))
+            did = session.next(Answer(1, 1, 0x123FFF))
+            self.assertEqual((did.event, did.event_gl, did.event_words, session.words()), (1, 3, 1, (0xFFF,)))
+            session.next(DEMAND)
+            self.assertEqual(session.next(Answer(wait=15)).kind, library.STOPPED)
+            self.assertIsNone(session.wants())
+        for use in (session.wants, lambda: session.next(DEMAND)):
+            with self.assertRaises(UsageFault):
+                use()
+        session.close()
+
+
+class Package(Case):
+    """pip install ./python, and the wheel with the library in it."""
+
+    def test_wheel(self):
+        so = of_c.prefix() / "lib/libcamac.so.0"
+        status, told = call(sys.executable, TOP / "python/wheel.py", self.room, so)
+        self.assertEqual(status, 0, told)
+        (wheel,) = self.room.glob("*.whl")
+        self.assertEqual(told, f"{wheel}\n")
+        with zipfile.ZipFile(wheel) as its:
+            its.extractall(self.room / "place")
+            listed = {it.split(",")[0] for it in its.read(next(it for it in its.namelist() if it.endswith("RECORD"))).decode().split()}
+            self.assertEqual(listed, set(its.namelist()))
+        self.check_place(self.room / "place")
+
+    def check_place(self, place):
+        bare = {key: it for key, it in os.environ.items() if key not in ("CAMAC_LIBRARY", "LD_LIBRARY_PATH", "PYTHONPATH")}
+        code = "import camac.library as it; print(it.version(), it.__file__)"
+        status, told = call(sys.executable, "-c", code, cwd=place, env={**bare, "PYTHONPATH": str(place)})
+        self.assertEqual((status, told), (0, f"{library.version()} {place}/camac/library.py\n"))
+
+    @unittest.skipUnless(importlib.util.find_spec("pip"), "pip is not here")
+    def test_pip(self):
+        place = self.room / "place"
+        source = self.room / "python"
+        shutil.copytree(TOP / "python", source, ignore=shutil.ignore_patterns("__pycache__"))
+        words = ["-m", "pip", "install", "--quiet", "--no-index", "--disable-pip-version-check", "--root-user-action=ignore", "--target", place]
+        bare = {key: it for key, it in os.environ.items() if key != "CAMAC_LIBRARY"}
+        status, told = call(sys.executable, *words, source, env=bare)
+        self.assertEqual((status, told), (0, ""))
+        self.assertTrue((place / "camac/library.py").is_file())
+        self.assertFalse((place / "camac/libcamac.so.0").exists())
+        shutil.rmtree(place)
+        status, told = call(sys.executable, *words, source, env=dict(os.environ))
+        self.assertEqual((status, told), (0, ""))
+        self.check_place(place)
+
+
+if __name__ == "__main__":
+    if not os.access(PROGRAM, os.X_OK):
+        sys.exit(f"{PROGRAM} is not there: cd crates/camac && rt run makes it, or CAMAC_PROGRAM names another")
+    if of_c.lacking():
+        print(f"left out: {of_c.lacking()}")
+        sys.exit()
+    unittest.main()

@@ -1,0 +1,59 @@
+"""What tests in C share: the library for C, made of the archive of its crate as ./install makes it, and programs compiled against it.
+
+The archive is crates/camac_c/out/libcamac_c.a (cd crates/camac_c && rt lib makes it), or what the environment variable CAMAC_ARCHIVE names.
+`rt ci` leaves none, so the gate skips these tests unless one is there."""
+import atexit
+import functools
+import os
+import pathlib
+import shutil
+import subprocess
+import tempfile
+
+TOP = pathlib.Path(__file__).resolve().parent.parent
+ARCHIVE = pathlib.Path(os.environ.get("CAMAC_ARCHIVE") or TOP / "crates/camac_c/out/libcamac_c.a").absolute()
+TOOLS = ("gcc", "ld", "ar", "objcopy")
+WARNINGS = ("-Wall", "-Wextra", "-Wpedantic", "-Wconversion", "-Werror")
+STANDARD = {".c": ("gcc", "-std=c99"), ".cpp": ("g++", "-std=c++17")}
+
+
+def lacking():
+    """Why there is no library to test with; nothing where there is one."""
+    tools = [it for it in TOOLS if not shutil.which(it)]
+    if tools:
+        return f"{tools[0]} is not here"
+    if not ARCHIVE.is_file():
+        return f"{ARCHIVE} is not there: cd crates/camac_c && rt lib makes it, or CAMAC_ARCHIVE names another"
+    return ""
+
+
+@functools.lru_cache(maxsize=None)
+def prefix():
+    """A folder in which header, library and pkg-config file stand as ./install puts them."""
+    room = tempfile.TemporaryDirectory(prefix="camac-library-")
+    atexit.register(room.cleanup)
+    folder = pathlib.Path(room.name)
+    subprocess.run([TOP / "tools/library", ARCHIVE, folder / "lib"], check=True)
+    shutil.copytree(TOP / "include", folder / "include")
+    (folder / "lib/pkgconfig").mkdir()
+    shutil.copy(TOP / "tools/camac.pc", folder / "lib/pkgconfig")
+    return folder
+
+
+def environment():
+    """In which compilers, programs and Python find the library."""
+    lib = prefix() / "lib"
+    return {"PKG_CONFIG_PATH": str(lib / "pkgconfig"), "LD_LIBRARY_PATH": str(lib), "CAMAC_LIBRARY": str(lib / "libcamac.so.0")}
+
+
+def compiled(room, program, *sources, static=False):
+    """A program in the room, of these sources, compiled without a warning."""
+    objects = []
+    for source in map(pathlib.Path, sources):
+        objects.append(room / f"{program}-{source.name}.o")
+        words = [*STANDARD[source.suffix], *WARNINGS, "-O1", "-I", TOP / "include", "-c", source, "-o", objects[-1]]
+        subprocess.run(words, check=True)
+    library = [prefix() / "lib/libcamac.a"] if static else ["-L", prefix() / "lib", "-lcamac"]
+    linker = "g++" if any(str(it).endswith(".cpp") for it in sources) else "gcc"
+    subprocess.run([linker, *objects, *library, "-pthread", "-o", room / program], check=True)
+    return room / program

@@ -1,0 +1,66 @@
+#!/usr/bin/env python3
+"""Compares the program with the independent reader of tools/oracle, on cases that are made by a seed, and the reader with the worked rows.
+
+usage: tests/oracle_test.py [-v] [TEST ..]     from any folder; takes a minute
+
+The program is crates/camac/out/camac (cd crates/camac && rt run makes it), or what the environment variable CAMAC_PROGRAM names. CAMAC_SEED
+is another seed than the usual one. A difference is told with its files, which are kept in out/oracle.
+"""
+import os
+import pathlib
+import sys
+import tempfile
+import unittest
+
+from rows_test import PROGRAM, ROWS, TOP
+
+sys.path.insert(0, str(TOP / "tools"))
+sys.dont_write_bytecode = True
+
+from oracle.calls import Program
+from oracle.comparing import Comparison, keep
+from oracle.reader.engines import TELL, Inputs, tell
+from oracle.reader.refusals import LeftOut
+
+SEED = os.environ.get("CAMAC_SEED") or "camac"
+SECONDS = 55
+MOST_CASES = 6_000
+
+
+class Reader(unittest.TestCase):
+    """The reader answers what the worked rows say."""
+
+    def test_rows(self):
+        for file, rows in ROWS.items():
+            for name, cases in rows.items():
+                for case in [it for it in cases if it.command in TELL]:
+                    with self.subTest(file=file, row=name, command=case.command):
+                        self.expect(case)
+
+    def expect(self, case):
+        given = case.inputs
+        try:
+            told = tell(case.command, Inputs(given.get("PLAN"), given.get("SCRIPT", b""), given.get("ANSWERS", b"")))
+        except LeftOut as why:
+            self.skipTest(why)
+        self.assertEqual((told.status, told.out, told.err), (case.status, case.printed, b""))
+        if None not in (told.events, case.events):
+            self.assertEqual(told.events, case.events)
+
+
+class Compared(unittest.TestCase):
+    """The program answers what the reader does, and every code is reached."""
+
+    def test_cases(self):
+        print(f"the cases are made by seed {SEED}")
+        memory = "/dev/shm" if os.access("/dev/shm", os.W_OK) else None
+        with tempfile.TemporaryDirectory(prefix="camac-oracle-", dir=memory) as room:
+            it = Comparison(Program(PROGRAM, pathlib.Path(room)), SEED)
+            it.run(0, MOST_CASES, SECONDS)
+        print(f"{it.cases} cases, {it.calls} calls; left out: {dict(it.left_out)}")
+        self.assertEqual([str(keep(one, SEED, TOP / "out/oracle")) for one in it.differences], [])
+        self.assertEqual(it.missing(), [])
+
+
+if __name__ == "__main__":
+    unittest.main()

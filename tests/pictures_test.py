@@ -1,0 +1,550 @@
+#!/usr/bin/env python3
+"""Tests of the pictures and of the report: their numbers are those of the run, their texts harm nobody, and a browser shows them.
+
+usage: tests/pictures_test.py [-v] [TEST ..]     from any folder; takes about a minute
+
+The program is crates/camac/out/camac (cd crates/camac && rt run makes it), or what the environment variable CAMAC_PROGRAM names. What needs
+its subcommand `costs` is left out where it has none, and what needs Chromium where that is not there. The pictures that are kept in
+tests/pictures are compared byte by byte; `tests/pictures_test.py --keep` writes them anew, to be looked at before they are committed.
+"""
+import os
+import re
+import sys
+import unittest
+import xml.etree.ElementTree as ElementTree
+from unittest import mock
+
+from live import PROGRAM, TOP
+import bench
+import camac
+import told
+from browser import CHROMIUM, Browser
+from camac import __main__ as commands
+from camac import pictures, scripts
+from camac.bodies import parse_costs
+from camac.events import read_events
+from camac.pictures import svg
+from camac.plans import parse_plan
+from camac.program import knows_option
+from camac.report import report
+from camac.runs import Inputs, Run
+from camac.scripts import parse_verdict
+
+KEPT = TOP / "tests/pictures"
+FIGURE = re.compile(r"<svg .*?</svg>", re.S)
+
+
+def number(text):
+    return float(text.replace(",", "")) if text else None
+
+
+class Numbers(bench.BenchCase):
+    """The numbers of the page beside sums made apart, from the listing and from `camac events`."""
+
+    @classmethod
+    def setUpClass(cls):
+        super().setUpClass()
+        cls.made = report(Inputs(*cls.files))
+        cls.page = bench.Page(cls.made.text)
+        cls.events = cls.case.room / "run.events"
+        cls.sums = bench.Sums(*cls.files, cls.events)
+
+    def test_run(self):
+        self.assertEqual(self.made.status, 0)
+        self.assertGreater(len(self.sums.services), 100)
+
+    def test_tiles(self):
+        sums = self.sums
+        cycles, waits = sums.total("cycles"), sums.total("waits")
+        wanted = {
+            "events": len(sums.events),
+            "cycles, waits counted": cycles,
+            f"waits, {100 * waits / cycles:.0f} % of the cycles": waits,
+            "event words": sum(len(event[4]) for event in sums.events),
+            "cycles with X = 0": sums.total("no_x"),
+            "cycles with Q = 0": sums.total("no_q"),
+            "demands without a service": sums.idle,
+        }
+        self.assertEqual(self.page.tiles, wanted)
+        self.assertEqual(cycles, sum(event[1] for event in sums.events))
+        self.assertEqual(sums.total("no_x"), sum(event[2] for event in sums.events))
+
+    def test_services_of_the_script(self):
+        for row in self.page.table("The run"):
+            its = [(it, event) for it, event in zip(self.sums.services, self.sums.events) if it.name == row["service"]]
+            cycles, words = [it.cycles for it, _ in its], [len(event[4]) for _, event in its]
+            bound = re.search(rf"service {row['service']} .* cycles (\d+) of (\d+) words (\d+) of", bench.call("check", *self.inputs[:2]))
+            wanted = [len(its), min(cycles), sum(cycles) / len(its), max(cycles), int(bound[1]), int(bound[2])]
+            wanted += [sum(it.waits for it, _ in its) / len(its), sum(words) / len(its), int(bound[3])]
+            wanted += [sum(it.no_q for it, _ in its), sum(it.no_x for it, _ in its)]
+            for found, value in zip(list(row.values())[2:], wanted):
+                self.assertAlmostEqual(number(found), value, delta=0.05)
+
+    def test_services_of_the_run(self):
+        rows = self.page.table("Services")
+        self.assertEqual(len(rows), len(self.sums.services))
+        for at, (row, it, event) in enumerate(zip(rows, self.sums.services, self.sums.events)):
+            wanted = [at + 1, it.name, it.cycles, None, it.waits, it.locked, it.no_q, it.no_x, len(event[4])]
+            found = [cell if title == "service" else None if title == "of bound" else number(cell) for title, cell in row.items()]
+            self.assertEqual(found, wanted)
+            self.assertEqual(bench.NAMES[event[0]], it.name)
+
+    def test_commands(self):
+        has_widths = knows_option("plan", "--commands", PROGRAM)
+        rows = self.page.table("Commands that were sent")
+        self.assertEqual(len(rows), len(self.sums.commands))
+        for row in rows:
+            at = tuple(int(it) for it in row["crate station A F"].replace("F", "").split())
+            its = self.sums.commands[at]
+            width = bench.WIDTHS.get((at[0], at[1], at[3]), 24) if has_widths else 24
+            words = [word & ((1 << width) - 1) for word in its["words"]]
+            wanted = [its["count"], its["no_q"], its["no_x"], its["waits"]]
+            wanted += [min(words), sum(words) / len(words), max(words)] if words else [None] * 3
+            for found, value in zip(list(row.values())[3:], wanted):
+                self.assertTrue(number(found) is value is None or abs(number(found) - value) < 0.051, (row, wanted))
+
+    def test_histograms(self):
+        counts = self.page.parts["Cycles and words of an event"]["counts"]
+        names = [it.name for it in self.sums.services]
+        self.assertEqual([sum(it) for it in counts], [names.count(name) for name in ("adc", "adc", "tick", "tick")])
+        channels = [it for key, it in sorted(self.sums.commands.items()) if it["words"]]
+        its = self.page.parts["By channel: the words that modules gave with Q = 1, and the words that were sent"]["counts"]
+        self.assertEqual([sum(it) for it in its], [len(it["words"]) for it in channels[:48]])
+
+    def test_places_of_words(self):
+        tips = [tip for tip in self.page.parts["By the place of the word in its event"]["tips"] if tip.startswith("word ")]
+        wanted = []
+        for gl in bench.NAMES:
+            events = [event[4] for event in self.sums.events if event[0] == gl]
+            for place in range(max(map(len, events))):
+                words = [words[place] for words in events if len(words) > place]
+                count = f"{len(words):,} event{'s' if len(words) > 1 else ''}"
+                wanted.append(f"word {place}: {count}, {min(words):,} to {max(words):,}, mean {sum(words) / len(words):,.1f}")
+        self.assertEqual(tips, wanted)
+
+    def test_plan(self):
+        used = {}
+        for (crate, station, _, _), it in self.sums.commands.items():
+            station = 24 if station in (28, 30) else station
+            used[crate, station] = used.get((crate, station), 0) + it["count"]
+        told = re.findall(r"crate (\d) stations? (\d+).*: .*\n(?:graded-L .*\n)?([\d,]+) cycles? in", "\n".join(self.page.parts["The plan"]["tips"]))
+        self.assertEqual({(int(c), int(n)): int(number(cycles)) for c, n, cycles in told}, {**dict.fromkeys([(2, 23)], 0), **used})
+
+    def test_timeline(self):
+        tips = "\n".join(self.page.parts["The run"]["tips"])
+        columns = re.findall(r"^service [\d,]+\ncycles: mean ([\d.]+), most ([\d,]+);", tips, re.M)
+        self.assertEqual(sorted(float(mean) for mean, _ in columns), sorted(it.cycles for it in self.sums.services))
+        for word, name in (("Q = 0", "no_q"), ("X = 0", "no_x")):
+            its = re.findall(rf"{word}: ([\d,]+) cycle", tips)
+            self.assertEqual(sum(map(int, its)), self.sums.total(name))
+
+    def test_bounds(self):
+        tips = self.page.parts["What was promised, and what was seen"]["tips"]
+        for name in ("adc", "tick"):
+            cycles = [it.cycles for it in self.sums.services if it.name == name]
+            told = f"seen in {len(cycles)} services: least {min(cycles)}, mean {sum(cycles) / len(cycles):,.1f}, most {max(cycles)}"
+            self.assertIn(told, tips)
+
+    def test_strips(self):
+        """Of each strip, its cells with Q and X."""
+        titles = [it for it in self.page.parts["Some services cycle by cycle"]["texts"] if it.startswith("service ")]
+        self.assertEqual(len(titles), 3)
+        for title in titles:
+            at, cycles = map(int, re.match(r"service (\d+), \w+: (\d+) of", title).groups())
+            self.assertEqual(self.sums.services[at - 1].cycles, cycles)
+        first = next(at for at, it in enumerate(self.sums.services) if it.no_x)
+        self.assertTrue(titles[0].startswith(f"service {first + 1}, ") and "first X = 0" in titles[0], titles)
+
+    def test_checks(self):
+        rows = self.page.parts["Checks of this page"]["tables"][0]
+        self.assertEqual([row[0] for row in rows], ["agrees"] * (5 if bench.knows("costs") else 4))
+
+    def test_checks_that_differ(self):
+        """Each number that is told twice, changed in one place."""
+        services = camac.check(*self.files[:2])
+        events = list(read_events(self.events))
+        first = events[0]
+        for wrong in (events[:-1], [first._replace(cycles=first.cycles + 1), *events[1:]], [first._replace(missed=9), *events[1:]]):
+            with mock.patch("camac.runs.read_events", lambda _, wrong=wrong: iter(wrong)):
+                made = report(self.inputs)
+            self.assertEqual(made.status, 1)
+            self.assertIn("DIFFERS", [row[0] for row in bench.Page(made.text).parts["Checks of this page"]["tables"][0]])
+        low = [it._replace(words=0) for it in services]
+        with mock.patch("camac.report.check", lambda *_: low):
+            self.assertEqual(report(self.inputs).status, 1)
+
+    def test_event_file(self):
+        """Of an event file alone the page tells what it holds, and the numbers are those of the listing."""
+        self.inputs = self.inputs._replace(source=self.events)
+        made = report(self.inputs)
+        page = bench.Page(made.text)
+        self.assertEqual(made.status, 0)
+        wanted = {it: self.page.tiles[it] for it in ("events", "cycles, waits counted", "event words", "cycles with X = 0")}
+        self.assertEqual(page.tiles, wanted)
+        for heading in ("The run", "Services"):
+            for ours, its in zip(page.table(heading), self.page.table(heading)):
+                self.assertEqual(ours, {title: its[title] for title in ours})
+        self.assertNotIn("Q = 0", page.table("Services")[0])
+
+
+@unittest.skipUnless(bench.knows("costs"), "this program has no `costs`")
+class Costs(bench.BenchCase):
+    """The cost of each line, where the program tells it."""
+
+    def test_shares(self):
+        bodies = camac.costs(*self.files[:2])
+        services = {it.name: it for it in camac.check(*self.files[:2])}
+        for body in bodies:
+            self.assertEqual(tuple(sum(row.share[k] for row in body.rows) for k in range(3)), body.most)
+            self.assertTrue(all(0 <= row.waits + row.slack <= row.share.cycles for row in body.rows))
+            if body.name in services:
+                it = services[body.name]
+                self.assertEqual((*body.most, *body.annotated[:2]), (it.cycles, it.words, it.steps, it.annotated_cycles, it.annotated_words))
+        adc, tick = bodies[1], bodies[2]
+        # 5 tests, 2 for the lock, and two cycles at the end may be waited for; in the lock are 12 reads and a scan of 8
+        self.assertEqual((adc.most.cycles, adc.waits(), adc.slack()), (15 + 2 + 12 + 8 + 6, 10 + 2 + 4, 0))
+        # 12 calls of 2 cycles, of which the body needs 1
+        self.assertEqual((tick.most.cycles, tick.waits(), tick.slack()), (24 + 1 + 1, 0, 12))
+
+    def test_page(self):
+        page = bench.Page(report(self.inputs).text)
+        texts = page.parts["Cost by line"]["texts"]
+        self.assertIn("service adc (line 11): at most 43 cycles of 64 annotated", texts)
+        self.assertIn("at most 43 = 27 ours + 16 waits", texts)
+        self.assertIn("at most 26 = 14 ours + 0 waits + 12 promised by procedures, not needed", texts)
+        for line, text in enumerate(bench.SCRIPT.splitlines()[10:31], 11):
+            self.assertIn(str(line), texts)
+            self.assertIn(svg.cut(text, 70), texts)
+
+    def test_pictures(self):
+        out = self.room / "costs.svg"
+        self.assertEqual(commands.main(["draw", "costs", *map(str, self.files), "-o", str(out)]), 0)
+        self.assertEqual(sorted(it.name for it in self.room.iterdir()), ["costs.adc.svg", "costs.scaler.svg", "costs.tick.svg"])
+        for path in self.room.iterdir():
+            ElementTree.parse(path)
+
+
+class Texts(bench.BenchCase):
+    """Texts that would do harm are shown, and do none."""
+
+    HARM = b'# </text></svg></style><script>document.title="harm"</script> "\' & \x00\x1b[31m \xff\xfe \t ]]> <!-- \xc2\x85 \xed\xa0\x80\n'
+
+    def hostile(self, name):
+        """The bench's script with harm in its comments, in a file of this name."""
+        path = self.room / name
+        lines = [line.replace(b"\n", b"  ") + self.HARM for line in bench.SCRIPT.encode().splitlines() if b"#" not in line]
+        path.write_bytes(b"".join(lines))
+        return path
+
+    def pages(self):
+        names = ['<img src=x onerror="document.title=1">.script', "a&b'\".script", "\x1b[31m\n\uffff.script"]
+        for name in names:
+            yield report(self.inputs._replace(script=self.hostile(name))).text
+        yield report(self.inputs._replace(script=self.hostile(names[0]), plan=self.write("bad.toml", 'buffer = "<script>"'))).text
+        broken = self.hostile(names[0])
+        broken.write_bytes(broken.read_bytes().replace(b"within 64", b"within 0"))
+        yield report(self.inputs._replace(script=broken)).text
+
+    def test_pages(self):
+        for text in self.pages():
+            for figure in FIGURE.findall(text):
+                ElementTree.fromstring(figure)
+            self.assertEqual(text.count("<script"), 1)
+            self.assertEqual(text.count("<svg "), text.count("</svg>"))
+            self.assertNotIn("<img", text)
+            self.assertIsNone(svg.FORBIDDEN.search(text))
+            text.encode()
+
+    def test_nothing_is_fetched(self):
+        for text in [*self.pages(), report(self.inputs).text]:
+            self.assertEqual(re.findall(r"https?:|//|@import|url\(|\ssrc=[^x]|<link|<iframe|<object", FIGURE.sub("", text).replace("</script>", "")), [])
+            self.assertTrue(all(it.startswith("#") for it in re.findall(r'\shref="([^"]*)"', text)))
+            self.assertIn("default-src 'none'", text)
+
+    def test_clean(self):
+        self.assertEqual(svg.clean("a\x00\x08\t\n\r\x0e\x1f\x7f\x9f\ufffe\uffff\ud800z"), "a\ufffd\ufffd  \n\r" + "\ufffd" * 7 + "z")
+        self.assertEqual(svg.escape('<a b="c">&'), "&lt;a b=&quot;c&quot;&gt;&amp;")
+
+    def test_lines_are_counted_by_lf_alone(self):
+        script = self.write("a.script", "")
+        script.write_bytes(b"a\r\nb\rc\x0bd\xe2\x80\xa8e\nf")
+        self.assertEqual(scripts.source_lines(script), ["a", "b\rc\x0bd\u2028e", "f"])
+
+    def test_numbers_as_text(self):
+        self.assertEqual([svg.count(it, "cycle") for it in (0, 1, 2, 12_345)], ["0 cycles", "1 cycle", "2 cycles", "12,345 cycles"])
+        shares = [svg.share(part, 1000) for part in (0, 1, 99, 99.4, 99.5, 333, 1000)]
+        self.assertEqual(shares, ["0 %", "0.1 %", "9.9 %", "9.9 %", "10 %", "33 %", "100 %"])
+        self.assertEqual([svg.cut("abcdef", size) for size in (6, 5, 1)], ["abcdef", "abcd…", "…"])
+
+    def test_contrast(self):
+        def light(colour):
+            parts = [int(colour[at : at + 2], 16) / 255 for at in (1, 3, 5)]
+            red, green, blue = [part / 12.92 if part <= 0.03928 else ((part + 0.055) / 1.055) ** 2.4 for part in parts]
+            return 0.2126 * red + 0.7152 * green + 0.0722 * blue
+
+        def contrast(one, other):
+            low, high = sorted((light(one), light(other)))
+            return (high + 0.05) / (low + 0.05)
+
+        def over(colour, ground, opacity):
+            parts = [(int(colour[at : at + 2], 16), int(ground[at : at + 2], 16)) for at in (1, 3, 5)]
+            return "#" + "".join(f"{round(above * opacity + below * (1 - opacity)):02x}" for above, below in parts)
+
+        for theme in (svg.LIGHT, svg.DARK):
+            its = {name: pair[theme] for name, pair in svg.COLOURS.items()}
+            areas = ("ours", "waits", "slack", "read", "write", "control", "controller", "lock", "noq", "nox")
+            wanted = [(text, under, 4.5) for text in ("ink", "mute", "nox") for under in ("ground", "face")]
+            wanted += [("control", "ground", 4.5), ("ours", "ground", 4.5)]
+            wanted += [("ground", bar, 4.7) for bar in ("ours", "waits", "slack")] + [(area, "ground", 4.7) for area in areas]
+            for one, other, least in wanted:
+                self.assertGreaterEqual(round(contrast(its[one], its[other]), 1), least, (theme, one, other))
+            self.assertGreaterEqual(contrast(its["ink"], over(its["waits"], its["ground"], 0.4)), 4.5, "text on the hottest line")
+
+
+LISTED_PLAN = """\
+buffer 64
+type ADC-12 commands 21 probes 4
+command f 0 a 0 to 11 width 12
+command f 0 a 12 to 15 probe
+command f 9 a 0
+command f 8 a 12
+command f 10 a 12
+type A-NAME-OF-32-CHARACTERS-IN-WHOLE commands 1 probes 0
+command f 16 a 0 width 8
+crate 1 waits 2
+station 5 ADC-12 gl 3
+station 23 A-NAME-OF-32-CHARACTERS-IN-WHOLE gl 24
+crate 2 waits 0
+"""
+VERDICT = "accepted\nservice adc gl 3 cycles 20 of 24 words 5 of 5 steps 50\n"
+COSTS_SCRIPT = """\
+# One procedure reads a channel of the converter at station 5 of crate 1; the service reads four of them, and the last one twice.
+cdlam adc 1 1 5 12
+var i
+proc read(channel in 0..15) within 4 cycles event 1 words steps 8 {
+  cdreg r 1 1 5 channel
+  cfsa 0 r -> channel
+  put channel
+}
+service adc within 24 cycles event 5 words {
+  for i = 0 to 3 {
+    call read(i)
+  }
+  call read(3)
+}
+"""
+COSTS = """\
+proc read line 4 cycles 3 of 4 words 1 of 1 steps 3 of 8
+line 5 depth 1 cdreg times 1 cycles 0 words 0 steps 1 share 0 0 1
+line 6 depth 1 cfsa times 1 cycles 3 words 0 steps 1 share 3 0 1 at 1 5 0..15
+line 7 depth 1 put times 1 cycles 0 words 1 steps 1 share 0 1 1
+service adc line 9 gl 3 at 1 5 12 cycles 20 of 24 words 5 of 5 steps 50
+line 10 depth 1 for times 1 cycles 16 words 4 steps 41 share 0 0 5 turns 4
+line 11 depth 2 call times 4 cycles 4 words 1 steps 9 share 16 4 36 proc read
+line 13 depth 1 call times 1 cycles 4 words 1 steps 9 share 4 1 9 proc read
+"""
+SERVED = [
+    "demand 000004 adc",
+    "lock 1 wait 2",
+    "cycle 1 5 0 0 in 000123 x1 q1 wait 0",
+    "cycle 1 5 1 0 in 000fff x1 q0 wait 0",
+    "unlock 1",
+    "cycle 1 23 0 16 out 0000ff x0 q0 wait 1",
+    "cycle 1 28 8 26 none x1 q0 wait 15",
+    "demand 000000 -",
+]
+
+
+def small_run():
+    """A run of two services with all that a strip can show, and of a third one without an end."""
+    lines = [*SERVED, *SERVED[:-2], SERVED[-2].replace("15", "0"), *SERVED[:3], "short events 2"]
+    events = [camac.Event(1, 3, 22, 1, (0x123, 0xFF)), camac.Event(2, 3, 7, 1, (0x123, 0xFF, 5))]
+    return told.collected(LISTED_PLAN, VERDICT, lines, events)
+
+
+def kept_pictures():
+    """The pictures that are kept, by name, drawn without the program."""
+    plan, services, bodies, run = parse_plan(told.PLAN), parse_verdict(told.VERDICT), parse_costs(told.COSTS), told.told_run(200)
+    source, seen = bench.SCRIPT.split("\n"), run.seen
+    drawn = {
+        "plan": pictures.draw_plan(plan, services, run),
+        "plan-alone": pictures.draw_plan(parse_plan(LISTED_PLAN)),
+        "bounds": pictures.draw_bounds(services, run),
+        "costs-scaler": pictures.draw_costs(bodies[0], source),
+        "costs-adc": pictures.draw_costs(bodies[1], source, seen[3].cycles),
+        "costs-tick": pictures.draw_costs(bodies[2], source, seen[5].cycles),
+        "costs-call": pictures.draw_costs(parse_costs(COSTS)[1], COSTS_SCRIPT.split("\n")),
+        "run": pictures.draw_run(run, services),
+        "run-long": pictures.draw_run(told.told_run(270), services),
+        "events": pictures.draw_events(run, services),
+        "words": pictures.draw_words(run),
+        "places": pictures.draw_places(run, services[0]),
+    }
+    for name, its in (("", run), ("small-", small_run())):
+        for (why, gl), kept in its.kept.items():
+            drawn[f"strip-{name}{why.name.lower()}-{gl}"] = pictures.draw_strip(kept, services[0] if gl != 5 else services[1], why.value)
+    return {name: canvas.picture() for name, canvas in drawn.items()}
+
+
+class Kept(unittest.TestCase):
+    """Pictures of fixed values, without the program."""
+
+    def test_kept(self):
+        drawn = kept_pictures()
+        self.assertEqual(sorted(it.stem for it in KEPT.glob("*.svg")), sorted(drawn))
+        for name, text in drawn.items():
+            with self.subTest(name):
+                self.assertEqual(text, (KEPT / f"{name}.svg").read_text(encoding="utf-8"))
+                ElementTree.fromstring(text)
+                self.assertEqual(ElementTree.fromstring(text).get("width"), "960")
+
+    def test_readers_without_variables(self):
+        """A picture alone has plain colours, and no rule that some readers of SVG do not know."""
+        for text in kept_pictures().values():
+            self.assertNotIn("var(", text)
+            self.assertNotIn("white-space", text)
+
+    def test_numbers(self):
+        run = small_run()
+        self.assertEqual((list(run.cycles), list(run.waits)), ([2 + 1 + 1 + 2 + 16, 7], [2 + 1 + 15, 3]))
+        self.assertEqual((list(run.no_q), list(run.no_x), list(run.locked)), ([3, 3], [1, 1], [2, 2]))
+        self.assertEqual([it.agrees for it in run.checks], [True, True, True, False])  # 22 cycles are above the bound of 20
+        plan = pictures.draw_plan(parse_plan(LISTED_PLAN), parse_verdict(VERDICT), run).picture()
+        for text in ("F0 A0 to A11: read group 1, 12 bits", "F0 A12 to A15: probe: no register", "F10 A12: clear LAM", "graded-L bit 24: no service"):
+            self.assertIn(text, plan)
+        costs = (KEPT / "costs-call.svg").read_text()
+        self.assertIn("at most 20 = 5 ours + 10 waits + 5 promised by procedures, not needed", costs)
+        self.assertIn("4 times at most 4 cycles: 16 cycles, 80 % of the bound\nof them 8 waits, 4 promised", costs)
+        self.assertIn("15 cycles of auxiliary controllers before the next operation", (KEPT / "strip-small-missed-0.svg").read_text())
+
+    def test_seams(self):
+        """Columns lie edge to edge on whole pixels."""
+        run = Run(has_listing=True)
+        for at in range(3000):
+            run.gl.append(3)
+            for its in (run.cycles, run.words):
+                its.append(5)
+            for its in (run.waits, run.no_q, run.no_x, run.locked):
+                its.append(at % 2)
+        drawn = pictures.draw_run(run, parse_verdict(VERDICT)).picture()
+        bars = re.findall(r"M(\S+) \S+v\S+h(\d+)V", re.search(r'<path d="([^"]*)" class="ours crisp"', drawn)[1])
+        edges = [(int(x), int(x) + int(wide)) for x, wide in bars]
+        self.assertEqual(len(edges), 250)
+        self.assertTrue(all(right == left for (_, right), (left, _) in zip(edges, edges[1:])))
+
+
+@unittest.skipUnless(CHROMIUM, "Chromium is not here")
+class InChromium(bench.BenchCase):
+    """The page in a browser."""
+
+    def opened(self, browser, text):
+        browser.open(self.write("page.html", text))
+        self.assertEqual(browser.said, [])
+        self.assertEqual(browser.asked, [f"file://{self.room}/page.html"])
+
+    def test_page(self):
+        with Browser() as browser:
+            self.opened(browser, report(self.inputs).text)
+            widths = "(it => [it.scrollWidth, it.clientWidth])(document.querySelector('#run ~ .wrap'))"
+            self.assertEqual(*browser.ask(widths), "the table of the services of a script needs no scrolling")
+            self.sort(browser)
+            self.bin_below_the_pointer(browser)
+            self.theme(browser)
+            self.assertEqual(browser.said, [])
+
+    def sort(self, browser):
+        """Each click on the head of a column sorts: the greatest first, then the least; services alike keep their order."""
+        column = "Array.from(document.querySelector('#services ~ .wrap table').tBodies[0].rows).map(r => [+r.cells[2].dataset.v, +r.cells[0].dataset.v])"
+        click = "document.querySelectorAll('#services ~ .wrap th button')[2].click()"
+        state = "document.querySelectorAll('#services ~ .wrap th')[2].getAttribute('aria-sort')"
+        rows = browser.ask(column)
+        self.assertEqual(rows, sorted(rows, key=lambda row: row[1]))
+        for way, sign in (("descending", -1), ("ascending", 1), ("descending", -1)):
+            browser.ask(click)
+            self.assertEqual(browser.ask(column), sorted(browser.ask(column), key=lambda row: sign * row[0]))
+            self.assertEqual(browser.ask(state), way)
+        browser.ask("document.querySelectorAll('#services ~ .wrap th button')[0].click();document.querySelectorAll('#services ~ .wrap th button')[0].click()")
+        browser.ask(click)
+        self.assertEqual(browser.ask(column), sorted(rows, key=lambda row: (-row[0], row[1])))
+
+    def bin_below_the_pointer(self, browser):
+        """The pointer is over the third bin of the first histogram."""
+        browser.ask("window.r=document.querySelector('rect[data-counts]');r.scrollIntoView({block:'center'})")
+        place = browser.ask("(b=>[b.left,b.top,b.width,b.height])(r.getBoundingClientRect())")
+        first, width, part = (browser.ask(f"+r.dataset.{it}") for it in ("first", "width", "part"))
+        counts = [int(it) for it in browser.ask("r.dataset.counts").split()]
+        browser.move_to(place[0] + place[2] * part * 2.5 / len(counts), place[1] + place[3] / 2)
+        low = int(first + 2 * width)
+        name = f"{low:,}" if width == 1 else f"{low:,} to {low + int(width) - 1:,}"
+        self.assertEqual(browser.ask("document.getElementById('tip').textContent"), f"{name}: {counts[2]:,}")
+        self.assertEqual(browser.ask("getComputedStyle(document.getElementById('tip')).display"), "block")
+        browser.move_to(1, 1)
+        self.assertEqual(browser.ask("getComputedStyle(document.getElementById('tip')).display"), "none")
+
+    def theme(self, browser):
+        """Dark where the reader wants it, and what the button says; light on paper."""
+
+        def ground():
+            red, green, blue = map(int, re.findall(r"\d+", browser.ask("getComputedStyle(document.body).backgroundColor"))[:3])
+            return f"#{red:02x}{green:02x}{blue:02x}"
+
+        light, dark = svg.COLOURS["ground"]
+        for theme, colour, other in (("light", light, dark), ("dark", dark, light)):
+            browser.media("", theme)
+            self.assertEqual(ground(), colour)
+            browser.ask("document.querySelector('.theme').click()")
+            self.assertEqual(ground(), other)
+            browser.media("print", theme)
+            self.assertEqual(ground(), light)
+            self.assertEqual(browser.ask("getComputedStyle(document.querySelector('.theme')).display"), "none")
+            browser.ask("delete document.documentElement.dataset.theme")
+
+    def test_narrow_window(self):
+        """Pictures and tables scroll in their places; the page is as wide as the window."""
+        with Browser(width=500) as browser:
+            self.opened(browser, report(self.inputs).text)
+            self.assertLessEqual(browser.ask("document.documentElement.scrollWidth"), browser.ask("innerWidth"))
+
+    def test_harm(self):
+        harm = Texts()
+        harm.files, harm.inputs, harm.room = self.files, self.inputs, self.room
+        with Browser() as browser:
+            for text in harm.pages():
+                self.opened(browser, text)
+                self.assertRegex(browser.ask("document.title"), r"\.script: re(port|fused)$")
+                self.assertIsNone(browser.ask("document.querySelector('img,main script,svg script')"))
+
+    def test_pictures(self):
+        with Browser() as browser:
+            for name, text in kept_pictures().items():
+                browser.open(self.write(f"{name}.svg", text))
+                self.assertEqual(browser.said, [], name)
+                self.assertEqual(browser.ask("document.documentElement.getAttribute('width')"), "960")
+
+    def test_labels_stay_inside(self):
+        """No text of a picture begins left of it or ends right of it."""
+        plan = self.write("largest.toml", bench.largest_plan())
+        script = self.write("largest.script", bench.largest_script())
+        answers = self.write("largest.answers", bench.random_answers(20_000, [1 << bit for bit in range(24)]))
+        outside = "Array.from(document.querySelectorAll('svg text')).filter(t=>{const b=t.getBBox(),m=t.getAttribute('transform');"
+        outside += "return !m&&(b.x<-1||b.x+b.width>t.ownerSVGElement.width.baseVal.value+1)}).map(t=>t.textContent)"
+        with Browser() as browser:
+            for inputs in (self.inputs, Inputs(plan, script, answers)):
+                self.opened(browser, report(inputs).text)
+                self.assertEqual(browser.ask(outside), [])
+
+
+def keep():
+    KEPT.mkdir(exist_ok=True)
+    for path in KEPT.glob("*.svg"):
+        path.unlink()
+    for name, text in kept_pictures().items():
+        (KEPT / f"{name}.svg").write_text(text, encoding="utf-8")
+
+
+if __name__ == "__main__":
+    if sys.argv[1:] == ["--keep"]:
+        sys.exit(keep())
+    if not os.access(PROGRAM, os.X_OK):
+        sys.exit(f"{PROGRAM} is not there: cd crates/camac && rt run makes it, or CAMAC_PROGRAM names another")
+    unittest.main()

@@ -1,0 +1,303 @@
+#!/usr/bin/env python3
+"""Tests of `python3 -m camac report` and of the other commands: each input, each end of a run, statuses, sizes and times.
+
+usage: tests/report_test.py [-v] [TEST ..]     from any folder; takes about a minute
+
+The program is crates/camac/out/camac (cd crates/camac && rt run makes it), or what the environment variable CAMAC_PROGRAM names.
+"""
+import contextlib
+import io
+import os
+import re
+import subprocess
+import sys
+import unittest
+import xml.etree.ElementTree as ElementTree
+from unittest import mock
+
+from live import PROGRAM, TOP
+import bench
+import camac
+from camac import __main__ as commands
+from camac import pictures, plans
+from camac.pictures import svg
+from camac.report import report
+from camac.runs import Inputs
+
+STRAIGHT = "cdlam adc 1 1 5 12\nvar v\nservice adc within 3 cycles event 1 words {\n  cdreg r 1 1 5 0\n  cfsa 0 r -> v\n  put v\n}\n"
+FIGURE = re.compile(r"<svg .*?</svg>", re.S)
+
+
+class Ends(bench.BenchCase):
+    """Each input and each end: the page, its status and its size."""
+
+    def report(self, plan="@sample", script=STRAIGHT, source="", status=0):
+        script_path, path = self.write("a.script", script), self.write("a.answers", "")
+        path.write_bytes(source if isinstance(source, bytes) else source.encode())
+        made = report(Inputs(plan, script_path, path))
+        self.assertEqual(made.status, status)
+        if len(source) < 1 << 20:
+            self.assertEqual(report(Inputs(plan, script_path, path)), made)
+        for figure in FIGURE.findall(made.text):
+            ElementTree.fromstring(figure)
+        return made.text, bench.Page(made.text)
+
+    def last_line(self, page):
+        return next(it for it in page.parts[""]["paragraphs"] if it.startswith("The run: "))
+
+    def test_no_answer(self):
+        _, page = self.report()
+        self.assertEqual(self.last_line(page), "The run: ended events 0 (the answers were used up at a demand).")
+        self.assertIn("No service came to its end in this run.", page.parts["The run"]["texts"])
+        self.assertIn("Nothing to show: no event, no word.", page.parts["Cycles and words of an event"]["texts"])
+        self.assertIn("No event of adc has a word.", page.parts["By the place of the word in its event"]["texts"])
+
+    def test_sizes(self):
+        """One answer, ten, and many: the page grows little."""
+        sizes = {}
+        for services in (0, 1, 10, 4_400, 44_000):
+            text, page = self.report(source=("0 0 000000 0 000004\n1 1 123fff 2 000000\n") * services)
+            self.assertEqual(page.tiles["events"], services)
+            sizes[services] = len(text)
+        self.assertLess(sizes[1], 80_000)
+        self.assertLess(sizes[10], 90_000)
+        self.assertLess(sizes[44_000], 200_000)
+        self.assertLess(abs(sizes[44_000] - sizes[4_400]), 10_000)
+
+    def test_an_answer_alone(self):
+        _, page = self.report(source="0 0 000000 0 000004\n")
+        self.assertEqual(self.last_line(page), "The run: short events 0 (the answers were used up inside a service, which left no event).")
+        self.assertIn("service 1, adc: 0 of 3 cycles (it did not come to its end)", page.parts["Some services cycle by cycle"]["texts"])
+
+    def test_short(self):
+        text, page = self.report(*self.bench_of_two_crates(), source=self.files[2].read_text().rsplit("\n", 8)[0])
+        self.assertIn("it did not come to its end", text)
+        told = page.parts["Commands that were sent"]["paragraphs"]
+        self.assertEqual(told, ["Those of the service that did not come to its end are counted here, and nowhere else."])
+        self.assertRegex(self.last_line(page), r"^The run: short events \d+ ")
+
+    def bench_of_two_crates(self):
+        return self.files[0], bench.SCRIPT
+
+    def test_overrun(self):
+        bench.record(self.room, 40, ignores_lockout=True)
+        text, page = self.report(*self.bench_of_two_crates(), source=self.file("bench.answers"), status=1)
+        self.assertRegex(self.last_line(page), r"^The run: overrun 1 wait [12] events \d+ \(a wait that the plan does not permit")
+        self.assertIn("(it did not come to its end)", text)
+        self.assertIn('class="bad">overrun', text)
+
+    def test_bad_answers(self):
+        good = "0 0 000000 0 000004\n1 1 123fff 2 000000\n"
+        for bad, line in (("1 1\n", "refused A1 line 3: line shape"), ("x 1 000000 0 000000\n", "refused A2 line 3: bad digit")):
+            _, page = self.report(source=good + bad, status=1)
+            self.assertIn(line, self.last_line(page))
+            self.assertEqual(page.tiles["events"], 1)
+            self.assertEqual([row[0] for row in page.parts["Checks of this page"]["tables"][0]][:4], ["agrees"] * 4)
+            self.assertNotIn("it did not come to its end", "".join(page.parts.get("Some services cycle by cycle", {"texts": []})["texts"]))
+
+    def test_too_many_answers(self):
+        _, page = self.report(source="0 0 000000 0 000000\n" * 1_000_001, status=1)
+        self.assertIn("refused A4 line 1000001: too many answers", self.last_line(page))
+        self.assertTrue(any(it.startswith("No demand called a service.") for it in page.parts[""]["paragraphs"]))
+
+    def test_refused_script(self):
+        text, page = self.report(script=STRAIGHT.replace("within 3", "within 2"), status=1)
+        self.assertEqual(page.parts[""]["paragraphs"][0], "refused E12 line 3: more cycles than annotated")
+        explained = bench.call("explain", "@sample", self.room / "a.script")
+        self.assertIn(svg.escape(explained.rstrip("\n")), text)
+        place = re.search(r"<h2>The place</h2><pre>(.*?)</pre>", text, re.S)[1].split("\n")
+        self.assertEqual(place[0], "     1   cdlam adc 1 1 5 12")
+        self.assertEqual(place[2], '<b class="bad">     3 &gt; service adc within 2 cycles event 1 words {')
+        self.assertEqual(len([it for it in page.parts["The plan"]["tips"] if ": ADC" in it]), 2)
+
+    def test_refused_plan(self):
+        text, page = self.report(plan=self.write("bad.toml", "buffer = 5000\n"), status=1)
+        self.assertEqual(page.parts[""]["paragraphs"][0], "refused P4: value out of range")
+        self.assertNotIn("The plan", page.parts)
+        self.assertNotIn("The place", page.parts)
+
+    def test_cut_event_file(self):
+        bench.call("run", *self.inputs, self.room / "run.events")
+        data = self.file("run.events")
+        for cut, line in ((data[:500], r"refused V7 byte \d+: truncated"), (data[:9], "refused V7 byte 8: truncated"), (b"CAMACEV9", "refused V1 byte 0")):
+            _, page = self.report(*self.bench_of_two_crates(), source=cut, status=1)
+            self.assertRegex(self.last_line(page), line)
+            whole = camac.whole(io.BytesIO(cut))
+            self.assertEqual(page.tiles["events"], len(whole.events))
+
+    def test_event_file_of_version_one(self):
+        data = bytes.fromhex("43414d4143455631 ca4d 0003 00000001 0001 00000fff")
+        _, page = self.report(source=data)
+        self.assertEqual(page.tiles, {"events": 1, "event words": 1})
+        self.assertIn("The event file is of version one, which tells no cycles.", page.parts["The run"]["texts"])
+        self.assertEqual(list(page.table("Services")[0]), ["event", "service", "words"])
+        self.assertNotIn("adc: cycles", page.parts["Cycles and words of an event"]["texts"])
+
+    def test_event_file_of_another_script(self):
+        data = bytes.fromhex("43414d4143455632 ca4d 0007 00000001 00000003 0000 0001 00000fff")
+        _, page = self.report(source=data, status=1)
+        self.assertIn(["DIFFERS", "events of a service of the script: 0 of 1"], page.parts["Checks of this page"]["tables"][0])
+
+    def test_largest(self):
+        """The largest plan, 24 services, 100,000 answers."""
+        plan = self.write("largest.toml", bench.largest_plan())
+        answers = bench.random_answers(100_000, [1 << bit for bit in range(24)])
+        text, page = self.report(plan, bench.largest_script(), answers)
+        self.assertLess(len(text), 2_300_000)
+        self.assertEqual([row[0] for row in page.parts["Checks of this page"]["tables"][0]][:4], ["agrees"] * 4)
+        drawn = pictures.draw_plan(plans.plan(plan)).picture()
+        self.assertLess(len(drawn), 130_000)
+        self.assertEqual(ElementTree.fromstring(drawn).get("height"), "1624")
+
+    def test_time(self):
+        """100,000 answers in less than three seconds of processor time, a million in less than fifteen, in little memory."""
+        measured = "import resource, sys; from camac.__main__ import main; status = main(sys.argv[1:]); its = resource.getrusage(0); "
+        measured += "print(its.ru_utime + its.ru_stime, its.ru_maxrss // 1024); sys.exit(status)"
+        for count, seconds in ((100_000, 3), (999_999, 15)):
+            answers = self.write("many.answers", bench.random_answers(count))
+            words = ["report", "@sample", self.write("a.script", STRAIGHT), answers, "-o", self.room / "many.html"]
+            environment = {**os.environ, "PYTHONPATH": str(TOP / "python")}
+            # A shell between: else the memory of this process would count.
+            between = ["sh", "-c", '"$@"; exit $?', "sh", sys.executable, "-c", measured]
+            # The least of three calls: other programs may use the computer.
+            for _ in range(3):
+                done = subprocess.run([*between, *words], stdout=subprocess.PIPE, env=environment)
+                its_seconds, memory = map(float, done.stdout.split())
+                self.assertEqual(done.returncode, 0)
+                if its_seconds < seconds:
+                    break
+            self.assertLess(its_seconds, seconds)
+            self.assertLess(memory, 100)
+
+
+class Commands(bench.BenchCase):
+    """The command line: words, statuses, and what is left behind."""
+
+    def call(self, *words, status=0):
+        out, err = io.StringIO(), io.StringIO()
+        with contextlib.redirect_stdout(out), contextlib.redirect_stderr(err):
+            try:
+                found = commands.main([str(it) for it in words])
+            except SystemExit as stop:
+                found = stop.code
+        self.assertEqual(found, status, err.getvalue())
+        return out.getvalue(), err.getvalue()
+
+    def test_pictures(self):
+        plan, script, answers = self.files
+        bench.call("run", *self.files, self.room / "run.events")
+        tried = [("plan", plan), ("plan", plan, script), ("plan", plan, script, answers), ("plan", "@sample"), ("bounds", plan, script)]
+        tried += [(kind, plan, script, source) for kind in ("plan", "bounds", "run", "words") for source in (answers, self.room / "run.events")]
+        for words in tried:
+            first, second = self.room / "1.svg", self.room / "2.svg"
+            self.assertEqual(self.call("draw", *words, "-o", first), ("", ""))
+            self.call("draw", *words, "-o", second)
+            self.assertEqual(first.read_bytes(), second.read_bytes())
+            ElementTree.parse(first)
+        self.assertEqual(sorted(it.name for it in self.room.iterdir()), ["1.svg", "2.svg", "run.events"])
+
+    def test_words(self):
+        plan, script, answers = self.files
+        for words in [
+            (),
+            ("draw",),
+            ("draw", "moon", plan, "-o", "x"),
+            ("draw", "run", plan, "-o", "x"),
+            ("draw", "plan", plan),
+            ("draw", "bounds", plan, script, answers, answers, "-o", "x"),
+            ("report", plan, script, "-o", "x"),
+            ("report", "@in", script, answers, "-o", "x"),
+            ("draw", "plan", "@in", "-o", "x"),
+            ("csv", "what", "x"),
+            ("report", plan, script, answers, "-o", script),
+            ("csv", "listing", answers, "-o", answers),
+        ]:
+            out, err = self.call(*words, status=2)
+            self.assertEqual(out, "")
+            self.assertIn("usage: ", err)
+        os.mkfifo(self.room / "pipe")
+        self.assertIn("is read more than once", self.call("report", plan, script, self.room / "pipe", "-o", "x", status=2)[1])
+        for words in (["--help"], ["draw", "--help"], ["report", "--help"]):
+            self.assertIn("usage: ", self.call(*words)[0])
+
+    def test_faults(self):
+        plan, script, answers = self.files
+        out = self.room / "out"
+        for words in [
+            ("report", plan, script, self.room / "none"),
+            ("report", plan, self.room / "none", answers),
+            ("report", self.room / "none", script, answers),
+            ("report", plan, script, self.room),
+            ("draw", "plan", self.room / "none"),
+            ("csv", "events", self.room / "none"),
+        ]:
+            printed, err = self.call(*words, "-o", out, status=3)
+            self.assertEqual((printed, len(err.splitlines())), ("", 1), err)
+            self.assertFalse(out.exists() and words[0] != "csv")
+        self.assertIn("No such file", self.call("report", plan, script, answers, "-o", self.room / "none/x", status=3)[1])
+        if not bench.knows("costs"):
+            self.assertEqual(self.call("draw", "costs", plan, script, "-o", out, status=3)[1], "camac: this program has no `costs`\n")
+        with mock.patch.dict(os.environ, {"CAMAC_PROGRAM": str(self.room / "none")}):
+            self.assertIn("none", self.call("draw", "plan", plan, "-o", out, status=3)[1])
+
+    def test_refusals(self):
+        plan, _, answers = self.files
+        bad = self.write("bad.script", "service service\n")
+        for words in (("draw", "plan", plan, bad), ("draw", "run", plan, bad, answers)):
+            out, err = self.call(*words, "-o", self.room / "x.svg", status=1)
+            self.assertEqual((out, err), ("refused S2 line 1: unexpected token\n", ""))
+            self.assertFalse((self.room / "x.svg").exists())
+        self.call("report", plan, bad, answers, "-o", self.room / "x.html", status=1)
+        self.assertTrue((self.room / "x.html").exists())
+
+    def test_report(self):
+        out = self.room / "run.html"
+        self.assertEqual(self.call("report", *self.files, "-o", out), ("", ""))
+        self.assertEqual(out.read_text(encoding="utf-8"), report(self.inputs).text)
+        script = TOP / "python/camac-report"
+        done = subprocess.run([script, *self.files, "-o", self.room / "2.html"], stdout=subprocess.PIPE, stderr=subprocess.STDOUT)
+        self.assertEqual((done.returncode, done.stdout), (0, b""))
+        self.assertEqual((self.room / "2.html").read_bytes(), out.read_bytes())
+
+
+class Pages(unittest.TestCase):
+    """The manual page and the completions of camac-report, compared with its help."""
+
+    def setUp(self):
+        out = io.StringIO()
+        with contextlib.redirect_stdout(out), self.assertRaises(SystemExit):
+            commands.main(["report", "--help"])
+        self.options = re.findall(r"^  -(\w)(?: [A-Z]+)?, --(\w+)", out.getvalue(), re.M)
+        self.assertEqual(self.options, [("h", "help"), ("o", "out")])
+
+    def test_manual_page(self):
+        page = (TOP / "man/camac-report.1").read_text()
+        for short, long in self.options:
+            self.assertRegex(page, rf"\n\.It Fl {short} , Fl -{long}\b")
+        self.assertEqual(re.search(r"\.Os .*", page)[0], re.search(r"\.Os .*", (TOP / "man/camac.1").read_text())[0])
+
+    def test_completions(self):
+        for name in ("camac-report.bash", "_camac-report", "camac-report.fish"):
+            text = (TOP / "completions" / name).read_text()
+            self.assertIn("@sample", text)
+            for short, long in self.options:
+                self.assertRegex(text, rf"-{short}\b|-s {short}\b")
+                self.assertRegex(text, rf"--{long}\b|-l {long}\b")
+
+    def test_bash(self):
+        def offered(*words):
+            line = 'source "$0"; COMP_WORDS=(camac-report "$@"); COMP_CWORD=$#; _camac_report; printf "%s\\n" "${COMPREPLY[@]}"'
+            done = subprocess.run(["bash", "-c", line, TOP / "completions/camac-report.bash", *words], stdout=subprocess.PIPE, cwd=TOP / "examples")
+            return done.stdout.decode().split()
+
+        self.assertEqual(offered("@"), ["@sample"])
+        self.assertEqual(offered("sample_p"), ["sample_plan.toml"])
+        self.assertEqual(offered("@sample", "stra"), ["straight_line.script"])
+        self.assertEqual(offered("@sample", "@"), [])
+        self.assertEqual(offered("@sample", "-"), ["--help", "--out", "-h", "-o"])
+
+
+if __name__ == "__main__":
+    if not os.access(PROGRAM, os.X_OK):
+        sys.exit(f"{PROGRAM} is not there: cd crates/camac && rt run makes it, or CAMAC_PROGRAM names another")
+    unittest.main()

@@ -1,0 +1,168 @@
+"""What the program prints of the bench of two crates, as text: for tests of pictures that need no program."""
+from unittest import mock
+
+import camac
+from camac import runs
+from camac.listings import parse_listing
+from camac.plans import parse_plan
+from camac.scripts import parse_verdict
+
+PLAN = """\
+buffer 64
+type ADC-12 commands 21 probes 4
+command f 0 a 0 to 11 width 12
+command f 0 a 12 to 15 probe
+command f 8 a 12
+command f 9 a 0
+command f 10 a 12
+command f 24 a 12
+command f 26 a 12
+type TDC-8 commands 17 probes 8
+command f 0 a 0 to 7 width 11
+command f 0 a 8 to 15 probe
+command f 9 a 0
+type SCALER-12 commands 26 probes 0
+command f 0 a 0 to 11 width 24
+command f 2 a 0 to 11 width 24
+command f 8 a 0
+command f 10 a 0
+type OUTPUT-8 commands 3 probes 0
+command f 0 a 0 width 8
+command f 16 a 0 width 8
+command f 27 a 0
+crate 1 waits 2
+station 5 ADC-12 gl 3
+station 7 TDC-8 gl -
+station 11 OUTPUT-8 gl -
+crate 2 waits 0
+station 2 SCALER-12 gl 5
+station 23 OUTPUT-8 gl -
+"""
+VERDICT = """\
+accepted
+service adc gl 3 cycles 43 of 64 words 21 of 21 steps 95
+service tick gl 5 cycles 26 of 28 words 12 of 12 steps 63
+"""
+COSTS = """\
+proc scaler line 5 cycles 1 of 2 words 1 of 1 steps 3 of 3
+line 6 depth 1 cdreg times 1 cycles 0 words 0 steps 1 share 0 0 1
+line 7 depth 1 cfsa times 1 cycles 1 words 0 steps 1 share 1 0 1 at 2 2 0..11
+line 8 depth 1 put times 1 cycles 0 words 1 steps 1 share 0 1 1
+service adc line 11 gl 3 at 1 5 12 cycles 43 of 64 words 21 of 21 steps 95
+line 12 depth 1 cdreg times 1 cycles 0 words 0 steps 1 share 0 0 1
+line 13 depth 1 = times 1 cycles 0 words 0 steps 1 share 0 0 1
+line 14 depth 1 while times 1 cycles 15 words 0 steps 16 share 0 0 6 turns 5
+line 15 depth 2 cfsa times 5 cycles 3 words 0 steps 1 share 15 0 5 at 1 11 0
+line 16 depth 2 = times 5 cycles 0 words 0 steps 1 share 0 0 5
+line 18 depth 1 lock times 1 cycles 22 words 20 steps 74 share 2 0 2 crate 1
+line 19 depth 2 for times 1 cycles 12 words 12 steps 61 share 0 0 13 turns 12
+line 20 depth 3 cdreg times 12 cycles 0 words 0 steps 1 share 0 0 12
+line 21 depth 3 cfsa times 12 cycles 1 words 0 steps 1 share 12 0 12 at 1 5 0..11
+line 22 depth 3 if times 12 cycles 0 words 1 steps 2 share 0 0 12
+line 22 depth 4 put times 12 cycles 0 words 1 steps 1 share 0 12 12
+line 24 depth 2 cdreg times 1 cycles 0 words 0 steps 1 share 0 0 1
+line 25 depth 2 cdreg times 1 cycles 0 words 0 steps 1 share 0 0 1
+line 26 depth 2 cfmad times 1 cycles 8 words 8 steps 9 share 8 8 9 at 1 7 0
+line 28 depth 1 put times 1 cycles 0 words 1 steps 1 share 0 1 1
+line 29 depth 1 cfsa times 1 cycles 3 words 0 steps 1 share 3 0 1 at 1 11 0
+line 30 depth 1 cclc times 1 cycles 3 words 0 steps 1 share 3 0 1
+service tick line 33 gl 5 at 2 2 0 cycles 26 of 28 words 12 of 12 steps 63
+line 34 depth 1 for times 1 cycles 24 words 12 steps 61 share 0 0 13 turns 12
+line 34 depth 2 call times 12 cycles 2 words 1 steps 4 share 24 12 48 proc scaler
+line 35 depth 1 ccci times 1 cycles 1 words 0 steps 1 share 1 0 1
+line 36 depth 1 cclc times 1 cycles 1 words 0 steps 1 share 1 0 1
+"""
+
+
+class Chance:
+    """Numbers that look random, the same on every machine."""
+
+    def __init__(self):
+        self.state = 1
+
+    def below(self, limit):
+        self.state = (self.state * 6364136223846793005 + 1442695040888963407) % (1 << 64)
+        return (self.state >> 33) % limit
+
+    def bell(self, middle, spread):
+        return max(0, middle + sum(self.below(spread) for _ in range(6)) // 2 - spread * 3 // 2)
+
+
+class Told:
+    """A listing and its events, written operation by operation."""
+
+    def __init__(self):
+        self.chance, self.lines, self.events = Chance(), [], []
+
+    def begin(self, pattern, name):
+        self.lines.append(f"demand {pattern:06x} {name}")
+        self.cycles = self.missed = 0
+        self.words = []
+
+    def cycle(self, at, move, word=0, reply=(1, 1), waits=0):
+        wait = self.chance.below(waits + 1)
+        self.cycles += 1 + wait
+        self.missed += 1 - reply[0]
+        moved = move if move == "none" else f"{move} {word:06x}"
+        self.lines.append(f"cycle {at} {moved} x{reply[0]} q{reply[1]} wait {wait}")
+
+    def end(self, gl):
+        self.events.append(camac.Event(len(self.events) + 1, gl, self.cycles, self.missed, tuple(self.words)))
+
+    def adc(self):
+        self.begin(4, "adc")
+        for _ in range(5):
+            is_lost, q = self.chance.below(40) == 0, int(self.chance.below(10) < 4)
+            self.cycle("1 11 0 27", "none", reply=(0, 0) if is_lost else (1, q), waits=2)
+            if q and not is_lost:
+                break
+        wait = self.chance.below(3)
+        self.cycles += wait
+        self.lines.append(f"lock 1 wait {wait}")
+        for channel in range(12):
+            word = self.chance.bell(1900, 300) if self.chance.below(10) < 3 else self.chance.bell(90, 60)
+            self.cycle(f"1 5 {channel} 0", "in", word)
+            if word > 200:
+                self.words.append(channel * 65536 + word)
+        count = 0
+        while count < 8 and self.chance.below(8):
+            self.words.append(self.chance.bell(800, 200))
+            self.cycle(f"1 7 {count} 0", "in", self.words[-1])
+            count += 1
+        if count < 8:
+            self.cycle(f"1 7 {count} 0", "in", reply=(1, 0))
+        self.words.append(count)
+        self.lines.append("unlock 1")
+        self.cycle("1 11 0 16", "out", count, waits=2)
+        self.cycle("1 5 12 10", "none", waits=2)
+        self.end(3)
+
+    def tick(self):
+        self.begin(16, "tick")
+        for channel in range(12):
+            self.words.append(self.chance.below(4000))
+            self.cycle(f"2 2 {channel} 2", "in", self.words[-1])
+        self.cycle("2 30 9 24", "none", reply=(1, 0))
+        self.cycle("2 2 0 10", "none")
+        self.end(5)
+
+
+def told_run(services):
+    """A run of so many services: each fifth one is a tick, and behind each seventh one nobody calls."""
+    told = Told()
+    for at in range(services):
+        if at % 5 == 4:
+            told.tick()
+        else:
+            told.adc()
+        if at % 7 == 6:
+            told.begin(0, "-")
+    return collected(PLAN, VERDICT, [*told.lines, f"ended events {services}"], told.events)
+
+
+def collected(plan, verdict, lines, events):
+    """The run of such a listing and such events."""
+    services = parse_verdict(verdict)
+    with mock.patch("camac.runs.run", lambda *_, **__: parse_listing(lines)), mock.patch("camac.runs.read_events", lambda _: iter(events)):
+        with mock.patch("camac.runs.is_event_file", lambda _: False):
+            return runs.collect(runs.Inputs("plan", "script", "answers"), parse_plan(plan), services)

@@ -1,0 +1,247 @@
+#!/usr/bin/env python3
+"""Tests of what the Python package reads of the program's texts, and of the tables and lists that it makes of them.
+
+usage: tests/values_test.py [-v] [TEST ..]     from any folder; takes a few seconds
+
+The program is crates/camac/out/camac (cd crates/camac && rt run makes it), or what the environment variable CAMAC_PROGRAM names.
+"""
+import csv
+import io
+import os
+import random
+import sys
+import unittest
+
+from live import PROGRAM, TOP, Case
+import bench
+import camac
+from camac import Cycle, Demand, Ending, Lock, Move, RunEnd, Unlock, bodies, plans, scripts
+from camac.annotate import annotate
+from camac.bodies import Cost, Kind
+from camac.histograms import Bins, Histogram
+from camac.listings import Command
+from camac.plans import Declaration, Station
+from camac.program import knows_command, lines_of, version
+from camac.tables import write_events, write_listing
+
+COMMANDS = """\
+buffer 4096
+type ADC commands 20 probes 4
+command f 0 a 0 to 11 width 12
+command f 0 a 12 to 15 probe
+command f 8 a 12
+type REG commands 4 probes 0
+crate 1 waits 2
+station 5 ADC gl 3
+station 6 REG gl -
+crate 7 waits 0
+"""
+COSTS = """\
+proc read line 4 cycles 3 of 4 words 1 of 1 steps 3 of 8
+line 6 depth 1 cfsa times 1 cycles 3 words 0 steps 3 share 3 1 3 at 1 5 0..15
+service adc line 9 gl 3 at 1 5 12 cycles 20 of 24 words 5 of 5 steps 50
+line 10 depth 1 for times 1 cycles 16 words 4 steps 41 share 0 0 5 turns 4
+line 11 depth 2 call times 4 cycles 4 words 1 steps 9 share 16 4 36 proc read
+line 12 depth 1 lock times 1 cycles 3 words 0 steps 2 share 3 0 2 crate 1
+line 13 depth 1 cfmad times 1 cycles 9 words 3 steps 4 share 9 3 4 at 1 5..7 0
+line 14 depth 1 if times 0 cycles 0 words 0 steps 0 share 0 0 0
+line 14 depth 1 else times 0 cycles 0 words 0 steps 0 share 0 0 0
+"""
+LISTING = """\
+demand 000004 adc
+lock 1 wait 2
+cycle 1 5 0 0 in 123fff x1 q1 wait 0
+unlock 1
+cycle 7 23 15 16 out 0000ff x0 q0 wait 15
+cycle 1 28 8 26 none x1 q0 wait 3
+demand 000000 -
+"""
+
+
+def setUpModule():
+    os.environ["CAMAC_PROGRAM"] = PROGRAM
+
+
+class Values(Case):
+    def test_plan(self):
+        plan = plans.parse_plan(COMMANDS)
+        self.assertEqual((plan.buffer, [crate.number for crate in plan.crates], plan.crates[0].waits), (4096, [1, 7], 2))
+        self.assertEqual(plan.crates[0].stations, (Station(5, "ADC", 3), Station(6, "REG", None)))
+        wanted = (Declaration(0, 0, 11, 12, False), Declaration(0, 12, 15, None, True), Declaration(8, 12, 12, None, False))
+        self.assertEqual(plan.types["ADC"].declarations, wanted)
+        self.assertEqual([plan.width(*at) for at in ((1, 5, 11, 0), (1, 5, 12, 0), (1, 6, 0, 0), (2, 5, 0, 0))], [12, 24, 24, 24])
+        self.assertEqual([(gl, crate.number, it.number) for gl, crate, it in plan.demands()], [(3, 1, 5)])
+        plain = plans.parse_plan("".join(line for line in COMMANDS.splitlines(True) if not line.startswith("command")))
+        self.assertEqual((plain.types["ADC"].commands, plain.types["ADC"].probes, plain.types["ADC"].declarations), (20, 4, ()))
+        self.assertEqual(plans.parse_plan("buffer 4096\n").crates, ())
+
+    def test_sample_plan(self):
+        plan = camac.plan("@sample")
+        self.assertEqual(plan.crates[0].stations, (Station(5, "ADC", 3), Station(6, "REG", None)))
+        self.assertEqual({name: it.commands for name, it in plan.types.items()}, {"ADC": 20, "REG": 4})
+
+    def test_verdict_and_bounds(self):
+        services = camac.check("@sample", TOP / "examples/straight_line.script")
+        self.assertEqual(services, [scripts.Service("adc", 3, 3, 3, 1, 1, 3)])
+        self.assertEqual(scripts.parse_verdict("accepted\n"), [])
+        headings = camac.bounds("@sample", TOP / "examples/too_few_cycles.script")
+        line = "service adc within 3 cycles event 1 words"
+        self.assertEqual(headings, [scripts.Heading("adc", True, 3, 1, None, line)])
+        line = "proc read(channel in 0..15, b in 1..2) within 3 cycles event 1 words steps 3"
+        self.assertEqual(scripts.parse_bounds(line + "\n"), [scripts.Heading("read", False, 3, 1, 3, line)])
+
+    def test_costs(self):
+        read, adc = bodies.parse_costs(COSTS)
+        self.assertEqual((read.kind, read.name, read.line, read.most, read.annotated), (Kind.PROCEDURE, "read", 4, Cost(3, 1, 3), (4, 1, 8)))
+        self.assertEqual((adc.kind, adc.gl, adc.most, adc.annotated), (Kind.SERVICE, 3, Cost(20, 5, 50), (24, 5, None)))
+        self.assertEqual([row.word for row in adc.rows], ["for", "call", "lock", "cfmad", "if", "else"])
+        self.assertEqual([row.about for row in adc.rows], ["turns 4", "proc read", "crate 1", "at 1 5..7 0", "", ""])
+        # Two of the three cycles of the read may be waited for; a call costs 4 and needs 3; a lock is waited for; a scan of 3 costs 9.
+        self.assertEqual([(row.waits, row.slack) for row in read.rows], [(2, 0)])
+        self.assertEqual([(row.waits, row.slack) for row in adc.rows], [(0, 0), (8, 4), (3, 0), (6, 0), (0, 0), (0, 0)])
+
+    @unittest.skipUnless(bench.knows("costs"), "this program has no `costs`")
+    def test_costs_of_the_program(self):
+        read, adc = camac.costs("@sample", TOP / "examples/procedure.script")
+        self.assertEqual((read.most.cycles, read.waits(), adc.most.cycles, adc.waits(), adc.slack()), (3, 2, 20, 10, 5))
+
+    def test_listing(self):
+        wanted = [
+            Demand(4, "adc"),
+            Lock(1, 2),
+            Cycle(Command(1, 5, 0, 0), Move.IN, 0x123FFF, 1, 1, 0),
+            Unlock(1),
+            Cycle(Command(7, 23, 15, 16), Move.OUT, 255, 0, 0, 15),
+            Cycle(Command(1, 28, 8, 26), Move.NONE, 0, 1, 0, 3),
+            Demand(0, None),
+        ]
+        for last, end in [
+            ("ended events 1", RunEnd(Ending.ENDED, "ended events 1", 1)),
+            ("short events 2", RunEnd(Ending.SHORT, "short events 2", 2)),
+            ("overrun 1 wait 3 events 2", RunEnd(Ending.OVERRUN, "overrun 1 wait 3 events 2", 2, 1, 3)),
+            ("refused A1 line 7: line shape", RunEnd(Ending.REFUSED, "refused A1 line 7: line shape")),
+        ]:
+            self.assertEqual(list(camac.parse_listing((LISTING + last).splitlines(True))), [*wanted, end])
+        for line in ("", "demand", "cycle 1 5 0 0 in 123fff x2 q1 wait 0", "cycle 8 5 0 0 none x1 q1 wait 0", "lock 1", "cycle 1 5 0 0 none x1"):
+            with self.subTest(line), self.assertRaises(ValueError):
+                list(camac.parse_listing([line]))
+
+    def test_run(self):
+        answers = self.write("answers", "0 0 000000 0 000004\n1 1 123fff 2 000000\n")
+        words = ["@sample", TOP / "examples/straight_line.script", answers, self.room / "events"]
+        wanted = [Demand(4, "adc"), Cycle(Command(1, 5, 0, 0), Move.IN, 0x123FFF, 1, 1, 2), RunEnd(Ending.ENDED, "ended events 1", 1)]
+        self.assertEqual(list(camac.run(*words)), wanted)
+        self.assertEqual([event.words for event in camac.read_events(words[3])], [(0xFFF,)])
+        begun = camac.run(*words)
+        self.assertEqual(next(begun), wanted[0])
+        begun.close()
+
+    def test_refusals_and_faults(self):
+        bad = self.write("bad.script", "service service\n")
+        good = TOP / "examples/straight_line.script"
+        for call in (camac.check, camac.bounds):
+            with self.assertRaises(camac.Refused) as raised:
+                call("@sample", bad)
+            self.assertEqual((str(raised.exception), raised.exception.code, raised.exception.line), ("refused S2 line 1: unexpected token", "S2", 1))
+            with self.assertRaises(camac.ProgramFault) as raised:
+                call("@sample", self.room / "none")
+            self.assertEqual((raised.exception.text, raised.exception.status), ("fault read", 3))
+        with self.assertRaises(camac.Refused):
+            list(camac.run("@sample", bad, bad, self.room / "events"))
+        with self.assertRaises(camac.ProgramFault):
+            list(camac.run("@sample", good, self.room / "none", self.room / "events"))
+        with self.assertRaises(camac.UsageFault):
+            list(lines_of("no-command"))
+        with self.assertRaises(FileNotFoundError):
+            camac.plan("@sample", program=self.room / "none")
+        self.assertRegex(version(), r"^camac \d+\.\d+\.\d+$")
+        self.assertEqual([knows_command(it) for it in ("check", "events", "Commands", "chec")], [True, True, False, False])
+
+
+class Histograms(unittest.TestCase):
+    def test_few_values(self):
+        its = Histogram(64)
+        self.assertEqual((its.bins(), its.mean(), its.least), (Bins(0, 1, []), 0.0, None))
+        for value in (5, 7, 5):
+            its.add(value)
+        self.assertEqual((its.bins(), its.count, its.total, its.least, its.greatest), (Bins(5, 1, [2, 0, 1]), 3, 17, 5, 7))
+
+    def test_bins_double(self):
+        """Whatever comes, the bins hold what a count by hand gives."""
+        chance = random.Random(1)
+        for most in (64, 128):
+            for greatest in (1, 63, 64, 4095, 0xFFFFFF):
+                values = [chance.randint(0, greatest) for _ in range(500)]
+                its = Histogram(most)
+                for value in values:
+                    its.add(value)
+                first, width, counts = its.bins()
+                self.assertLessEqual(len(counts), most)
+                self.assertEqual((width & (width - 1), first % width), (0, 0))
+                for at, count in enumerate(counts):
+                    self.assertEqual(count, sum(first + at * width <= value < first + (at + 1) * width for value in values))
+                self.assertEqual((sum(counts), its.least, its.greatest), (500, min(values), max(values)))
+                self.assertTrue(width == 1 or (max(values) >> 1) // (width >> 1) - (min(values) >> 1) // (width >> 1) >= most // 2 - 1)
+
+
+class Tables(Case):
+    def test_events(self):
+        data = bytes.fromhex("43414d4143455632 ca4d 0003 00000001 00000003 0000 0002 00000fff 00ffffff ca4d 0018 00000002 00010000 ffff 0000")
+        file = self.room / "run.events"
+        file.write_bytes(data)
+        out = io.StringIO()
+        write_events(file, out)
+        self.assertEqual(out.getvalue(), "number,gl,cycles,missed,count,word_0,word_1\n1,3,3,0,2,4095,16777215\n2,24,65536,65535,0,,\n")
+        file.write_bytes(data[:-1])
+        out = io.StringIO()
+        with self.assertRaises(camac.EventFileFault):
+            write_events(file, out)
+        self.assertEqual(out.getvalue(), "number,gl,cycles,missed,count,word_0,word_1\n1,3,3,0,2,4095,16777215\n")
+        file.write_bytes(bytes.fromhex("43414d4143455631 ca4d 0003 00000001 0000"))
+        out = io.StringIO()
+        write_events(file, out)
+        self.assertEqual(out.getvalue(), "number,gl,cycles,missed,count\n1,3,,,0\n")
+
+    def test_listing(self):
+        out = io.StringIO()
+        write_listing((LISTING + "ended events 1\n").splitlines(True), out)
+        rows = list(csv.DictReader(io.StringIO(out.getvalue())))
+        self.assertEqual([row["kind"] for row in rows], ["demand", "lock", "cycle", "unlock", "cycle", "cycle", "demand"])
+        self.assertEqual([row["service"] for row in rows], ["adc"] * 6 + [""])
+        read = {"operation": "3", "kind": "cycle", "service": "adc", "pattern": "", "crate": "1", "station": "5", "sub_address": "0"}
+        self.assertEqual(rows[2], {**read, "function": "0", "move": "in", "word": str(0x123FFF), "x": "1", "q": "1", "wait": "0"})
+        self.assertEqual((rows[5]["word"], rows[1]["wait"], rows[0]["pattern"]), ("", "2", "4"))
+
+    def test_annotate(self):
+        script = self.write("a.script", "cdlam adc 1 1 5 12\nvar v\nservice adc within 5 cycles event 0 words { lock 1 { cdreg r 1 1 5 0 cfsa 0 r -> v } }\n")
+        lines = ["0 0 000000 0 000004", "0 0 000000 2 000000", "1 1 123fff 0 000000", "0 0 000000 0 000000"]
+        answers = self.write("answers", "\n".join(lines) + "\n")
+        self.assertEqual(
+            list(annotate("@sample", script, answers)),
+            [
+                "      1  0 0 000000 0 000004  demand 000004 adc   (service 1)",
+                "      2  0 0 000000 2 000000    lock 1 wait 2",
+                "      3  1 1 123fff 0 000000    cycle 1 5 0 0 in 123fff x1 q1 wait 0",
+                "         no answer              unlock 1",
+                "      4  0 0 000000 0 000000  demand 000000 -",
+                "                              ended events 1",
+            ],
+        )
+        overrun = self.write("overrun", "0 0 000000 0 000004\n0 0 000000 3 000000\n\n\n")
+        self.assertEqual(
+            list(annotate("@sample", script, overrun))[1:],
+            ["      2  0 0 000000 3 000000  overrun 1 wait 3 events 0", "         2 answer lines were not used; the next is line 3"],
+        )
+        bad = self.write("bad", "0 0 000000 0 000004\n1 1\n1 1 000000 0 000000\n")
+        self.assertEqual(
+            list(annotate("@sample", script, bad))[1:],
+            ["      2  1 1                  refused A1 line 2: line shape", "         1 answer line was not used; the next is line 3"],
+        )
+        with self.assertRaises(camac.Refused):
+            list(annotate("@sample", answers, answers))
+
+
+if __name__ == "__main__":
+    if not os.access(PROGRAM, os.X_OK):
+        sys.exit(f"{PROGRAM} is not there: cd crates/camac && rt run makes it, or CAMAC_PROGRAM names another")
+    unittest.main()

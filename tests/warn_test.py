@@ -1,0 +1,161 @@
+#!/usr/bin/env python3
+"""Tests of `python3 -m camac check`: its warnings (docs/WARNINGS.md), lines, JSON and statuses.
+
+usage: tests/warn_test.py [-v] [TEST ..]     from any folder; takes a few seconds
+
+The program is crates/camac/out/camac (cd crates/camac && rt run makes it), or what the environment variable CAMAC_PROGRAM names. What needs
+its subcommand `costs` is tried on a text of it where the program has none.
+"""
+import json
+import os
+import subprocess
+import sys
+import unittest
+from unittest import mock
+
+from live import PROGRAM, TOP, Case, script
+import camac
+from camac import judge, warn
+from camac.bodies import parse_costs
+from camac.warn import Code
+
+DEAD = """\
+service adc line 3 gl 3 at 1 5 12 cycles 3 of 9 words 0 of 9 steps 4
+line 4 depth 1 cdreg times 1 cycles 0 words 0 steps 1 share 0 0 1
+line 5 depth 1 cfsa times 1 cycles 3 words 0 steps 1 share 3 0 1 at 1 5 0
+line 6 depth 1 if times 1 cycles 0 words 0 steps 1 share 0 0 1
+line 7 depth 2 if times 0 cycles 0 words 0 steps 0 share 0 0 0
+line 7 depth 3 put times 0 cycles 0 words 0 steps 0 share 0 0 0
+line 8 depth 2 put times 0 cycles 0 words 0 steps 0 share 0 0 0
+line 9 depth 1 if times 1 cycles 0 words 0 steps 1 share 0 0 1
+line 9 depth 2 put times 0 cycles 0 words 0 steps 0 share 0 0 0
+line 10 depth 1 cfmad times 1 cycles 0 words 0 steps 1 share 0 0 1 at 1 5 11
+"""
+READ = "cdreg r 1 1 5 0\ncfsa 0 r -> v"
+
+
+class Warnings(Case):
+    def setUp(self):
+        super().setUp()
+        patch = mock.patch.dict(os.environ, CAMAC_PROGRAM=PROGRAM)
+        patch.start()
+        self.addCleanup(patch.stop)
+
+    def codes(self, text, but=(Code.UNREACHED, Code.EMPTY_SCAN)):
+        """The lines and codes of the warnings of a script on the plan @sample."""
+        return [(it.line, it.code.value) for it in camac.warnings("@sample", self.write("a.script", text)) if it.code not in but]
+
+    def test_unreached_and_empty_scan(self):
+        found = [(it.line, it.code) for it in warn._of_costs(parse_costs(DEAD))]
+        self.assertEqual(found, [(7, Code.UNREACHED), (9, Code.UNREACHED), (10, Code.EMPTY_SCAN)])
+
+    def test_unreached_of_the_program(self):
+        if not warn.looks_for_all():
+            self.skipTest("this program has no `costs`")
+        dead = script([*READ.split("\n"), "if v > 4095 { put v }", "cclc adc"])
+        self.assertEqual(self.codes(dead, but=()), [(6, "W1")])
+        backwards = script(["cdreg r 1 1 5 11", "cdreg last 1 1 5 0", "cfmad 0 r last max 12 tally t", "cclc adc"])
+        self.assertEqual(self.codes(backwards, but=()), [(6, "W2")])
+
+    def test_left_calling(self):
+        for body, is_told in [
+            (["put 1"], True),
+            (["cdreg r 1 1 6 0", "cfsa 0 r -> v"], True),
+            (["cdreg r 1 1 5 12", "cfsa 8 r"], True),
+            (["ctlm adc"], True),
+            (["cclm adc on"], True),
+            (READ.split("\n"), False),
+            (["cclc adc"], False),
+            (["cclm adc off"], False),
+            (["cccz 1"], False),
+            (["i = 5", "cdreg r 1 1 i 0", "cfsa 0 r -> v"], False),
+            (["cdreg r 1 1 (2 + 3) 0", "cfsa 0 r -> v"], False),
+            (["cdreg r 1 1 5 0", "cdreg last 1 1 5 11", "cfmad 0 r last max 12 tally t"], False),
+            (["cdreg r 1 1 5 0", "cfubc 0 r max 12 tally t"], False),
+        ]:
+            with self.subTest(body=body):
+                self.assertEqual(self.codes(script(body)), [(3, "W3")] if is_told else [])
+
+    def test_left_calling_through_procedures(self):
+        procedure = "proc p() within 9 cycles event 0 words steps 9 { %s }\nproc o() within 9 cycles event 0 words steps 10 { call p() }\n"
+        for body, is_told in (("cclc adc", False), ("ctlm adc", True)):
+            text = script(["call o()"]).replace("service", procedure % body + "service")
+            self.assertEqual(self.codes(text), [(5, "W3")] if is_told else [])
+
+    def test_unused_keep(self):
+        loop = "for i = 0 to 3 keep {} {{ {} }}"
+        for keep, body, after, wanted in [
+            ("k in 0..9", "k = 1", "put v", [(4, "W4")]),
+            ("k in 0..9", "k = 1", "put k", []),
+            ("k in 0..9, v in 0..9", "k = 1 v = 2", "put k", [(4, "W4")]),
+            ("v in 0..9, k in 0..9", "k = 1 v = 2", "put k", [(4, "W4")]),
+            ("v in 0..9,\n t in 0..9, k in 0..9", "k = 1 v = 2 t = 3", "put k", [(4, "W4"), (5, "W4")]),
+            ("k in 0..9, v in 0..9", "k = 1 v = 2", "put k + v", []),
+        ]:
+            with self.subTest(keep=keep, after=after):
+                self.assertEqual(self.codes(script([loop.format(keep, body), after, "cclc adc"])), wanted)
+
+    def test_comments_may_hold_anything(self):
+        text = script(["cclc adc  # keep x in {{ cdreg \xff"]).encode("latin-1")
+        (self.room / "a.script").write_bytes(text)
+        self.assertEqual([it for it in camac.warnings("@sample", self.room / "a.script") if it.code is not Code.UNREACHED], [])
+
+    def test_examples(self):
+        """What is found in them is known: some have a service without a clear, and one keeps what its own test bounds too."""
+        alone = {"too_few_cycles.script", "three_modules.script"}
+        on_sample = [it for it in sorted((TOP / "examples").glob("*.script")) if it.name not in alone]
+        for plan, its in [("@sample", on_sample), (TOP / "examples/three_crates.toml", [TOP / "examples/three_modules.script"])]:
+            for it in its:
+                wanted = {Code.UNUSED_KEEP} if it.name == "kept_counter.script" else set()
+                with self.subTest(script=it.name):
+                    self.assertEqual({its.code for its in camac.warnings(plan, it)} - {Code.LEFT_CALLING}, wanted)
+        for bench in sorted((TOP / "examples/benches").iterdir()):
+            self.assertEqual(camac.warnings(bench / "plan.toml", bench / "readout.script"), [])
+
+    def command(self, *words):
+        env = {**os.environ, "PYTHONPATH": str(TOP / "python"), "CAMAC_PROGRAM": PROGRAM, "PYTHONDONTWRITEBYTECODE": "1"}
+        words = [sys.executable, "-m", "camac", "check", *map(str, words)]
+        ran = subprocess.run(words, cwd=self.room, env=env, stdout=subprocess.PIPE, stderr=subprocess.PIPE, text=True, timeout=60)
+        told = "" if warn.looks_for_all() or "--json" in words or ran.returncode == 2 else f"camac: {judge.NO_COSTS}\n"
+        self.assertEqual(ran.stderr if ran.returncode != 2 else "", told)
+        return ran.returncode, ran.stdout
+
+    def test_statuses(self):
+        self.write("good", script(["cclc adc"]))
+        self.write("odd", script(["put 1"]))
+        self.write("bad", script(["put w"]))
+        self.write("plan", "[[types]]\n")
+        calling = "odd:3: warning W3: this service neither reads nor clears the module of `adc` (crate 1, station 5), which may call it for ever\n"
+        for words, status, printed in [
+            (["@sample", "good"], 0, ""),
+            (["@sample", "odd"], 0, calling),
+            (["--strict", "@sample", "odd"], 1, calling),
+            (["--strict", "@sample", "good"], 0, ""),
+            (["@sample", "bad", "good"], 1, "bad:4: refused S5: name not declared\n"),
+            (["@sample", "none", "bad"], 3, "none: fault: No such file or directory\nbad:4: refused S5: name not declared\n"),
+            (["plan", "good", "odd"], 1, "plan: refused P2: unknown key\n"),
+            (["none", "good"], 3, "none: fault: No such file or directory\n"),
+            (["@sample", "@in"], 2, ""),
+            (["@sample"], 2, ""),
+        ]:
+            with self.subTest(words=words):
+                self.assertEqual(self.command(*words), (status, printed))
+
+    def test_json(self):
+        self.write("odd", script(["put 1"]))
+        self.write("bad", script(["put w"]))
+        status, printed = self.command("--json", "@sample", "odd", "bad")
+        odd, bad = json.loads(printed)
+        self.assertEqual((status, odd["accepted"], odd["found"][0]["code"], odd["services"][0]["words"]), (1, True, "W3", 1))
+        explanation = bad["found"][0].pop("explanation")
+        self.assertEqual((explanation[0], explanation[-1]), ("    4 | put w", "More: docs/REFUSALS.md, S5"))
+        self.assertEqual(bad, {"file": "bad", "accepted": False, "found": [{"kind": "refused", "line": 4, "code": "S5", "text": "name not declared"}], "services": []})
+        self.write("plan", "[[types]]\n")
+        plan = json.loads(self.command("--json", "plan", "odd")[1])
+        self.assertIn("`types`", plan[0]["found"][0]["explanation"][0])
+
+
+if __name__ == "__main__":
+    if not os.access(PROGRAM, os.X_OK):
+        sys.exit(f"{PROGRAM} is not there: cd crates/camac && rt run makes it, or CAMAC_PROGRAM names another")
+    unittest.main()
