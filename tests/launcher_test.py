@@ -289,30 +289,31 @@ class Install(unittest.TestCase):
     lacking = [it for it in ("gcc", "ld", "ar", "objcopy") if not shutil.which(it)]
     of_c = "include/camac.h include/camac.hpp include/camac_esone.h lib/libcamac.a lib/libcamac.so lib/libcamac.so.0 lib/pkgconfig/camac.pc"
 
-    def archive(self):
+    @classmethod
+    def archive(cls):
         """A stand-in for the archive of the library."""
-        folder = self.folder()
+        folder = pathlib.Path(tempfile.mkdtemp(dir=ROOM.name))
         (folder / "it.c").write_text("unsigned camac_raw_version(void) { return 200; }\n")
         subprocess.run(["gcc", "-fPIC", "-c", "it.c"], cwd=folder, check=True)
         subprocess.run(["ar", "rcs", "it.a", "it.o"], cwd=folder, check=True)
         return folder / "it.a"
 
-    def keep_archive(self):
+    @classmethod
+    def setUpClass(cls):
         """Puts the stand-in where the library of these sources is kept."""
+        if cls.lacking:
+            return
         line = "top=$1; source $top/tools/program.bash; cd $top; texts_of crates/*/src tools/library_main.text; rt version | sha256sum"
         texts, kit = call("bash", "-c", line.replace("$top", '"$top"'), "bash", COPY)[1].splitlines()
         its = COPY / f"out/libcamac.{texts}.{kit[:16]}.a"
-        shutil.copy(self.archive(), its)
+        shutil.copy(cls.archive(), its)
         its.chmod(0o755)
-        self.addCleanup(its.unlink)
 
     def said_of_library(self, how):
         return f"install: no library for C: {self.lacking[0]} is not here" if self.lacking else f"install: the library for C, {how}"
 
     def test_install_call_and_remove(self):
         place, elsewhere = self.folder() / "of a user", self.folder()
-        if not self.lacking:
-            self.keep_archive()
         status, out, err = call(COPY / "install", place)
         self.assertEqual((status, err), (0, ""))
         lines = out.splitlines()

@@ -1,7 +1,6 @@
 """What tests in C share: the library for C, made of the archive of its crate as ./install makes it, and programs compiled against it.
 
-The archive is crates/camac_c/out/libcamac_c.a (cd crates/camac_c && rt lib makes it), or what the environment variable CAMAC_ARCHIVE names.
-`rt ci` leaves none, so the gate skips these tests unless one is there."""
+The archive is crates/camac_c/out/libcamac_c.a (cd crates/camac_c && rt lib makes it), or what the environment variable CAMAC_ARCHIVE names."""
 import atexit
 import functools
 import os
