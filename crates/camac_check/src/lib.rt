@@ -15,4 +15,5 @@ pub use camac_check_simple::{Context, Findings};
 pub use fault::LeastFault;
 pub use headings::least;
 pub use judge::check;
+pub use procedure::at_entry;
 pub use statement::{accept_block, accept_statement};

@@ -143,7 +143,7 @@ fn is_in_range(range: Range, parameter: &Parameter) -> bool
     parameter.low <= range.lo() && range.hi() <= parameter.high
 }
 
-/// What is known where the body of a procedure starts, if it can be called at all.
+/// What is known where the body of a procedure with these parameters starts, if it can be called at all. The error is want of memory.
 pub fn at_entry(alloc: Global, parameters: &[Parameter]) -> Result<Option<Facts>, AllocError>
     ensures { IfOk result (λ k. k ≡ at_entry (map parameter_of parameters.now)) }
 {

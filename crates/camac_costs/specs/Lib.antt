@@ -4,3 +4,4 @@ pub mod Rows
 pub mod Walked
 pub mod Body
 pub mod Bodies
+pub mod Texts

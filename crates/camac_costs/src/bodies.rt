@@ -1,19 +1,17 @@
 // The costs of the bodies of a script, in the order of the text.
 
-ghost use Rattle.std.specs.Prelude.{◌≡◌, IfOk, map, option_map, take, if◌then◌else◌};
-ghost use Rattle.camac_lang.specs.View.{parameter_of, procedure_of, service_of, statements_of};
+ghost use Rattle.std.specs.Prelude.{◌≡◌, ◌<◌, ◌+◌, ◌^◌, ◌++◌, IfOk, OnOk, length, map, take};
+ghost use Rattle.camac_lang.specs.View.{item_of, procedure_of, service_of, statements_of};
 ghost use Rattle.camac_check_rules.specs.Capped.{capped};
-ghost use Rattle.camac_check_rules.specs.Procedures.{at_entry, can_be_called, parameter_range};
 ghost use Rattle.camac_check_simple.specs.Gives.{by_code};
-ghost use Rattle.camac_costs.specs.Bodies.{body_costs, context_after, procedure_costs, service_costs};
+ghost use Rattle.camac_costs.specs.Bodies.{bodies_from, body_costs, context_after, costs_with, procedure_at, procedure_costs, service_at, service_costs};
 
 use crate::row::Row;
 use crate::walk::walk_block;
-use camac_check::{CheckFault, Checked, Context};
+use camac_check::{CheckFault, Checked, Context, at_entry};
 use camac_check_known::{Around, Costs, Facts};
 use camac_check_rules::Body;
-use camac_lang::{Parameter, Procedure, Service, Stmt};
-use camac_range::Range;
+use camac_lang::{Item, Procedure, Service, Stmt};
 use std::alloc::{AllocError, Global};
 use std::marker::Model;
 
@@ -61,6 +59,78 @@ impl BodyCosts {
     {
         &self.rows
     }
+}
+
+/// The costs of the procedures and services of an accepted script (own), in the order of the text. The error is want of memory.
+pub fn costs_of(alloc: Global, checked: &Checked) -> Result<Vec<BodyCosts>, AllocError>
+    ensures { IfOk result (λ v. v.items ≡ costs_with capped checked.now.plan checked.now.script) }
+{
+    let mut all = Vec::new(alloc);
+    push_bodies(alloc, checked, checked.script().order(), 0, 0, &mut all)?;
+    Ok(all)
+}
+
+// Puts those of these declarations at the end, after so many procedures and services.
+fn push_bodies(
+    alloc: Global,
+    checked: &Checked,
+    items: &[Item],
+    done: usize,
+    served: usize,
+    all: &mut Vec<BodyCosts>,
+) -> Result<(), AllocError>
+    requires { done + served + length items.now < 2 ^ 64 }
+    ensures { OnOk result (all.new.items ≡ all.old.items ++ bodies_from capped checked.now.plan checked.now.script (map item_of items.now) done served) }
+{
+    let [item, rest @ ..] = items else {
+        return Ok(());
+    };
+    match item {
+        Item::Procedure => {
+            push_procedure(alloc, checked, done, all)?;
+            push_bodies(alloc, checked, rest, done + 1, served, all)
+        }
+        Item::Service => {
+            push_service(alloc, checked, done, served, all)?;
+            push_bodies(alloc, checked, rest, done, served + 1, all)
+        }
+        Item::Table | Item::Lam | Item::Variables { .. } => {
+            push_bodies(alloc, checked, rest, done, served, all)
+        }
+    }
+}
+
+fn push_procedure(
+    alloc: Global,
+    checked: &Checked,
+    number: usize,
+    all: &mut Vec<BodyCosts>,
+) -> Result<(), AllocError>
+    ensures { OnOk result (all.new.items ≡ all.old.items ++ procedure_at capped checked.now.plan checked.now.script number) }
+{
+    let Some(procedure) = checked.script().procedures().get(number) else {
+        return Ok(());
+    };
+    let context = context_after(checked, number);
+    all.push(procedure_costs(alloc, &context, number, procedure)?)?;
+    Ok(())
+}
+
+fn push_service(
+    alloc: Global,
+    checked: &Checked,
+    done: usize,
+    number: usize,
+    all: &mut Vec<BodyCosts>,
+) -> Result<(), AllocError>
+    ensures { OnOk result (all.new.items ≡ all.old.items ++ service_at capped checked.now.plan checked.now.script done number) }
+{
+    let Some(service) = checked.script().services().get(number) else {
+        return Ok(());
+    };
+    let context = context_after(checked, done);
+    all.push(service_costs(alloc, &context, number, service)?)?;
+    Ok(())
 }
 
 /// What a body may refer to after so many procedures (own): the plan, the script's tables and LAMs, and these procedures.
@@ -127,40 +197,6 @@ pub fn service_costs(
         &service.body,
         Some(known),
     )
-}
-
-// What is known where the body of a procedure starts, if it can be called at all.
-fn at_entry(alloc: Global, parameters: &[Parameter]) -> Result<Option<Facts>, AllocError>
-    ensures { IfOk result (λ k. k ≡ at_entry (map parameter_of parameters.now)) }
-{
-    match parameter_ranges(alloc, parameters)? {
-        Some(ranges) => Ok(Some(Facts::at_call(alloc, ranges))),
-        None => Ok(None),
-    }
-}
-
-// The ranges of these parameters, if each has a number.
-fn parameter_ranges(
-    alloc: Global,
-    parameters: &[Parameter],
-) -> Result<Option<Vec<Range>>, AllocError>
-    ensures { IfOk result (λ o. option_map (λ v. v.items) o ≡ (if can_be_called (map parameter_of parameters.now) then Some (map parameter_range (map parameter_of parameters.now)) else None)) }
-{
-    match parameters {
-        [] => Ok(Some(Vec::new(alloc))),
-        [parameter, rest @ ..] => {
-            let Some(range) = Range::new(parameter.low, parameter.high) else {
-                return Ok(None);
-            };
-            match parameter_ranges(alloc, rest)? {
-                None => Ok(None),
-                Some(mut all) => {
-                    all.insert(0, range)?;
-                    Ok(Some(all))
-                }
-            }
-        }
-    }
 }
 
 // A body that is refused has no costs.

@@ -6,8 +6,10 @@ mod bodies;
 mod inside;
 mod row;
 mod statement;
+mod texts;
 mod unreached;
 mod walk;
 
-pub use bodies::{BodyCosts, Owner, context_after, procedure_costs, service_costs};
+pub use bodies::{BodyCosts, Owner, context_after, costs_of, procedure_costs, service_costs};
 pub use row::{Detail, Kind, Row};
+pub use texts::write_costs;

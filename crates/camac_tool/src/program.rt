@@ -13,8 +13,8 @@ use crate::running::{engine_drive, engine_run};
 use crate::streams::hold_places;
 use crate::target::{NewFile, create, keep_apart, settle};
 use camac_tool_check::{
-    Outcome, PlanSource, ToolFault, engine_bounds, engine_check, engine_commands, engine_events,
-    engine_explain, engine_explain_plan, engine_plan, status,
+    Outcome, PlanSource, ToolFault, engine_bounds, engine_check, engine_commands, engine_costs,
+    engine_events, engine_explain, engine_explain_plan, engine_plan, status,
 };
 use camac_tool_streams::{FromAnswers, Gathered, Streams, ToListing, ToRecords};
 use camac_tool_words::{Job, JobFault, read_words};
@@ -67,6 +67,7 @@ fn serve<R: Runtime + AllocGlobal>(rt: &R, job: Job<'_>) -> u8 {
         Job::Explain(plan, script) => finished(rt, explain(rt, plan, script)),
         Job::ExplainPlan(plan) => finished(rt, explain_plan(rt, plan)),
         Job::Bounds(plan, script) => finished(rt, show_bounds(rt, plan, script)),
+        Job::Costs(plan, script) => finished(rt, show_costs(rt, plan, script)),
         Job::Events(file) => finished(rt, show_events(rt, file)),
         Job::Run(plan, script, answers, events) => {
             finished(rt, run(rt, plan, script, answers, events))
@@ -123,6 +124,18 @@ fn show_bounds<R: Runtime + AllocGlobal>(
     let mut script = Watched::new(open(rt, script)?);
     let mut out = Watched::new(io::writer(rt));
     engine_bounds(rt.alloc(), &mut plan, &mut script, &mut out)
+}
+
+fn show_costs<R: Runtime + AllocGlobal>(
+    rt: &R,
+    plan: &str,
+    script: &str,
+) -> Result<Outcome, ToolFault> {
+    let mut plan = source_of(plan_input(rt, plan)?);
+    let mut script = Watched::new(open(rt, script)?);
+    let mut out = Watched::new(Gathered::new(rt.alloc(), io::writer(rt))?);
+    let outcome = engine_costs(rt.alloc(), &mut plan, &mut script, &mut out)?;
+    handed_on(&mut out.into_inner(), outcome)
 }
 
 // What it tells is gathered, and handed on before each read of the answers and at the end. An output that fails, also before a read, is a
@@ -204,7 +217,7 @@ fn show_events<R: Runtime + AllocGlobal>(rt: &R, file: &str) -> Result<Outcome, 
     handed_on(&mut out.into_inner(), outcome)
 }
 
-// The lines of a plan and of events are many, so they are gathered before they go out.
+// The lines of a plan, of events and of costs are many, so they are gathered before they go out.
 fn handed_on<W: Write + Drop>(out: &mut Gathered<W>, outcome: Outcome) -> Result<Outcome, ToolFault>
     ensures outcome { IfOk result (λ o. o ≡ outcome) }
     ensures fault { IfErr result (λ fault. fault ≡ Write) }

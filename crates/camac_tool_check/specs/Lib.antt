@@ -7,3 +7,4 @@ pub mod Headings
 pub mod Accepted
 pub mod Found
 pub mod Explain
+pub mod Costs

@@ -1,6 +1,7 @@
-//! The engines that tell of a plan, a script or an event file, and run nothing: `plan`, `check`, `explain`, `bounds` and `events`.
+//! The engines that tell of a plan, a script or an event file, and run nothing: `plan`, `check`, `explain`, `bounds`, `costs` and `events`.
 #![tactic(auto)]
 
+mod costs;
 mod engine;
 mod explaining;
 mod fault;
@@ -11,6 +12,7 @@ mod plan;
 mod reading;
 mod sample;
 
+pub use costs::engine_costs;
 pub use engine::{engine_check, engine_commands, engine_events, engine_plan, refuse};
 pub use explaining::{engine_explain, engine_explain_plan};
 pub use fault::ToolFault;

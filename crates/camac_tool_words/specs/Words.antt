@@ -6,7 +6,7 @@ use Rattle.clap.specs.declared.builder.action.ArgAction.TheVariants.{SetTrue}
 use Rattle.clap.specs.declared.error.Error.{Error}
 use Rattle.clap.specs.declared.error.kind.ErrorKind.TheVariants as kind
 use Rattle.camac_tool_words.specs.declared.words.Job.{Job}
-use Rattle.camac_tool_words.specs.declared.words.Job.TheVariants.{Plan, Commands, Check, Explain, ExplainPlan, Bounds, Run, Drive, Events}
+use Rattle.camac_tool_words.specs.declared.words.Job.TheVariants.{Plan, Commands, Check, Explain, ExplainPlan, Bounds, Costs, Run, Drive, Events}
 use Rattle.camac_tool_words.specs.declared.words.JobFault.{JobFault}
 use Rattle.camac_tool_words.specs.declared.words.JobFault.TheVariants.{Usage, InTwice}
 
@@ -37,6 +37,9 @@ explain_app = with_rule (with_rule (new_app (codes "explain")) (word_rule (codes
 abbrev pub bounds_app : App
 bounds_app = script_app (codes "bounds")
 
+abbrev pub costs_app : App
+costs_app = script_app (codes "costs")
+
 abbrev pub run_app : App
 run_app = with_rule (with_rule (script_app (codes "run")) (word_rule (codes "ANSWERS"))) (word_rule (codes "EVENTS"))
 
@@ -54,7 +57,7 @@ camac_top =
 
 abbrev pub camac_app : App
 camac_app =
-    with_subcommand (with_subcommand (with_subcommand (with_subcommand (with_subcommand (with_subcommand (with_subcommand camac_top plan_app.top) check_app.top) explain_app.top) bounds_app.top) run_app.top) drive_app.top) events_app.top
+    with_subcommand (with_subcommand (with_subcommand (with_subcommand (with_subcommand (with_subcommand (with_subcommand (with_subcommand camac_top plan_app.top) check_app.top) explain_app.top) bounds_app.top) costs_app.top) run_app.top) drive_app.top) events_app.top
 
 abbrev pub name_of : Job → Text
 name_of (Plan plan) = codes "plan"
@@ -63,6 +66,7 @@ name_of (Check plan script) = codes "check"
 name_of (Explain plan script) = codes "explain"
 name_of (ExplainPlan plan) = codes "explain"
 name_of (Bounds plan script) = codes "bounds"
+name_of (Costs plan script) = codes "costs"
 name_of (Run plan script answers events) = codes "run"
 name_of (Drive plan script events) = codes "drive"
 name_of (Events file) = codes "events"
@@ -75,6 +79,7 @@ ids_of (Check plan script) = codes "PLAN" ∷ codes "SCRIPT" ∷ []
 ids_of (Explain plan script) = codes "PLAN" ∷ codes "SCRIPT" ∷ []
 ids_of (ExplainPlan plan) = codes "PLAN" ∷ []
 ids_of (Bounds plan script) = codes "PLAN" ∷ codes "SCRIPT" ∷ []
+ids_of (Costs plan script) = codes "PLAN" ∷ codes "SCRIPT" ∷ []
 ids_of (Run plan script answers events) = codes "PLAN" ∷ codes "SCRIPT" ∷ codes "ANSWERS" ∷ codes "EVENTS" ∷ []
 ids_of (Drive plan script events) = codes "PLAN" ∷ codes "SCRIPT" ∷ codes "EVENTS" ∷ []
 ids_of (Events file) = codes "FILE" ∷ []
@@ -86,6 +91,7 @@ words_of (Check plan script) = plan.now ∷ script.now ∷ []
 words_of (Explain plan script) = plan.now ∷ script.now ∷ []
 words_of (ExplainPlan plan) = plan.now ∷ []
 words_of (Bounds plan script) = plan.now ∷ script.now ∷ []
+words_of (Costs plan script) = plan.now ∷ script.now ∷ []
 words_of (Run plan script answers events) = plan.now ∷ script.now ∷ answers.now ∷ events.now ∷ []
 words_of (Drive plan script events) = plan.now ∷ script.now ∷ events.now ∷ []
 words_of (Events file) = file.now ∷ []
@@ -98,6 +104,7 @@ inputs_of (Check plan script) = plan.now ∷ script.now ∷ []
 inputs_of (Explain plan script) = plan.now ∷ script.now ∷ []
 inputs_of (ExplainPlan plan) = plan.now ∷ []
 inputs_of (Bounds plan script) = plan.now ∷ script.now ∷ []
+inputs_of (Costs plan script) = plan.now ∷ script.now ∷ []
 inputs_of (Run plan script answers events) = plan.now ∷ script.now ∷ answers.now ∷ []
 inputs_of (Drive plan script events) = codes "@in" ∷ plan.now ∷ script.now ∷ []
 inputs_of (Events file) = file.now ∷ []

@@ -3,7 +3,7 @@
 ghost use Rattle.std.specs.Prelude.{◌≡◌, IfOk, false};
 ghost use Rattle.clap.specs.Words.{app_of, new_app, rule_of};
 ghost use Rattle.clap.specs.declared.builder.command.Command.TheViews.{out-Command};
-ghost use Rattle.camac_tool_words.specs.Words.{word_rule, optional_rule, option_rule, script_app, plan_app, check_app, explain_app, bounds_app, run_app, drive_app, events_app, camac_top, camac_app};
+ghost use Rattle.camac_tool_words.specs.Words.{word_rule, optional_rule, option_rule, script_app, plan_app, check_app, explain_app, bounds_app, costs_app, run_app, drive_app, events_app, camac_top, camac_app};
 
 use crate::texts;
 use clap::{Arg, ArgAction, Command};
@@ -18,6 +18,7 @@ pub fn camac_command<'a>(alloc: Global) -> Result<Command<'a>, AllocError>
         .subcommand(check_command(alloc)?)?
         .subcommand(explain_command(alloc)?)?
         .subcommand(bounds_command(alloc)?)?
+        .subcommand(costs_command(alloc)?)?
         .subcommand(run_command(alloc)?)?
         .subcommand(drive_command(alloc)?)?
         .subcommand(events_command(alloc)?)
@@ -119,6 +120,13 @@ fn bounds_command<'a>(alloc: Global) -> Result<Command<'a>, AllocError>
     ensures local { IfOk result (λ c. (out-Command c).has_globals ≡ false) }
 {
     script_command(alloc, "bounds", texts::BOUNDS_COMMAND, texts::AFTER_BOUNDS)
+}
+
+fn costs_command<'a>(alloc: Global) -> Result<Command<'a>, AllocError>
+    ensures app { IfOk result (λ c. app_of c ≡ costs_app) }
+    ensures local { IfOk result (λ c. (out-Command c).has_globals ≡ false) }
+{
+    script_command(alloc, "costs", texts::COSTS_COMMAND, texts::AFTER_COSTS)
 }
 
 fn run_command<'a>(alloc: Global) -> Result<Command<'a>, AllocError>

@@ -15,6 +15,8 @@ pub const EXPLAIN_COMMAND: &str = "Says of a refused plan or script where, why a
 pub const BOUNDS_COMMAND: &str =
     "Prints the headings of a script with the least numbers that are accepted";
 
+pub const COSTS_COMMAND: &str = "Prints what each statement has of the bounds of an accepted script";
+
 pub const RUN_COMMAND: &str =
     "Plays an accepted script against a list of answers, and writes its events";
 
@@ -52,6 +54,7 @@ Examples:
   camac check @sample @in < readout.script
   camac explain plan.toml readout.script
   camac bounds plan.toml readout.script
+  camac costs plan.toml readout.script
   camac run plan.toml readout.script answers.txt run.events
   camac drive plan.toml readout.script run.events
   camac events run.events
@@ -97,6 +100,16 @@ the two at most.
 Examples:
   camac bounds plan.toml readout.script
   camac bounds @sample @in < readout.script";
+
+pub const AFTER_COSTS: &str =
+    "Prints a line for each procedure and service with its bounds, and one for each
+of its statements: how often it can be made, what one time can cost, and its
+share of the bounds (status 0); or 'refused' with the rule and the line (status
+1). @in stands for one of the two at most.
+
+Examples:
+  camac costs plan.toml readout.script
+  camac costs @sample @in < readout.script";
 
 pub const AFTER_RUN: &str = "Each answer is a line of 19 bytes, 'x q word wait gl':
   x     X of the reply, 0 or 1

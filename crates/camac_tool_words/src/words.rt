@@ -21,6 +21,7 @@ pub enum Job<'a> {
     Explain(&'a str, &'a str),
     ExplainPlan(&'a str),
     Bounds(&'a str, &'a str),
+    Costs(&'a str, &'a str),
     Run(&'a str, &'a str, &'a str, &'a str),
     Drive(&'a str, &'a str, &'a str),
     Events(&'a str),
@@ -125,6 +126,13 @@ fn bounds_job<'a>(found: &ArgMatches<'a>) -> Option<Job<'a>>
     Some(Job::Bounds(value_of(found, "PLAN")?, value_of(found, "SCRIPT")?))
 }
 
+fn costs_job<'a>(found: &ArgMatches<'a>) -> Option<Job<'a>>
+    ensures some { IfSome result (λ job. IsJob job (Some (codes "costs", rows_of (found_of found.now)))) }
+    ensures none { IfNone result (NamesNoJob (Some (codes "costs", rows_of (found_of found.now)))) }
+{
+    Some(Job::Costs(value_of(found, "PLAN")?, value_of(found, "SCRIPT")?))
+}
+
 fn run_job<'a>(found: &ArgMatches<'a>) -> Option<Job<'a>>
     ensures some { IfSome result (λ job. IsJob job (Some (codes "run", rows_of (found_of found.now)))) }
     ensures none { IfNone result (NamesNoJob (Some (codes "run", rows_of (found_of found.now)))) }
@@ -170,6 +178,8 @@ fn job_in<'a>(name: &str, found: &ArgMatches<'a>) -> Option<Job<'a>>
         explain_job(found)
     } else if is_word(name, "bounds") {
         bounds_job(found)
+    } else if is_word(name, "costs") {
+        costs_job(found)
     } else if is_word(name, "run") {
         run_job(found)
     } else if is_word(name, "drive") {
@@ -202,9 +212,10 @@ fn input_count(job: &Job<'_>) -> usize
     let is_in = |word: &str| usize::from(is_standard_input(word));
     match *job {
         Job::Plan(plan) | Job::Commands(plan) | Job::ExplainPlan(plan) => is_in(plan),
-        Job::Check(plan, script) | Job::Explain(plan, script) | Job::Bounds(plan, script) => {
-            is_in(plan) + is_in(script)
-        }
+        Job::Check(plan, script)
+        | Job::Explain(plan, script)
+        | Job::Bounds(plan, script)
+        | Job::Costs(plan, script) => is_in(plan) + is_in(script),
         Job::Run(plan, script, answers, _) => is_in(plan) + is_in(script) + is_in(answers),
         Job::Drive(plan, script, _) => 1 + is_in(plan) + is_in(script),
         Job::Events(file) => is_in(file),
