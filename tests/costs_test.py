@@ -32,6 +32,7 @@ HEAD = re.compile(
     r"(?:service (?P<service>\w+) line \d+ gl (?P<gl>\d+) at \d+ \d+ \d+|proc \w+ line \d+) "
     r"cycles (?P<cycles>\d+) of (?P<of_cycles>\d+) words (?P<words>\d+) of (?P<of_words>\d+) steps (?P<steps>\d+)(?: of \d+)?"
 )
+VERDICT = "service {service} gl {gl} cycles {cycles} of {of_cycles} words {words} of {of_words} steps {steps}"
 ROW = re.compile(r"line \d+ depth (\d+) (\S+) times (\d+) cycles (\d+) words (\d+) steps (\d+) share (\d+) (\d+) (\d+)(?: (?:at|turns|crate|proc) .*)?")
 GREATEST = 2**32 - 1
 
@@ -98,7 +99,7 @@ class Made(Costs):
                 self.add_up(head, rows)
                 seen.update(word for _, word, *_ in rows)
                 if head["service"]:
-                    services.append("service {service} gl {gl} cycles {cycles} of {of_cycles} words {words} of {of_words} steps {steps}".format(**head.groupdict()))
+                    services.append(VERDICT.format(**head.groupdict()))
             self.assertEqual(self.call("check", inputs)[1].splitlines()[1:], services, number)
         words = "= cdreg put cfsa cssa cfmad cfubc cfubr cccz cccc ctci ctcd ctgl ccci cccd cclm cclc ctlm if else for while lock call"
         self.assertEqual(seen, set(words.split()))
@@ -147,7 +148,8 @@ class Faults(Costs):
         long = b" " * (1 << 20) + b"#"
         (self.room / "long").write_bytes(long)
         (self.room / "good").write_bytes(b"var v\n")
-        for words in ("none good", "@sample none", "@sample .", "@sample long", "long good", "@in @in", "@sample", "@sample good more", "@in good", "@sample @in"):
+        of_files = ("none good", "@sample none", "@sample .", "@sample long", "long good", "@in good", "@sample @in")
+        for words in (*of_files, "@in @in", "@sample", "@sample good more"):
             told = []
             for command in ("costs", "check"):
                 ran = subprocess.run([PROGRAM, command, *words.split()], input=long, cwd=self.room, capture_output=True, timeout=60)
@@ -160,14 +162,15 @@ class Streams(Costs):
     """Outputs through pipes, and outputs that fail."""
 
     def shell(self, line):
-        ran = subprocess.run(["bash", "-c", line], env={**os.environ, "camac": PROGRAM}, cwd=self.room, stdin=subprocess.DEVNULL, capture_output=True, timeout=60)
+        how = {"stdin": subprocess.DEVNULL, "capture_output": True, "cwd": self.room, "timeout": 60}
+        ran = subprocess.run(["bash", "-c", line], env={**os.environ, "camac": PROGRAM}, **how)
         return ran.returncode, ran.stdout, ran.stderr
 
     def test_pipes(self):
         inputs = Inputs(None, (TOP / "examples/procedure.script").read_bytes())
         printed = self.call("costs", inputs)[1].encode()
-        for line in ("costs @sample script", "costs @sample @in <script", "costs @sample @in < <(cat script)", "costs @sample <(cat script)", "costs @sample script | cat"):
-            self.assertEqual(self.shell(f'set -o pipefail; "$camac" {line}'), (0, printed, b""), line)
+        for words in ("script", "@in <script", "@in < <(cat script)", "<(cat script)", "script | cat"):
+            self.assertEqual(self.shell(f'set -o pipefail; "$camac" costs @sample {words}'), (0, printed, b""), words)
         self.assertEqual(self.shell('"$camac" costs @sample script >/dev/full'), (3, b"", b"fault write\n"))
         self.assertEqual(self.shell('"$camac" costs @sample script >&-'), (3, b"", b"fault write\n"))
         self.assertEqual(self.shell('"$camac" costs @sample @in <&-'), (3, b"", b"fault read\n"))
