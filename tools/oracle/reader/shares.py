@@ -1,7 +1,7 @@
 """What each statement has of the bound of its body: the rows of `costs`, over what the checker found of the statement."""
 from __future__ import annotations
 
-from typing import Iterator, List, NamedTuple, Optional, Tuple
+from typing import Iterator, List, NamedTuple, Tuple
 
 from oracle.reader.checker import Checker
 from oracle.reader.costs import STEP, Cost
