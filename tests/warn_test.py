@@ -7,6 +7,7 @@ The program is crates/camac/out/camac (cd crates/camac && rt run makes it), or w
 """
 import json
 import os
+import re
 import subprocess
 import sys
 import unittest
@@ -16,6 +17,7 @@ from live import PROGRAM, TOP, Case, script
 import camac
 from camac.warn import Code
 
+ACCEPTED = re.compile(r"^```camac accepted([^\n]*)\n(.*?)^```$", re.M | re.S)
 READ = "cdreg r 1 1 5 0\ncfsa 0 r -> v"
 
 
@@ -103,6 +105,17 @@ class Warnings(Case):
                     self.assertEqual({its.code for its in camac.warnings(plan, it)} - {Code.LEFT_CALLING}, set())
         for bench in sorted((TOP / "examples/benches").iterdir()):
             self.assertEqual(camac.warnings(bench / "plan.toml", bench / "readout.script"), [])
+
+    def test_pages(self):
+        """The scripts of the pages that are accepted on @sample are meant, but for the examples of the page of warnings."""
+        tried = 0
+        for page in sorted((TOP / "docs").glob("*.md")):
+            for words, text in ACCEPTED.findall(page.read_text()):
+                if " on " not in words and page.name != "WARNINGS.md":
+                    tried += 1
+                    with self.subTest(page=page.name, script=text):
+                        self.assertEqual({code for _, code in self.codes(text)} - {"W3"}, set())
+        self.assertGreater(tried, 25)
 
     def command(self, *words):
         env = {**os.environ, "PYTHONPATH": str(TOP / "python"), "CAMAC_PROGRAM": PROGRAM, "PYTHONDONTWRITEBYTECODE": "1"}
