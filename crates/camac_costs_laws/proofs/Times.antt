@@ -2,6 +2,8 @@
 use Rattle.std.proofs.Common.{◌≡◌, ℕ, ◌+◌, ◌-◌, ◌*◌, ◌^◌, ◌≤◌, zero, suc, List, [], ◌∷◌, ◌++◌, map, Option, Some, None, Result, Ok, Err, refl, sym, ap, subst, ◌∙◌, le_trans, arith}
 use Rattle.std.proofs.Math.Nat.{mul-le-mul_left}
 use Rattle.std.specs.Prelude.{min, option_map, option_to_list, slice_get, unwrap_or}
+use Rattle.camac_lang.specs.declared.word.CrateCall.{CrateCall}
+use Rattle.camac_lang.specs.declared.word.LamCall.{LamCall}
 use Rattle.camac_lang.specs.declared.word.WordSize.{WordSize}
 use Rattle.camac_lang.specs.Tree.{Expression, Condition, Keep, Move, no_data, into, from, Statement, assign, set_register, single, address_scan, q_stop, q_repeat, put, crate_call, lam_call, choose, choose_else, for_, while_, locked, call, Block, done, next, Item, next_table, next_lam, next_variables, next_procedure, next_service, Script}
 use Rattle.camac_branch.specs.Plan.{Layout, crate_waits}
@@ -100,6 +102,30 @@ single_step r around line size f p (from e) k = step_after _ _ (λ v. step_after
 scan_step : (r : Context) (around : Around) (line f r1 r2 : ℕ) (e : Expression) (x : ℕ) (k : Facts) → HasStep (accept_statement (in_code r) around (address_scan line f r1 r2 e x) k)
 scan_step r around line f r1 r2 e x k =
     step_after _ _ (λ m. step_after _ _ (λ u. step_after _ _ (λ g. step_after _ _ (λ h. step_after _ _ (λ u2. step_after _ _ (λ u3. step_after _ _ (λ u4. step_after _ _ (λ u5. omega arith))))))))
+
+assign_step : (r : Context) (around : Around) (line x : ℕ) (e : Expression) (k : Facts) → HasStep (accept_statement (in_code r) around (assign line x e) k)
+assign_step r around line x e k = step_after _ _ (λ x1. step_after _ _ (λ x2. omega arith))
+
+register_step : (r : Context) (around : Around) (line p : ℕ) (e1 e2 e3 : Expression) (k : Facts) → HasStep (accept_statement (in_code r) around (set_register line p e1 e2 e3) k)
+register_step r around line p e1 e2 e3 k = step_after _ _ (λ x1. step_after _ _ (λ x2. step_after _ _ (λ x3. omega arith)))
+
+q_stop_step : (r : Context) (around : Around) (line f p : ℕ) (t : Option ℕ) (e : Expression) (x : ℕ) (k : Facts) → HasStep (accept_statement (in_code r) around (q_stop line f p t e x) k)
+q_stop_step r around line f p t e x k = step_after _ _ (λ x1. step_after _ _ (λ x2. omega arith))
+
+q_repeat_step : (r : Context) (around : Around) (line f p : ℕ) (t : Option ℕ) (e1 e2 : Expression) (x : ℕ) (k : Facts) → HasStep (accept_statement (in_code r) around (q_repeat line f p t e1 e2 x) k)
+q_repeat_step r around line f p t e1 e2 x k = step_after _ _ (λ x1. step_after _ _ (λ x2. step_after _ _ (λ x3. omega arith)))
+
+put_step : (r : Context) (around : Around) (line : ℕ) (e : Expression) (k : Facts) → HasStep (accept_statement (in_code r) around (put line e) k)
+put_step r around line e k = step_after _ _ (λ x1. step_after _ _ (λ x2. omega arith))
+
+crate_step : (r : Context) (around : Around) (line : ℕ) (which : CrateCall) (e : Expression) (k : Facts) → HasStep (accept_statement (in_code r) around (crate_call line which e) k)
+crate_step r around line which e k = step_after _ _ (λ x1. step_after _ _ (λ x2. omega arith))
+
+lam_step : (r : Context) (around : Around) (line : ℕ) (which : LamCall) (l : ℕ) (k : Facts) → HasStep (accept_statement (in_code r) around (lam_call line which l) k)
+lam_step r around line which l k = step_after _ _ (λ x1. step_after _ _ (λ x2. omega arith))
+
+call_step : (r : Context) (around : Around) (line p : ℕ) (es : List Expression) (k : Facts) → HasStep (accept_statement (in_code r) around (call line p es) k)
+call_step r around line p es k = step_after _ _ (λ x1. step_after _ _ (λ x2. step_after _ _ (λ x3. omega arith)))
 
 -- such a statement, with its costs
 simple_in_steps : (c : Context) (around : Around) (s : Statement) (k : Facts) (v : Verdict) → HasStep (accept_statement c around s k) → accept_statement c around s k ≡ Ok v → NoMore (in_64_bits v.costs.steps) (simple_row c around s (Some k) ∷ [])
@@ -232,21 +258,16 @@ mutual
 
   statement_in_steps : (r : Context) (around : Around) (s : Statement) (k : Facts) (v : Verdict) → accept_statement (in_code r) around s k ≡ Ok v
       → NoMore (in_64_bits v.costs.steps) (statement_rows (in_code r) around s (Some k))
-  statement_in_steps r around (assign line x e1) k v e = simple_in_steps (in_code r) around (assign line x e1) k v (step_after _ _ (λ g. step_after _ _ (λ u. omega arith))) e
-  statement_in_steps r around (set_register line p e1 e2 e3) k v e =
-      simple_in_steps (in_code r) around (set_register line p e1 e2 e3) k v (step_after _ _ (λ g. step_after _ _ (λ n. step_after _ _ (λ a. omega arith)))) e
+  statement_in_steps r around (assign line x e1) k v e = simple_in_steps (in_code r) around (assign line x e1) k v (assign_step r around line x e1 k) e
+  statement_in_steps r around (set_register line p e1 e2 e3) k v e = simple_in_steps (in_code r) around (set_register line p e1 e2 e3) k v (register_step r around line p e1 e2 e3 k) e
   statement_in_steps r around (single line size f p move) k v e = simple_in_steps (in_code r) around (single line size f p move) k v (single_step r around line size f p move k) e
   statement_in_steps r around (address_scan line f r1 r2 max x) k v e = simple_in_steps (in_code r) around (address_scan line f r1 r2 max x) k v (scan_step r around line f r1 r2 max x k) e
-  statement_in_steps r around (q_stop line f p t max x) k v e =
-      simple_in_steps (in_code r) around (q_stop line f p t max x) k v (step_after _ _ (λ m. step_after _ _ (λ g. omega arith))) e
-  statement_in_steps r around (q_repeat line f p t max limit x) k v e =
-      simple_in_steps (in_code r) around (q_repeat line f p t max limit x) k v (step_after _ _ (λ m. step_after _ _ (λ n. step_after _ _ (λ g. omega arith)))) e
-  statement_in_steps r around (put line e1) k v e = simple_in_steps (in_code r) around (put line e1) k v (step_after _ _ (λ g. step_after _ _ (λ u. omega arith))) e
-  statement_in_steps r around (crate_call line which e1) k v e =
-      simple_in_steps (in_code r) around (crate_call line which e1) k v (step_after _ _ (λ g. step_after _ _ (λ u. omega arith))) e
-  statement_in_steps r around (lam_call line which l) k v e = simple_in_steps (in_code r) around (lam_call line which l) k v (step_after _ _ (λ g. step_after _ _ (λ w. omega arith))) e
-  statement_in_steps r around (call line p es) k v e =
-      simple_in_steps (in_code r) around (call line p es) k v (step_after _ _ (λ rs. step_after _ _ (λ q. step_after _ _ (λ u. omega arith)))) e
+  statement_in_steps r around (q_stop line f p t max x) k v e = simple_in_steps (in_code r) around (q_stop line f p t max x) k v (q_stop_step r around line f p t max x k) e
+  statement_in_steps r around (q_repeat line f p t max limit x) k v e = simple_in_steps (in_code r) around (q_repeat line f p t max limit x) k v (q_repeat_step r around line f p t max limit x k) e
+  statement_in_steps r around (put line e1) k v e = simple_in_steps (in_code r) around (put line e1) k v (put_step r around line e1 k) e
+  statement_in_steps r around (crate_call line which e1) k v e = simple_in_steps (in_code r) around (crate_call line which e1) k v (crate_step r around line which e1 k) e
+  statement_in_steps r around (lam_call line which l) k v e = simple_in_steps (in_code r) around (lam_call line which l) k v (lam_step r around line which l k) e
+  statement_in_steps r around (call line p es) k v e = simple_in_steps (in_code r) around (call line p es) k v (call_step r around line p es k) e
   statement_in_steps r around (choose line test a) k v e = if_in_steps r around line test a k v (block_in_steps r around a) e
   statement_in_steps r around (choose_else line test a b) k v e = choice_in_steps r around line test a b k v (block_in_steps r around a) (block_in_steps r around b) e
   statement_in_steps r around (for_ line x e1 e2 keeps body) k v e = for_in_steps r around line x e1 e2 keeps body k v (block_in_steps r (with_fixed x around) body) e
