@@ -3,3 +3,4 @@ pub mod Before
 pub mod Lams
 pub mod Trees
 pub mod Whole
+pub mod Left

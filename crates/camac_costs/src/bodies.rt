@@ -108,12 +108,14 @@ fn push_procedure(
 ) -> Result<(), AllocError>
     ensures { OnOk result (all.new.items ≡ all.old.items ++ procedure_at capped checked.now.plan checked.now.script number) }
 {
-    let Some(procedure) = checked.script().procedures().get(number) else {
-        return Ok(());
-    };
-    let context = context_after(checked, number);
-    all.push(procedure_costs(alloc, &context, number, procedure)?)?;
-    Ok(())
+    match checked.script().procedures().get(number) {
+        Some(procedure) => {
+            let context = context_after(checked, number);
+            all.push(procedure_costs(alloc, &context, number, procedure)?)?;
+            Ok(())
+        }
+        None => Ok(()),
+    }
 }
 
 fn push_service(
@@ -125,12 +127,14 @@ fn push_service(
 ) -> Result<(), AllocError>
     ensures { OnOk result (all.new.items ≡ all.old.items ++ service_at capped checked.now.plan checked.now.script done number) }
 {
-    let Some(service) = checked.script().services().get(number) else {
-        return Ok(());
-    };
-    let context = context_after(checked, done);
-    all.push(service_costs(alloc, &context, number, service)?)?;
-    Ok(())
+    match checked.script().services().get(number) {
+        Some(service) => {
+            let context = context_after(checked, done);
+            all.push(service_costs(alloc, &context, number, service)?)?;
+            Ok(())
+        }
+        None => Ok(()),
+    }
 }
 
 /// What a body may refer to after so many procedures (own): the plan, the script's tables and LAMs, and these procedures.

@@ -259,7 +259,7 @@ fn service_line(lam: &Lam, bit: GlBit, service: &Service, costs: Costs) -> Line
 fn push_address(line: &mut Line, lam: &Lam)
     requires { length line.old ≤ 80 }
     ensures text { line.new ≡ line.old ++ address_text (lam_of lam.now) }
-    ensures len { length line.new ≤ length line.old + 29 }
+    ensures len { length line.new ≤ length line.old + 36 }
 {
     line.push_str(" at ");
     line.push_number(lam.crate_no);

@@ -3,4 +3,4 @@
 
 mod laws;
 
-pub use laws::shares_add_up;
+pub use laws::{shares_add_up, times_in_steps};

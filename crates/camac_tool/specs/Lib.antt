@@ -2,3 +2,4 @@ pub mod World
 pub mod Run
 pub mod Headline
 pub mod Input
+pub mod Status

@@ -1,9 +1,11 @@
 // The program, from its words to its exit status.
 
-ghost use Rattle.std.specs.Prelude.{◌≡◌, ◌||◌, [], IfOk, IfErr, OnOk, codes, is_err, is_none};
+ghost use Rattle.std.specs.Prelude.{◌≡◌, ◌||◌, [], IfOk, IfErr, OnOk, codes, is_err, is_none, map, string_bytes};
 ghost use Rattle.std.specs.Str.{bytes_eq};
 ghost use Rattle.camac_tool_check.specs.Engine.{status_of};
 ghost use Rattle.camac_tool_check.specs.declared.fault.ToolFault.TheVariants.{Read as read-fault, Write};
+ghost use Rattle.clap.specs.Words.{kind_of};
+ghost use Rattle.camac_tool.specs.Status.{Ends, EndsJob, EndsUsage};
 ghost use Rattle.camac_tool.specs.declared.launch.ArgumentsFault.TheVariants.{Memory, NotText};
 ghost use Rattle.camac_tool_streams.specs.Gathered.{has_stopped, held_in};
 
@@ -36,7 +38,9 @@ const AHEAD: usize = 65_536;
 
 /// Does what the words after the program's name ask for, and returns the exit status: 0 or 1 by the outcome, 2 where the words
 /// ask for nothing that is there, and 3 for a fault. Help and version print and end with 0. A fault is one line on standard error.
-pub fn exit_status<R: Runtime + AllocGlobal>(rt: &R, words: &[String]) -> u8 {
+pub fn exit_status<R: Runtime + AllocGlobal>(rt: &R, words: &[String]) -> u8
+    ensures { Ends (map string_bytes words.now) result }
+{
     let Ok(_places) = hold_places(rt) else {
         return stopped(rt, ToolFault::Read);
     };
@@ -59,7 +63,10 @@ pub fn unread_status<R: Runtime>(rt: &R, fault: ArgumentsFault) -> u8
     }
 }
 
-fn serve<R: Runtime + AllocGlobal>(rt: &R, job: Job<'_>) -> u8 {
+#[tactic(auto, using(crate::proofs::Status::engine_ends))]
+fn serve<R: Runtime + AllocGlobal>(rt: &R, job: Job<'_>) -> u8
+    ensures { EndsJob result }
+{
     match job {
         Job::Plan(plan) => finished(rt, show_plan(rt, plan)),
         Job::Commands(plan) => finished(rt, show_commands(rt, plan)),
@@ -276,7 +283,9 @@ fn misused<R: Runtime>(rt: &R, why: &str) -> u8
 }
 
 // The text of `clap`: help, version, or why the words name no job.
-fn print_usage<R: Runtime>(rt: &R, error: Error) -> u8 {
+fn print_usage<R: Runtime>(rt: &R, error: Error) -> u8
+    ensures { EndsUsage (kind_of error) result }
+{
     if error.kind() == ErrorKind::OutOfMemory {
         return stopped(rt, ToolFault::Memory);
     }
