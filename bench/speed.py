@@ -91,6 +91,10 @@ def checked(name, text):
     return Case(name, ["check", "@sample", "INPUT"], text)
 
 
+def costed(name, text):
+    return Case(name, ["costs", "@sample", "INPUT"], text)
+
+
 def explained(name, text):
     """An input that is refused at its end, judged and explained."""
     yield checked(f"check, refused: {name}", text)
@@ -117,6 +121,9 @@ def cases():
     yield checked("check: the same number in 14 loops", large_inputs.nested_loops(4096, 14))
     yield checked("check: 1 MB of comments", large_inputs.comments(TEXT))
     yield checked("check: 1 MB of blanks", large_inputs.blanks(TEXT))
+    yield costed("costs: 4,096 long statements", long_statements(4096))
+    yield costed("costs: 4,096 short statements", large_inputs.service(4096, 4_294_967_295))
+    yield costed("costs: the same number in 14 loops", large_inputs.nested_loops(4096, 14))
     yield Case("plan: the greatest", ["plan", "INPUT"], large_inputs.greatest_plan())
     yield from explained("1 MB on one line", long_statements(4096).replace("\n", " ") + "}")
     yield from explained("4,096 statements", large_inputs.service(4096, 0))

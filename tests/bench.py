@@ -9,7 +9,6 @@ import subprocess
 from live import PROGRAM, Case
 import camac
 from camac.mock import Adc, Auxiliary, MockBranch, Recorder, Register, Reply, Scaler
-from camac.program import knows_command
 from camac.runs import Inputs
 
 PLAN = """\
@@ -281,11 +280,6 @@ class Page(html.parser.HTMLParser):
         """The rows of the first table under a heading, by the words of its head."""
         head, *rows = self.parts[heading]["tables"][0]
         return [dict(zip(head, row)) if len(set(head)) == len(head) else row for row in rows]
-
-
-def knows(command):
-    """Whether the program has this subcommand."""
-    return os.access(PROGRAM, os.X_OK) and knows_command(command, PROGRAM)
 
 
 class BenchCase(Case):

@@ -128,6 +128,16 @@ class Client(Case):
         with self.assertRaises(camac.TimeFault):
             self.drive(Listed(), "ended events 0", sleep=PATIENCE, timeout=0.2)
 
+    def test_a_time_that_is_none(self):
+        """It is refused before the program starts."""
+        for timeout in (-1, -0.001, float("nan"), float("inf"), 2_147_484):
+            branch = Listed()
+            with self.assertRaisesRegex(ValueError, "^a timeout is 0 to 2147483 seconds, not "):
+                self.drive(branch, "demand", timeout=timeout)
+            self.assertEqual(branch.asked, [])
+            self.assertFalse((self.room / "answers").exists())
+        self.assertEqual(self.drive(Listed(), "ended events 0", timeout=2_147_483).how, Ending.ENDED)
+
     def test_a_branch_that_fails(self):
         for error in (Broken("no power"), KeyboardInterrupt()):
             branch = Listed(Answer(gl=4), Answer(wait=1), error)

@@ -68,12 +68,11 @@ class Wrong(Exception):
 
 
 def run(command, room, given=b""):
-    """Returns what the command prints, standard error too, but for what a program without `costs` lacks."""
+    """Returns what the command prints, standard error too."""
     words = {"cwd": room, "input": given, "stdout": subprocess.PIPE, "stderr": subprocess.STDOUT, "timeout": WAIT}
     places = {"PATH": f"{room}{os.pathsep}{os.environ['PATH']}", "PYTHONPATH": str(TOP / "python"), "PYTHONDONTWRITEBYTECODE": "1"}
     places.update({} if of_c.lacking() else of_c.environment())
-    printed = subprocess.run(["bash", "-c", command], env={**os.environ, **places}, **words).stdout.decode()
-    return re.sub(r"^camac: this program has no `costs`.*\n", "", printed, flags=re.M)
+    return subprocess.run(["bash", "-c", command], env={**os.environ, **places}, **words).stdout.decode()
 
 
 def is_left_out(text):

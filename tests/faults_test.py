@@ -370,7 +370,7 @@ class Fails(Logged):
         self.expect_each("plan @in", "plan.toml")
 
     def test_scripts(self):
-        for name in ("check", "explain", "bounds"):
+        for name in ("check", "explain", "bounds", "costs"):
             self.expect_each(f"{name} plan.toml straight.script")
             self.expect_each(f"{name} plan.toml @in", "straight.script")
 

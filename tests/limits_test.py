@@ -57,7 +57,7 @@ class Limits(unittest.TestCase):
         """The script is accepted, and leaves events."""
         inputs = Inputs(PLAN, script.encode(), answers)
         self.assertEqual(self.told("check", inputs).reached, "accepted")
-        self.assertEqual(self.told("bounds", inputs).status, 0)
+        self.assertEqual([self.told(it, inputs).status for it in ("bounds", "costs")], [0, 0])
         events = self.told("run", inputs).events
         self.assertEqual(self.told("drive", inputs).events, events)
         self.assertGreater(len(events), 8)
@@ -67,7 +67,7 @@ class Limits(unittest.TestCase):
 
     def expect_refused(self, script, code="S6"):
         inputs = Inputs(PLAN, script.encode())
-        self.assertEqual([self.told(it, inputs).reached for it in ("check", "bounds")], [code, code])
+        self.assertEqual([self.told(it, inputs).reached for it in ("check", "bounds", "costs")], [code] * 3)
 
     def test_services(self):
         lams = [f"cdlam {it} 1 {number // 6 + 1} {number % 6 + 1} 0\n" for number, it in enumerate(names(24))]
@@ -156,7 +156,7 @@ class Limits(unittest.TestCase):
         for more, reached in ((0, "accepted"), (1, "G4")):
             long = script + b"#" * (TEXT - len(script) + more)
             self.assertEqual(self.told("check", Inputs(PLAN, long)).reached, reached)
-            self.assertEqual(self.told("bounds", Inputs(PLAN, long)).status, 3 * more)
+            self.assertEqual([self.told(it, Inputs(PLAN, long)).status for it in ("bounds", "costs")], [3 * more] * 2)
             self.assertEqual(self.told("run", Inputs(PLAN, long, ALL)).status, 3 * more)
             long = PLAN + b"#" * (TEXT - len(PLAN) + more)
             self.assertEqual(self.told("plan", Inputs(long)).status, 3 * more)

@@ -4,8 +4,7 @@
 usage: tests/pictures_test.py [-v] [TEST ..]     from any folder; takes about a minute
 
 The program is crates/camac/out/camac (cd crates/camac && rt run makes it), or what the environment variable CAMAC_PROGRAM names. What needs
-its subcommand `costs` is left out where it has none, and what needs Chromium where that is not there. The pictures that are kept in
-tests/pictures are compared byte by byte; `tests/pictures_test.py --keep` writes them anew, to be looked at before they are committed.
+Chromium is left out where that is not there. The pictures that are kept in tests/pictures are compared byte by byte; `tests/pictures_test.py --keep` writes them anew, to be looked at before they are committed.
 """
 import os
 import re
@@ -25,10 +24,11 @@ from camac.bodies import parse_costs
 from camac.events import read_events
 from camac.pictures import svg
 from camac.plans import parse_plan
-from camac.program import knows_option
+from camac.program import knows_option, output_of
 from camac.report import report
 from camac.runs import Inputs, Run
 from camac.scripts import parse_verdict
+from rows_test import ROWS
 
 KEPT = TOP / "tests/pictures"
 FIGURE = re.compile(r"<svg .*?</svg>", re.S)
@@ -157,7 +157,7 @@ class Numbers(bench.BenchCase):
 
     def test_checks(self):
         rows = self.page.parts["Checks of this page"]["tables"][0]
-        self.assertEqual([row[0] for row in rows], ["agrees"] * (5 if bench.knows("costs") else 4))
+        self.assertEqual([row[0] for row in rows], ["agrees"] * 5)
 
     def test_checks_that_differ(self):
         """Each number that is told twice, changed in one place."""
@@ -187,9 +187,14 @@ class Numbers(bench.BenchCase):
         self.assertNotIn("Q = 0", page.table("Services")[0])
 
 
-@unittest.skipUnless(bench.knows("costs"), "this program has no `costs`")
 class Costs(bench.BenchCase):
-    """The cost of each line, where the program tells it."""
+    """The cost of each line."""
+
+    def test_what_is_told_without_the_program(self):
+        """The texts of which the kept pictures are drawn are those that the program prints."""
+        plan, script, _ = self.files
+        printed = [output_of(*words) for words in (("plan", plan, "--commands"), ("check", plan, script), ("costs", plan, script))]
+        self.assertEqual(printed, [told.PLAN, told.VERDICT, told.COSTS])
 
     def test_shares(self):
         bodies = camac.costs(*self.files[:2])
@@ -317,32 +322,8 @@ station 23 A-NAME-OF-32-CHARACTERS-IN-WHOLE gl 24
 crate 2 waits 0
 """
 VERDICT = "accepted\nservice adc gl 3 cycles 20 of 24 words 5 of 5 steps 50\n"
-COSTS_SCRIPT = """\
-# One procedure reads a channel of the converter at station 5 of crate 1; the service reads four of them, and the last one twice.
-cdlam adc 1 1 5 12
-var i
-proc read(channel in 0..15) within 4 cycles event 1 words steps 8 {
-  cdreg r 1 1 5 channel
-  cfsa 0 r -> channel
-  put channel
-}
-service adc within 24 cycles event 5 words {
-  for i = 0 to 3 {
-    call read(i)
-  }
-  call read(3)
-}
-"""
-COSTS = """\
-proc read line 4 cycles 3 of 4 words 1 of 1 steps 3 of 8
-line 5 depth 1 cdreg times 1 cycles 0 words 0 steps 1 share 0 0 1
-line 6 depth 1 cfsa times 1 cycles 3 words 0 steps 1 share 3 0 1 at 1 5 0..15
-line 7 depth 1 put times 1 cycles 0 words 1 steps 1 share 0 1 1
-service adc line 9 gl 3 at 1 5 12 cycles 20 of 24 words 5 of 5 steps 50
-line 10 depth 1 for times 1 cycles 16 words 4 steps 41 share 0 0 5 turns 4
-line 11 depth 2 call times 4 cycles 4 words 1 steps 9 share 16 4 36 proc read
-line 13 depth 1 call times 1 cycles 4 words 1 steps 9 share 4 1 9 proc read
-"""
+# The example of the page: one procedure, called in a loop and once more.
+COSTS = ROWS["costs"]["procedure_in_a_loop"][0]
 SERVED = [
     "demand 000004 adc",
     "lock 1 wait 2",
@@ -373,7 +354,7 @@ def kept_pictures():
         "costs-scaler": pictures.draw_costs(bodies[0], source),
         "costs-adc": pictures.draw_costs(bodies[1], source, seen[3].cycles),
         "costs-tick": pictures.draw_costs(bodies[2], source, seen[5].cycles),
-        "costs-call": pictures.draw_costs(parse_costs(COSTS)[1], COSTS_SCRIPT.split("\n")),
+        "costs-call": pictures.draw_costs(parse_costs(COSTS.printed.decode())[1], COSTS.inputs["SCRIPT"].decode().split("\n")),
         "run": pictures.draw_run(run, services),
         "run-long": pictures.draw_run(told.told_run(270), services),
         "events": pictures.draw_events(run, services),

@@ -34,7 +34,7 @@ LISTING = b"demand 000004 adc\ncycle 1 5 0 0 in 123fff x1 q1 wait 2\nended event
 REQUESTS = b"demand\ncycle 1 5 0 0 in\ndemand\nended events 1\n"
 EVENT_FILE = bytes.fromhex("43414d4143455632 ca4d 0003 00000001 00000003 0000 0001 00000fff")
 EVENT_FILE_ONE = bytes.fromhex("43414d4143455631 ca4d 0003 00000001 0001 00000fff")
-WORDS = {"plan": ["PLAN"], "check": ["PLAN", "SCRIPT"], "explain": ["PLAN", "[SCRIPT]"], "bounds": ["PLAN", "SCRIPT"], "run": ["PLAN", "SCRIPT", "ANSWERS", "EVENTS"], "drive": ["PLAN", "SCRIPT", "EVENTS"], "events": ["FILE"]}
+WORDS = {"plan": ["PLAN"], "check": ["PLAN", "SCRIPT"], "explain": ["PLAN", "[SCRIPT]"], "bounds": ["PLAN", "SCRIPT"], "costs": ["PLAN", "SCRIPT"], "run": ["PLAN", "SCRIPT", "ANSWERS", "EVENTS"], "drive": ["PLAN", "SCRIPT", "EVENTS"], "events": ["FILE"]}
 # The options of a command but those of help.
 OPTIONS = {"plan": ["commands"]}
 READ, WRITE, TOO_LONG, TWICE = (f"fault {it}\n".encode() for it in ("read", "write", "input too long", "@in twice"))
@@ -132,7 +132,7 @@ class Usage(Case):
             self.assertIn(b"Usage: camac", err, words)
 
     def test_standard_input_twice(self):
-        for words in ("check @in @in", "explain @in @in", "bounds @in @in", "run @in @in a e", "run @in s @in e", "run @sample @in @in e", "run @in @in @in e", "drive @in s e", "drive @sample @in e"):
+        for words in ("check @in @in", "explain @in @in", "bounds @in @in", "costs @in @in", "run @in @in a e", "run @in s @in e", "run @sample @in @in e", "run @in @in @in e", "drive @in s e", "drive @sample @in e"):
             self.assertEqual(self.call(*words.split()), (2, b"", TWICE), words)
             self.assertFalse((self.room / "e").exists())
 
@@ -298,14 +298,14 @@ class Streams(Case):
         self.assertEqual(self.file("e"), EVENT_FILE)
 
     def test_help_that_cannot_be_written(self):
-        for words in ("--help", "-h", "help", "plan --help", "check --help", "explain --help", "bounds --help", "run --help", "events --help", "--version"):
+        for words in ("--help", "-h", "help", "plan --help", "check --help", "explain --help", "bounds --help", "costs --help", "run --help", "events --help", "--version"):
             self.assertEqual(self.shell(f'"$camac" {words} >/dev/full'), (3, b"", WRITE), words)
             self.assertEqual(self.shell(f'"$camac" {words} >&-'), (3, b"", WRITE), words)
         self.assertEqual(self.shell('"$camac" --frob 2>/dev/full'), (2, b"", b""))
 
     def test_full_device(self):
         (self.room / "one.events").write_bytes(EVENT_FILE)
-        for words in ("plan @sample", "check @sample straight.script", "events @in <<<x", "events @in <one.events", "run @sample straight.script answers e"):
+        for words in ("plan @sample", "check @sample straight.script", "costs @sample straight.script", "events @in <<<x", "events @in <one.events", "run @sample straight.script answers e"):
             self.assertEqual(self.shell(f'"$camac" {words} >/dev/full'), (3, b"", WRITE), words)
         self.assertEqual(self.file("e"), b"CAMACEV2")
         self.assertEqual(self.call("run", "@sample", "straight.script", "answers", "/dev/full"), (3, b"", WRITE))

@@ -110,6 +110,15 @@ STRAIGHT_LINE = (TOP / "examples/straight_line.script").read_bytes()
 REFUSED = (TOP / "examples/too_few_cycles.script").read_bytes()
 UNREAD = b"cdlam adc 1 1 5 12\nput\n"
 LOCKED = (TOP / "examples/lockout.script").read_bytes()
+# blocks of every kind, one of which is never reached
+ARMS = b"""cdlam adc 1 1 5 12
+var i k
+service adc within 99 cycles event 9 words {
+  k = 3
+  for i = 1 to 2 { if q and i > 1 { lock 1 { cclc adc } } else { put i } }
+  while k > 0 turns 3 by k { k = k - 1  if i > 5 { put 1 } }
+}
+"""
 SAMPLE_PLAN = (TOP / "examples/sample_plan.toml").read_bytes()
 
 # The event files of one event, of both versions.
@@ -172,6 +181,11 @@ class RefusedMemory(unittest.TestCase):
         for script in (STRAIGHT_LINE, REFUSED, UNREAD, LOCKED, PROCEDURE, BROKEN["E2"]):
             self.refuse_each("bounds @sample @in", script)
         self.refuse_each("bounds @in script", SAMPLE_PLAN, PROCEDURE)
+
+    def test_costs(self):
+        for script in (STRAIGHT_LINE, REFUSED, UNREAD, PROCEDURE, ARMS):
+            self.refuse_each("costs @sample @in", script)
+        self.refuse_each("costs @in script", SAMPLE_PLAN, PROCEDURE)
 
     def test_explain(self):
         for script in (STRAIGHT_LINE, REFUSED, UNREAD, *BROKEN.values()):

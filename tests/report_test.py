@@ -240,10 +240,28 @@ class Commands(bench.BenchCase):
             self.assertEqual((printed, len(err.splitlines())), ("", 1), err)
             self.assertFalse(out.exists() and words[0] != "csv")
         self.assertIn("No such file", self.call("report", plan, script, answers, "-o", self.room / "none/x", status=3)[1])
-        if not bench.knows("costs"):
-            self.assertEqual(self.call("draw", "costs", plan, script, "-o", out, status=3)[1], "camac: this program has no `costs`\n")
         with mock.patch.dict(os.environ, {"CAMAC_PROGRAM": str(self.room / "none")}):
             self.assertIn("none", self.call("draw", "plan", plan, "-o", out, status=3)[1])
+
+    def test_an_older_program(self):
+        """Of a program without `costs` a page is made, and says what it lacks."""
+        plan, script, answers = self.files
+        lines = [
+            "#!/bin/sh",
+            "case $1 in",
+            f"--help) '{bench.PROGRAM}' --help | grep -v '^  costs ' ;;",
+            "costs) exit 2 ;;",
+            f"*) exec '{bench.PROGRAM}' \"$@\" ;;",
+            "esac",
+        ]
+        older = self.write("older", "".join(f"{it}\n" for it in lines))
+        older.chmod(0o755)
+        out = self.room / "out"
+        with mock.patch.dict(os.environ, {"CAMAC_PROGRAM": str(older)}):
+            self.assertEqual(self.call("draw", "costs", plan, script, "-o", out, status=3)[1], "camac: this program has no `costs`\n")
+            self.call("report", plan, script, answers, "-o", out)
+            self.assertIn("not looked for", self.call("check", plan, script)[1])
+        self.assertIn("This program has no <code>costs</code>", out.read_text())
 
     def test_refusals(self):
         plan, _, answers = self.files

@@ -13,7 +13,6 @@ import sys
 import unittest
 
 from live import PROGRAM, TOP, Case
-import bench
 import camac
 from camac import Cycle, Demand, Ending, Lock, Move, RunEnd, Unlock, bodies, plans, scripts
 from camac.annotate import annotate
@@ -100,7 +99,6 @@ class Values(Case):
         self.assertEqual([(row.waits, row.slack) for row in read.rows], [(2, 0)])
         self.assertEqual([(row.waits, row.slack) for row in adc.rows], [(0, 0), (8, 4), (3, 0), (6, 0), (0, 0), (0, 0)])
 
-    @unittest.skipUnless(bench.knows("costs"), "this program has no `costs`")
     def test_costs_of_the_program(self):
         read, adc = camac.costs("@sample", TOP / "examples/procedure.script")
         self.assertEqual((read.most.cycles, read.waits(), adc.most.cycles, adc.waits(), adc.slack()), (3, 2, 20, 10, 5))

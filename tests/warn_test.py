@@ -3,11 +3,11 @@
 
 usage: tests/warn_test.py [-v] [TEST ..]     from any folder; takes a few seconds
 
-The program is crates/camac/out/camac (cd crates/camac && rt run makes it), or what the environment variable CAMAC_PROGRAM names. What needs
-its subcommand `costs` is tried on a text of it where the program has none.
+The program is crates/camac/out/camac (cd crates/camac && rt run makes it), or what the environment variable CAMAC_PROGRAM names.
 """
 import json
 import os
+import re
 import subprocess
 import sys
 import unittest
@@ -15,22 +15,9 @@ from unittest import mock
 
 from live import PROGRAM, TOP, Case, script
 import camac
-from camac import judge, warn
-from camac.bodies import parse_costs
 from camac.warn import Code
 
-DEAD = """\
-service adc line 3 gl 3 at 1 5 12 cycles 3 of 9 words 0 of 9 steps 4
-line 4 depth 1 cdreg times 1 cycles 0 words 0 steps 1 share 0 0 1
-line 5 depth 1 cfsa times 1 cycles 3 words 0 steps 1 share 3 0 1 at 1 5 0
-line 6 depth 1 if times 1 cycles 0 words 0 steps 1 share 0 0 1
-line 7 depth 2 if times 0 cycles 0 words 0 steps 0 share 0 0 0
-line 7 depth 3 put times 0 cycles 0 words 0 steps 0 share 0 0 0
-line 8 depth 2 put times 0 cycles 0 words 0 steps 0 share 0 0 0
-line 9 depth 1 if times 1 cycles 0 words 0 steps 1 share 0 0 1
-line 9 depth 2 put times 0 cycles 0 words 0 steps 0 share 0 0 0
-line 10 depth 1 cfmad times 1 cycles 0 words 0 steps 1 share 0 0 1 at 1 5 11
-"""
+ACCEPTED = re.compile(r"^```camac accepted([^\n]*)\n(.*?)^```$", re.M | re.S)
 READ = "cdreg r 1 1 5 0\ncfsa 0 r -> v"
 
 
@@ -41,21 +28,29 @@ class Warnings(Case):
         patch.start()
         self.addCleanup(patch.stop)
 
-    def codes(self, text, but=(Code.UNREACHED, Code.EMPTY_SCAN)):
+    def codes(self, text):
         """The lines and codes of the warnings of a script on the plan @sample."""
-        return [(it.line, it.code.value) for it in camac.warnings("@sample", self.write("a.script", text)) if it.code not in but]
+        return [(it.line, it.code.value) for it in camac.warnings("@sample", self.write("a.script", text))]
 
-    def test_unreached_and_empty_scan(self):
-        found = [(it.line, it.code) for it in warn._of_costs(parse_costs(DEAD))]
-        self.assertEqual(found, [(7, Code.UNREACHED), (9, Code.UNREACHED), (10, Code.EMPTY_SCAN)])
+    def test_unreached(self):
+        """The first statement of each block is told, and not what stands in a block of it."""
+        read = READ.split("\n")
+        for body, wanted in [
+            ([*read, "if v > 4095 { put v }", "cclc adc"], [(6, "W1")]),
+            ([*read, "if v > 4095 {", "if q { put 1 }", "put 2 }", "if v > 5000", "{", "put 3 }"], [(7, "W1"), (11, "W1")]),
+            ([*read, "if v < 4096 { put 1 }", "else {", "put 2 }"], [(6, "W1")]),
+            ([*read, "for i = 5 to 4 {", "put 1", "put 2 }"], [(7, "W1")]),
+            ([*read, "while k > 0 turns 4 by k { k = k - 1 }", "put 1"], [(6, "W1")]),
+            ([*read, "if v < 4095 { put v }"], []),
+        ]:
+            with self.subTest(body=body):
+                self.assertEqual(self.codes(script(body)), wanted)
 
-    def test_unreached_of_the_program(self):
-        if not warn.looks_for_all():
-            self.skipTest("this program has no `costs`")
-        dead = script([*READ.split("\n"), "if v > 4095 { put v }", "cclc adc"])
-        self.assertEqual(self.codes(dead, but=()), [(6, "W1")])
+    def test_empty_scan(self):
         backwards = script(["cdreg r 1 1 5 11", "cdreg last 1 1 5 0", "cfmad 0 r last max 12 tally t", "cclc adc"])
-        self.assertEqual(self.codes(backwards, but=()), [(6, "W2")])
+        self.assertEqual(self.codes(backwards), [(6, "W2")])
+        self.assertEqual(self.codes(backwards.replace("last max 12", "r max 0")), [(6, "W2")])
+        self.assertEqual(self.codes(backwards.replace("0 r last", "0 last r")), [])
 
     def test_left_calling(self):
         for body, is_told in [
@@ -98,26 +93,35 @@ class Warnings(Case):
     def test_comments_may_hold_anything(self):
         text = script(["cclc adc  # keep x in {{ cdreg \xff"]).encode("latin-1")
         (self.room / "a.script").write_bytes(text)
-        self.assertEqual([it for it in camac.warnings("@sample", self.room / "a.script") if it.code is not Code.UNREACHED], [])
+        self.assertEqual(camac.warnings("@sample", self.room / "a.script"), [])
 
     def test_examples(self):
-        """What is found in them is known: some have a service without a clear, and one keeps what its own test bounds too."""
+        """Nothing is found in them but services without a clear."""
         alone = {"too_few_cycles.script", "three_modules.script"}
         on_sample = [it for it in sorted((TOP / "examples").glob("*.script")) if it.name not in alone]
         for plan, its in [("@sample", on_sample), (TOP / "examples/three_crates.toml", [TOP / "examples/three_modules.script"])]:
             for it in its:
-                wanted = {Code.UNUSED_KEEP} if it.name == "kept_counter.script" else set()
                 with self.subTest(script=it.name):
-                    self.assertEqual({its.code for its in camac.warnings(plan, it)} - {Code.LEFT_CALLING}, wanted)
+                    self.assertEqual({its.code for its in camac.warnings(plan, it)} - {Code.LEFT_CALLING}, set())
         for bench in sorted((TOP / "examples/benches").iterdir()):
             self.assertEqual(camac.warnings(bench / "plan.toml", bench / "readout.script"), [])
+
+    def test_pages(self):
+        """The scripts of the pages that are accepted on @sample are meant, but for the examples of the page of warnings."""
+        tried = 0
+        for page in sorted((TOP / "docs").glob("*.md")):
+            for words, text in ACCEPTED.findall(page.read_text()):
+                if " on " not in words and page.name != "WARNINGS.md":
+                    tried += 1
+                    with self.subTest(page=page.name, script=text):
+                        self.assertEqual({code for _, code in self.codes(text)} - {"W3"}, set())
+        self.assertGreater(tried, 25)
 
     def command(self, *words):
         env = {**os.environ, "PYTHONPATH": str(TOP / "python"), "CAMAC_PROGRAM": PROGRAM, "PYTHONDONTWRITEBYTECODE": "1"}
         words = [sys.executable, "-m", "camac", "check", *map(str, words)]
         ran = subprocess.run(words, cwd=self.room, env=env, stdout=subprocess.PIPE, stderr=subprocess.PIPE, text=True, timeout=60)
-        told = "" if warn.looks_for_all() or "--json" in words or ran.returncode == 2 else f"camac: {judge.NO_COSTS}\n"
-        self.assertEqual(ran.stderr if ran.returncode != 2 else "", told)
+        self.assertEqual(ran.stderr if ran.returncode != 2 else "", "")
         return ran.returncode, ran.stdout
 
     def test_statuses(self):

@@ -17,6 +17,8 @@ from typing import List, NoReturn, Optional, Protocol, Union
 File = Union[str, bytes, "os.PathLike[str]", "os.PathLike[bytes]"]
 GREATEST_LINE = 4096
 GREATEST = {"x": 1, "q": 1, "word": 0xFF_FFFF, "wait": 15, "gl": 0xFF_FFFF}
+# The most seconds that a wait of the system takes.
+GREATEST_TIMEOUT = 2_147_483
 # After a failure the program has this many seconds for its end, before it is killed.
 PATIENCE = 60.0
 DEMAND = re.compile(rb"demand")
@@ -155,13 +157,16 @@ def drive(
     """Plays a script against a branch, and returns how the run ended. `plan` may be "@sample". `events` must not hold bytes.
 
     `program` is found by `find_program` unless given. `timeout` is how many seconds the program may take for its next line, and for its
-    end; the time that the branch takes does not count.
+    end; the time that the branch takes does not count. It is 0 to 2,147,483; without it the program may take as long as it does.
 
     The lockouts that are held when the requests end are released by `branch.unlock`, however the run ends. An interrupt (Ctrl-C) inside
     `branch.lock` may come after the lockout was taken, so this one is released too.
 
     Raises what the branch raises. The run ends first: the events of all services that ended are in the file. Raises Refused,
-    UsageFault, ProgramFault, ProtocolFault or TimeFault, all of them DriveFault, and OSError where the program cannot be started."""
+    UsageFault, ProgramFault, ProtocolFault or TimeFault, all of them DriveFault, OSError where the program cannot be started, and
+    ValueError, with nothing started, for a timeout out of its range."""
+    if timeout is not None and not 0 <= timeout <= GREATEST_TIMEOUT:
+        raise ValueError(f"a timeout is 0 to {GREATEST_TIMEOUT} seconds, not {timeout}")
     with _Program([find_program(program), "drive", "--", plan, script, events], timeout) as started:
         run = _Run(started, branch)
         try:

@@ -37,9 +37,7 @@ def edge_case(random: Random) -> Case:
 
 def played(random: Random, inputs: Inputs) -> Case:
     """The script is judged, and played where it is accepted."""
-    commands = ["check"]
-    if random.random() < 0.4:
-        commands.append("bounds")
+    commands = ["check", "bounds" if random.random() < 0.4 else "costs"]
     try:
         checker = checked(inputs)
     except Refused:
@@ -62,7 +60,7 @@ def events_case(random: Random) -> Case:
 
 
 def limit_case(random: Random) -> Case:
-    return Case(Inputs(None, make_limit(random)), ("check", "bounds"))
+    return Case(Inputs(None, make_limit(random)), ("check", "bounds", "costs"))
 
 
 def long_case(random: Random) -> Case:
@@ -72,7 +70,7 @@ def long_case(random: Random) -> Case:
     if how == 0:
         return Case(Inputs(b"#" * (TEXT_LIMIT + more)), ("plan",))
     if how == 1:
-        return Case(Inputs(None, b" " * (TEXT_LIMIT - 1 + more) + b"#"), ("check", "bounds", "run"))
+        return Case(Inputs(None, b" " * (TEXT_LIMIT - 1 + more) + b"#"), ("check", "bounds", "costs", "run"))
     return Case(Inputs(file=b"CAMACEV2" + bytes(EVENT_FILE_LIMIT - 7)), ("events",))
 
 

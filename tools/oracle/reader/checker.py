@@ -1,7 +1,7 @@
 """The checker's rules: what is known after each statement, what it costs, and the first rule that is broken."""
 from __future__ import annotations
 
-from typing import Dict, FrozenSet, List, Tuple
+from typing import Dict, FrozenSet, List, Set, Tuple
 
 from oracle.reader import loops, transfers
 from oracle.reader.addresses import widths_of
@@ -30,6 +30,10 @@ class Checker:
         self.script, self.plan, self.is_least = script, plan, is_least
         self.costs: List[Cost] = []
         self.headings: Dict[str, Cost] = {}
+        # Of each statement that can be reached, by its identity: what was known before it, and what one time of it costs.
+        self.judged: Dict[int, Tuple[Known, Cost]] = {}
+        # The choices whose `else` cannot be reached.
+        self.never_else: Set[int] = set()
         # The variables of the `for` loops around.
         self.loop_variables: Tuple[str, ...] = ()
 
@@ -65,7 +69,9 @@ class Checker:
         for statement in statements:
             if state is None:
                 break
-            state, one = RULES[type(statement)](self, state, statement)
+            known = state
+            state, one = RULES[type(statement)](self, known, statement)
+            self.judged[id(statement)] = known, one
             cost = cost.plus(one)
         return state, cost
 
@@ -130,7 +136,10 @@ class Checker:
     def choice(self, known: Known, it: If) -> Tuple[State, Cost]:
         test_values(known, it.condition, it.line)
         after, cost = self.block(where(known, it.condition, True, it.line), it.body)
-        other, other_cost = self.block(where(known, it.condition, False, it.line), it.otherwise or [])
+        fails = where(known, it.condition, False, it.line)
+        if fails is None:
+            self.never_else.add(id(it))
+        other, other_cost = self.block(fails, it.otherwise or [])
         return join(after, other), STEP.plus(cost.greater(other_cost))
 
     def lock(self, known: Known, it: Lock) -> Tuple[State, Cost]:

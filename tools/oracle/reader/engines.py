@@ -10,6 +10,7 @@ from oracle.reader.grammar import read_script
 from oracle.reader.meaning import Run
 from oracle.reader.plan import Plan, read_plan, sample_plan
 from oracle.reader.refusals import EVENT_FILE_LIMIT, TEXT_LIMIT, Refused, TooLong
+from oracle.reader.shares import Shares
 
 GOOD, REFUSED, FAULT = 0, 1, 3
 
@@ -68,6 +69,10 @@ def tell_bounds(inputs: Inputs) -> Told:
     return told(checked(inputs, True).least_headings(), GOOD, "least headings")
 
 
+def tell_costs(inputs: Inputs) -> Told:
+    return told(Shares(checked(inputs)).lines(), GOOD, "costs")
+
+
 def played(inputs: Inputs) -> Run:
     checker = checked(inputs)
     run = Run(checker.script, checker.plan, Answers(inputs.answers))
@@ -95,7 +100,8 @@ def tell_events(inputs: Inputs) -> Told:
 
 
 TELL: Dict[str, Callable[[Inputs], Told]] = {
-    "plan": tell_plan, "check": tell_check, "bounds": tell_bounds, "run": tell_run, "drive": tell_drive, "events": tell_events,
+    "plan": tell_plan, "check": tell_check, "bounds": tell_bounds, "costs": tell_costs, "run": tell_run, "drive": tell_drive,
+    "events": tell_events,
 }
 
 
@@ -112,6 +118,6 @@ def tell(command: str, inputs: Inputs) -> Told:
 def words_of(command: str) -> Tuple[str, ...]:
     """The inputs and outputs that stand after a subcommand."""
     return {
-        "plan": ("plan",), "check": ("plan", "script"), "bounds": ("plan", "script"), "run": ("plan", "script", "answers", "EVENTS"),
-        "drive": ("plan", "script", "EVENTS"), "events": ("file",),
+        "plan": ("plan",), "check": ("plan", "script"), "bounds": ("plan", "script"), "costs": ("plan", "script"),
+        "run": ("plan", "script", "answers", "EVENTS"), "drive": ("plan", "script", "EVENTS"), "events": ("file",),
     }[command]

@@ -1,0 +1,236 @@
+#!/usr/bin/env python3
+"""Tries what `camac costs` promises: shares that add up to the bounds, over the judgement of `check`, on a thousand scripts and on the largest ones.
+
+usage: tests/costs_test.py [-v] [TEST ..]     from any folder; takes half a minute
+
+The program is crates/camac/out/camac (cd crates/camac && rt run makes it), or what the environment variable CAMAC_PROGRAM names. The worked rows of
+tests/rows/costs.rows are played by tests/rows_test.py. The scripts are made by tools/oracle, which also tells each row.
+"""
+import os
+import pathlib
+import random
+import re
+import resource
+import subprocess
+import sys
+import tempfile
+import unittest
+
+from rows_test import PROGRAM, TOP
+
+sys.path.insert(0, str(TOP / "tools"))
+sys.dont_write_bytecode = True
+
+from oracle.maker.plans import make_plan
+from oracle.maker.scripts import make_script
+from oracle.reader.engines import Inputs, checked, tell
+from oracle.reader.plan import read_plan, sample_plan
+from oracle.reader.refusals import Refused
+
+ACCEPTED = 1000
+HEAD = re.compile(
+    r"(?:service (?P<service>\w+) line \d+ gl (?P<gl>\d+) at \d+ \d+ \d+|proc \w+ line \d+) "
+    r"cycles (?P<cycles>\d+) of (?P<of_cycles>\d+) words (?P<words>\d+) of (?P<of_words>\d+) steps (?P<steps>\d+)(?: of \d+)?"
+)
+VERDICT = "service {service} gl {gl} cycles {cycles} of {of_cycles} words {words} of {of_words} steps {steps}"
+ROW = re.compile(r"line \d+ depth (\d+) (\S+) times (\d+) cycles (\d+) words (\d+) steps (\d+) share (\d+) (\d+) (\d+)(?: (?:at|turns|crate|proc) .*)?")
+GREATEST = 2**32 - 1
+
+
+class Costs(unittest.TestCase):
+    def setUp(self):
+        room = tempfile.TemporaryDirectory(prefix="camac-costs-")
+        self.addCleanup(room.cleanup)
+        self.room = pathlib.Path(room.name)
+
+    def call(self, command, inputs, given=b""):
+        """Status, standard output and standard error."""
+        (self.room / "script").write_bytes(inputs.script)
+        if inputs.plan is not None:
+            (self.room / "plan").write_bytes(inputs.plan)
+        words = [PROGRAM, command, "@sample" if inputs.plan is None else "plan", "script"]
+        ran = subprocess.run(words, input=given, cwd=self.room, capture_output=True, timeout=60)
+        return ran.returncode, ran.stdout.decode(), ran.stderr
+
+
+def made_scripts():
+    """A thousand scripts that the reader of tools/oracle accepts, and those beside them that it refuses, each with its plan."""
+    dice, accepted, refused = random.Random("costs"), [], []
+    while len(accepted) < ACCEPTED:
+        plan = None if dice.random() < 0.35 else make_plan(dice)
+        inputs = Inputs(plan, make_script(dice, sample_plan() if plan is None else read_plan(plan)))
+        try:
+            checked(inputs)
+            accepted.append(inputs)
+        except Refused:
+            refused.append(inputs)
+    return accepted, refused
+
+
+def bodies(printed):
+    """Each body's line, and the numbers of its rows: depth, word, times, what one time costs, and the share."""
+    found = []
+    for line in printed.splitlines():
+        row = ROW.fullmatch(line)
+        if row:
+            depth, word, *numbers = row.groups()
+            numbers = [int(it) for it in numbers]
+            found[-1][1].append((int(depth), word, numbers[0], tuple(numbers[1:4]), tuple(numbers[4:])))
+        else:
+            found.append((HEAD.fullmatch(line), []))
+    return found
+
+
+class Made(Costs):
+    """What holds of each script that is made by chance."""
+
+    @classmethod
+    def setUpClass(cls):
+        cls.accepted, cls.refused = made_scripts()
+
+    def test_rows(self):
+        seen = set()
+        for number, inputs in enumerate(self.accepted):
+            status, printed, said = self.call("costs", inputs)
+            wanted = tell("costs", inputs)
+            self.assertEqual((status, printed, said), (0, wanted.out.decode(), b""), number)
+            services = []
+            for head, rows in bodies(printed):
+                self.add_up(head, rows)
+                seen.update(word for _, word, *_ in rows)
+                if head["service"]:
+                    services.append(VERDICT.format(**head.groupdict()))
+            self.assertEqual(self.call("check", inputs)[1].splitlines()[1:], services, number)
+        words = "= cdreg put cfsa cssa cfmad cfubc cfubr cccz cccc ctci ctcd ctgl ccci cccd cclm cclc ctlm if else for while lock call"
+        self.assertEqual(seen, set(words.split()))
+
+    def add_up(self, head, rows):
+        """Shares add up to the bounds. A statement's times fit its body's steps, and what is never reached costs nothing."""
+        bounds = [int(head[it]) for it in ("cycles", "words", "steps")]
+        self.assertEqual([sum(share[it] for *_, share in rows) for it in range(3)], bounds, head[0])
+        for _, word, times, each, share in rows:
+            self.assertLessEqual(times, min(bounds[2], GREATEST))
+            self.assertTrue(times or each == share == (0, 0, 0))
+            if word != "else":
+                self.assertTrue(not times or each[2] >= 1)
+                self.assertTrue(all(part <= times * one for part, one in zip(share, each)), (word, times, each, share))
+
+    def test_numbers_of_bounds(self):
+        """With the headings that `bounds` prints, these have the numbers of the bodies."""
+        tried = 0
+        for number, inputs in enumerate(self.accepted[:100]):
+            headings = self.call("bounds", inputs)[1].splitlines()
+            texts = iter(headings)
+            heading = rb"\b(?:proc\s+\w+\s*\([^)]*\)|service\s+\w+)\s+within\s+\d+\s+cycles\s+event\s+\d+\s+words(?:\s+steps\s+\d+)?"
+            script = re.sub(heading, lambda _: next(texts).encode(), inputs.script)
+            if next(texts, None) is not None or script.count(b"\n") != inputs.script.count(b"\n"):
+                continue
+            tried += 1
+            status, printed, _ = self.call("costs", inputs._replace(script=script))
+            self.assertEqual(status, 0, number)
+            least = [[int(it) for it in re.findall(r"\b\d+\b", it[it.index("within") :])] for it in headings]
+            found = [[int(head[it]) for it in ("cycles", "words", "steps")] for head, _ in bodies(printed)]
+            self.assertEqual([one[: len(other)] for one, other in zip(found, least)], least, number)
+        self.assertGreater(tried, 50)
+
+    def test_refusals(self):
+        """They are those of `check`."""
+        self.assertGreater(len(self.refused), 200)
+        for inputs in self.refused[:200]:
+            told = self.call("costs", inputs)
+            self.assertEqual((told, told[0]), (self.call("check", inputs), 1))
+
+
+class Faults(Costs):
+    """They are those of `check`."""
+
+    def test_inputs(self):
+        long = b" " * (1 << 20) + b"#"
+        (self.room / "long").write_bytes(long)
+        (self.room / "good").write_bytes(b"var v\n")
+        of_files = ("none good", "@sample none", "@sample .", "@sample long", "long good", "@in good", "@sample @in")
+        for words in (*of_files, "@in @in", "@sample", "@sample good more"):
+            told = []
+            for command in ("costs", "check"):
+                ran = subprocess.run([PROGRAM, command, *words.split()], input=long, cwd=self.room, capture_output=True, timeout=60)
+                told.append((ran.returncode, ran.stdout, ran.stderr.replace(command.encode(), b"COMMAND")))
+            self.assertEqual(*told, words)
+            self.assertIn(told[0][0], (2, 3), words)
+
+
+class Streams(Costs):
+    """Outputs through pipes, and outputs that fail."""
+
+    def shell(self, line):
+        how = {"stdin": subprocess.DEVNULL, "capture_output": True, "cwd": self.room, "timeout": 60}
+        ran = subprocess.run(["bash", "-c", line], env={**os.environ, "camac": PROGRAM}, **how)
+        return ran.returncode, ran.stdout, ran.stderr
+
+    def test_pipes(self):
+        inputs = Inputs(None, (TOP / "examples/procedure.script").read_bytes())
+        printed = self.call("costs", inputs)[1].encode()
+        for words in ("script", "@in <script", "@in < <(cat script)", "<(cat script)", "script | cat"):
+            self.assertEqual(self.shell(f'set -o pipefail; "$camac" costs @sample {words}'), (0, printed, b""), words)
+        self.assertEqual(self.shell('"$camac" costs @sample script >/dev/full'), (3, b"", b"fault write\n"))
+        self.assertEqual(self.shell('"$camac" costs @sample script >&-'), (3, b"", b"fault write\n"))
+        self.assertEqual(self.shell('"$camac" costs @sample @in <&-'), (3, b"", b"fault read\n"))
+
+    def test_a_reader_that_is_gone(self):
+        (self.room / "script").write_bytes(largest()["4,096 long statements"].script)
+        line = '{ "$camac" costs @sample script; echo $? >status; } | head -n 1'
+        self.assertEqual(self.shell(line)[2], b"fault write\n")
+        self.assertEqual((self.room / "status").read_bytes(), b"3\n")
+
+
+def many_services():
+    """The plan of a crate with 24 bits in two crates, and a script with a service on each, of 4,096 statements in all."""
+    stations = [(crate, n) for crate in (1, 2) for n in range(1, 13)]
+    module = '[[type]]\nname = "A"\ncommands = [ { f = 0, a = 0, width = 24 }, { f = 10, a = 0 } ]\n'
+    plan = module + "".join(
+        f"[[crate]]\nnumber = {crate}\nwaits = 15\n" + "".join(f'[[crate.station]]\nn = {n}\ntype = "A"\ngl = {12 * crate - 12 + n}\n' for n in range(1, 13))
+        for crate in (1, 2)
+    )
+    lams = "".join(f"cdlam l{crate}_{n} 1 {crate} {n} 0\n" for crate, n in stations)
+    each = 4096 // len(stations)
+    services = "".join(
+        f"service l{crate}_{n} within 4294967295 cycles event 4096 words {{\ncdreg r 1 {crate} {n} 0\n{f'cfsa 0 r -> v{chr(10)}' * (each - 1)}}}\n"
+        for crate, n in stations
+    )
+    return Inputs(plan.encode(), f"{lams}var v\n{services}".encode())
+
+
+def largest():
+    """The largest scripts within the limits."""
+    lam, long = "cdlam adc 1 1 5 12\n", f"v = {'+'.join(['v'] * 33)}\n"
+    heading = "service adc within 4294967295 cycles event 4096 words {\n"
+    loops = "".join(f"for v{depth} = 1 to 2 {{ " for depth in range(13))
+    names = " ".join(f"v{it}" for it in range(13))
+    choices = "if q {} else { " * 13
+    return {
+        "4,096 long statements": Inputs(None, f"{lam}var v\n{heading}{long * 4096}}}\n".encode()),
+        "13 loops in one another": Inputs(None, f"{lam}var v {names}\n{heading}{loops}\n{f'v = v0{chr(10)}' * 4083}{'}' * 13} }}\n".encode()),
+        "13 choices in one another": Inputs(None, f"{lam}var v\n{heading}{choices}\n{long * 4083}{'}' * 13} }}\n".encode()),
+        "24 services": many_services(),
+    }
+
+
+class Time(Costs):
+    def seconds(self, command, inputs):
+        """The least processor time of five calls."""
+        times = []
+        for _ in range(5):
+            before = resource.getrusage(resource.RUSAGE_CHILDREN)
+            self.assertEqual(self.call(command, inputs)[0], 0)
+            after = resource.getrusage(resource.RUSAGE_CHILDREN)
+            times.append(after.ru_utime + after.ru_stime - before.ru_utime - before.ru_stime)
+        return min(times)
+
+    def test_ten_times_that_of_check(self):
+        for name, inputs in largest().items():
+            check, costs = (self.seconds(it, inputs) for it in ("check", "costs"))
+            print(f"{name}: check {1000 * check:.1f} ms, costs {1000 * costs:.1f} ms")
+            self.assertLessEqual(costs, 10 * check, name)
+
+
+if __name__ == "__main__":
+    unittest.main()

@@ -1,0 +1,147 @@
+"""What each statement has of the bound of its body: the rows of `costs`, over what the checker found of the statement."""
+from __future__ import annotations
+
+from typing import Iterator, List, NamedTuple, Tuple
+
+from oracle.reader.checker import Checker
+from oracle.reader.costs import STEP, Cost
+from oracle.reader.linking import gl_of
+from oracle.reader.ranges import Range, State, value_of
+from oracle.reader.tree import (
+    Assign, Block, Body, Call, CrateCall, Cycle, For, If, LamCall, Lock, Put, Scan, SetRegister, Statement, While,
+)
+
+NOTHING = Cost()
+WORDS = {Assign: "=", SetRegister: "cdreg", Put: "put", Scan: "cfmad", If: "if", For: "for", While: "while", Lock: "lock", Call: "call"}
+
+
+class Counted(NamedTuple):
+    """How often a block is made at most, and how often each of its numbers counts in the bound."""
+
+    times: int
+    weight: Cost
+
+
+class Row(NamedTuple):
+    line: int
+    depth: int
+    word: str
+    times: int
+    each: Cost
+    share: Cost
+    tail: str = ""
+
+    def text(self) -> str:
+        each = "cycles {} words {} steps {}".format(*self.each)
+        return f"line {self.line} depth {self.depth} {self.word} times {self.times} {each} share {'{} {} {}'.format(*self.share)}{self.tail}"
+
+
+def word_of(it: Statement) -> str:
+    if isinstance(it, Cycle):
+        return "cssa" if it.is_short else "cfsa"
+    if isinstance(it, Block):
+        return "cfubc" if it.limit is None else "cfubr"
+    if isinstance(it, (CrateCall, LamCall)):
+        return it.call.split()[0]
+    return WORDS[type(it)]
+
+
+def range_text(it: Range) -> str:
+    return str(it[0]) if it[0] == it[1] else f"{it[0]}..{it[1]}"
+
+
+def multiplied(a: Cost, b: Cost) -> Cost:
+    return Cost(*(x * y for x, y in zip(a, b)))
+
+
+class Shares:
+    """The rows of the bodies that a checker has judged."""
+
+    def __init__(self, checker: Checker) -> None:
+        self.checker = checker
+
+    def found(self, it: Statement) -> Tuple[State, Cost]:
+        """What was known before a statement (None where it cannot be reached), and what one time of it costs."""
+        return self.checker.judged.get(id(it), (None, NOTHING))
+
+    def block_cost(self, block: List[Statement]) -> Cost:
+        cost = NOTHING
+        for it in block:
+            cost = cost.plus(self.found(it)[1])
+        return cost
+
+    def turns(self, it: For | While) -> int:
+        """A loop of T turns has 1 step and T times (1 + the steps of its block)."""
+        return (self.found(it)[1].steps - 1) // (1 + self.block_cost(it.body).steps)
+
+    def rows(self, block: List[Statement], depth: int, counted: Counted) -> Iterator[Row]:
+        for it in block:
+            known, each = self.found(it)
+            here = counted if known is not None else Counted(0, NOTHING)
+            share = multiplied(self.own(it, known, each), here.weight)
+            yield Row(it.line, depth, word_of(it), here.times, each, share, self.tail(it, known))
+            yield from self.inside(it, depth, here)
+
+    def own(self, it: Statement, known: State, each: Cost) -> Cost:
+        """What one time costs without what stands in its block."""
+        if known is None:
+            return NOTHING
+        if isinstance(it, If):
+            return STEP
+        if isinstance(it, (For, While)):
+            return Cost(steps=1 + self.turns(it))
+        if isinstance(it, Lock):
+            return Cost(self.checker.plan.waits(value_of(known, it.crate, it.line)[0]), 0, 2)
+        return each
+
+    def inside(self, it: Statement, depth: int, here: Counted) -> Iterator[Row]:
+        if isinstance(it, If):
+            yield from self.arms(it, depth, here)
+        elif isinstance(it, (For, While)):
+            turns = self.turns(it) if here.times else 0
+            yield from self.rows(it.body, depth + 1, Counted(here.times * turns, here.weight.times(turns)))
+        elif isinstance(it, Lock):
+            yield from self.rows(it.body, depth + 1, here)
+
+    def arms(self, it: If, depth: int, here: Counted) -> Iterator[Row]:
+        """For each number the greater arm counts, the first where both are alike."""
+        first, second = self.block_cost(it.body), self.block_cost(it.otherwise or [])
+        of_first = Cost(*(int(a >= b) for a, b in zip(first, second)))
+        yield from self.rows(it.body, depth + 1, here._replace(weight=multiplied(here.weight, of_first)))
+        if it.otherwise is not None:
+            is_reached = here.times and id(it) not in self.checker.never_else
+            yield Row(it.line, depth, "else", here.times if is_reached else 0, second, NOTHING)
+            of_second = Cost(*(1 - one for one in of_first))
+            yield from self.rows(it.otherwise, depth + 1, here._replace(weight=multiplied(here.weight, of_second)))
+
+    def tail(self, it: Statement, known: State) -> str:
+        """What else there is to tell. The address of a LAM and the name of a procedure are known in any case."""
+        if isinstance(it, LamCall):
+            lam = self.checker.script.lams[it.lam]
+            return f" at {lam.crate} {lam.station} {lam.sub}"
+        if isinstance(it, Call):
+            return f" proc {it.procedure}"
+        if known is None:
+            return ""
+        if isinstance(it, (For, While)):
+            return f" turns {self.turns(it)}"
+        if isinstance(it, Lock):
+            return f" crate {value_of(known, it.crate, it.line)[0]}"
+        register = it.first if isinstance(it, Scan) else it.register if isinstance(it, (Cycle, Block)) else None
+        return "" if register is None else " at " + " ".join(range_text(one) for one in known.registers[register])
+
+    def head(self, it: Body, cost: Cost) -> str:
+        cycles, words, steps = cost
+        numbers = f"cycles {cycles} of {it.cycles} words {words} of {it.words} steps {steps}"
+        if not it.is_service:
+            return f"proc {it.name} line {it.line} {numbers} of {it.steps}"
+        lam = self.checker.script.lams[it.name]
+        gl = gl_of(self.checker.script, self.checker.plan, it.name)
+        return f"service {it.name} line {it.line} gl {gl} at {lam.crate} {lam.station} {lam.sub} {numbers}"
+
+    def lines(self) -> List[str]:
+        lines = []
+        for it, cost in zip(self.checker.script.bodies, self.checker.costs):
+            lines.append(self.head(it, cost))
+            lines += [row.text() for row in self.rows(it.block, 1, Counted(1, Cost(1, 1, 1)))]
+        return lines
