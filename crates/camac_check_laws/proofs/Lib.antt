@@ -16,3 +16,6 @@ pub mod ShownTurns
 pub mod ShownAddresses
 pub mod ShownWindows
 pub mod Places
+pub mod Regions
+pub mod Judged
+mod AddressRows

@@ -7,3 +7,4 @@ pub mod ShownExpressions
 pub mod ShownAddresses
 pub mod ShownWindows
 pub mod Places
+pub mod Regions
