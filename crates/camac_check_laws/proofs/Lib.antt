@@ -18,4 +18,6 @@ pub mod ShownWindows
 pub mod Places
 pub mod Regions
 pub mod Judged
+pub mod Windows
+pub mod ScansJudged
 mod AddressRows

@@ -8,3 +8,5 @@ pub mod ShownAddresses
 pub mod ShownWindows
 pub mod Places
 pub mod Regions
+pub mod Windows
+pub mod Scans

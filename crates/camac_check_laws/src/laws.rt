@@ -5,10 +5,12 @@ ghost use Rattle.camac_check_laws.specs.Grow.{CostsGrow};
 ghost use Rattle.camac_check_laws.specs.Least.{CheckedHaveLeast, LeastAreLeast, RefusedHaveNone};
 ghost use Rattle.camac_check_laws.specs.Places.{RegistersHaveAddresses};
 ghost use Rattle.camac_check_laws.specs.Regions.{CommandsAreJudged, CostIsGreatest, StationsAreAll, ValuesAreFit, WaitsMayCome, WidthsAreAll};
+ghost use Rattle.camac_check_laws.specs.Scans.{ScansAreJudged};
 ghost use Rattle.camac_check_laws.specs.Shown.{ArgumentsAreShown, ForTurnsAreShown, HeadingsAreShown, KeptAreShown, UnfitHaveOne, UnkeptHaveOne, WhileTurnsAreShown};
 ghost use Rattle.camac_check_laws.specs.ShownAddresses.{MissingAreShown, UndeclaredAreShown};
 ghost use Rattle.camac_check_laws.specs.ShownExpressions.{ConditionsAreShown, ExpressionsAreShown};
 ghost use Rattle.camac_check_laws.specs.ShownWindows.{MissingOverAreShown, UndeclaredOverAreShown};
+ghost use Rattle.camac_check_laws.specs.Windows.{WindowsAreCounted, WindowsAreDeclared, WindowsAreInstalled};
 
 use camac_check::Checked;
 
@@ -160,4 +162,18 @@ pub fn values_are_fit()
 pub fn cost_is_greatest()
     ensures cost { CostIsGreatest }
     ensures waits { WaitsMayCome }
+{}
+
+/// The tests of a scan are of the addresses of its window, from its first to its last, in the order of stations and then of sub-addresses.
+/// The station of each is installed; each allows the function; and the window's size is how many there are.
+pub fn windows_are_between()
+    ensures installed { WindowsAreInstalled }
+    ensures declared { WindowsAreDeclared }
+    ensures counted { WindowsAreCounted }
+{}
+
+/// So a scan is refused by E1 exactly where the station of an address of its window is not installed. It is refused by E2 exactly where all
+/// are, and a register may hold a sub-address above 15, or an address of the window does not allow the function.
+pub fn scans_are_judged()
+    ensures { ScansAreJudged }
 {}
