@@ -217,8 +217,8 @@ static void openings(long many) {
     }
     const long last = greatest_size();
     printf("%ld KiB after 1000 openings, %ld after %ld\n", first, last, many);
-    /* a page of the program may be touched late; one block lost at each of 9,000 openings takes more than twice as much */
-    if (many > 1000 && last > first + 128) fail("memory grows");
+    /* pages of the program may be touched late; one block lost at each of 10,000 openings takes more */
+    if (many > 1000 && last > first + 256) fail("memory grows");
 }
 
 int main(int count, char **words) {
