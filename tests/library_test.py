@@ -195,7 +195,7 @@ class Python(Case):
 
     def test_texts(self):
         for plan, its in [*pairs(), (SAMPLE, EXAMPLES / "too_few_cycles.script")]:
-            for name in ("check", "explain", "bounds"):
+            for name in ("check", "explain", "bounds", "costs"):
                 verdict = getattr(library, name)(plan.read_bytes(), its.read_text())
                 self.assertEqual((0 if verdict.accepted else 1, verdict.text), call(PROGRAM, name, plan, its))
         for name, of_program in (("plan", "plan"), ("explain_plan", "explain")):

@@ -49,6 +49,7 @@ static void texts(void) {
     EXPECT(CAMAC_OK, camac_explain_plan(plan.bytes, plan.size, out, sizeof out, &size));
     EXPECT(CAMAC_OK, camac_explain(plan.bytes, plan.size, script.bytes, script.size, out, sizeof out, &size));
     EXPECT(CAMAC_OK, camac_bounds(plan.bytes, plan.size, script.bytes, script.size, out, sizeof out, &size));
+    EXPECT(CAMAC_OK, camac_costs(plan.bytes, plan.size, script.bytes, script.size, out, sizeof out, &size));
     EXPECT(CAMAC_OK, camac_events("CAMACEV2", 8, out, sizeof out, &size));
     EXPECT(CAMAC_REFUSED, camac_plan("[[", 2, out, sizeof out, &size));
     EXPECT(CAMAC_REFUSED, camac_explain_plan("[[", 2, out, sizeof out, &size));
@@ -57,6 +58,7 @@ static void texts(void) {
     if (size != 27 || memcmp(out, "refused S1 line 1: bad byte", 27)) fail("a refusal says otherwise");
     EXPECT(CAMAC_REFUSED, camac_explain(plan.bytes, plan.size, "!", 1, out, sizeof out, &size));
     EXPECT(CAMAC_REFUSED, camac_bounds(plan.bytes, plan.size, "!", 1, out, sizeof out, &size));
+    EXPECT(CAMAC_REFUSED, camac_costs(plan.bytes, plan.size, "!", 1, out, sizeof out, &size));
     EXPECT(CAMAC_REFUSED, camac_events("CAMACEV", 7, out, sizeof out, &size));
     EXPECT(CAMAC_REFUSED, camac_run(plan.bytes, plan.size, script.bytes, script.size, "?", 1, out, sizeof out, &size, cut, sizeof cut, &part));
     memset(long_text, ' ', sizeof long_text);
@@ -68,6 +70,7 @@ static void texts(void) {
     IS_LONG(camac_check(plan.bytes, plan.size, long_text, CAMAC_TEXT_BYTES + 1, out, sizeof out, &size));
     IS_LONG(camac_explain(plan.bytes, plan.size, long_text, CAMAC_TEXT_BYTES + 1, out, sizeof out, &size));
     IS_LONG(camac_bounds(plan.bytes, plan.size, long_text, CAMAC_TEXT_BYTES + 1, out, sizeof out, &size));
+    IS_LONG(camac_costs(plan.bytes, plan.size, long_text, CAMAC_TEXT_BYTES + 1, out, sizeof out, &size));
     IS_LONG(camac_run(plan.bytes, plan.size, long_text, CAMAC_TEXT_BYTES + 1, "", 0, out, sizeof out, &size, cut, sizeof cut, &part));
     IS_LONG(camac_events(long_text, CAMAC_FILE_BYTES + 1, out, sizeof out, &size));
     camac_session s = CAMAC_NONE;
@@ -139,6 +142,7 @@ static void deep(void) {
         camac_session s = CAMAC_NONE;
         EXPECT(code, camac_explain(plan.bytes, plan.size, its, length, out, sizeof out, &size));
         EXPECT(code, camac_bounds(plan.bytes, plan.size, its, length, out, sizeof out, &size));
+        EXPECT(code, camac_costs(plan.bytes, plan.size, its, length, out, sizeof out, &size));
         EXPECT(code, camac_open(&s, plan.bytes, plan.size, its, length, out, sizeof out, &size));
         camac_close(&s);
     }

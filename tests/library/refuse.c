@@ -57,7 +57,8 @@ static int call(int which) {
                          &file_size);
         if (code == CAMAC_NO_MEMORY && file_size) fail("an event file is there without memory");
         break;
-    case 6: code = camac_events("CAMACEV2", 8, out, sizeof out, &size); break;
+    case 6: code = camac_costs(plan.bytes, plan.size, script.bytes, script.size, out, sizeof out, &size); break;
+    case 7: code = camac_events("CAMACEV2", 8, out, sizeof out, &size); break;
     default: code = camac_open(&s, plan.bytes, plan.size, script.bytes, script.size, out, sizeof out, &size); break;
     }
     if (code == CAMAC_NO_MEMORY && size) fail("call %d has a text without memory", which);
@@ -83,7 +84,7 @@ int main(int count, char **words) {
     if (count != 3) return 2;
     plan = read_file(words[1]);
     script = read_file(words[2]);
-    for (int which = 0; which <= 7; which++) {
+    for (int which = 0; which <= 8; which++) {
         is_alone = 1;
         const long alone = refuse_each(which);
         camac_close(&s);
