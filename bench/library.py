@@ -1,11 +1,11 @@
 #!/usr/bin/env python3
 """Measures what an answer costs through the library for C: `camac_wants`, `camac_next`, and `camac_words` where an event ends.
 
-usage: bench/library.py [--openings N] [ARCHIVE]     ARCHIVE is crates/camac_c/out/libcamac_c.a unless given (built by: cd crates/camac_c && rt lib)
+usage: bench/library.py [ARCHIVE]     ARCHIVE is crates/camac_c/out/libcamac_c.a unless given (built by: cd crates/camac_c && rt lib)
 
 The instructions are those of valgrind's callgrind. They are told for the interface (the exports, and what they copy), for the runner that
 it calls, and for the loop in C around them. The time is the processor's, in nanoseconds, the least of five runs. It needs gcc, and valgrind
-for the instructions. With --openings N sessions are opened and closed (a million shows that memory is flat), and nothing else is measured.
+for the instructions.
 """
 import argparse
 import os
@@ -23,38 +23,35 @@ FEW, MANY = 10_000, 20_000
 ANSWERS = 1_000_000
 BEST = 5
 LOOP = ("play", "main", "camac_wants", "camac_next", "camac_words")
-INTERFACE = re.compile(r"camac_raw_|camac_c::|^mem(?:cpy|move|set)|^__mem")
+INTERFACE = re.compile(r"camac_raw_|camac_c::")
+COPIES = re.compile(r"^(?:__)?mem(?:cpy|move|set)")
 
 
-def compiled(archive, room, source):
-    """A program over the archive, with the names of all functions."""
+def compiled(archive, room):
+    """The program bench/library.c over the archive, with the names of all functions."""
     subprocess.run([f"{TOP}/tools/library", archive, room], check=True)
-    words = ["gcc", "-std=c99", "-O2", "-fno-inline", f"-I{TOP}/include", source, f"{room}/libcamac.a", "-pthread", "-o", f"{room}/library"]
+    words = ["gcc", "-std=c99", "-O2", "-fno-inline", f"-I{TOP}/include", f"{TOP}/bench/library.c", f"{room}/libcamac.a", "-o", f"{room}/library"]
     subprocess.run(words, check=True)
     return f"{room}/library"
 
 
 def costs(program, script, answers, room):
-    """Instructions of each function, by its name."""
+    """Instructions of each function, by its name. What copies or fills memory counts to the function that calls it."""
     told = f"{room}/callgrind"
     words = ["valgrind", "-q", "--tool=callgrind", f"--callgrind-out-file={told}", program, PLAN, script, str(answers)]
     subprocess.run(words, check=True, stdout=subprocess.DEVNULL)
-    names, found, name, is_call = {}, {}, "", False
+    names, found, name, called = {}, {}, "", None
     with open(told, encoding="utf-8") as lines:
         for line in lines:
-            if line.startswith("fn="):
-                number, text = re.match(r"fn=\((\d+)\)(?: (.*))?", line).groups()
-                name = names.setdefault(number, text)
-            elif line.startswith("cfn="):
-                number, text = re.match(r"cfn=\((\d+)\)(?: (.*))?", line).groups()
-                names.setdefault(number, text)
-            elif line.startswith("calls="):
-                is_call = True
+            if function := re.match(r"(c?)fn=\((\d+)\)(?: (.*))?", line):
+                is_called, number, text = function.groups()
+                its = names.setdefault(number, text)
+                name, called = (name, its) if is_called else (its, None)
             elif re.match(r"[+*\-\d]", line):
                 # the line behind a call has the cost of what is called, which is told there, too
-                if not is_call:
+                if COPIES.match(called) if called else not COPIES.match(name):
                     found[name] = found.get(name, 0) + int(line.split()[1])
-                is_call = False
+                called = None
     return found
 
 
@@ -81,15 +78,10 @@ def measure(program, room):
 
 def main():
     words = argparse.ArgumentParser(usage=__doc__)
-    words.add_argument("--openings", type=int)
     words.add_argument("archive", nargs="?", default=f"{TOP}/crates/camac_c/out/libcamac_c.a")
     asked = words.parse_args()
     with tempfile.TemporaryDirectory() as room:
-        if asked.openings:
-            program = compiled(asked.archive, room, f"{TOP}/tests/library/calls.c")
-            subprocess.run([program, PLAN, f"{TOP}/examples/{SCRIPTS[0]}.script", str(asked.openings)], check=True)
-        else:
-            measure(compiled(asked.archive, room, f"{TOP}/bench/library.c"), room)
+        measure(compiled(asked.archive, room), room)
 
 
 if __name__ == "__main__":

@@ -122,6 +122,8 @@ uint32_t camac_raw_explain(const uint8_t *plan, size_t plan_size, const uint8_t 
                            uint8_t *text, size_t room, size_t *size);
 uint32_t camac_raw_bounds(const uint8_t *plan, size_t plan_size, const uint8_t *script, size_t script_size,
                           uint8_t *text, size_t room, size_t *size);
+uint32_t camac_raw_costs(const uint8_t *plan, size_t plan_size, const uint8_t *script, size_t script_size,
+                          uint8_t *text, size_t room, size_t *size);
 uint32_t camac_raw_run(const uint8_t *plan, size_t plan_size, const uint8_t *script, size_t script_size,
                        const uint8_t *answers, size_t answers_size, uint8_t *text, size_t room, size_t *size,
                        uint8_t *file, size_t file_room, size_t *file_size);
@@ -147,7 +149,7 @@ void camac_raw_close(camac_session *s);
 /* The number of the library, in the form of CAMAC_VERSION_NUMBER. */
 CAMAC_PROCEDURE uint32_t camac_version(void) { return camac_raw_version(); }
 
-/* What `camac plan`, `camac explain PLAN`, `check`, `explain` and `bounds` print, of texts that are in memory. CAMAC_OK: accepted.
+/* What `camac plan`, `camac explain PLAN`, `check`, `explain`, `bounds` and `costs` print, of texts that are in memory. CAMAC_OK: accepted.
  * CAMAC_REFUSED: the text says why, that of an explanation at length. */
 CAMAC_CALL int camac_plan(const void *plan, size_t plan_size, char *text, size_t room, size_t *size) {
     uint8_t nowhere[1];
@@ -171,6 +173,11 @@ CAMAC_CALL int camac_bounds(const void *plan, size_t plan_size, const void *scri
                             char *text, size_t room, size_t *size) {
     uint8_t nowhere[1];
     return (int)camac_raw_bounds(CAMAC_IN(plan, plan_size), CAMAC_IN(script, script_size), CAMAC_OUT(text, room, nowhere), size);
+}
+CAMAC_CALL int camac_costs(const void *plan, size_t plan_size, const void *script, size_t script_size,
+                            char *text, size_t room, size_t *size) {
+    uint8_t nowhere[1];
+    return (int)camac_raw_costs(CAMAC_IN(plan, plan_size), CAMAC_IN(script, script_size), CAMAC_OUT(text, room, nowhere), size);
 }
 
 /* What `camac events` prints of an event file in memory. */

@@ -87,6 +87,11 @@ inline verdict bounds(std::string_view plan, std::string_view script) {
         return camac_bounds(plan.data(), plan.size(), script.data(), script.size(), t, room, n);
     });
 }
+inline verdict costs(std::string_view plan, std::string_view script) {
+    return detail::judged([&](char *t, std::size_t room, std::size_t *n) {
+        return camac_costs(plan.data(), plan.size(), script.data(), script.size(), t, room, n);
+    });
+}
 inline verdict events(std::string_view file) {
     return detail::judged([&](char *t, std::size_t room, std::size_t *n) { return camac_events(file.data(), file.size(), t, room, n); });
 }

@@ -281,6 +281,27 @@ class Proved(unittest.TestCase):
         self.program.touch()
         self.assertFalse(self.taken())
 
+    def test_library_of_the_gate(self):
+        """The gate makes the archive by `rt lib`, which leaves no stamp."""
+        library = COPY / "crates/camac_c/out/libcamac_c.a"
+        library.parent.mkdir()
+        self.addCleanup(shutil.rmtree, library.parent)
+        self.addCleanup((COPY / "out/proved_library").unlink)
+        library.touch()
+        self.assertFalse(self.library_taken(), "no gate ran")
+        time.sleep(0.05)
+        (COPY / ".git/rt-ci.lock").touch()
+        self.assertFalse(self.library_taken(), "it was made before the gate ran")
+        time.sleep(0.05)
+        library.touch()
+        self.assertTrue(self.library_taken())
+        self.source.write_text(self.source.read_text() + "// changed\n")
+        self.assertFalse(self.library_taken())
+
+    def library_taken(self):
+        """Whether the archive of the library is taken as proved."""
+        line = 'top=$1; source "$top/tools/program.bash"; find_library; echo "$is_library_proved"'
+        return call("bash", "-c", line, "bash", COPY, env=Launcher.without_toolchain(self))[1] == "yes\n"
 
 class Install(unittest.TestCase):
     """The library for C that is put in place is a stand-in, where gcc is there to make one."""

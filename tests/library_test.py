@@ -8,6 +8,7 @@ It needs gcc and the archive that tests/of_c.py names, else all is left out. The
 makes it), or what the environment variable CAMAC_PROGRAM names.
 """
 import concurrent.futures
+import functools
 import importlib.util
 import os
 import re
@@ -27,9 +28,17 @@ from camac.mock import Adc, Auxiliary, MockBranch, Recorder, Register
 EXAMPLES = TOP / "examples"
 SAMPLE = EXAMPLES / "sample_plan.toml"
 HERE = TOP / "tests/library"
-LISTS = 1000
-OPENINGS = 10_000
+# so many lists of answers for the scripts of examples, and for those of the folders in it
+LISTS, FEW_LISTS = 1000, 50
+OPENINGS = 1_000_000
 MOST_KIB = 4096
+SHORT_PLAN = '''[[type]]
+name = "ADC"
+commands = [ { f = 0, a = 0, width = 12 } ]
+[[crate]]
+number = 1
+station = [ { n = 5, type = "ADC", gl = 3 } ]
+'''
 ARCHIVE_BYTES = 1_200_000
 NEEDED = {"malloc", "realloc", "free", "memcpy", "memmove", "memset"}
 ESONE = """
@@ -65,9 +74,10 @@ def names(*words):
     return {it.split()[-1] for it in call("nm", *words)[1].splitlines() if len(it.split()) > 1}
 
 
+@functools.lru_cache(maxsize=None)
 def pairs():
     """Each example script with each plan that accepts it."""
-    every = [(plan, it) for plan in sorted(EXAMPLES.glob("*.toml")) for it in sorted(EXAMPLES.glob("*.script"))]
+    every = [(plan, it) for plan in sorted(EXAMPLES.rglob("*.toml")) for it in sorted(EXAMPLES.rglob("*.script"))]
     return [(plan, it) for plan, it in every if call(PROGRAM, "check", plan, it)[0] == 0]
 
 
@@ -121,13 +131,14 @@ class Calls(Case):
 
     def test_sessions_run_and_program_are_alike(self):
         compare, every = self.program("compare"), pairs()
-        self.assertGreater(len(every), 10)
+        self.assertGreater(sum(EXAMPLES == plan.parent == its.parent for plan, its in every), 10)
 
         def ran(number):
             plan, its = every[number]
+            lists = LISTS if EXAMPLES == plan.parent == its.parent else FEW_LISTS
             folder = self.room / str(number)
             folder.mkdir()
-            return call(compare, PROGRAM, plan, its, LISTS, number, folder)
+            return call(compare, PROGRAM, plan, its, lists, number, folder)
 
         with concurrent.futures.ThreadPoolExecutor(os.cpu_count()) as pool:
             told = list(pool.map(ran, range(len(every))))
@@ -142,7 +153,8 @@ class Calls(Case):
             self.assertEqual(call(self.program("calls", static=static), SAMPLE, EXAMPLES / "straight_line.script", 0), (0, ""))
 
     def test_flat_memory(self):
-        status, told = call(self.program("calls"), SAMPLE, EXAMPLES / "straight_line.script", OPENINGS)
+        its = self.write("short.toml", SHORT_PLAN), self.write("short.script", STRAIGHT_LINE)
+        status, told = call(self.program("calls"), *its, OPENINGS)
         self.assertEqual(status, 0, told)
         self.assertLess(int(re.findall(r"(\d+) after", told)[0]), MOST_KIB)
 
@@ -183,7 +195,7 @@ class Python(Case):
 
     def test_texts(self):
         for plan, its in [*pairs(), (SAMPLE, EXAMPLES / "too_few_cycles.script")]:
-            for name in ("check", "explain", "bounds"):
+            for name in ("check", "explain", "bounds", "costs"):
                 verdict = getattr(library, name)(plan.read_bytes(), its.read_text())
                 self.assertEqual((0 if verdict.accepted else 1, verdict.text), call(PROGRAM, name, plan, its))
         for name, of_program in (("plan", "plan"), ("explain_plan", "explain")):

@@ -4,7 +4,7 @@
 #
 # The proved program is crates/camac/out/camac, as `rt run` or `rt ci` leaves it, where it stands for these sources. Else it is one that
 # tools/quick_build made of them, which is kept in out/. What was found stands in out/found, with a sum of names, sizes and times, so that
-# the next call only has to see that nothing was touched. The library is found so, too: proved by `rt ci` or ./install --prove, else made by
+# the next call only has to see that nothing was touched. The library is found so, too: proved by `.ci/run` or ./install --prove, else made by
 # tools/quick_library and kept.
 
 proved_program=crates/camac/out/camac

@@ -84,7 +84,7 @@ def _library() -> ctypes.CDLL:
     forms = {
         "version": [],
         **{name: [*text, *buffer] for name in ("plan", "explain_plan", "events")},
-        **{name: [*text, *text, *buffer] for name in ("check", "explain", "bounds")},
+        **{name: [*text, *text, *buffer] for name in ("check", "explain", "bounds", "costs")},
         "run": [*text, *text, *text, *buffer, *buffer],
         "open": [session, *text, *text, *buffer],
         "wants": [session, POINTER(Want)],
@@ -184,6 +184,11 @@ def explain(plan: Text, script: Text) -> Verdict:
 def bounds(plan: Text, script: Text) -> Verdict:
     """What `camac bounds` prints."""
     return _judged("bounds", plan, script)
+
+
+def costs(plan: Text, script: Text) -> Verdict:
+    """What `camac costs` prints."""
+    return _judged("costs", plan, script)
 
 
 def events(file: bytes) -> Verdict:

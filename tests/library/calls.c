@@ -1,4 +1,4 @@
-/* calls.c: each code of each call, sessions in turn and in threads, and openings in flat memory.
+/* calls.c: each code of each call, sessions in turn and in threads, texts that nest deep, all in 256 KiB of stack; and openings in flat memory.
  *
  *     calls PLAN SCRIPT OPENINGS */
 #define _GNU_SOURCE
@@ -49,6 +49,7 @@ static void texts(void) {
     EXPECT(CAMAC_OK, camac_explain_plan(plan.bytes, plan.size, out, sizeof out, &size));
     EXPECT(CAMAC_OK, camac_explain(plan.bytes, plan.size, script.bytes, script.size, out, sizeof out, &size));
     EXPECT(CAMAC_OK, camac_bounds(plan.bytes, plan.size, script.bytes, script.size, out, sizeof out, &size));
+    EXPECT(CAMAC_OK, camac_costs(plan.bytes, plan.size, script.bytes, script.size, out, sizeof out, &size));
     EXPECT(CAMAC_OK, camac_events("CAMACEV2", 8, out, sizeof out, &size));
     EXPECT(CAMAC_REFUSED, camac_plan("[[", 2, out, sizeof out, &size));
     EXPECT(CAMAC_REFUSED, camac_explain_plan("[[", 2, out, sizeof out, &size));
@@ -57,6 +58,7 @@ static void texts(void) {
     if (size != 27 || memcmp(out, "refused S1 line 1: bad byte", 27)) fail("a refusal says otherwise");
     EXPECT(CAMAC_REFUSED, camac_explain(plan.bytes, plan.size, "!", 1, out, sizeof out, &size));
     EXPECT(CAMAC_REFUSED, camac_bounds(plan.bytes, plan.size, "!", 1, out, sizeof out, &size));
+    EXPECT(CAMAC_REFUSED, camac_costs(plan.bytes, plan.size, "!", 1, out, sizeof out, &size));
     EXPECT(CAMAC_REFUSED, camac_events("CAMACEV", 7, out, sizeof out, &size));
     EXPECT(CAMAC_REFUSED, camac_run(plan.bytes, plan.size, script.bytes, script.size, "?", 1, out, sizeof out, &size, cut, sizeof cut, &part));
     memset(long_text, ' ', sizeof long_text);
@@ -68,6 +70,7 @@ static void texts(void) {
     IS_LONG(camac_check(plan.bytes, plan.size, long_text, CAMAC_TEXT_BYTES + 1, out, sizeof out, &size));
     IS_LONG(camac_explain(plan.bytes, plan.size, long_text, CAMAC_TEXT_BYTES + 1, out, sizeof out, &size));
     IS_LONG(camac_bounds(plan.bytes, plan.size, long_text, CAMAC_TEXT_BYTES + 1, out, sizeof out, &size));
+    IS_LONG(camac_costs(plan.bytes, plan.size, long_text, CAMAC_TEXT_BYTES + 1, out, sizeof out, &size));
     IS_LONG(camac_run(plan.bytes, plan.size, long_text, CAMAC_TEXT_BYTES + 1, "", 0, out, sizeof out, &size, cut, sizeof cut, &part));
     IS_LONG(camac_events(long_text, CAMAC_FILE_BYTES + 1, out, sizeof out, &size));
     camac_session s = CAMAC_NONE;
@@ -111,6 +114,38 @@ static void open_once(void) {
     }
     camac_close(&s);
     if (s.camac_private[0]) fail("a closed session is not none");
+}
+
+/* A part so many times between two texts, and a brace for each after them. */
+static size_t nested(char *to, const char *first, const char *part, int times, const char *last) {
+    size_t size = (size_t)sprintf(to, "%s", first);
+    for (int i = 0; i < times; i++) size += (size_t)sprintf(to + size, "%s", part);
+    size += (size_t)sprintf(to + size, "%s", last);
+    for (int i = 0; i < times; i++) to[size++] = '}';
+    return size;
+}
+
+/* Texts that nest as deep as they can, and deeper. */
+static void deep(void) {
+    static const char *const parts[] = {"[", "{ a = ", "a."};
+    static const char head[] = "cdlam adc 1 1 5 12\nvar v\nservice adc within 3 cycles event 1 words {\n";
+    static char its[CAMAC_TEXT_BYTES], out[65536];
+    size_t size;
+    for (int i = 0; i < 3; i++) {
+        const size_t length = nested(its, i < 2 ? "a = " : "", parts[i], 100000, "");
+        EXPECT(CAMAC_REFUSED, camac_plan(its, length, out, sizeof out, &size));
+        EXPECT(CAMAC_REFUSED, camac_explain_plan(its, length, out, sizeof out, &size));
+    }
+    for (int depth = 15; depth <= 16; depth++) {
+        const int code = depth == 15 ? CAMAC_OK : CAMAC_REFUSED;
+        const size_t length = nested(its, head, "if q {\n", depth, "v = v + 1\n}");
+        camac_session s = CAMAC_NONE;
+        EXPECT(code, camac_explain(plan.bytes, plan.size, its, length, out, sizeof out, &size));
+        EXPECT(code, camac_bounds(plan.bytes, plan.size, its, length, out, sizeof out, &size));
+        EXPECT(code, camac_costs(plan.bytes, plan.size, its, length, out, sizeof out, &size));
+        EXPECT(code, camac_open(&s, plan.bytes, plan.size, its, length, out, sizeof out, &size));
+        camac_close(&s);
+    }
 }
 
 /* All answers spent. To give them takes a quarter of an hour, so the run's count of them is found in its memory and set: no user may do that. */
@@ -181,12 +216,18 @@ static void *in_a_thread(void *sum) {
     return NULL;
 }
 
+static pthread_t begun(void *(*does)(void *), void *its) {
+    pthread_t thread;
+    pthread_attr_t how;
+    if (pthread_attr_init(&how) || pthread_attr_setstacksize(&how, 256 << 10) || pthread_create(&thread, &how, does, its)) fail("no thread");
+    return thread;
+}
+
 static void in_threads(void) {
     pthread_t threads[4];
     uint64_t sums[5] = {0, 0, 0, 0, 0};
     in_a_thread(&sums[4]);
-    for (int i = 0; i < 4; i++)
-        if (pthread_create(&threads[i], NULL, in_a_thread, &sums[i])) fail("no thread");
+    for (int i = 0; i < 4; i++) threads[i] = begun(in_a_thread, &sums[i]);
     for (int i = 0; i < 4; i++) {
         pthread_join(threads[i], NULL);
         if (sums[i] != sums[4]) fail("a thread does otherwise");
@@ -217,24 +258,27 @@ static void openings(long many) {
     }
     const long last = greatest_size();
     printf("%ld KiB after 1000 openings, %ld after %ld\n", first, last, many);
-    /* a page of the program may be touched late; one block lost at each of 9,000 openings takes more than twice as much */
-    if (many > 1000 && last > first + 128) fail("memory grows");
+    /* pages of the program may be touched late; one block lost at each of 10,000 openings takes more */
+    if (many > 1000 && last > first + 256) fail("memory grows");
+}
+
+static void *all_calls(void *none_more) {
+    none();
+    texts();
+    deep();
+    open_once();
+    spent();
+    in_turn();
+    in_threads();
+    return none_more;
 }
 
 int main(int count, char **words) {
     if (count != 4) return 2;
     plan = read_file(words[1]);
     script = read_file(words[2]);
-    if (atol(words[3]) > 0) {
-        openings(atol(words[3]));
-    } else {
-        none();
-        texts();
-        open_once();
-        spent();
-        in_turn();
-        in_threads();
-    }
+    if (atol(words[3]) > 0) openings(atol(words[3]));
+    else pthread_join(begun(all_calls, NULL), NULL);
     free(plan.bytes);
     free(script.bytes);
     return 0;

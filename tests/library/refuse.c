@@ -1,4 +1,5 @@
-/* refuse.c: refuses each allocation of each call in turn. Nothing may be lost, and between open and close none may be asked for.
+/* refuse.c: refuses each allocation of each call in turn, alone and with all after it. Nothing may be lost, and between open and close none may
+ * be asked for.
  *
  *     refuse PLAN SCRIPT     tells how many allocations there were */
 #include "common.h"
@@ -7,12 +8,16 @@ void *__libc_malloc(size_t size);
 void *__libc_realloc(void *block, size_t size);
 void __libc_free(void *block);
 
-static long left = -1; /* how many are granted before all are refused; -1: all are granted */
+static long left = -1; /* how many are granted before one is refused; -1: all are granted */
+static int is_alone;   /* whether those after it are granted again */
 static long blocks;    /* how many are held */
 
 static int is_refused(void) {
     if (left > 0) left--;
-    else if (left == 0) return 1;
+    else if (left == 0) {
+        if (is_alone) left = -1;
+        return 1;
+    }
     return 0;
 }
 
@@ -52,11 +57,25 @@ static int call(int which) {
                          &file_size);
         if (code == CAMAC_NO_MEMORY && file_size) fail("an event file is there without memory");
         break;
-    case 6: code = camac_events("CAMACEV2", 8, out, sizeof out, &size); break;
+    case 6: code = camac_costs(plan.bytes, plan.size, script.bytes, script.size, out, sizeof out, &size); break;
+    case 7: code = camac_events("CAMACEV2", 8, out, sizeof out, &size); break;
     default: code = camac_open(&s, plan.bytes, plan.size, script.bytes, script.size, out, sizeof out, &size); break;
     }
     if (code == CAMAC_NO_MEMORY && size) fail("call %d has a text without memory", which);
     return code;
+}
+
+/* Refuses one allocation of a call after the other, until it has them all. Returns how many that were. */
+static long refuse_each(int which) {
+    for (long granted = 0;; granted++) {
+        const long before = blocks;
+        left = granted;
+        const int code = call(which);
+        left = -1;
+        if (code == CAMAC_OK) return granted;
+        EXPECT(CAMAC_NO_MEMORY, code);
+        if (blocks != before || s.camac_private[0]) fail("call %d loses %ld blocks at allocation %ld", which, blocks - before, granted);
+    }
 }
 
 int main(int count, char **words) {
@@ -65,17 +84,13 @@ int main(int count, char **words) {
     if (count != 3) return 2;
     plan = read_file(words[1]);
     script = read_file(words[2]);
-    for (int which = 0; which <= 7; which++) {
-        for (long granted = 0;; granted++) {
-            const long before = blocks;
-            left = granted;
-            const int code = call(which);
-            left = -1;
-            if (code == CAMAC_OK) break;
-            EXPECT(CAMAC_NO_MEMORY, code);
-            if (blocks != before || s.camac_private[0]) fail("call %d loses %ld blocks at allocation %ld", which, blocks - before, granted);
-            refused++;
-        }
+    for (int which = 0; which <= 8; which++) {
+        is_alone = 1;
+        const long alone = refuse_each(which);
+        camac_close(&s);
+        is_alone = 0;
+        if (refuse_each(which) != alone) fail("call %d has another number of allocations", which);
+        refused += alone;
     }
     const long open = blocks;
     left = 0;

@@ -2,14 +2,15 @@
 
 ghost use Rattle.std.specs.Prelude.{◌≡◌};
 ghost use Rattle.camac_tool_check.specs.Report.{report};
+ghost use Rattle.camac_tool_check.specs.Costs.{costs_report};
 ghost use Rattle.camac_tool_check.specs.Headings.{headings_report};
 ghost use Rattle.camac_c.specs.Run.{AnswersRun};
 ghost use Rattle.camac_c.specs.Texts.{AnswersBy, AnswersEvents, AnswersExplain, AnswersExplainPlan, AnswersPlan};
 
 use crate::filling::{code_of, give_answer};
 use camac_tool::{
-    PlanSource, engine_bounds, engine_check, engine_events, engine_explain, engine_explain_plan,
-    engine_plan, engine_run,
+    PlanSource, engine_bounds, engine_check, engine_costs, engine_events, engine_explain,
+    engine_explain_plan, engine_plan, engine_run,
 };
 use camac_word::Watched;
 use std::alloc::Global;
@@ -101,6 +102,25 @@ pub extern "C" fn camac_raw_bounds(
     let mut script = Watched::new(script);
     let mut out = Watched::new(Vec::new(alloc));
     let answer = engine_bounds(alloc, &mut plan, &mut script, &mut out);
+    give_answer(&answer, &out.into_inner(), text, size);
+    code_of(&answer)
+}
+
+/// Prints what the bounds of a script consist of.
+#[unsafe(no_mangle)]
+pub extern "C" fn camac_raw_costs(
+    alloc: Global,
+    plan: &[u8],
+    script: &[u8],
+    text: &mut [u8],
+    size: &mut usize,
+) -> u32
+    ensures { AnswersBy costs_report plan.now script.now result text.old text.new size.new }
+{
+    let mut plan = PlanSource::Text(Watched::new(plan));
+    let mut script = Watched::new(script);
+    let mut out = Watched::new(Vec::new(alloc));
+    let answer = engine_costs(alloc, &mut plan, &mut script, &mut out);
     give_answer(&answer, &out.into_inner(), text, size);
     code_of(&answer)
 }

@@ -16,3 +16,8 @@ pub mod ShownTurns
 pub mod ShownAddresses
 pub mod ShownWindows
 pub mod Places
+pub mod Regions
+pub mod Judged
+pub mod Windows
+pub mod ScansJudged
+mod AddressRows

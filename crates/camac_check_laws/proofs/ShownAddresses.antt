@@ -146,7 +146,7 @@ none_of : {A : Type 0} (o : Option A) → is_some o ≡ false → o ≡ None
 none_of None e = refl
 none_of (Some x) e = absurd (cc)
 
-one_of : {A : Type 0} (o : Option A) → is_some o ≡ true → (x : A) × (o ≡ Some x)
+pub one_of : {A : Type 0} (o : Option A) → is_some o ≡ true → (x : A) × (o ≡ Some x)
 one_of None e = absurd (cc)
 one_of (Some x) e = (x, refl)
 
@@ -201,11 +201,11 @@ widths_there plan f subs c n some e =
     width_there (nat_lt subs.hi sub_address_end) (widths plan c n f subs.lo subs.hi) p.0 there
 
 -- a width at all sub-addresses is one at each
-all_from_each : (t : ℕ → Bool) (k n : ℕ) → ((i : ℕ) → k ≤ i → i < k + n → t i ≡ true) → all_from t k n ≡ true
+pub all_from_each : (t : ℕ → Bool) (k n : ℕ) → ((i : ℕ) → k ≤ i → i < k + n → t i ≡ true) → all_from t k n ≡ true
 all_from_each t k zero h = refl
 all_from_each t k (suc n) h = and_from (t k) (all_from t (k + 1) n) (h k (omega arith) (omega arith)) (all_from_each t (k + 1) n (λ i low high. h i (omega arith) (omega arith)))
 
-at_one : (plan : Layout) (f c n a : ℕ) → a < sub_address_end → is_some (allowed plan (address c n a) f) ≡ true → has_command plan f c n a ≡ true
+pub at_one : (plan : Layout) (f c n a : ℕ) → a < sub_address_end → is_some (allowed plan (address c n a) f) ≡ true → has_command plan f c n a ≡ true
 at_one plan f c n a below e =
     let one : 1 ≡ a + 1 - a = omega arith in
     let there : is_some (widths plan c n f a a) ≡ true =
@@ -264,7 +264,7 @@ first_same end r t u k same h = record {
   earlier = λ j low lt. let e = h.earlier j low lt in (e.0, sym (same j) ∙ e.1);
 }
 
-undeclared_shown : (plan : Layout) (f : ℕ) (g : Region) → HasAddresses g → are_stations plan g ≡ true → region_widths plan f g ≡ None → UndeclaredShown plan f g (undeclared plan f g)
+pub undeclared_shown : (plan : Layout) (f : ℕ) (g : Region) → HasAddresses g → are_stations plan g ≡ true → region_widths plan f g ≡ None → UndeclaredShown plan f g (undeclared plan f g)
 undeclared_shown plan f g has there e =
     let c : ℕ = first_outside crate_end g.crates (λ i. is_some (crate_widths plan f g.sub_addresses g.stations i)) in
     let crate = first_is crate_end g.crates (λ i. is_some (crate_widths plan f g.sub_addresses g.stations i)) has.crates

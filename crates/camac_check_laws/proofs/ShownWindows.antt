@@ -66,13 +66,13 @@ no_earlier : (m b n a : ℕ) → IsUpTo m b n a → m ≤ n
 no_earlier m b n a i = ⊎_elim (λ lt. omega arith) (λ p. let e = p.0 in omega arith) i
 
 -- the sub-addresses at a station are those of the window there
-at_station : (w : Window) (n a : ℕ) → IsInWindow w n a → IsWithin (sub_addresses_at w n) a
+pub at_station : (w : Window) (n a : ℕ) → IsInWindow w n a → IsWithin (sub_addresses_at w n) a
 at_station w n a i = record {
   low = to_low n w.first_station w.first_sub_address a i.from_first;
   high = to_high n w.last_station w.last_sub_address a i.to_last (let s = i.sub_address in omega arith);
 }
 
-of_station : (w : Window) (n a : ℕ) → w.last_sub_address ≤ 15 → IsWithin (stations_of w) n → IsWithin (sub_addresses_at w n) a → IsInWindow w n a
+pub of_station : (w : Window) (n a : ℕ) → w.last_sub_address ≤ 15 → IsWithin (stations_of w) n → IsWithin (sub_addresses_at w n) a → IsInWindow w n a
 of_station w n a last s i =
     let top = most_15 (nat_eq n w.last_station) w.last_sub_address last in
     let high = i.high in
@@ -82,7 +82,7 @@ of_station w n a last s i =
       sub_address = omega arith;
     }
 
-stations_at : (w : Window) (n a : ℕ) → IsInWindow w n a → IsWithin (stations_of w) n
+pub stations_at : (w : Window) (n a : ℕ) → IsInWindow w n a → IsWithin (stations_of w) n
 stations_at w n a i = record {
   low = no_earlier w.first_station w.first_sub_address n a i.from_first;
   high = no_earlier n a w.last_station w.last_sub_address i.to_last;
@@ -90,7 +90,7 @@ stations_at w n a i = record {
 
 -- ---- the first station of which a test does not hold
 
-over_is : (w : Window) (test : ℕ → Bool) → holds_over w test ≡ false → IsFirst station_end (stations_of w) (holds_at w test) (first_over w test)
+pub over_is : (w : Window) (test : ℕ → Bool) → holds_over w test ≡ false → IsFirst station_end (stations_of w) (holds_at w test) (first_over w test)
 over_is w test e =
     let p = or_parts (is_empty w) (all_in station_end (stations_of w) (holds_at w test)) e in
     let q = or_parts (nat_lt w.last_station w.first_station) (nat_eq w.first_station w.last_station && nat_lt w.last_sub_address w.first_sub_address) p.0 in
@@ -101,12 +101,12 @@ pub record FailsAt (w : Window) (test : ℕ → Bool) (n : ℕ) : Type 0 where
   pub some : (sub_addresses_at w n).lo ≤ (sub_addresses_at w n).hi
   pub fails : test n ≡ false
 
-fails_at : (w : Window) (test : ℕ → Bool) (n : ℕ) → holds_at w test n ≡ false → FailsAt w test n
+pub fails_at : (w : Window) (test : ℕ → Bool) (n : ℕ) → holds_at w test n ≡ false → FailsAt w test n
 fails_at w test n e =
     let p = or_parts (nat_lt (sub_addresses_at w n).hi (sub_addresses_at w n).lo) (test n) e in
     record { some = ltb-false (sub_addresses_at w n).hi (sub_addresses_at w n).lo p.0; fails = p.1 }
 
-holds_there : (w : Window) (test : ℕ → Bool) (n a : ℕ) → holds_at w test n ≡ true → IsInWindow w n a → test n ≡ true
+pub holds_there : (w : Window) (test : ℕ → Bool) (n a : ℕ) → holds_at w test n ≡ true → IsInWindow w n a → test n ≡ true
 holds_there w test n a e i =
     let span = at_station w n a i in
     let low = span.low in
@@ -236,13 +236,13 @@ undeclared_by_at plan f g h has_g has_h there e = go (has_sub_addresses g) refl 
 -- ---- the lines of the rule
 
 -- a test that fails is the fault, or the lines after it are
-after_test : {B : Type 0} (b : Bool) (rule : CheckRule) (line : ℕ) (case : Case) (r : Result B Fault) (e : Fault) → go_on (required b rule line case) (λ u. r) ≡ Err e → ((b ≡ false) × (broken rule line case ≡ e)) ⊎ ((b ≡ true) × (r ≡ Err e))
+pub after_test : {B : Type 0} (b : Bool) (rule : CheckRule) (line : ℕ) (case : Case) (r : Result B Fault) (e : Fault) → go_on (required b rule line case) (λ u. r) ≡ Err e → ((b ≡ false) × (broken rule line case ≡ e)) ⊎ ((b ≡ true) × (r ≡ Err e))
 unfolding go_on required
 after_test true rule line case r e h = inr (refl, h)
 after_test false rule line case r e h = inl (refl, cc)
 
 -- what is there goes on
-after_given : {A B : Type 0} (o : Option A) (x : A) (rule : CheckRule) (line : ℕ) (case : Case) (f : A → Result B Fault) → o ≡ Some x → go_on (given o rule line case) f ≡ f x
+pub after_given : {A B : Type 0} (o : Option A) (x : A) (rule : CheckRule) (line : ℕ) (case : Case) (f : A → Result B Fault) → o ≡ Some x → go_on (given o rule line case) f ≡ f x
 unfolding go_on given
 after_given o x rule line case f e = ap (λ p. go_on (given p rule line case) f) e
 

@@ -7,3 +7,6 @@ pub mod ShownExpressions
 pub mod ShownAddresses
 pub mod ShownWindows
 pub mod Places
+pub mod Regions
+pub mod Windows
+pub mod Scans

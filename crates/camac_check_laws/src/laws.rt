@@ -4,10 +4,13 @@ ghost use Rattle.camac_check_laws.specs.Calls.{AcceptedCallsKeep, CallsKeepToRan
 ghost use Rattle.camac_check_laws.specs.Grow.{CostsGrow};
 ghost use Rattle.camac_check_laws.specs.Least.{CheckedHaveLeast, LeastAreLeast, RefusedHaveNone};
 ghost use Rattle.camac_check_laws.specs.Places.{RegistersHaveAddresses};
+ghost use Rattle.camac_check_laws.specs.Regions.{CommandsAreJudged, CostIsGreatest, StationsAreAll, ValuesAreFit, WaitsMayCome, WidthsAreAll};
+ghost use Rattle.camac_check_laws.specs.Scans.{ScansAreJudged};
 ghost use Rattle.camac_check_laws.specs.Shown.{ArgumentsAreShown, ForTurnsAreShown, HeadingsAreShown, KeptAreShown, UnfitHaveOne, UnkeptHaveOne, WhileTurnsAreShown};
 ghost use Rattle.camac_check_laws.specs.ShownAddresses.{MissingAreShown, UndeclaredAreShown};
 ghost use Rattle.camac_check_laws.specs.ShownExpressions.{ConditionsAreShown, ExpressionsAreShown};
 ghost use Rattle.camac_check_laws.specs.ShownWindows.{MissingOverAreShown, UndeclaredOverAreShown};
+ghost use Rattle.camac_check_laws.specs.Windows.{WindowsAreCounted, WindowsAreDeclared, WindowsAreInstalled};
 
 use camac_check::Checked;
 
@@ -129,4 +132,48 @@ pub fn undeclared_over_are_shown()
 /// the body of a service, and in that of a procedure.
 pub fn registers_have_addresses()
     ensures { RegistersHaveAddresses }
+{}
+
+/// A command passes E1 exactly where each station that its register can hold is installed. Its crate is in the plan, and it has a module, or
+/// the controller answers for it.
+pub fn stations_are_all()
+    ensures { StationsAreAll }
+{}
+
+/// Where they are, the widths of a function are the least and the greatest that it has at an address of the register. There are none exactly
+/// where some address does not allow the function.
+pub fn widths_are_all()
+    ensures { WidthsAreAll }
+{}
+
+/// So a command is refused by E1 exactly where some station is not installed. It is refused by E2 exactly where all are, and some address
+/// does not allow its function.
+pub fn commands_are_judged()
+    ensures { CommandsAreJudged }
+{}
+
+/// A value passes E5 exactly where it fits at each address of the register, and a table exactly where each of its words does.
+pub fn values_are_fit()
+    ensures { ValuesAreFit }
+{}
+
+/// The cost of a cycle is 1 plus the greatest number of waits that may come before it in some crate of the register. No crate has more, and
+/// one has so many. Those that may come are the ones up to the plan's number, and none in a locked crate.
+pub fn cost_is_greatest()
+    ensures cost { CostIsGreatest }
+    ensures waits { WaitsMayCome }
+{}
+
+/// The tests of a scan are of the addresses of its window, from its first to its last, in the order of stations and then of sub-addresses.
+/// The station of each is installed; each allows the function; and the window's size is how many there are.
+pub fn windows_are_between()
+    ensures installed { WindowsAreInstalled }
+    ensures declared { WindowsAreDeclared }
+    ensures counted { WindowsAreCounted }
+{}
+
+/// So a scan is refused by E1 exactly where the station of an address of its window is not installed. It is refused by E2 exactly where all
+/// are, and a register may hold a sub-address above 15, or an address of the window does not allow the function.
+pub fn scans_are_judged()
+    ensures { ScansAreJudged }
 {}

@@ -122,9 +122,7 @@ pub fn head(body: &[Stmt], keeps: &[Keep], known: Facts) -> Result<Facts, AllocE
     requires { IsTrue (are_ordered (map keep_of keeps.now)) }
     ensures { IfOk result (λ h. h ≡ head (statements_of body.now) (map keep_of keeps.now) known) }
 {
-    let mut left = known;
-    forget_block(&mut left, body)?;
-    with_keeps(left, keeps)
+    with_keeps(forget_block(known, body)?, keeps)
 }
 
 // The same with each kept variable in its range.

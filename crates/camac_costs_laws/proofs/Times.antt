@@ -72,8 +72,8 @@ mutual
   statement_never r around (choose_else line test a b) = (
     omega arith,
     no_more_both 0 (inside (in_code r) (first_arm no_costs no_costs) (block_rows (in_code r) around a None)) _
-    (none_inside (first_arm no_costs no_costs) (block_rows (in_code r) around a None) (block_never r around a))
-    (omega arith, none_inside (second_arm no_costs no_costs) (block_rows (in_code r) around b None) (block_never r around b)),
+        (none_inside (first_arm no_costs no_costs) (block_rows (in_code r) around a None) (block_never r around a))
+        (omega arith, none_inside (second_arm no_costs no_costs) (block_rows (in_code r) around b None) (block_never r around b)),
   )
   statement_never r around (for_ line x e1 e2 keeps body) = (omega arith, none_inside (turning 0) (block_rows (in_code r) (with_fixed x around) body None) (block_never r (with_fixed x around) body))
   statement_never r around (while_ line test most m keeps body) = (omega arith, none_inside (turning 0) (block_rows (in_code r) around body None) (block_never r around body))
@@ -147,11 +147,12 @@ if_in_steps r around line test a k v fits e =
     let first' = go_ok (if_reached unreached arms.holds (accept_block c around a)) _ v split'.2 in
     let first = first'.0 in
     let same : capped (choice_costs first.costs no_costs) ≡ v.costs = ap (λ w. w.costs) (ok_same _ _ first'.2) in
-    subst (λ (b : Bounds). NoMore (in_64_bits b.steps) (statement_rows c around (choose line test a) (Some k))) same
-    (omega arith,
-    subst (λ (w : Branches). NoMore (in_64_bits (capped (choice_costs first.costs no_costs)).steps) (inside c once (block_rows c around a w.holds)))
-    (sym (ap (λ q. found (branches None None) q) split'.1))
-    (no_more_inside once (in_64_bits first.costs.steps) _ (block_rows c around a arms.holds) (omega arith) (fits arms.holds first first'.1)))
+    subst (λ (b : Bounds). NoMore (in_64_bits b.steps) (statement_rows c around (choose line test a) (Some k))) same (
+      omega arith,
+      subst (λ (w : Branches). NoMore (in_64_bits (capped (choice_costs first.costs no_costs)).steps) (inside c once (block_rows c around a w.holds)))
+          (sym (ap (λ q. found (branches None None) q) split'.1))
+          (no_more_inside once (in_64_bits first.costs.steps) _ (block_rows c around a arms.holds) (omega arith) (fits arms.holds first first'.1)),
+    )
 
 -- once at most
 at_most_once : (k : Known) (n : ℕ) → 1 ≤ n → times_at k ≤ n
@@ -177,14 +178,16 @@ choice_in_steps r around line test a b k v fits others e =
     ++ else_row c around line b w.fails ∷ inside c (second_arm x y) (block_rows c around b w.fails)) in
     let main : (x y : Bounds) → Fits arms x y = λ x y.
     no_more_both most (inside c (first_arm x y) (block_rows c around a arms.holds)) _
-    (no_more_inside (first_arm x y) (in_64_bits first.costs.steps) _ (block_rows c around a arms.holds) (omega arith) (fits arms.holds first first'.1))
-    (at_most_once arms.fails most (omega arith),
-    no_more_inside (second_arm x y) (in_64_bits second.costs.steps) _ (block_rows c around b arms.fails) (omega arith) (others arms.fails second second'.1)) in
-    subst (λ (q : Bounds). NoMore (in_64_bits q.steps) (statement_rows c around (choose_else line test a b) (Some k))) same
-    (omega arith,
-    subst (λ w. Fits w (block_verdict c around a w.holds).costs (block_verdict c around b w.fails).costs)
-    (sym (ap (λ q. found (branches None None) q) split'.1))
-    (main (block_verdict c around a arms.holds).costs (block_verdict c around b arms.fails).costs))
+    (no_more_inside (first_arm x y) (in_64_bits first.costs.steps) _ (block_rows c around a arms.holds) (omega arith) (fits arms.holds first first'.1)) (
+      at_most_once arms.fails most (omega arith),
+      no_more_inside (second_arm x y) (in_64_bits second.costs.steps) _ (block_rows c around b arms.fails) (omega arith) (others arms.fails second second'.1),
+    ) in
+    subst (λ (q : Bounds). NoMore (in_64_bits q.steps) (statement_rows c around (choose_else line test a b) (Some k))) same (
+      omega arith,
+      subst (λ w. Fits w (block_verdict c around a w.holds).costs (block_verdict c around b w.fails).costs)
+          (sym (ap (λ q. found (branches None None) q) split'.1))
+          (main (block_verdict c around a arms.holds).costs (block_verdict c around b arms.fails).costs),
+    )
 
 lock_in_steps : (r : Context) (around : Around) (line : ℕ) (e1 : Expression) (body : Block) (k : Facts) (v : Verdict)
     → ((around' : Around) → BlockInSteps r around' body) → accept_statement (in_code r) around (locked line e1 body) k ≡ Ok v
@@ -198,11 +201,12 @@ lock_in_steps r around line e1 body k v fits e =
     let inner = inner'.0 in
     let waits = unwrap_or (crate_waits r.plan n) 0 in
     let same : capped (lock_costs waits inner.costs) ≡ v.costs = ap (λ w. w.costs) (ok_same _ _ inner'.2) in
-    subst (λ (b : Bounds). NoMore (in_64_bits b.steps) (statement_rows c around (locked line e1 body) (Some k))) same
-    (omega arith,
-    subst (λ (o : Option ℕ). NoMore (in_64_bits (capped (lock_costs waits inner.costs)).steps) (inside c once (block_rows c (lock_inside o around) body (lock_head o (Some k)))))
-    (sym (ap (λ q. found None (go_on q (λ m. Ok (Some m)))) crate'.1))
-    (no_more_inside once (in_64_bits inner.costs.steps) _ (block_rows c (with_locked n around) body (Some k)) (omega arith) (fits (with_locked n around) (Some k) inner inner'.1)))
+    subst (λ (b : Bounds). NoMore (in_64_bits b.steps) (statement_rows c around (locked line e1 body) (Some k))) same (
+      omega arith,
+      subst (λ (o : Option ℕ). NoMore (in_64_bits (capped (lock_costs waits inner.costs)).steps) (inside c once (block_rows c (lock_inside o around) body (lock_head o (Some k)))))
+          (sym (ap (λ q. found None (go_on q (λ m. Ok (Some m)))) crate'.1))
+          (no_more_inside once (in_64_bits inner.costs.steps) _ (block_rows c (with_locked n around) body (Some k)) (omega arith) (fits (with_locked n around) (Some k) inner inner'.1)),
+    )
 
 -- a turn is a step of the loop, and one of what stands in it
 turns_in_steps : (turns s : ℕ) → turns * in_64_bits s ≤ 1 + turns * (1 + s)
@@ -222,12 +226,13 @@ for_in_steps r around line x e1 e2 keeps body k v fits e =
     let turn = turn'.0 in
     let keeps' = go_ok (required (keeps_hold_after keeps turn.after) _ line _) _ v turn'.2 in
     let same : capped (loop_costs (turns_between l) turn.costs) ≡ v.costs = ap (λ w. w.costs) (ok_same _ _ keeps'.2) in
-    subst (λ (b : Bounds). NoMore (in_64_bits b.steps) (statement_rows c around (for_ line x e1 e2 keeps body) (Some k))) same
-    (omega arith,
-    subst (λ (t : Turning). NoMore (in_64_bits (capped (loop_costs (turns_between l) turn.costs)).steps) (inside c (turning t.turns) (block_rows c (with_fixed x around) body t.head)))
-    (sym (ap (λ q. found (turning_from 0 None) (go_on q (λ m. Ok (turning_from (turns_between m) (for_head x m keeps body k))))) limits'.1))
-    (no_more_inside (turning (turns_between l)) (in_64_bits turn.costs.steps) _ (block_rows c (with_fixed x around) body (for_head x l keeps body k)) (turns_in_steps (turns_between l) turn.costs.steps)
-    (fits (for_head x l keeps body k) turn turn'.1)))
+    subst (λ (b : Bounds). NoMore (in_64_bits b.steps) (statement_rows c around (for_ line x e1 e2 keeps body) (Some k))) same (
+      omega arith,
+      subst (λ (t : Turning). NoMore (in_64_bits (capped (loop_costs (turns_between l) turn.costs)).steps) (inside c (turning t.turns) (block_rows c (with_fixed x around) body t.head)))
+          (sym (ap (λ q. found (turning_from 0 None) (go_on q (λ m. Ok (turning_from (turns_between m) (for_head x m keeps body k))))) limits'.1))
+          (no_more_inside (turning (turns_between l)) (in_64_bits turn.costs.steps) _ (block_rows c (with_fixed x around) body (for_head x l keeps body k)) (turns_in_steps (turns_between l) turn.costs.steps)
+          (fits (for_head x l keeps body k) turn turn'.1)),
+    )
 
 while_in_steps : (r : Context) (around : Around) (line : ℕ) (test : Condition) (most m : ℕ) (keeps : List Keep) (body : Block) (k : Facts) (v : Verdict)
     → BlockInSteps r around body → accept_statement (in_code r) around (while_ line test most m keeps body) k ≡ Ok v
@@ -243,15 +248,16 @@ while_in_steps r around line test most m keeps body k v fits e =
     let turn = turn'.0 in
     let keeps' = go_ok (required (keeps_hold_after keeps turn.after) _ line _) _ v turn'.2 in
     let same : capped (loop_costs (turn_bound arms.holds most) turn.costs) ≡ v.costs = ap (λ w. w.costs) (ok_same _ _ keeps'.2) in
-    subst (λ (b : Bounds). NoMore (in_64_bits b.steps) (statement_rows c around (while_ line test most m keeps body) (Some k))) same
-    (omega arith,
-    subst (λ (t : Turning). NoMore (in_64_bits (capped (loop_costs (turn_bound arms.holds most) turn.costs)).steps) (inside c (turning t.turns) (block_rows c around body t.head)))
-    (sym (
-    ap (λ q. found (turning_from 0 None) (go_on q (λ h. go_on (split line test h) (λ w. Ok (turning_from (turn_bound w.holds most) w.holds))))) top'.1
-    ∙ ap (λ q. found (turning_from 0 None) (go_on q (λ w. Ok (turning_from (turn_bound w.holds most) w.holds)))) split'.1
-    ))
-    (no_more_inside (turning (turn_bound arms.holds most)) (in_64_bits turn.costs.steps) _ (block_rows c around body arms.holds) (turns_in_steps (turn_bound arms.holds most) turn.costs.steps)
-    (fits arms.holds turn turn'.1)))
+    subst (λ (b : Bounds). NoMore (in_64_bits b.steps) (statement_rows c around (while_ line test most m keeps body) (Some k))) same (
+      omega arith,
+      subst (λ (t : Turning). NoMore (in_64_bits (capped (loop_costs (turn_bound arms.holds most) turn.costs)).steps) (inside c (turning t.turns) (block_rows c around body t.head)))
+          (sym (
+          ap (λ q. found (turning_from 0 None) (go_on q (λ h. go_on (split line test h) (λ w. Ok (turning_from (turn_bound w.holds most) w.holds))))) top'.1
+          ∙ ap (λ q. found (turning_from 0 None) (go_on q (λ w. Ok (turning_from (turn_bound w.holds most) w.holds)))) split'.1
+          ))
+          (no_more_inside (turning (turn_bound arms.holds most)) (in_64_bits turn.costs.steps) _ (block_rows c around body arms.holds) (turns_in_steps (turn_bound arms.holds most) turn.costs.steps)
+          (fits arms.holds turn turn'.1)),
+    )
 
 mutual
   unfolding go_on if_reached

@@ -1,35 +1,11 @@
 -- The lines of what a run tells.
-use Rattle.std.specs.Prelude.{ℕ, Bool, true, false, List, [], ◌++◌, codes, decimal, Option, Some, None, option_map, unwrap_or, slice_get}
+use Rattle.std.specs.Prelude.{ℕ, List, [], ◌++◌, codes, decimal, Option, Some, None, option_map, unwrap_or, slice_get}
 use Rattle.std.specs.List.{flat_map}
+use Rattle.camac_report_text.specs.Cycles.{cycle_text}
 use Rattle.camac_report_text.specs.Digits.{hex_word}
-use Rattle.camac_func.specs.declared.data.DataMove.{DataMove}
-use Rattle.camac_func.specs.declared.data.DataMove.TheVariants as moved
-use Rattle.camac_branch.specs.Address.{Address}
-use Rattle.camac_branch.specs.Branch.{Reply}
 use Rattle.camac_lang.specs.Tree.{Script}
 use Rattle.camac_model.specs.Behaviour.{Piece, demanded, cycled, lock_taken, lock_released, event_left}
 use Rattle.camac_report_text.specs.Verdict.{lam_name}
-
-abbrev pub bit_text : Bool → List ℕ
-bit_text true = codes "1"
-bit_text false = codes "0"
-
--- a read with all 24 bits of the reply, a write with the word sent
-abbrev pub move_text : DataMove → Reply → List ℕ
-move_text moved.In r = codes "in " ++ hex_word r.word
-move_text (moved.Out word) r = codes "out " ++ hex_word word
-move_text moved.None r = codes "none"
-
--- `cycle CRATE STATION SUB_ADDRESS FUNCTION `
-abbrev pub command_text : Address → ℕ → List ℕ
-command_text at f =
-    codes "cycle " ++ decimal at.crate_no ++ codes " " ++ decimal at.station ++ codes " " ++ decimal at.sub_address
-    ++ codes " " ++ decimal f ++ codes " "
-
--- and then `MOVE xX qQ wait WAIT`
-abbrev pub cycle_text : Address → ℕ → DataMove → Reply → ℕ → List ℕ
-cycle_text at f moves r wait =
-    command_text at f ++ move_text moves r ++ codes " x" ++ bit_text r.x ++ codes " q" ++ bit_text r.q ++ codes " wait " ++ decimal wait ++ codes "\n"
 
 -- a service has the name of its LAM
 abbrev pub service_name : Script → ℕ → List ℕ

@@ -6,7 +6,6 @@ ghost use Rattle.camac_run_machine.specs.MachineState.{piece_of};
 ghost use Rattle.camac_word.specs.Watched.{inner_of, has_failed};
 ghost use Rattle.camac_word.specs.Writing.{Writes};
 
-use crate::cycle::push_cycle;
 use camac_check_result::Checked;
 use camac_lang::Script;
 use camac_report_text::{Line, lam_name};
@@ -63,7 +62,7 @@ fn push_item(line: &mut Line, checked: &Checked, item: &Item)
     ensures short { length line.new ≤ length line.old + 80 }
 {
     match item {
-        Item::Cycle(done) => push_cycle(line, done),
+        Item::Cycle(done) => line.push_cycle(done),
         Item::Lock(c, wait) => push_lock(line, *c, *wait),
         Item::Unlock(c) => push_unlock(line, *c),
         Item::Demand(pattern, service) => push_demand(line, checked.script(), *pattern, *service),

@@ -2,12 +2,11 @@
 
 ghost use Rattle.std.specs.Prelude.{◌≡◌, ◌≤◌, ◌+◌, ◌||◌, ◌++◌, length, is_err};
 ghost use Rattle.camac_branch.specs.Address.{address};
-ghost use Rattle.camac_report.specs.Items.{command_text, unlock_texts};
+ghost use Rattle.camac_report.specs.Items.{unlock_texts};
 ghost use Rattle.camac_report.specs.Requests.{asked_text, request_text};
 ghost use Rattle.camac_word.specs.Watched.{inner_of, has_failed};
 ghost use Rattle.camac_word.specs.Writing.{Writes};
 
-use crate::cycle::push_command;
 use crate::item::push_unlocks;
 use camac_branch::Command;
 use camac_func::DataMove;
@@ -46,7 +45,7 @@ fn push_request(line: &mut Line, wanted: Wanted)
     match wanted {
         Wanted::Demand => line.push_str("demand\n"),
         Wanted::Cycle(command) => {
-            push_command(line, &command);
+            line.push_command(&command);
             push_asked(line, command.mv);
             line.push_str("\n");
         }

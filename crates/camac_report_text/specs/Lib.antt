@@ -1,5 +1,6 @@
 pub mod Codes
 pub mod Commands
+pub mod Cycles
 pub mod Digits
 pub mod Events
 pub mod Headings

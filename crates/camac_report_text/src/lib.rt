@@ -1,8 +1,10 @@
 //! The lines of verdicts, headings, refusals, plans and event files.
 #![tactic(auto)]
 
+mod bytes;
 mod code;
 mod commands;
+mod cycle;
 mod digits;
 mod events;
 mod headings;

@@ -2,13 +2,18 @@
 
 ghost use Rattle.std.specs.Prelude.{◌≡◌, ◌≤◌, ◌+◌, ◌-◌, ◌*◌, ◌++◌, [], length, take, decimal};
 ghost use Rattle.std.specs.List.{between, flat_map};
+ghost use Rattle.camac_branch.specs.Address.{address};
+ghost use Rattle.camac_report_text.specs.Cycles.{cycle_start, cycle_text};
 ghost use Rattle.camac_report_text.specs.Digits.{hex_word};
 ghost use Rattle.camac_report_text.specs.Events.{word_text};
 
+use crate::bytes::{bytes_in, number_in, small_in};
+use crate::cycle::{command_in, cycle_in};
 use crate::digits::{hex_bytes, hex_word, spaced};
+use camac_branch::{Command, CycleDone};
 use camac_event::EventWords;
 use camac_word::Word24;
-use itoa::{Buffer, Integer};
+use itoa::Integer;
 use std::marker::Model;
 
 /// The greatest length of a line, in bytes.
@@ -33,15 +38,6 @@ impl Model for Line {
     ghost invariant = { λ l. l.len ≤ 256 };
 }
 
-// Writes the source over the bytes from a place on.
-fn copy_in(bytes: &mut [u8], start: usize, source: &[u8])
-    requires { start + length source.now ≤ length bytes.old }
-    ensures written { take (start + length source.now) bytes.new ≡ take start bytes.old ++ source.now }
-    ensures len { length bytes.new ≡ length bytes.old }
-{
-    bytes[start..start + source.len()].copy_from_slice(source);
-}
-
 // Writes words of a file over the bytes from a place on, each after a space, and returns the place after them.
 fn words_in(
     bytes: &mut [u8],
@@ -59,8 +55,7 @@ fn words_in(
     let mut at = start;
     'words: for i in first..last {
         let [high, middle, low] = words.bytes(i);
-        copy_in(bytes, at, &spaced(hex_bytes(high, middle, low)));
-        at += 7;
+        at = bytes_in(bytes, at, &spaced(hex_bytes(high, middle, low)));
     }
     at
 }
@@ -93,8 +88,7 @@ impl Line {
         ensures bytes { self.new ≡ self.old ++ bytes.now }
         ensures len { length self.new ≡ length self.old + length bytes.now }
     {
-        copy_in(&mut self.bytes, self.len, bytes);
-        self.len += bytes.len();
+        self.len = bytes_in(&mut self.bytes, self.len, bytes);
     }
 
     /// Puts the number at the end, in decimal.
@@ -103,8 +97,7 @@ impl Line {
         ensures bytes { self.new ≡ self.old ++ N.text number }
         ensures len { length self.new ≤ length self.old + N.MAX_STR_LEN }
     {
-        let mut buffer = Buffer::new();
-        self.push_str(buffer.format(number));
+        self.len = number_in(&mut self.bytes, self.len, number);
     }
 
     /// Puts the number at the end, in decimal. It is quick where the number has one digit or two.
@@ -114,13 +107,7 @@ impl Line {
         ensures bytes { self.new ≡ self.old ++ decimal number }
         ensures len { length self.new ≤ length self.old + 3 }
     {
-        if number < 10 {
-            self.push_bytes(&[b'0' + number]);
-        } else if number < 100 {
-            self.push_bytes(&[b'0' + number / 10, b'0' + number % 10]);
-        } else {
-            self.push_number(number);
-        }
+        self.len = small_in(&mut self.bytes, self.len, number);
     }
 
     /// Puts the word at the end, in six hexadecimal digits.
@@ -140,6 +127,24 @@ impl Line {
         ensures len { length self.new ≡ length self.old + 7 * (last - first) }
     {
         self.len = words_in(&mut self.bytes, self.len, words, first, last);
+    }
+
+    /// Puts the line of a dataway cycle at the end.
+    pub fn push_cycle(&mut self, cycle: &CycleDone)
+        requires room { length self.old + 48 ≤ LONGEST_LINE }
+        ensures text { self.new ≡ self.old ++ cycle_text (address cycle.now.command.c cycle.now.command.n cycle.now.command.a) cycle.now.command.f cycle.now.command.mv cycle.now.reply cycle.now.wait }
+        ensures len { length self.new ≤ length self.old + 48 }
+    {
+        self.len = cycle_in(&mut self.bytes, self.len, cycle);
+    }
+
+    /// Puts the begin of that line at the end, the command alone.
+    pub fn push_command(&mut self, command: &Command)
+        requires room { length self.old + 22 ≤ LONGEST_LINE }
+        ensures text { self.new ≡ self.old ++ cycle_start (address command.now.c command.now.n command.now.a) command.now.f }
+        ensures len { length self.new ≤ length self.old + 22 }
+    {
+        self.len = command_in(&mut self.bytes, self.len, command);
     }
 
     /// How many bytes it has.

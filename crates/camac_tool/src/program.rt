@@ -63,7 +63,7 @@ pub fn unread_status<R: Runtime>(rt: &R, fault: ArgumentsFault) -> u8
     }
 }
 
-#[tactic(auto, using(crate::proofs::Status::engine_ends))]
+#[tactic(auto, using(crate::proofs::Ended::engine_ends))]
 fn serve<R: Runtime + AllocGlobal>(rt: &R, job: Job<'_>) -> u8
     ensures { EndsJob result }
 {

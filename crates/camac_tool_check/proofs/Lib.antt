@@ -1,4 +1,4 @@
 pub mod Types
 pub mod Found
 pub mod Explained
-pub mod Costs
+pub mod Told

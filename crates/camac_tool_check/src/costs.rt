@@ -41,7 +41,7 @@ pub fn engine_costs<P: Read, S: Read, W: Write>(
     }
 }
 
-#[tactic(auto, using(crate::proofs::Costs::costs_told))]
+#[tactic(auto, using(crate::proofs::Told::costs_told))]
 fn costs_on<S: Read, W: Write>(
     alloc: Global,
     plan: &Plan,

@@ -15,7 +15,8 @@ pub const EXPLAIN_COMMAND: &str = "Says of a refused plan or script where, why a
 pub const BOUNDS_COMMAND: &str =
     "Prints the headings of a script with the least numbers that are accepted";
 
-pub const COSTS_COMMAND: &str = "Prints what each statement has of the bounds of an accepted script";
+pub const COSTS_COMMAND: &str =
+    "Prints what each statement has of the bounds of an accepted script";
 
 pub const RUN_COMMAND: &str =
     "Plays an accepted script against a list of answers, and writes its events";

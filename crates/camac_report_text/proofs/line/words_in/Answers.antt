@@ -31,14 +31,13 @@ words-preserved c =
     let seven : length c.spaced.result ≡ 7 = ap length text ∙ length-word_text (get_or words i 0) in
     let more = flat_map-between_more word_text words first i 0 (omega (arith, c.words.auto.i)) (omega (arith, c.words-test.true, c.requires.places.1)) in
     record {
-      so_far = ap (λ (n : ℕ). take (c.words.at + n) c.copy_in.new.bytes) (sym seven)
-          ∙ c.copy_in.ensures.written
+      so_far = c.bytes_in-at.ensures.written
           ∙ ap (λ (l : List ℕ). l ++ c.spaced.result) c.words.invariant.so_far
           ∙ ap (λ (l : List ℕ). (before ++ old) ++ l) text
           ∙ append_assoc before old (word_text (get_or words i 0))
           ∙ ap (λ (l : List ℕ). before ++ l) (sym more);
-      place = omega (arith, c.words.invariant.place, c.words.auto.i);
-      len = c.copy_in.ensures.len ∙ c.words.invariant.len;
+      place = omega (arith, c.bytes_in-at.ensures.end, seven, c.words.invariant.place, c.words.auto.i);
+      len = c.bytes_in-at.ensures.len ∙ c.words.invariant.len;
     }
 
 pub returns-clause-written : goal.returns-clause-written
