@@ -3,6 +3,7 @@ use Rattle.std.proofs.Common.{◌≡◌, ℕ, zero, suc, ◌+◌, ◌-◌, ◌^�
 use Rattle.std.specs.Prelude.{◌↔◌, ◌&&◌, ◌||◌, not, max, min, nat_eq, nat_lt, nat_le, Contains, is_some, option_map, slice_get, unwrap_or, if◌then◌else◌}
 use Rattle.std.specs.List.{range_with_len}
 use Rattle.std.proofs.Math.Nat.{pow-le-pow_right}
+use Rattle.std.proofs.lemmas.Nat.{pow_pos}
 use Rattle.std.proofs.lemmas.Option.{same_Some}
 use Rattle.std.proofs.lemmas.Bool.{and_parts, and_from, or_cases, or_left, or_right, cond_both, cases_lt, eqb-true, eq-eqb, lt-ltb, ltb-true, le-leb, leb-true, false≢true}
 use Rattle.camac_crate.specs.Lock.{permitted}
@@ -27,7 +28,7 @@ use Rattle.camac_check_rules.specs.Addresses.{crate_end, station_end, sub_addres
 use Rattle.camac_check_rules.proofs.Walks.{all_in_at, IsPart, hull_from_at, greatest_from_at}
 use Rattle.camac_check_rules.proofs.Regions.{widths_at}
 use Rattle.camac_check_laws.specs.ShownAddresses.{HasAddresses}
-use Rattle.camac_check_laws.specs.Regions.{IsInstalled, IsIn, AreInstalled, HasUndeclared, StationsAreAll, HasWidths, WidthsAreAll, FitsAll, ValuesAreFit, WaitsMayCome, CostIsGreatest}
+use Rattle.camac_check_laws.specs.Regions.{IsInstalled, IsIn, AreInstalled, HasUndeclared, StationsAreAll, HasWidths, WidthsAreAll, FitsAll, ValuesAreFit, ReadsAreAll, WaitsMayCome, CostIsGreatest}
 use Rattle.camac_check_laws.proofs.ShownAddresses.{all_from_each, at_one, undeclared_shown}
 
 -- ---- the numbers of a plan
@@ -395,6 +396,31 @@ module _ (plan : Layout) (f : ℕ) (g : Region) (w : Interval) (h : HasWidths pl
 
 pub values_are_fit : ValuesAreFit
 values_are_fit plan f g w h = record { single = single plan f g w h; block = block plan f g w h }
+
+-- ---- the words that are read
+
+more_bits : (size : WordSize) (j k : ℕ) → j ≤ k → sized size j ≤ sized size k
+more_bits Full j k le = le
+more_bits Short j k le = omega arith
+
+pub reads_are_all : ReadsAreAll
+reads_are_all plan f g w size word h = (to, λ t. back t.0 t.1 t.2 t.3 t.4 t.5 t.6)
+  where
+    to : IsWithin (interval 0 (2 ^ sized size w.hi - 1)) word → (c n a k : ℕ) × IsIn g c n a × (allowed plan (address c n a) f ≡ Some k) × (word < 2 ^ sized size k)
+    to i =
+        let high = i.high in
+        let some : 0 < 2 ^ sized size w.hi = pow_pos (sized size w.hi) in
+        let t = h.greatest in
+        (t.0, t.1, t.2, w.hi, t.3, t.4, omega arith)
+
+    back : (c n a k : ℕ) → IsIn g c n a → allowed plan (address c n a) f ≡ Some k → word < 2 ^ sized size k → IsWithin (interval 0 (2 ^ sized size w.hi - 1)) word
+    back c n a k i at lt =
+        let found = h.each c n a i in
+        let same : found.0 ≡ k = same_width (allowed plan (address c n a) f) found.1 at in
+        let high = found.2.high in
+        let pos : 0 < 2 = omega arith in
+        let more : 2 ^ sized size k ≤ 2 ^ sized size w.hi = pow-le-pow_right pos (more_bits size k w.hi (omega arith)) in
+        record { low = omega arith; high = omega arith }
 
 -- ---- the cost of a cycle
 

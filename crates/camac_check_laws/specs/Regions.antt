@@ -1,8 +1,8 @@
 -- What the rules of a command at the addresses of a register come to.
-use Rattle.std.specs.Prelude.{◌≡◌, ◌↔◌, ℕ, ◌+◌, ◌^◌, ◌<◌, ◌≤◌, ◌&&◌, true, List, Option, Some, None, Ok, Err, Contains, nat_lt}
+use Rattle.std.specs.Prelude.{◌≡◌, ◌↔◌, ℕ, ◌+◌, ◌-◌, ◌^◌, ◌<◌, ◌≤◌, ◌&&◌, true, List, Option, Some, None, Ok, Err, Contains, nat_lt}
 use Rattle.camac_lang.specs.declared.word.WordSize.{WordSize}
 use Rattle.camac_lang.specs.declared.word.WordSize.TheVariants.{Full}
-use Rattle.camac_range.specs.Interval.{Interval, IsWithin}
+use Rattle.camac_range.specs.Interval.{Interval, interval, IsWithin}
 use Rattle.camac_crate.specs.Lock.{permitted}
 use Rattle.camac_branch.specs.Address.{address}
 use Rattle.camac_branch.specs.Allowed.{allowed}
@@ -86,6 +86,13 @@ pub record FitByWidths (plan : Layout) (f : ℕ) (g : Region) (w : Interval) : T
 
 abbrev pub ValuesAreFit : Type 0
 ValuesAreFit = (plan : Layout) (f : ℕ) (g : Region) (w : Interval) → HasWidths plan f g w → FitByWidths plan f g w
+
+-- A variable that is read gets the range of the words that have no more bits than come from some address.
+abbrev pub ReadsAreAll : Type 0
+ReadsAreAll =
+    (plan : Layout) (f : ℕ) (g : Region) (w : Interval) (size : WordSize) (word : ℕ) → HasWidths plan f g w
+    → IsWithin (interval 0 (2 ^ sized size w.hi - 1)) word
+    ↔ ((c n a k : ℕ) × IsIn g c n a × (allowed plan (address c n a) f ≡ Some k) × (word < 2 ^ sized size k))
 
 -- Before a cycle in a crate of the plan so many auxiliary cycles may come exactly where they are at most the crate's waits, and none in a
 -- locked crate.

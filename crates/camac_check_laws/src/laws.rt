@@ -4,7 +4,7 @@ ghost use Rattle.camac_check_laws.specs.Calls.{AcceptedCallsKeep, CallsKeepToRan
 ghost use Rattle.camac_check_laws.specs.Grow.{CostsGrow};
 ghost use Rattle.camac_check_laws.specs.Least.{CheckedHaveLeast, LeastAreLeast, RefusedHaveNone};
 ghost use Rattle.camac_check_laws.specs.Places.{RegistersHaveAddresses};
-ghost use Rattle.camac_check_laws.specs.Regions.{CommandsAreJudged, CostIsGreatest, StationsAreAll, ValuesAreFit, WaitsMayCome, WidthsAreAll};
+ghost use Rattle.camac_check_laws.specs.Regions.{CommandsAreJudged, CostIsGreatest, ReadsAreAll, StationsAreAll, ValuesAreFit, WaitsMayCome, WidthsAreAll};
 ghost use Rattle.camac_check_laws.specs.Scans.{ScansAreJudged};
 ghost use Rattle.camac_check_laws.specs.Shown.{ArgumentsAreShown, ForTurnsAreShown, HeadingsAreShown, KeptAreShown, UnfitHaveOne, UnkeptHaveOne, WhileTurnsAreShown};
 ghost use Rattle.camac_check_laws.specs.ShownAddresses.{MissingAreShown, UndeclaredAreShown};
@@ -155,6 +155,12 @@ pub fn commands_are_judged()
 /// A value passes E5 exactly where it fits at each address of the register, and a table exactly where each of its words does.
 pub fn values_are_fit()
     ensures { ValuesAreFit }
+{}
+
+/// A variable that is read has the range of the words that have no more bits than the function has at some address of the register, and for
+/// `cssa` no more than 16.
+pub fn reads_are_all()
+    ensures { ReadsAreAll }
 {}
 
 /// The cost of a cycle is 1 plus the greatest number of waits that may come before it in some crate of the register. No crate has more, and
