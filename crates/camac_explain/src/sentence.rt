@@ -1,5 +1,8 @@
 // The sentences on the rules of linking and of the checker, and the names in them.
 
+ghost use Rattle.std.specs.Prelude.{◌≡◌, not, is_some, IfOk};
+ghost use Rattle.camac_explain.specs.Sentence.{AreNamesOf, is_malformed, is_link_malformed};
+
 use camac_check_rules::{Body, Case, CheckRule, Numbers, Operator};
 use camac_explain_text::Quote;
 use camac_func::FunctionClass;
@@ -28,7 +31,9 @@ pub fn link_sentence(
     names: &Names,
     rule: LinkRule,
     case: LinkCase,
-) -> Result<Option<String>, AllocError> {
+) -> Result<Option<String>, AllocError>
+    ensures { IfOk result (λ sentence. is_some sentence ≡ not (is_link_malformed case)) }
+{
     let sentence = match case {
         LinkCase::Malformed => return Ok(None),
         LinkCase::Place { crate_no, station } if rule == LinkRule::LamNotInstalled => {
@@ -63,7 +68,9 @@ pub fn check_sentence(
     names: &Names,
     rule: CheckRule,
     case: Case,
-) -> Result<Option<String>, AllocError> {
+) -> Result<Option<String>, AllocError>
+    ensures { IfOk result (λ sentence. is_some sentence ≡ not (is_malformed case)) }
+{
     let sentence = match case {
         Case::Malformed => return Ok(None),
         Case::NoCrate { crate_no } => format!(in alloc; "The plan has no crate {crate_no}."),
@@ -234,7 +241,9 @@ pub struct Names {
 
 impl Names {
     /// The names of a text; None where it is no script.
-    pub fn new(alloc: Global, text: &[u8]) -> Result<Option<Names>, AllocError> {
+    pub fn new(alloc: Global, text: &[u8]) -> Result<Option<Names>, AllocError>
+        ensures { IfOk result (AreNamesOf text.now) }
+    {
         match parse(alloc, text) {
             Ok(script) => Ok(Some(Names { script })),
             Err(TextFault::OutOfMemory) => Err(AllocError),
