@@ -2,3 +2,4 @@ pub mod Advice
 pub mod Finding
 pub mod Source
 pub mod Explanation
+pub mod Sentence

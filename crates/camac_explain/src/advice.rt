@@ -1,16 +1,18 @@
 // Why each rule is there, and what to do where it is broken. The page docs/REFUSALS.md has the same texts: tests/explain_test.py compares
 // them.
 
-mod check;
-mod link;
-mod mend;
-mod plan;
-mod text;
+ghost use Rattle.std.specs.Prelude.{◌≡◌, if◌then◌else◌};
+ghost use Rattle.camac_explain.specs.Advice.{plan_told, text_told, link_told, check_told};
+ghost use Rattle.camac_explain.specs.Advice.{direction_mend, is_difference, operation_mend, turns_mend, can_be_allowed};
 
-pub use check::check_advice;
-pub use link::link_advice;
-pub use plan::plan_advice;
-pub use text::text_advice;
+use camac_check_rules::{Case, CheckRule, Operator};
+use camac_func::FunctionClass;
+use camac_names::LinkRule;
+use camac_plan::PlanRule;
+use camac_text::TextRule;
+
+/// The most turns of a loop.
+const MOST_TURNS: u64 = 65535;
 
 /// What is told of a rule.
 #[derive(Clone, Copy, Debug)]
@@ -19,4 +21,279 @@ pub struct Advice {
     pub why: &'static str,
     /// What to do where it is broken.
     pub mend: &'static str,
+}
+
+/// What is told of a rule of plans.
+pub fn plan_advice(rule: PlanRule) -> Advice
+    ensures why { result.why.now ≡ (plan_told rule).why }
+    ensures mend { result.mend.now ≡ (plan_told rule).mend }
+{
+    let (why, mend) = match rule {
+        PlanRule::NotToml => (
+            "a plan is a text in TOML, and here it breaks the grammar of TOML.",
+            "correct it at the place that is named; texts stand in double quotes, each key has one value, and a comment begins with `#`.",
+        ),
+        PlanRule::UnknownKey => (
+            "each table of a plan has its own keys, and one that camac does not know may be mistyped.",
+            "write one of the keys that docs/PLANS.md lists for this table, or remove it.",
+        ),
+        PlanRule::MissingOrWrongKind => (
+            "some keys have to be there, and each holds one kind of value: a number, a text, true or false, or tables.",
+            "add the key, or give it a value of its kind, as docs/PLANS.md lists them.",
+        ),
+        PlanRule::OutOfRange => (
+            "crates have numbers 1 to 7, stations 1 to 23, sub-addresses 0 to 15, functions 0 to 31, GL bits 1 to 24, and data have 1 to 24 bits.",
+            "write a value in the range that docs/PLANS.md lists for this key.",
+        ),
+        PlanRule::CrateTwice => (
+            "each crate of the branch has a number of its own.",
+            "give this crate its own number, or move its stations to the first one.",
+        ),
+        PlanRule::StationTwice => (
+            "a station holds one module.",
+            "give this module the number of its own station, or remove the one that is not installed.",
+        ),
+        PlanRule::UnknownType => (
+            "the type of a station says which commands its module knows, and no type has this name.",
+            "add a type of this name, or correct the name; upper and lower case differ.",
+        ),
+        PlanRule::DeclaredTwice => (
+            "a type has its name alone, and each command of a type has one width.",
+            "remove one of the two, or end the range of sub-addresses before the other begins.",
+        ),
+        PlanRule::BitTwice => (
+            "a bit of the graded-L pattern tells which station calls, so it belongs to one station.",
+            "give one of the stations another bit, as it is wired.",
+        ),
+    };
+    Advice { why, mend }
+}
+
+/// What is told of a rule of a script's text.
+pub fn text_advice(rule: TextRule) -> Advice
+    ensures why { result.why.now ≡ (text_told rule).why }
+    ensures mend { result.mend.now ≡ (text_told rule).mend }
+{
+    let (why, mend) = match rule {
+        TextRule::BadByte => (
+            "outside of comments a script has letters, digits, blanks, `_` and the signs that docs/LANGUAGE.md lists.",
+            "remove the byte, or begin a comment before it with `#`.",
+        ),
+        TextRule::UnexpectedToken => (
+            "the grammar has no place for this word, number or sign here.",
+            "look here and at the end of the line before: a word may be mistyped or missing, or a `{` or `(` not closed.",
+        ),
+        TextRule::NumberTooLarge => (
+            "a function is at most 31, a sub-address at most 15, a word at most 16777215, and any number at most 4294967295.",
+            "write a number in this range.",
+        ),
+        TextRule::DeclaredTwice => (
+            "a name stands for one thing alone, and a loop keeps neither a variable twice nor its own.",
+            "choose another name for one of the two, or remove the second.",
+        ),
+        TextRule::NotDeclared => (
+            "a name is declared before it is used; upper and lower case differ; a procedure sees no variable of the script.",
+            "correct the name, or declare it above; give a procedure what it needs as a parameter.",
+        ),
+        TextRule::LimitPassed => (
+            "the language has limits, so that each script is judged and run in a bounded memory.",
+            "make it shorter or fewer; docs/LANGUAGE.md lists the limits.",
+        ),
+        TextRule::BranchNotOne => (
+            "the first number of an address is the branch, and there is branch 1 alone.",
+            "write 1, then the crate, the station and the sub-address.",
+        ),
+    };
+    Advice { why, mend }
+}
+
+/// What is told of a rule of linking.
+pub fn link_advice(rule: LinkRule) -> Advice
+    ensures why { result.why.now ≡ (link_told rule).why }
+    ensures mend { result.mend.now ≡ (link_told rule).mend }
+{
+    let (why, mend) = match rule {
+        LinkRule::LamNotInstalled => (
+            "a LAM comes from a module, and the plan has none at this station.",
+            "correct the crate or the station of the `cdlam`, or add the station to the plan.",
+        ),
+        LinkRule::StationWithoutBit => (
+            "a service runs when its station's bit stands in the graded-L pattern, and the plan gives this station no bit.",
+            "add `gl` to the station in the plan, or serve the LAM of another station.",
+        ),
+        LinkRule::StationServedTwice => (
+            "a station has one bit of the graded-L pattern, and a bit calls one service.",
+            "join the two services into one, which asks each LAM with `ctlm`.",
+        ),
+        LinkRule::EventAboveBuffer => (
+            "an event is kept in the buffer of the plan until its service has ended.",
+            "write a smaller number after `event`, or a larger `buffer` in the plan, at most 4096.",
+        ),
+    };
+    Advice { why, mend }
+}
+
+/// What is told of a rule of the checker in this case.
+pub fn check_advice(rule: CheckRule, case: Case) -> Advice
+    ensures why { result.why.now ≡ (check_told rule case).why }
+    ensures mend { result.mend.now ≡ (check_told rule case).mend }
+{
+    let (why, mend) = match rule {
+        CheckRule::StationNotInstalled => (
+            "a command goes only to a station with a module, or to station 28 or 30 of a crate's controller, whatever address the register may hold.",
+            "correct the `cdreg`, add the station to the plan, or bound a computed number before the `cdreg` by `if` or `%`.",
+        ),
+        CheckRule::CommandNotDeclared => (
+            "a module is sent only what the plan declares for its type, at every sub-address that the register may hold.",
+            "correct the function or the `cdreg`, add the command to the type in the plan, or bound a computed number by `if` or `%`.",
+        ),
+        CheckRule::WrongDirection => (
+            "F0 to F7 read, F16 to F23 write, and the others move no data; `cfmad` reads, and a block transfer writes where it names a table.",
+            direction_mend(case),
+        ),
+        CheckRule::ValueOutOfRange => (
+            "no result may be below 0 or above 4294967295, for all values that the variables may have here.",
+            operation_mend(case),
+        ),
+        CheckRule::ValueTooWide => (
+            "a write sends all bits of its value, so the value has to fit the register's width in the plan, and for `cssa` 16 bits.",
+            "bound the value by `%` or `if`, write a smaller word into the table, or correct the `width` in the plan.",
+        ),
+        CheckRule::RegisterUnset => (
+            "on some way to this line no `cdreg` has set the register; at the begin of a loop's turn, those that its body sets count as unset.",
+            "set it before the `if` or the loop, or in the same block before it is used.",
+        ),
+        CheckRule::MeasureBroken => (
+            "the variable after `by` shows that the loop ends: its body lowers it once, by a number from 1, and nothing else in it writes it.",
+            "write one `m = m - 1` into the body itself, in no `if` and no inner loop, and let nothing else write `m`.",
+        ),
+        CheckRule::KeepFailsAtEntry => (
+            "a kept variable is in its range when the loop begins, for all values that it may have.",
+            "set the variable before the loop, or widen its range after `keep`.",
+        ),
+        CheckRule::KeepFailsAfterTurn => (
+            "a kept variable is in its range again after each turn, for all values that it may have.",
+            "change it in the body only where an `if` bounds it, or widen its range after `keep`.",
+        ),
+        CheckRule::TooManyTurns => (
+            "a loop makes at most 65535 turns, and a `while` at most those after `turns`.",
+            turns_mend(case),
+        ),
+        CheckRule::TooManyWords => (
+            "each `put` is a word, and so is each that a block read or an address scan may keep.",
+            budget_mend(
+                case,
+                "write a larger number after `event`, as `camac bounds` prints it, or keep fewer words.",
+                "keep fewer words, or make fewer turns: no number after `event` is so large.",
+            ),
+        ),
+        CheckRule::TooManyCycles => (
+            "auxiliary controllers may take up to the crate's `waits` before each of ours, and each of their cycles counts.",
+            budget_mend(
+                case,
+                "write a larger number after `within`, as `camac bounds` prints it, make fewer cycles, or make several in one `lock`.",
+                "make fewer cycles, or fewer turns: no number after `within` is so large.",
+            ),
+        ),
+        CheckRule::ScanCratesDiffer => (
+            "an address scan goes from station to station of one crate.",
+            "give both registers the same crate, a known one, and scan each crate by its own `cfmad`.",
+        ),
+        CheckRule::CountAboveTable => (
+            "a block write sends a word of its table for each that it counts.",
+            "write a smaller `max`, or a longer table.",
+        ),
+        CheckRule::CrateUnfit => (
+            "a crate call or a `lock` is for one crate of the plan, which is known before the run, and no crate is locked twice.",
+            "write the number of a crate of the plan, or remove the inner `lock`.",
+        ),
+        CheckRule::WordTooWide => (
+            "a word of an event has 24 bits.",
+            "bound the value by `% 16777216` or `if`, let a loop `keep` it in a range, or put it as two words.",
+        ),
+        CheckRule::LoopVariableAssigned => (
+            "a `for` counts its variable itself, so nothing in its body may write it.",
+            "use another variable in the body.",
+        ),
+        CheckRule::TooManySteps => (
+            "each statement, each turn of a loop and each cycle of a transfer is a step; a service may take 4294967295.",
+            budget_mend(
+                case,
+                "write a larger number after `steps`, as `camac bounds` prints it, or make fewer turns.",
+                "make fewer turns: no heading allows more than 4294967295 steps.",
+            ),
+        ),
+        CheckRule::ArgumentOutOfRange => (
+            "a procedure's body is checked once, for the ranges in its heading, so each argument has to be in the range of its parameter.",
+            "bound the argument by `%` or `if`, or widen the range in the heading.",
+        ),
+    };
+    Advice { why, mend }
+}
+
+// E3: by what the function does.
+fn direction_mend(case: Case) -> &'static str
+    ensures { result.now ≡ direction_mend case }
+{
+    match case {
+        Case::Direction {
+            class: FunctionClass::Read,
+            ..
+        } =>
+            "with a function that reads write `-> v` after the register of `cfsa` or `cssa`, and name no `table` in `cfubc` or `cfubr`.",
+        Case::Direction {
+            class: FunctionClass::Write,
+            ..
+        } =>
+            "with a function that writes write `<- e` after the register of `cfsa` or `cssa`, and name a `table` in `cfubc` or `cfubr`; `cfmad` reads alone.",
+        _ => "with a function that moves no data write `cfsa` or `cssa` without an arrow.",
+    }
+}
+
+// E4: a difference of two unknown numbers has a form of its own.
+fn operation_mend(case: Case) -> &'static str
+    ensures { result.now ≡ operation_mend case }
+{
+    if is_difference(case) {
+        "ranges know no relation between two variables: add the greatest number of the right side first, as in `v + 4095 - w`, and test the result by `if`."
+    } else {
+        "test the variables by `if` before, bound them by `%`, or let a loop `keep` them in a range."
+    }
+}
+
+fn is_difference(case: Case) -> bool
+    ensures { result ≡ is_difference case }
+{
+    match case {
+        Case::Operation {
+            operator: Operator::Sub,
+            left,
+            right,
+        } => left.low < left.high && right.low < right.high,
+        _ => false,
+    }
+}
+
+// E10: a larger number after `turns`, where that is allowed.
+fn turns_mend(case: Case) -> &'static str
+    ensures { result.now ≡ turns_mend case }
+{
+    match case {
+        Case::Turns { needed, .. } if needed <= MOST_TURNS => {
+            "write a larger number after `turns`, or begin with a smaller value."
+        }
+        Case::Turns { .. } =>
+            "no larger number is allowed: bound the variable after `by` or the ends of the `for` by `if` or `%`, or write two loops, one in the other.",
+        _ => "write at most 65535 after `turns`; for more turns write two loops, one in the other.",
+    }
+}
+
+// E11, E12, E18: the first, which is a larger number in the heading, where one is large enough; else the second.
+fn budget_mend(case: Case, larger: &'static str, fewer: &'static str) -> &'static str
+    ensures { result.now ≡ if can_be_allowed case then larger.now else fewer.now }
+{
+    match case {
+        Case::Budget { needed, .. } if needed <= u64::from(u32::MAX) => larger,
+        _ => fewer,
+    }
 }

@@ -9,11 +9,9 @@ ghost use Rattle.camac_report_text.specs.Codes.{plan_code};
 ghost use Rattle.camac_report_text.specs.Refusal.{code_of};
 
 use crate::advice::{Advice, check_advice, link_advice, plan_advice, text_advice};
-use crate::check::check_sentence;
 use crate::finding::Finding;
-use crate::link::link_sentence;
-use crate::names::Names;
 use crate::plan::plan_sentence;
+use crate::sentence::{Names, check_sentence, link_sentence};
 use crate::source::{push_shown, push_source};
 use camac_explain_text::text_sentence;
 use camac_plan::{PlanCase, PlanRule};

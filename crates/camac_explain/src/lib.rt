@@ -2,12 +2,10 @@
 #![tactic(auto)]
 
 mod advice;
-mod check;
 mod explanation;
 mod finding;
-mod link;
-mod names;
 mod plan;
+mod sentence;
 mod source;
 
 pub use explanation::{explain_plan, explain_script};

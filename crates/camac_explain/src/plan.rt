@@ -1,10 +1,7 @@
-// The sentences on the rules of plans.
+// The sentences on the rules of plans, the tables of a plan, and what they are called.
 
-mod place;
-
-use crate::plan::place::{Path, keys_of, kind_of, table_at};
-use camac_explain_text::{Quote, is_near};
-use camac_plan::{PlanCase, PlanKey, PlanTable, Wanted};
+use camac_explain_text::{Quote, before_item, is_near};
+use camac_plan::{PlanCase, PlanKey, PlanTable, Wanted, keys_of};
 use std::alloc::{AllocError, Global};
 use std::fmt;
 use toml::{Table, Value};
@@ -17,36 +14,25 @@ pub fn plan_sentence(
 ) -> Result<Option<String>, AllocError> {
     match toml::table_from_slice(alloc, text) {
         Ok(top) => case_sentence(alloc, &top, case),
-        Err(error) => {
-            if error.is_memory() {
-                return Err(AllocError);
+        Err(error) if error.is_memory() => Err(AllocError),
+        Err(error) => match case {
+            PlanCase::Text { at } => {
+                let before = &text[..at.min(text.len())];
+                Ok(Some(toml_sentence(alloc, before, error.message())?))
             }
-            match case {
-                PlanCase::Text { at } => toml_sentence(alloc, text, at, error.message()),
-                _ => Ok(None),
-            }
-        }
+            _ => Ok(None),
+        },
     }
 }
 
-// Where the text is no TOML, and why.
-fn toml_sentence(
-    alloc: Global,
-    text: &[u8],
-    at: usize,
-    message: &str,
-) -> Result<Option<String>, AllocError> {
-    let before = &text[..at.min(text.len())];
-    let begin = match before.iter().rev().position(|b| *b == b'\n') {
-        Some(back) => before.len().saturating_sub(back),
-        None => 0,
-    };
-    let last = &before[begin.min(before.len())..];
+// After what the text is no TOML, and why.
+fn toml_sentence(alloc: Global, before: &[u8], message: &str) -> Result<String, AllocError> {
     let lines = before.iter().filter(|b| **b == b'\n').count();
-    let characters = last.iter().filter(|b| **b & 0xC0 != 0x80).count();
+    let last = before.iter().rev().take_while(|b| **b != b'\n');
+    let characters = last.filter(|b| **b & 0xC0 != 0x80).count();
     let line = lines.saturating_add(1);
     let column = characters.saturating_add(1);
-    Ok(Some(format!(in alloc; "Line {line}, column {column}: {message}.")?))
+    format!(in alloc; "Line {line}, column {column}: {message}.")
 }
 
 // What has to stand at a key.
@@ -66,206 +52,227 @@ impl fmt::Display for Needed {
 
 // What a rule knew, where the text is this table.
 fn case_sentence(alloc: Global, top: &Table, case: PlanCase) -> Result<Option<String>, AllocError> {
-    Ok(Some(match case {
+    let (table, key) = match case {
         PlanCase::Text { .. } => return Ok(None),
         PlanCase::Unknown { table, entry } => return unknown_sentence(alloc, top, table, entry),
-        PlanCase::Missing { table, key, wanted } => {
-            let path = Path::of(top, table);
-            let key = key.text();
+        PlanCase::Full { table } | PlanCase::Command { table, .. } => (table, None),
+        PlanCase::Probe { table, .. } => (table, Some(PlanKey::Width)),
+        PlanCase::Missing { table, key, .. }
+        | PlanCase::Kind { table, key, .. }
+        | PlanCase::Range { table, key, .. }
+        | PlanCase::Name { table, key }
+        | PlanCase::Twice { table, key, .. }
+        | PlanCase::NoType { table, key } => (table, Some(key)),
+    };
+    let value = key.and_then(|key| table_at(top, table)?.get(key.text()));
+    let path = path_to(alloc, top, table, key.map_or("", |key| key.text()))?;
+    let told = told(alloc, top, value, case)?;
+    Ok(Some(format!(in alloc; "{path}: {told}")?))
+}
+
+// What a rule knew of the value at its key, if there is one.
+fn told(
+    alloc: Global,
+    top: &Table,
+    value: Option<&Value>,
+    case: PlanCase,
+) -> Result<String, AllocError> {
+    let shown = Shown(value);
+    match case {
+        PlanCase::Missing { wanted, .. } => {
             let needed = Needed(wanted);
-            format!(in alloc; "{path}{key}: the key is missing, and {needed} has to stand here.")?
+            format!(in alloc; "the key is missing, and {needed} has to stand here.")
         }
-        PlanCase::Kind { table, key, wanted } => kind_sentence(alloc, top, table, key, wanted)?,
+        PlanCase::Kind { key, wanted, .. } => {
+            let kind = value.map_or("?", |value| value.type_str());
+            let needed = Needed(wanted);
+            let more = match key {
+                PlanKey::A => " A range is written as `a = 0, to = 11`.",
+                _ => "",
+            };
+            format!(in alloc;
+                "the value is of the kind {kind}, and {needed} has to stand here.{more}"
+            )
+        }
         PlanCase::Range {
-            table,
-            key,
             found,
             low,
             high,
-        } => {
-            let path = Path::of(top, table);
-            let key = key.text();
-            format!(in alloc;
-                "{path}{key}: the value is {found}, and {low} to {high} may stand here."
-            )?
+            ..
+        } => { format!(in alloc; "the value is {found}, and {low} to {high} may stand here.") }
+        PlanCase::Name { .. } => format!(in alloc;
+            "the value is {shown}, and a name has 1 to 32 letters, digits, `_` or `-`."
+        ),
+        PlanCase::Probe { width, .. } => {
+            format!(in alloc; "the value is {width}, and a probe has 24 bits.")
         }
-        PlanCase::Name { table, key } => {
-            let path = Path::of(top, table);
-            let found = quoted_at(top, table, key);
-            let key = key.text();
-            format!(in alloc;
-                "{path}{key}: the value is {found}, and a name has 1 to 32 letters, digits, `_` or `-`."
-            )?
+        PlanCase::Full { .. } => String::from_str(alloc, "there are at most 64 types."),
+        PlanCase::Twice { key, first, .. } => {
+            // what a table is known by is no way to the first one
+            let is_known_by = matches!(key, PlanKey::Number | PlanKey::N | PlanKey::Name);
+            let first = Path(if is_known_by { None } else { Some(top) }, first);
+            format!(in alloc; "the value is {shown}, which stands before already, at {first}.")
         }
-        PlanCase::Probe { table, width } => {
-            let path = Path::of(top, table);
-            format!(in alloc; "{path}width: the value is {width}, and a probe has 24 bits.")?
+        PlanCase::Command { f, a, first, .. } => {
+            let first = Path(None, first);
+            format!(in alloc; "F{f} at A{a} stands before already, at {first}.")
         }
-        PlanCase::Full { table } => {
-            let path = Path::whole(top, table);
-            format!(in alloc; "{path}: there are at most 64 types.")?
-        }
-        PlanCase::Twice { table, key, first } => twice_sentence(alloc, top, table, key, first)?,
-        PlanCase::NoType { table, key } => {
-            let path = Path::of(top, table);
-            let found = quoted_at(top, table, key);
-            let key = key.text();
-            format!(in alloc; "{path}{key}: the value is {found}.")?
-        }
-        PlanCase::Command { table, f, a, first } => {
-            let path = Path::whole(top, table);
-            let first = Path::by_place(first);
-            format!(in alloc; "{path}: F{f} at A{a} stands before already, at {first}.")?
-        }
-    }))
+        _ => format!(in alloc; "the value is {shown}."),
+    }
 }
 
-fn kind_sentence(
-    alloc: Global,
-    top: &Table,
-    table: PlanTable,
-    key: PlanKey,
-    wanted: Wanted,
-) -> Result<String, AllocError> {
-    let path = Path::of(top, table);
-    let found = match value_at(top, table, key) {
-        Some(value) => value.type_str(),
-        None => "?",
-    };
-    let more = if key == PlanKey::A {
-        " A range is written as `a = 0, to = 11`."
-    } else {
-        ""
-    };
-    let key = key.text();
-    let needed = Needed(wanted);
-    format!(in alloc;
-        "{path}{key}: the value is of the kind {found}, and {needed} has to stand here.{more}"
-    )
+// The way to a key, or to its table where the key is empty.
+fn path_to(alloc: Global, top: &Table, table: PlanTable, key: &str) -> Result<String, AllocError> {
+    let is_alone = table == PlanTable::Top || key.is_empty();
+    let comma = if is_alone { "" } else { ", " };
+    format!(in alloc; "{}{comma}{key}", Path(Some(top), table))
 }
 
-// A value that stands in an earlier table, too.
-fn twice_sentence(
-    alloc: Global,
-    top: &Table,
-    table: PlanTable,
-    key: PlanKey,
-    first: PlanTable,
-) -> Result<String, AllocError> {
-    let path = Path::of(top, table);
-    // these two keys are what a table is known by
-    let first = match key {
-        PlanKey::Number | PlanKey::N | PlanKey::Name => Path::by_place(first),
-        _ => Path::whole(top, first),
-    };
-    let name = key.text();
-    match value_at(top, table, key) {
-        Some(Value::Integer(found)) => {
-            format!(in alloc;
-                "{path}{name}: the value is {found}, which stands before already, at {first}."
-            )
-        }
-        _ => {
-            let found = quoted_at(top, table, key);
-            format!(in alloc;
-                "{path}{name}: the value is {found}, which stands before already, at {first}."
-            )
+// A value of a plan as it is told.
+#[derive(Clone, Copy)]
+struct Shown<'a>(Option<&'a Value>);
+
+impl fmt::Display for Shown<'_> {
+    fn fmt<W: fmt::Write>(&self, f: &mut fmt::Formatter<W>) -> fmt::Result {
+        match self.0 {
+            Some(Value::Integer(found)) => write!(f, "{found}"),
+            Some(Value::String(text)) => write!(f, "{}", Quote(text.as_str().as_bytes())),
+            _ => write!(f, "`?`"),
         }
     }
 }
 
-// A key that its table has not: a near one, or where it belongs; and the keys of the table.
+// A key that its table has not, and the keys of the table.
 fn unknown_sentence(
     alloc: Global,
     top: &Table,
     table: PlanTable,
     entry: usize,
 ) -> Result<Option<String>, AllocError> {
-    let Some(members) = table_at(top, table) else {
+    let members = table_at(top, table);
+    let Some((key, _value)) = members.and_then(|it| it.iter().nth(entry)) else {
         return Ok(None);
     };
-    let Some((key, _value)) = members.iter().nth(entry) else {
-        return Ok(None);
-    };
-    let key = key.as_str();
-    let path = Path::of(top, table);
-    let shown = Quote::new(key.as_bytes());
-    let mut sentence = format!(in alloc; "{path}{shown}: there is no such key.")?;
-    if let Some(near) = near_key(key, table) {
-        let near = near.text();
-        let hint = format!(in alloc; " Perhaps `{near}` is meant.")?;
-        sentence.push_str(hint.as_str())?;
-    } else if let Some(home) = home_of(key) {
-        let kind = kind_of(home);
-        let hint = format!(in alloc; " It is a key of {kind}.")?;
-        sentence.push_str(hint.as_str())?;
-    }
+    let shown = format!(in alloc; "{}", Quote(key.as_bytes()))?;
+    let path = path_to(alloc, top, table, shown.as_str())?;
+    let hint = hint(alloc, key.as_str(), table)?;
     let kind = kind_of(table);
-    let keys = format!(in alloc; " The keys of {kind} are ")?;
-    sentence.push_str(keys.as_str())?;
-    add_keys(alloc, &mut sentence, keys_of(table))?;
+    let mut sentence = format!(in alloc;
+        "{path}: there is no such key.{hint} The keys of {kind} are "
+    )?;
+    let keys = keys_of(table);
+    for (place, key) in keys.iter().enumerate() {
+        let before = before_item(place, keys.len(), " and ");
+        write!(sentence, "{before}`{}`", key.text())?;
+    }
+    sentence.push_str(".")?;
     Ok(Some(sentence))
 }
 
-fn near_key(key: &str, table: PlanTable) -> Option<PlanKey> {
-    for known in keys_of(table) {
-        if is_near(key.as_bytes(), known.text().as_bytes()) {
-            return Some(*known);
-        }
+// What an unknown key of a table may be: a near one, or one of another table.
+fn hint(alloc: Global, key: &str, table: PlanTable) -> Result<String, AllocError> {
+    let mut known = keys_of(table).iter().map(|it| it.text());
+    if let Some(near) = known.find(|it| is_near(key.as_bytes(), it.as_bytes())) {
+        return format!(in alloc; " Perhaps `{near}` is meant.");
     }
-    None
+    let (type_place, crate_place, place) = (0, 0, 0);
+    let homes = [
+        PlanTable::Top,
+        PlanTable::ModuleType { place },
+        PlanTable::Command { type_place, place },
+        PlanTable::Crate { place },
+        PlanTable::Station { crate_place, place },
+    ];
+    let is_home = |home: &&PlanTable| keys_of(**home).iter().any(|it| it.text() == key);
+    match homes.iter().find(is_home) {
+        Some(home) => format!(in alloc; " It is a key of {}.", kind_of(*home)),
+        None => Ok(String::new(alloc)),
+    }
 }
 
-// A table that has the key.
-fn home_of(key: &str) -> Option<PlanTable> {
-    let tables = [
-        PlanTable::Top,
-        PlanTable::ModuleType { place: 0 },
-        PlanTable::Command {
-            type_place: 0,
-            place: 0,
-        },
-        PlanTable::Crate { place: 0 },
-        PlanTable::Station {
-            crate_place: 0,
-            place: 0,
-        },
-    ];
-    for table in tables {
-        for known in keys_of(table) {
-            if key == known.text() {
-                return Some(table);
+// The table at a place of a plan.
+fn table_at<'a>(top: &'a Table, place: PlanTable) -> Option<&'a Table> {
+    match place {
+        PlanTable::Top => Some(top),
+        PlanTable::ModuleType { place } => item_at(top, PlanKey::Types, place),
+        PlanTable::Command { type_place, place } => {
+            let module_type = item_at(top, PlanKey::Types, type_place)?;
+            item_at(module_type, PlanKey::Commands, place)
+        }
+        PlanTable::Crate { place } => item_at(top, PlanKey::Crates, place),
+        PlanTable::Station { crate_place, place } => {
+            let home = item_at(top, PlanKey::Crates, crate_place)?;
+            item_at(home, PlanKey::Stations, place)
+        }
+    }
+}
+
+// The table of this number in the array at a key.
+fn item_at<'a>(table: &'a Table, key: PlanKey, place: usize) -> Option<&'a Table> {
+    table.get(key.text())?.as_array()?.get(place)?.as_table()
+}
+
+// What a table is.
+fn kind_of(table: PlanTable) -> &'static str {
+    match table {
+        PlanTable::Top => "the plan itself",
+        PlanTable::ModuleType { .. } => "a `[[type]]`",
+        PlanTable::Command { .. } => "a command",
+        PlanTable::Crate { .. } => "a `[[crate]]`",
+        PlanTable::Station { .. } => "a `[[crate.station]]`",
+    }
+}
+
+// The way to a table: the types and commands by their places in the text, from 1; the crates and stations by their numbers, where the plan is
+// given and has them.
+#[derive(Clone, Copy)]
+struct Path<'a>(Option<&'a Table>, PlanTable);
+
+impl Path<'_> {
+    fn number(&self, table: PlanTable, key: PlanKey, place: usize) -> Number {
+        let table = self.0.and_then(|top| table_at(top, table));
+        let own = table.and_then(|it| it.get(key.text())?.as_integer());
+        Number { own, place }
+    }
+}
+
+impl fmt::Display for Path<'_> {
+    fn fmt<W: fmt::Write>(&self, f: &mut fmt::Formatter<W>) -> fmt::Result {
+        match self.1 {
+            PlanTable::Top => Ok(()),
+            PlanTable::ModuleType { place } => write!(f, "type {}", nth(place)),
+            PlanTable::Command { type_place, place } => {
+                write!(f, "type {}, command {}", nth(type_place), nth(place))
+            }
+            PlanTable::Crate { place } => {
+                write!(f, "crate {}", self.number(self.1, PlanKey::Number, place))
+            }
+            PlanTable::Station { crate_place, place } => {
+                let home = PlanTable::Crate { place: crate_place };
+                let crate_no = self.number(home, PlanKey::Number, crate_place);
+                let station = self.number(self.1, PlanKey::N, place);
+                write!(f, "crate {crate_no}, station {station}")
             }
         }
     }
-    None
 }
 
-// Adds the keys in quotes, with commas and an `and`.
-fn add_keys(alloc: Global, sentence: &mut String, keys: &[PlanKey]) -> Result<(), AllocError> {
-    let last = keys.len().saturating_sub(1);
-    for (place, key) in keys.iter().enumerate() {
-        let key = key.text();
-        let end = if place == last {
-            "."
-        } else if place.saturating_add(1) == last {
-            " and "
-        } else {
-            ", "
-        };
-        let text = format!(in alloc; "`{key}`{end}")?;
-        sentence.push_str(text.as_str())?;
-    }
-    Ok(())
+// The number that a table has of its own, else that of its place in the text.
+#[derive(Clone, Copy)]
+struct Number {
+    own: Option<i64>,
+    place: usize,
 }
 
-fn value_at<'a>(top: &'a Table, table: PlanTable, key: PlanKey) -> Option<&'a Value> {
-    table_at(top, table)?.get(key.text())
+fn nth(place: usize) -> Number {
+    Number { own: None, place }
 }
 
-fn quoted_at(top: &Table, table: PlanTable, key: PlanKey) -> Quote {
-    match value_at(top, table, key) {
-        Some(Value::String(text)) => Quote::new(text.as_str().as_bytes()),
-        _ => Quote::new(b"?"),
+impl fmt::Display for Number {
+    fn fmt<W: fmt::Write>(&self, f: &mut fmt::Formatter<W>) -> fmt::Result {
+        match self.own {
+            Some(own) => write!(f, "{own}"),
+            None => write!(f, "number {}", self.place.saturating_add(1)),
+        }
     }
 }

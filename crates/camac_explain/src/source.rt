@@ -22,8 +22,9 @@ pub fn push_source(lines: &mut Vec<u8>, text: &[u8], finding: Finding) -> Result
             let rest = from_line(text, line);
             push_line(lines, rest, line, rest.len().saturating_sub(left))
         }
-        Finding::Link { line, .. } => push_line(lines, from_line(text, line), line, 0),
-        Finding::Check { line, .. } => push_line(lines, from_line(text, line), line, 0),
+        Finding::Link { line, .. } | Finding::Check { line, .. } => {
+            push_line(lines, from_line(text, line), line, 0)
+        }
     }
 }
 

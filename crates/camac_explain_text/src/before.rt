@@ -1,11 +1,10 @@
 // What stands before a place of a script.
 
-use crate::near::is_near;
-use crate::trial::Beginnings;
+use crate::trial::{Beginnings, is_operator};
+use crate::word::is_near;
 use camac_lang::Name;
 use camac_text_tokens::{Keyword, Sign, TokenKind, TokensLeft};
 use std::alloc::{AllocError, Global};
-use std::fmt;
 
 /// What a name is declared as. A parameter is a variable.
 #[derive(Clone, Copy, Debug, PartialEq, Eq)]
@@ -17,16 +16,16 @@ pub enum NameKind {
     Variable,
 }
 
-impl fmt::Display for NameKind {
-    fn fmt<W: fmt::Write>(&self, f: &mut fmt::Formatter<W>) -> fmt::Result {
-        let kind = match self {
+impl NameKind {
+    /// What it is called.
+    pub fn noun(self) -> &'static str {
+        match self {
             NameKind::Lam => "LAM",
             NameKind::Procedure => "procedure",
             NameKind::Register => "register",
             NameKind::Table => "table",
             NameKind::Variable => "variable",
-        };
-        write!(f, "{kind}")
+        }
     }
 }
 
@@ -92,6 +91,23 @@ impl Before {
         word_of(self.phrase.first())
     }
 
+    /// Whether it ends in the list of what a loop keeps.
+    pub fn is_keeping(&self) -> bool {
+        let mut words = self.phrase.iter().map(|kind| word_of(Some(kind)));
+        words.any(|word| word == Some(Keyword::Keep))
+    }
+
+    /// Whether it ends in brackets, and so in an expression.
+    pub fn is_in_brackets(&self) -> bool {
+        self.last_sign(Sign::LeftBracket).is_some()
+    }
+
+    // Where a sign stands last in the phrase.
+    fn last_sign(&self, wanted: Sign) -> Option<usize> {
+        let is_wanted = |kind: &TokenKind| matches!(kind, TokenKind::Sign(sign) if *sign == wanted);
+        self.phrase.iter().rposition(is_wanted)
+    }
+
     /// Whether it ends in a body.
     pub fn in_body(&self) -> bool {
         !self.blocks.is_empty()
@@ -115,34 +131,31 @@ impl Before {
 
     /// The first name of a kind that is near a word, of those that the body in hand sees: a procedure sees no variable of the script.
     pub fn near(&self, word: &[u8], kind: NameKind) -> Option<&Declared> {
-        let hidden = if self.in_procedure && kind == NameKind::Variable {
-            self.outside
-        } else {
-            0
-        };
+        let is_hidden = self.in_procedure && kind == NameKind::Variable;
+        let hidden = if is_hidden { self.outside } else { 0 };
         let mut seen = self.names.iter().skip(hidden);
         seen.find(|it| it.kind == kind && is_near(word, it.name.as_bytes()))
     }
 
     /// A short text after which the parser goes on as after the whole one: the names that are in use, the heading, an `if` for each block, and
     /// the phrase.
-    pub fn short_text(&self, alloc: Global) -> Result<Vec<u8>, AllocError> {
-        let mut text = Vec::new(alloc);
+    pub fn short_text(&self, alloc: Global) -> Result<String, AllocError> {
+        let mut text = String::new(alloc);
         for it in self.names.iter().take(self.outside) {
             if is_among(&it.name, &self.heading) || is_among(&it.name, &self.phrase) {
-                add_declaration(alloc, &mut text, it)?;
+                add_declaration(&mut text, it)?;
             }
         }
-        add_tokens(alloc, &mut text, &self.heading)?;
+        add_tokens(&mut text, &self.heading)?;
         for it in self.names.iter().skip(self.outside) {
             if it.kind == NameKind::Register && is_among(&it.name, &self.phrase) {
-                add_declaration(alloc, &mut text, it)?;
+                add_declaration(&mut text, it)?;
             }
         }
         for _inner in self.blocks.iter().skip(1) {
-            text.extend_from_slice(b"if q { ")?;
+            text.push_str("if q { ")?;
         }
-        add_tokens(alloc, &mut text, &self.phrase)?;
+        add_tokens(&mut text, &self.phrase)?;
         Ok(text)
     }
 
@@ -151,13 +164,57 @@ impl Before {
             TokenKind::Sign(Sign::LeftBrace) => return self.open_block(line),
             TokenKind::Sign(Sign::RightBrace) => return self.close_block(),
             TokenKind::Sign(Sign::Equals) => self.begin_assignment()?,
-            TokenKind::Sign(_) => {}
+            TokenKind::Sign(Sign::RightBracket) => return self.close_bracket(),
+            TokenKind::Sign(Sign::Comma) => self.shorten_kept(),
+            TokenKind::Sign(_) | TokenKind::Number(_) => {}
+            TokenKind::Keyword(Keyword::And) => self.shorten_part()?,
             TokenKind::Keyword(word) => self.begin(*word, words),
             TokenKind::Name(name) => self.declare(name, line)?,
-            TokenKind::Number(_) => self.shorten_table(),
         }
-        self.phrase.push(kind.duplicate())?;
+        self.add(kind.duplicate())
+    }
+
+    // Puts a token at the end of the phrase. What changes nothing of what may follow is left out: all but the last word of a table, operand of
+    // an expression, and two names after `var`.
+    fn add(&mut self, kind: TokenKind) -> Result<(), AllocError> {
+        use TokenKind::{Keyword as Word, Name, Number, Sign as Mark};
+        let left_out = match (self.phrase.as_slice(), &kind) {
+            ([Word(Keyword::Table), .., Number(_)], Number(_)) => 1,
+            ([.., Name(_) | Number(_), Mark(sign)], Name(_) | Number(_)) if is_operator(*sign) => 2,
+            _ => 0,
+        };
+        let kept = self.phrase.len().saturating_sub(left_out);
+        self.phrase.truncate(kept);
+        if self.phrase.len() > 2 && self.first_word() == Some(Keyword::Var) {
+            let _ = self.phrase.remove(1);
+        }
+        self.phrase.push(kind)?;
         Ok(())
+    }
+
+    // What stands in brackets is an operand, as a number is, but for what a procedure takes.
+    fn close_bracket(&mut self) -> Result<(), AllocError> {
+        let open = self.last_sign(Sign::LeftBracket).unwrap_or(0);
+        if open == 2 && matches!(self.first_word(), Some(Keyword::Call | Keyword::Proc)) {
+            return self.add(TokenKind::Sign(Sign::RightBracket));
+        }
+        self.phrase.truncate(open);
+        self.add(TokenKind::Number(0))
+    }
+
+    // Of the variables that a loop keeps the first and the last are enough.
+    fn shorten_kept(&mut self) {
+        if let (true, Some(comma)) = (self.is_keeping(), self.last_sign(Sign::Comma)) {
+            self.phrase.truncate(comma);
+        }
+    }
+
+    // A part of a condition that has ended may as well be the flag `q`.
+    fn shorten_part(&mut self) -> Result<(), AllocError> {
+        let is_and = |kind: &TokenKind| matches!(kind, TokenKind::Keyword(Keyword::And));
+        let before = self.phrase.iter().rposition(is_and).unwrap_or(0);
+        self.phrase.truncate(before.saturating_add(1));
+        self.add(TokenKind::Keyword(Keyword::Q))
     }
 
     // A word that begins a declaration or a statement ends the one before.
@@ -175,21 +232,12 @@ impl Before {
     fn begin_assignment(&mut self) -> Result<(), AllocError> {
         let is_of_for = self.phrase.len() == 2 && self.first_word() == Some(Keyword::For);
         if self.in_body() && !is_of_for {
-            let name = self.phrase.pop();
-            self.phrase.clear();
-            if let Some(name) = name {
+            if let Some(name) = self.phrase.pop() {
+                self.phrase.clear();
                 self.phrase.push(name)?;
             }
         }
         Ok(())
-    }
-
-    // Of the words of a table one is enough.
-    fn shorten_table(&mut self) {
-        let is_second = matches!(self.phrase.last(), Some(TokenKind::Number(_)));
-        if is_second && self.first_word() == Some(Keyword::Table) {
-            let _ = self.phrase.pop();
-        }
     }
 
     fn declare(&mut self, name: &Name, line: u32) -> Result<(), AllocError> {
@@ -209,17 +257,15 @@ impl Before {
 
     // As what the phrase declares the name that follows it.
     fn kind_declared_next(&self) -> Option<NameKind> {
-        match (self.first_word()?, self.phrase.last()?) {
-            (Keyword::Cdreg, TokenKind::Keyword(_)) => Some(NameKind::Register),
-            (Keyword::Cdlam, TokenKind::Keyword(_)) => Some(NameKind::Lam),
-            (Keyword::Table, TokenKind::Keyword(_)) => Some(NameKind::Table),
-            (Keyword::Proc, TokenKind::Keyword(Keyword::Proc)) => Some(NameKind::Procedure),
-            (Keyword::Proc, TokenKind::Sign(Sign::LeftBracket | Sign::Comma)) => {
-                Some(NameKind::Variable)
-            }
-            (Keyword::Var, _) => Some(NameKind::Variable),
-            _ => None,
-        }
+        Some(match (self.first_word()?, self.phrase.last()?) {
+            (Keyword::Cdreg, TokenKind::Keyword(_)) => NameKind::Register,
+            (Keyword::Cdlam, TokenKind::Keyword(_)) => NameKind::Lam,
+            (Keyword::Table, TokenKind::Keyword(_)) => NameKind::Table,
+            (Keyword::Proc, TokenKind::Keyword(Keyword::Proc)) => NameKind::Procedure,
+            (Keyword::Proc, TokenKind::Sign(Sign::LeftBracket | Sign::Comma)) => NameKind::Variable,
+            (Keyword::Var, _) => NameKind::Variable,
+            _ => return None,
+        })
     }
 
     fn open_block(&mut self, line: u32) -> Result<(), AllocError> {
@@ -284,45 +330,36 @@ fn is_among(name: &Name, kinds: &[TokenKind]) -> bool {
     })
 }
 
-fn add_declaration(
-    alloc: Global,
-    text: &mut Vec<u8>,
-    declared: &Declared,
-) -> Result<(), AllocError> {
-    let (before, after) = match declared.kind {
-        NameKind::Lam => ("cdlam ", " 1 1 1 0 "),
-        NameKind::Procedure => ("proc ", "("),
-        NameKind::Register => ("cdreg ", " 1 1 1 0 "),
-        NameKind::Table => ("table ", " = 0 "),
-        NameKind::Variable => ("var ", " "),
-    };
-    text.extend_from_slice(before.as_bytes())?;
-    text.extend_from_slice(declared.name.as_bytes())?;
-    text.extend_from_slice(after.as_bytes())?;
-    if declared.kind == NameKind::Procedure {
-        for number in 0..declared.parameters {
-            let comma = if number > 0 { ", " } else { "" };
-            let parameter = format!(in alloc;
-                "{comma}parameter_of_the_short_text_{number} in 0..0"
-            )?;
-            text.extend_from_slice(parameter.as_bytes())?;
+fn add_declaration(text: &mut String, declared: &Declared) -> Result<(), AllocError> {
+    let name = spelled(declared.name.as_bytes());
+    match declared.kind {
+        NameKind::Lam => write!(text, "cdlam {name} 1 1 1 0 "),
+        NameKind::Register => write!(text, "cdreg {name} 1 1 1 0 "),
+        NameKind::Table => write!(text, "table {name} = 0 "),
+        NameKind::Variable => write!(text, "var {name} "),
+        NameKind::Procedure => {
+            write!(text, "proc {name}(")?;
+            for number in 0..declared.parameters {
+                let comma = if number > 0 { ", " } else { "" };
+                write!(text, "{comma}parameter_of_the_short_text_{number} in 0..0")?;
+            }
+            write!(text, ") within 0 cycles event 0 words steps 0 {{ }} ")
         }
-        text.extend_from_slice(b") within 0 cycles event 0 words steps 0 { } ")?;
+    }
+}
+
+fn add_tokens(text: &mut String, kinds: &[TokenKind]) -> Result<(), AllocError> {
+    for kind in kinds {
+        match kind {
+            TokenKind::Name(name) => write!(text, "{} ", spelled(name.as_bytes()))?,
+            TokenKind::Number(number) => write!(text, "{number} ")?,
+            TokenKind::Keyword(word) => write!(text, "{} ", word.spelling())?,
+            TokenKind::Sign(sign) => write!(text, "{} ", sign.spelling())?,
+        }
     }
     Ok(())
 }
 
-fn add_tokens(alloc: Global, text: &mut Vec<u8>, kinds: &[TokenKind]) -> Result<(), AllocError> {
-    for kind in kinds {
-        match kind {
-            TokenKind::Name(name) => text.extend_from_slice(name.as_bytes())?,
-            TokenKind::Number(number) => {
-                text.extend_from_slice(format!(in alloc; "{number}")?.as_bytes())?;
-            }
-            TokenKind::Keyword(word) => text.extend_from_slice(word.spelling().as_bytes())?,
-            TokenKind::Sign(sign) => text.extend_from_slice(sign.spelling().as_bytes())?,
-        }
-        text.push(b' ')?;
-    }
-    Ok(())
+fn spelled(name: &[u8]) -> &str {
+    str::from_utf8(name).unwrap_or("")
 }

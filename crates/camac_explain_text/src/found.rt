@@ -1,9 +1,10 @@
 // The token at which a fault shows.
 
-use crate::before::{Before, NameKind};
-use crate::trial::Beginnings;
+use crate::before::{Before, NameKind, word_of};
+use crate::trial::{Beginnings, Trial};
 use camac_text::{TextFault, TextRule, TokenKind, TokensLeft};
 use camac_text_tokens::Keyword;
+use std::alloc::{AllocError, Global};
 
 /// The token at which a fault shows, and what stands around it.
 #[derive(Drop)]
@@ -18,9 +19,32 @@ pub struct Found<'a> {
     pub before: Before,
     /// The words that begin something.
     pub words: Beginnings,
+    /// What may stand in its place.
+    pub trial: Trial,
 }
 
-impl Found<'_> {
+impl<'a> Found<'a> {
+    /// The token that begins where so many bytes of a text are left.
+    pub fn new(alloc: Global, text: &'a [u8], left: usize) -> Result<Self, AllocError> {
+        let (text, rest) = text.split_at(text.len().saturating_sub(left));
+        let (word, kind) = token_at(rest);
+        let words = Beginnings::new(alloc)?;
+        // A fault of a token is the first of its text, and needs nothing of what stands before.
+        let is_known = kind.is_some() || word.is_empty();
+        let read = if is_known { text } else { &text[..0] };
+        let before = Before::new(alloc, read, &words)?;
+        let short = before.short_text(alloc)?;
+        Ok(Found {
+            word,
+            kind,
+            text,
+            behind: &rest[word.len().min(rest.len())..],
+            before,
+            words,
+            trial: Trial { alloc, text: short },
+        })
+    }
+
     /// The token before, if it belongs to the same declaration or statement.
     pub fn last(&self) -> Option<&TokenKind> {
         self.before.phrase.last()
@@ -33,20 +57,14 @@ impl Found<'_> {
 
     /// The kind of name that its place needs.
     pub fn needed(&self) -> NameKind {
-        use TokenKind::{Keyword as Word, Name, Number};
-        match self.before.phrase.as_slice() {
-            [
-                ..,
-                Word(Keyword::Service | Keyword::Cclm | Keyword::Cclc | Keyword::Ctlm),
-            ] => { NameKind::Lam }
-            [.., Word(Keyword::Call)] => NameKind::Procedure,
-            [.., Word(Keyword::Table)] => NameKind::Table,
-            [
-                Word(Keyword::Cfsa | Keyword::Cssa | Keyword::Cfubc | Keyword::Cfubr),
-                Number(_),
-            ]
-            | [Word(Keyword::Cfmad), Number(_)]
-            | [Word(Keyword::Cfmad), Number(_), Name(_)] => NameKind::Register,
+        use Keyword::{Call, Cclc, Cclm, Cfmad, Cfsa, Cfubc, Cfubr, Cssa, Ctlm, Service, Table};
+        let size = self.before.phrase.len();
+        match (self.before.first_word(), word_of(self.last())) {
+            (_, Some(Service | Cclm | Cclc | Ctlm)) => NameKind::Lam,
+            (_, Some(Call)) => NameKind::Procedure,
+            (_, Some(Table)) => NameKind::Table,
+            (Some(Cfsa | Cssa | Cfubc | Cfubr | Cfmad), _) if size == 2 => NameKind::Register,
+            (Some(Cfmad), _) if size == 3 => NameKind::Register,
             _ => NameKind::Variable,
         }
     }
@@ -60,12 +78,7 @@ pub fn token_at(text: &[u8]) -> (&[u8], Option<TokenKind>) {
             Some(token) => (size_of(&token.kind, text), Some(token.kind.duplicate())),
             None => (0, None),
         },
-        Err(
-            TextFault::Broken {
-                rule: TextRule::BadByte,
-                ..
-            },
-        ) => (1, None),
+        Err(TextFault::Broken { rule, .. }) if rule == TextRule::BadByte => (1, None),
         Err(_) => (text.iter().take_while(|b| is_name_byte(**b)).count(), None),
     };
     (&text[..size.min(text.len())], kind)

@@ -2,16 +2,13 @@
 #![tactic(auto)]
 
 mod before;
-mod expected;
 mod found;
 mod hint;
 mod limit;
 mod mistake;
-mod near;
-mod quote;
 mod sentence;
 mod trial;
+mod word;
 
-pub use near::is_near;
-pub use quote::Quote;
 pub use sentence::text_sentence;
+pub use word::{Quote, before_item, is_near};

@@ -1,8 +1,8 @@
 // Mistakes that are made often.
 
 use crate::before::{NameKind, word_of};
-use crate::expected::{Expected, is_comparison, is_operator};
 use crate::found::Found;
+use crate::trial::{Expected, is_comparison, is_operator};
 use camac_text::TokenKind;
 use camac_text_tokens::{Keyword, Sign};
 
@@ -38,26 +38,21 @@ pub fn outside_of_bodies(found: &Found<'_>) -> Option<&'static str> {
 
 /// What is to be known where a token may not stand.
 pub fn usual_mistake(found: &Found<'_>, expected: &[Expected]) -> Option<&'static str> {
-    let kind = found.kind.as_ref()?;
     if found.word == b"or".as_slice() {
         return Some(NO_OR);
     }
     outside_of_bodies(found)
-        .or_else(|| mistake_after(found, kind, expected))
-        .or_else(|| mistake_in(found, kind, expected))
+        .or_else(|| mistake_after(found, expected))
+        .or_else(|| mistake_in(found, expected))
 }
 
 // What is wrong with a token after the one before.
-fn mistake_after(
-    found: &Found<'_>,
-    kind: &TokenKind,
-    expected: &[Expected],
-) -> Option<&'static str> {
+fn mistake_after(found: &Found<'_>, expected: &[Expected]) -> Option<&'static str> {
     use TokenKind::{Keyword as Word, Name};
     let is_value = expected.contains(&Expected::Expression)
         || expected.contains(&Expected::Condition)
         || expected.contains(&Expected::Number);
-    Some(match (found.last()?, kind) {
+    Some(match (found.last()?, found.kind.as_ref()?) {
         (Name(_), TokenKind::Sign(Sign::Minus)) if found.adjoins_word() => {
             "A name has letters, digits and `_`, and no dash."
         }
@@ -85,13 +80,14 @@ fn mistake_after(
 }
 
 // What is wrong with a token in a declaration or a statement.
-fn mistake_in(found: &Found<'_>, kind: &TokenKind, expected: &[Expected]) -> Option<&'static str> {
+fn mistake_in(found: &Found<'_>, expected: &[Expected]) -> Option<&'static str> {
+    let kind = found.kind.as_ref()?;
     let is_value = expected.contains(&Expected::Expression) || expected.contains(&Expected::Number);
     if found.before.in_procedure && word_of(Some(kind)) == Some(Keyword::Lock) {
         return Some("A procedure has no `lock`.");
     }
     Some(match found.before.first_word()? {
-        Keyword::If | Keyword::While if is_of_condition(kind) && is_in_brackets(found) => {
+        Keyword::If | Keyword::While if is_of_condition(kind) && found.before.is_in_brackets() => {
             "Brackets enclose expressions, and no conditions."
         }
         Keyword::Ctlm | Keyword::Ctci | Keyword::Ctcd | Keyword::Ctgl
@@ -116,14 +112,4 @@ fn is_of_condition(kind: &TokenKind) -> bool {
             Some(Keyword::And | Keyword::Not | Keyword::Q | Keyword::X)
         ),
     }
-}
-
-fn is_in_brackets(found: &Found<'_>) -> bool {
-    let count = |wanted: Sign| {
-        let signs = found.before.phrase.iter();
-        signs
-            .filter(|kind| matches!(kind, TokenKind::Sign(sign) if *sign == wanted))
-            .count()
-    };
-    count(Sign::LeftBracket) > count(Sign::RightBracket)
 }

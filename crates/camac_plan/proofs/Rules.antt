@@ -1,5 +1,5 @@
 -- No rule of a table is that of the bytes.
-use Rattle.std.proofs.Common.{◌≡◌, ℕ, List, Bool, true, false, ◌&&◌, Option, Some, None, Result, Ok, Err, if◌then◌else◌, zero, suc, refl, nat_le, [], ◌∷◌}
+use Rattle.std.proofs.Common.{◌≡◌, ℕ, List, Bool, true, false, ◌&&◌, Option, Some, None, Result, Ok, Err, if◌then◌else◌, zero, suc, refl, nat_le}
 use Rattle.std.specs.Prelude.{pos, negsuc, ◌+◌, unwrap_or}
 use Rattle.std.proofs.lemmas.Bool.{false≢true}
 use Rattle.toml.specs.Data.{Data, string, integer, float, boolean, datetime, table, array, Items, no_items, item, Members}
@@ -18,6 +18,7 @@ use Rattle.camac_plan.specs.declared.fault.BrokenRule.{BrokenRule}
 use Rattle.camac_plan.specs.declared.fault.PlanRule.{PlanRule}
 use Rattle.camac_plan.specs.declared.fault.PlanRule.TheVariants as rule
 use Rattle.camac_plan.specs.Broken.{broken, next}
+use Rattle.camac_plan.specs.Key.{keys_of}
 use Rattle.camac_plan.specs.Field.{first_unknown, none_unknown, has_only, value_at, required, optional, some, number_in, number_at, required_number_at, flag_in, text_in, text_at, are_tables, no_tables, tables_in, tables_or_none}
 use Rattle.camac_plan.specs.Commands.{TypeCommands, command_of, with_new, command_at, with_places, with_commands}
 use Rattle.camac_plan.specs.Types.{TypeLine, next_type, type_of, with_type_line, with_type_table, with_types}
@@ -51,8 +52,8 @@ if-tabular : {A : Type 0} (b : Bool) (r s : Result A BrokenRule) → tabular r �
 if-tabular true r s h k = h
 if-tabular false r s h k = k
 
-has_only-tabular : (at : PlanTable) (keys : List PlanKey) (ms : Members) → tabular (has_only at keys ms) ≡ true
-has_only-tabular at keys ms = go (first_unknown keys 0 ms)
+has_only-tabular : (at : PlanTable) (ms : Members) → tabular (has_only at ms) ≡ true
+has_only-tabular at ms = go (first_unknown (keys_of at) 0 ms)
   where
     go : (o : Option ℕ) → tabular (none_unknown at o) ≡ true
     go None = ok-tabular {A = Unit {0}} tt
@@ -120,7 +121,7 @@ tables_or_none-tabular at key (Some d) = tables_in-tabular at key d
 
 command_of-tabular : (at : PlanTable) (ms : Members) → tabular (command_of at ms) ≡ true
 command_of-tabular at ms =
-    next-tabular _ _ (has_only-tabular at (key.F ∷ key.A ∷ key.To ∷ key.Probe ∷ key.Width ∷ []) ms) (λ u.
+    next-tabular _ _ (has_only-tabular at ms) (λ u.
     next-tabular _ _ (needed-tabular at key.F 0 31 ms) (λ f.
     next-tabular _ _ (needed-tabular at key.A 0 15 ms) (λ a.
     next-tabular _ _ (number_at-tabular at key.To a 15 ms) (λ to.
@@ -145,7 +146,7 @@ with_commands-tabular all n commands (item (array ds) rest) = err-tabular _ rule
 
 type_of-tabular : (at : PlanTable) (ms : Members) → tabular (type_of at ms) ≡ true
 type_of-tabular at ms =
-    next-tabular _ _ (has_only-tabular at (key.Name ∷ key.Commands ∷ []) ms) (λ u.
+    next-tabular _ _ (has_only-tabular at ms) (λ u.
     next-tabular _ _ (next-tabular _ _ (text_at-tabular at key.Name ms) (λ name. if-tabular _ _ _ (ok-tabular name) (err-tabular _ rule.OutOfRange _ refl))) (λ name.
     next-tabular _ _ (next-tabular _ (tables_in at key.Commands) (required-tabular at key.Commands wanted.Tables (value_at key.Commands ms)) (tables_in-tabular at key.Commands)) (λ commands. ok-tabular _)))
 
@@ -170,7 +171,7 @@ with_types-tabular plan (item (array ds) rest) = err-tabular _ rule.MissingOrWro
 
 station_of-tabular : (at : PlanTable) (ms : Members) → tabular (station_of at ms) ≡ true
 station_of-tabular at ms =
-    next-tabular _ _ (has_only-tabular at (key.N ∷ key.TypeName ∷ key.Gl ∷ []) ms) (λ u.
+    next-tabular _ _ (has_only-tabular at ms) (λ u.
     next-tabular _ _ (needed-tabular at key.N 1 23 ms) (λ n.
     next-tabular _ _ (text_at-tabular at key.TypeName ms) (λ type_name.
     next-tabular _ _ (number_at-tabular at key.Gl 1 24 ms) (λ gl. ok-tabular _))))
@@ -195,7 +196,7 @@ with_stations-tabular crates k n plan (item (array ds) rest) = err-tabular _ rul
 
 crate_of-tabular : (place : ℕ) (ms : Members) → tabular (crate_of place ms) ≡ true
 crate_of-tabular place ms =
-    next-tabular _ _ (has_only-tabular (Crate place) (key.Number ∷ key.Waits ∷ key.Stations ∷ []) ms) (λ u.
+    next-tabular _ _ (has_only-tabular (Crate place) ms) (λ u.
     next-tabular _ _ (needed-tabular (Crate place) key.Number 1 7 ms) (λ number.
     next-tabular _ _ (number_at-tabular (Crate place) key.Waits 0 15 ms) (λ waits.
     next-tabular _ _ (tables_or_none-tabular (Crate place) key.Stations (value_at key.Stations ms)) (λ stations. ok-tabular _))))
@@ -217,7 +218,7 @@ with_crates-tabular crates c plan (item (array ds) rest) = err-tabular _ rule.Mi
 
 pub plan_of-tabular : (ms : Members) → tabular (plan_of ms) ≡ true
 plan_of-tabular ms =
-    next-tabular _ _ (has_only-tabular Top (key.Buffer ∷ key.Types ∷ key.Crates ∷ []) ms) (λ u.
+    next-tabular _ _ (has_only-tabular Top ms) (λ u.
     next-tabular _ _ (number_at-tabular Top key.Buffer 1 4096 ms) (λ buffer.
     next-tabular _ _ (tables_or_none-tabular Top key.Types (value_at key.Types ms)) (λ types.
     next-tabular _ _ (tables_or_none-tabular Top key.Crates (value_at key.Crates ms)) (λ crates.

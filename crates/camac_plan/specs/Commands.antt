@@ -1,5 +1,5 @@
 -- What the commands of a type say: those declared, or the first rule that is broken.
-use Rattle.std.specs.Prelude.{ℕ, ◌+◌, ◌-◌, zero, suc, Bool, false, ◌&&◌, not, nat_eq, nat_le, is_some, Option, Some, None, Result, Ok, Err, [], ◌∷◌, unwrap_or, if◌then◌else◌}
+use Rattle.std.specs.Prelude.{ℕ, ◌+◌, ◌-◌, zero, suc, Bool, false, ◌&&◌, not, nat_eq, nat_le, is_some, Option, Some, None, Result, Ok, Err, unwrap_or, if◌then◌else◌}
 use Rattle.toml.specs.Data.{Data, table, Items, no_items, item, Members}
 use Rattle.camac_module.specs.Commands.{Commands, entry, with_declared, fits_width}
 use Rattle.camac_module.specs.declared.map.Decl.{Decl}
@@ -8,7 +8,7 @@ use Rattle.camac_plan.specs.declared.command.CommandLine.{CommandLine}
 use Rattle.camac_plan.specs.declared.command.TypeCommands as code
 use Rattle.camac_plan.specs.declared.key.PlanKey.TheVariants as key
 use Rattle.camac_plan.specs.declared.fault.PlanTable.{PlanTable}
-use Rattle.camac_plan.specs.declared.fault.PlanTable.TheVariants.{Top, ModuleType, Command}
+use Rattle.camac_plan.specs.declared.fault.PlanTable.TheVariants.{ModuleType, Command}
 use Rattle.camac_plan.specs.declared.fault.PlanCase.TheVariants as case
 use Rattle.camac_plan.specs.declared.fault.BrokenRule.{BrokenRule}
 use Rattle.camac_plan.specs.declared.fault.PlanRule.TheVariants.{OutOfRange, DeclaredTwice}
@@ -24,7 +24,7 @@ width_at at probe ms =
 -- a command's table: its keys, and then one key after the other
 abbrev pub command_of : PlanTable → Members → Result CommandLine BrokenRule
 command_of at ms =
-    next (has_only at (key.F ∷ key.A ∷ key.To ∷ key.Probe ∷ key.Width ∷ []) ms) (λ _.
+    next (has_only at ms) (λ _.
     next (required_number_at at key.F 0 31 ms) (λ f.
     next (required_number_at at key.A 0 15 ms) (λ a.
     next (number_at at key.To a 15 ms) (λ to.
@@ -46,7 +46,7 @@ line_declares f a (Ok line) = nat_eq line.f f && nat_le line.first a && nat_le a
 line_declares f a (Err e) = false
 
 abbrev pub declares : ℕ → ℕ → Data → Bool
-declares f a (table ms) = line_declares f a (command_of Top ms)
+declares f a (table ms) = line_declares f a (command_of (Command 0 0) ms)
 declares f a _ = false
 
 -- the place of the first table that does, where the first table of the array has the place n

@@ -1,5 +1,5 @@
 -- What the crates of a plan say, put one after the other into the plan so far, or the first rule that is broken.
-use Rattle.std.specs.Prelude.{ℕ, ◌+◌, List, [], ◌∷◌, Option, Some, None, Result, Ok, Err, if◌then◌else◌, is_some, unwrap_or}
+use Rattle.std.specs.Prelude.{ℕ, ◌+◌, List, Option, Some, None, Result, Ok, Err, if◌then◌else◌, is_some, unwrap_or}
 use Rattle.toml.specs.Data.{Data, array, table, Items, no_items, item, Members}
 use Rattle.camac_branch.specs.Plan.{Layout, crate_at, type_named, installed, is_some_and, uses_bit, with_crate, with_installed}
 use Rattle.camac_plan.specs.declared.crates.CrateLine as code
@@ -23,7 +23,7 @@ pub record CrateLine : Type 0 where
 -- a crate's table: its keys, and then one key after the other
 abbrev pub crate_of : ℕ → Members → Result CrateLine BrokenRule
 crate_of place ms =
-    next (has_only (Crate place) (key.Number ∷ key.Waits ∷ key.Stations ∷ []) ms) (λ _.
+    next (has_only (Crate place) ms) (λ _.
     next (required_number_at (Crate place) key.Number 1 7 ms) (λ number.
     next (number_at (Crate place) key.Waits 0 15 ms) (λ waits.
     next (tables_at (Crate place) key.Stations ms) (λ stations.
@@ -37,7 +37,7 @@ pub record StationLine : Type 0 where
 -- a station's table: its keys, and then one key after the other
 abbrev pub station_of : PlanTable → Members → Result StationLine BrokenRule
 station_of at ms =
-    next (has_only at (key.N ∷ key.TypeName ∷ key.Gl ∷ []) ms) (λ _.
+    next (has_only at ms) (λ _.
     next (required_number_at at key.N 1 23 ms) (λ n.
     next (text_at at key.TypeName ms) (λ type_name.
     next (number_at at key.Gl 1 24 ms) (λ gl.

@@ -14,7 +14,7 @@ use Rattle.camac_plan.specs.declared.fault.Wanted.TheVariants.{Number, Flag, Tex
 use Rattle.camac_plan.specs.declared.fault.PlanCase.TheVariants.{Unknown, Missing, Kind, Range}
 use Rattle.camac_plan.specs.declared.fault.BrokenRule.{BrokenRule}
 use Rattle.camac_plan.specs.declared.fault.PlanRule.TheVariants.{UnknownKey, MissingOrWrongKind, OutOfRange}
-use Rattle.camac_plan.specs.Key.{key_text}
+use Rattle.camac_plan.specs.Key.{key_text, keys_of}
 use Rattle.camac_plan.specs.Broken.{broken, next}
 
 -- the code's result stands for this one
@@ -39,9 +39,9 @@ abbrev pub none_unknown : PlanTable → Option ℕ → Result (Unit {0}) BrokenR
 none_unknown at None = Ok tt
 none_unknown at (Some n) = Err (broken UnknownKey (Unknown at n))
 
--- each key is one of these
-abbrev pub has_only : PlanTable → List PlanKey → Members → Result (Unit {0}) BrokenRule
-has_only at keys ms = none_unknown at (first_unknown keys 0 ms)
+-- each key is one that the table may have
+abbrev pub has_only : PlanTable → Members → Result (Unit {0}) BrokenRule
+has_only at ms = none_unknown at (first_unknown (keys_of at) 0 ms)
 
 -- the value at a key
 abbrev pub value_at : PlanKey → Members → Option Data

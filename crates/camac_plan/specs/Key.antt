@@ -1,5 +1,7 @@
--- The keys of a plan's tables as they stand in its text.
-use Rattle.std.specs.Prelude.{ℕ, List, codes}
+-- The keys of a plan's tables, and how they stand in its text.
+use Rattle.std.specs.Prelude.{ℕ, List, [], ◌∷◌, codes}
+use Rattle.camac_plan.specs.declared.fault.PlanTable.{PlanTable}
+use Rattle.camac_plan.specs.declared.fault.PlanTable.TheVariants.{Top, ModuleType, Command, Crate, Station}
 use Rattle.camac_plan.specs.declared.key.PlanKey.{PlanKey}
 use Rattle.camac_plan.specs.declared.key.PlanKey.TheVariants.{Buffer, Types, Crates, Name, Commands, F, A, To, Probe, Width, Number, Waits, Stations, N, TypeName, Gl}
 
@@ -20,3 +22,11 @@ key_text Stations = codes "station"
 key_text N = codes "n"
 key_text TypeName = codes "type"
 key_text Gl = codes "gl"
+
+-- the keys that a table may have
+abbrev pub keys_of : PlanTable → List PlanKey
+keys_of Top = Buffer ∷ Types ∷ Crates ∷ []
+keys_of (ModuleType place) = Name ∷ Commands ∷ []
+keys_of (Command type_place place) = F ∷ A ∷ To ∷ Width ∷ Probe ∷ []
+keys_of (Crate place) = Number ∷ Waits ∷ Stations ∷ []
+keys_of (Station crate_place place) = N ∷ TypeName ∷ Gl ∷ []

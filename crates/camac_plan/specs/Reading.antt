@@ -1,5 +1,5 @@
 -- The plan reading: what a plan's text says, which is a plan or the first rule that is broken.
-use Rattle.std.specs.Prelude.{◌≡◌, ◌↔◌, ◌≤◌, ⊤, IsUtf8, ℕ, List, [], ◌∷◌, length, Option, Some, None, Result, Ok, Err, if◌then◌else◌, unwrap_or}
+use Rattle.std.specs.Prelude.{◌≡◌, ◌↔◌, ◌≤◌, ⊤, IsUtf8, ℕ, List, [], length, Option, Some, None, Result, Ok, Err, if◌then◌else◌, unwrap_or}
 use Rattle.std.specs.Str.{is_utf8}
 use Rattle.toml.specs.Parse.{parse_document}
 use Rattle.toml.specs.Data.{Members}
@@ -25,7 +25,7 @@ empty_plan buffer = record { buffer = buffer; types = []; crates = no_crates }
 -- the top table: its keys, one key after the other, and then the types and the crates
 abbrev pub plan_of : Members → Result Layout BrokenRule
 plan_of ms =
-    next (has_only Top (key.Buffer ∷ key.Types ∷ key.Crates ∷ []) ms) (λ _.
+    next (has_only Top ms) (λ _.
     next (number_at Top key.Buffer 1 4096 ms) (λ buffer.
     next (tables_at Top key.Types ms) (λ types.
     next (tables_at Top key.Crates ms) (λ crates.

@@ -1,5 +1,5 @@
 -- What the types of a plan say, put one after the other into the plan so far, or the first rule that is broken.
-use Rattle.std.specs.Prelude.{ℕ, List, [], ◌∷◌, Result, Ok, Err, if◌then◌else◌, is_some, nat_lt, length, unwrap_or}
+use Rattle.std.specs.Prelude.{ℕ, List, Result, Ok, Err, if◌then◌else◌, is_some, nat_lt, length, unwrap_or}
 use Rattle.toml.specs.Data.{table, Items, no_items, item, Members}
 use Rattle.toml.specs.View.{array_view}
 use Rattle.camac_module.specs.Commands.{none_declared}
@@ -28,7 +28,7 @@ type_name_at at key ms = next (text_at at key ms) (λ name. if is_type_name name
 -- a type's table: its keys, and then one key after the other
 abbrev pub type_of : PlanTable → Members → Result TypeLine BrokenRule
 type_of at ms =
-    next (has_only at (key.Name ∷ key.Commands ∷ []) ms) (λ _.
+    next (has_only at ms) (λ _.
     next (type_name_at at key.Name ms) (λ name.
     next (required_tables_at at key.Commands ms) (λ commands.
     Ok (record { name = name; commands = commands }))))

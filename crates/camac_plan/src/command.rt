@@ -153,12 +153,18 @@ fn first_declaring(items: &Array, f: u32, a: u32) -> Option<usize>
     None
 }
 
+// A place for a fault that is not told.
+const ANY_COMMAND: PlanTable = PlanTable::Command {
+    type_place: 0,
+    place: 0,
+};
+
 // Whether a table declares a function at a sub-address.
 fn declares(item: &Value, f: u32, a: u32) -> bool
     ensures { result ≡ declares f a (view item.now) }
 {
     match item {
-        Value::Table(table) => match read_command(PlanTable::Top, table) {
+        Value::Table(table) => match read_command(ANY_COMMAND, table) {
             Ok(line) => line.f.get() == f && line.first <= a && a <= line.last,
             Err(_) => false,
         },
@@ -172,17 +178,7 @@ fn read_command(at: PlanTable, table: &Table) -> Result<CommandLine, BrokenRule>
     ensures in_range { IfOk result (λ k. (k.first ≤ k.last) × (k.last < 16)) }
     ensures width { IfOk result (λ k. fits k ≡ true) }
 {
-    has_only(
-        at,
-        table,
-        &[
-            PlanKey::F,
-            PlanKey::A,
-            PlanKey::To,
-            PlanKey::Probe,
-            PlanKey::Width,
-        ],
-    )?;
+    has_only(at, table)?;
     let f = function_number(at, table)?;
     let first = required_number_at(at, table, PlanKey::A, 0, 15)?;
     let to = number_at(at, table, PlanKey::To, first, 15)?;

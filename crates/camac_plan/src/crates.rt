@@ -92,11 +92,7 @@ fn read_crate(place: usize, table: &Table) -> Result<CrateLine<'_>, BrokenRule>
     ensures in_range { IfOk result (λ k. k.waits ≤ 15) }
 {
     let at = PlanTable::Crate { place };
-    has_only(
-        at,
-        table,
-        &[PlanKey::Number, PlanKey::Waits, PlanKey::Stations],
-    )?;
+    has_only(at, table)?;
     let number = crate_number(at, table)?;
     let waits = crate_waits(at, table)?;
     let stations = tables_at(at, table, PlanKey::Stations)?;

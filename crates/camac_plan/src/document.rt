@@ -51,11 +51,7 @@ fn read_document(alloc: Global, bytes: &[u8]) -> Result<Table, PlanFault>
 fn read_table(alloc: Global, table: &Table) -> Result<Plan, PlanFault>
     ensures { GivesOrTells result (plan_of (table_view table.now)) }
 {
-    has_only(
-        PlanTable::Top,
-        table,
-        &[PlanKey::Buffer, PlanKey::Types, PlanKey::Crates],
-    )?;
+    has_only(PlanTable::Top, table)?;
     let buffer = buffer_at(table)?.unwrap_or(4096);
     let types = tables_at(PlanTable::Top, table, PlanKey::Types)?;
     let crates = tables_at(PlanTable::Top, table, PlanKey::Crates)?;

@@ -7,15 +7,15 @@ ghost use Rattle.camac_plan.specs.Field.{is_text, first_unknown, has_only, value
 ghost use Rattle.camac_plan.specs.Broken.{broken};
 
 use crate::fault::{BrokenRule, PlanCase, PlanRule, PlanTable, Wanted, broken};
-use crate::key::PlanKey;
+use crate::key::{PlanKey, keys_of};
 use toml::value::Array;
 use toml::{Table, Value};
 
-// Each key of the table is one of these.
-pub(crate) fn has_only(at: PlanTable, table: &Table, keys: &[PlanKey]) -> Result<(), BrokenRule>
-    ensures { result ≡ has_only at keys.now (table_view table.now) }
+// Each key of the table is one that it may have.
+pub(crate) fn has_only(at: PlanTable, table: &Table) -> Result<(), BrokenRule>
+    ensures { result ≡ has_only at (table_view table.now) }
 {
-    match first_unknown(table, keys) {
+    match first_unknown(table, keys_of(at)) {
         Some(entry) => Err(broken(PlanRule::UnknownKey, PlanCase::Unknown { table: at, entry })),
         None => Ok(()),
     }

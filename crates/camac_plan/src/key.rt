@@ -1,7 +1,9 @@
 //! The keys of a plan's tables.
 
 ghost use Rattle.std.specs.Prelude.{◌≡◌};
-ghost use Rattle.camac_plan.specs.Key.{key_text};
+ghost use Rattle.camac_plan.specs.Key.{key_text, keys_of};
+
+use crate::fault::PlanTable;
 
 /// A key of one of a plan's tables.
 #[derive(Clone, Copy, Debug, PartialEq, Eq)]
@@ -51,5 +53,24 @@ impl PlanKey {
             PlanKey::N => "n",
             PlanKey::Gl => "gl",
         }
+    }
+}
+
+/// The keys that a table may have, in the order of docs/PLANS.md.
+pub fn keys_of(table: PlanTable) -> &'static [PlanKey]
+    ensures { result.now ≡ keys_of table }
+{
+    match table {
+        PlanTable::Top => &[PlanKey::Buffer, PlanKey::Types, PlanKey::Crates],
+        PlanTable::ModuleType { .. } => &[PlanKey::Name, PlanKey::Commands],
+        PlanTable::Command { .. } => &[
+            PlanKey::F,
+            PlanKey::A,
+            PlanKey::To,
+            PlanKey::Width,
+            PlanKey::Probe,
+        ],
+        PlanTable::Crate { .. } => &[PlanKey::Number, PlanKey::Waits, PlanKey::Stations],
+        PlanTable::Station { .. } => &[PlanKey::N, PlanKey::TypeName, PlanKey::Gl],
     }
 }

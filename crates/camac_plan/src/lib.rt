@@ -12,4 +12,4 @@ mod station;
 
 pub use document::read;
 pub use fault::{PlanCase, PlanFault, PlanRule, PlanTable, Wanted};
-pub use key::PlanKey;
+pub use key::{PlanKey, keys_of};

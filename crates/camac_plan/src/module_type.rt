@@ -93,7 +93,7 @@ fn name_twice(place: usize, first: usize) -> BrokenRule
 fn read_type(at: PlanTable, table: &Table) -> Result<TypeLine<'_>, BrokenRule>
     ensures { Reads type_view result (type_of at (table_view table.now)) }
 {
-    has_only(at, table, &[PlanKey::Name, PlanKey::Commands])?;
+    has_only(at, table)?;
     let name = type_name(at, table)?;
     let commands = required_tables_at(at, table, PlanKey::Commands)?;
     Ok(TypeLine { name, commands })

@@ -184,7 +184,7 @@ fn read_station(at: PlanTable, table: &Table) -> Result<StationLine<'_>, BrokenR
     ensures value { Reads station_view result (station_of at (table_view table.now)) }
     ensures in_range { IfOk result (λ s. (1 ≤ s.n) × (s.n ≤ 23)) }
 {
-    has_only(at, table, &[PlanKey::N, PlanKey::TypeName, PlanKey::Gl])?;
+    has_only(at, table)?;
     let n = station_number(at, table)?;
     let type_name = text_at(at, table, PlanKey::TypeName)?;
     let gl = gl_bit(at, table)?;
