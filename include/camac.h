@@ -196,7 +196,7 @@ CAMAC_CALL int camac_run(const void *plan, size_t plan_size, const void *script,
                               CAMAC_OUT(text, room, nowhere), size, CAMAC_OUT(file, file_room, nowhere_else), file_size);
 }
 
-/* Checks a script, and opens a session at the begin of its run. The text is that of camac_check. Where the code is not CAMAC_OK, the
+/* Checks a script, and opens a session at the beginning of its run. The text is that of camac_check. Where the code is not CAMAC_OK, the
  * session stays as it was: also CAMAC_MISUSE of a session that is open. */
 CAMAC_CALL int camac_open(camac_session *s, const void *plan, size_t plan_size, const void *script, size_t script_size,
                           char *text, size_t room, size_t *size) {

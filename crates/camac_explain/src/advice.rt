@@ -160,7 +160,7 @@ pub fn check_advice(rule: CheckRule, case: Case) -> Advice
             "bound the value by `%` or `if`, write a smaller word into the table, or correct the `width` in the plan.",
         ),
         CheckRule::RegisterUnset => (
-            "on some way to this line no `cdreg` has set the register; at the begin of a loop's turn, those that its body sets count as unset.",
+            "on some way to this line no `cdreg` has set the register; at the beginning of a loop's turn, those that its body sets count as unset.",
             "set it before the `if` or the loop, or in the same block before it is used.",
         ),
         CheckRule::MeasureBroken => (
