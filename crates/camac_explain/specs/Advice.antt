@@ -158,7 +158,7 @@ check_told check.ValueTooWide case =
     told (codes "a write sends all bits of its value, so the value has to fit the register's width in the plan, and for `cssa` 16 bits.")
     (codes "bound the value by `%` or `if`, write a smaller word into the table, or correct the `width` in the plan.")
 check_told check.RegisterUnset case =
-    told (codes "on some way to this line no `cdreg` has set the register; at the begin of a loop's turn, those that its body sets count as unset.")
+    told (codes "on some way to this line no `cdreg` has set the register; at the beginning of a loop's turn, those that its body sets count as unset.")
     (codes "set it before the `if` or the loop, or in the same block before it is used.")
 check_told check.MeasureBroken case =
     told (codes "the variable after `by` shows that the loop ends: its body lowers it once, by a number from 1, and nothing else in it writes it.")
