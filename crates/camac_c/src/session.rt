@@ -67,7 +67,9 @@ pub fn step<'a>(
 }
 
 /// Drops a run, and returns its allocator.
-pub fn finish<'a>(run: Loose<Session<'a>, Global>) -> Global {
+pub fn finish<'a>(run: Loose<Session<'a>, Global>) -> Global
+    ensures { result ≡ run.entry.alloc }
+{
     let run = run.into_box();
     let alloc = *Box::allocator(&run);
     drop(run);

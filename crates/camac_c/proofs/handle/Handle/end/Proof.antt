@@ -80,7 +80,7 @@ end_spec 𝓤 𝓛 𝓜 𝓡 wired =
     move ! (0 ∷ 3 ∷ []) $ loose_in_at ! (run_in (ν ∷ [])) (block_ptr b o) h a x $
     nothing ! $ move ! (1 ∷ 0 ∷ []) $ join ! $ nothing ! $ move ! (2 ∷ 0 ∷ []) $ join ! $ join ! $ nothing ! $ move ! (1 ∷ 0 ∷ []) $ use2 𝓛 (raw (k.pre g)) (id⊢ 𝓤 _) $
     calls_at ! (fm 𝓛 𝓜 𝓡) k (met 𝓤 𝓛 𝓜 𝓡 (code.calls-camac_c::session::finish 𝓡.env wired)) g (and_then ! (get ! refl) (no_more !)) (λ u.
-    use1 𝓛 (later (some (λ (r : Z.Denot). ((‵ (flft (ν ∷ []) full_share) ⊛ ‵ ftrue) ⊛ ‵ (Z.own_val r (u ∷ []))) ⊛ some (λ (ls : Lasts callee.ended g.0.0 g.0.3). ‵ (lasts callee.ended g.0.0 g.0.3 ls) ⊛ ‵ ftrue)))) (id⊢ 𝓤 (k.post g u)) $
+    use1 𝓛 (later (some (λ (r : Z.Denot). ((‵ (flft (ν ∷ []) full_share) ⊛ ‵ ftrue) ⊛ ‵ (Z.own_val r (u ∷ []))) ⊛ some (λ (ls : Lasts callee.ended g.0.0 g.0.3). ‵ (lasts callee.ended g.0.0 g.0.3 ls) ⊛ raw (fact 𝓤 (r ≡ a)))))) (id⊢ 𝓤 (k.post g u)) $
     await ! tt $ pick ! (λ r. split ! $ split ! $ split ! $ lft_end ! tt $ move ! (0 ∷ 4 ∷ []) $ lent_back ! tt $ move ! (2 ∷ []) $ handle_tells al ! r (u ∷ []) (λ h₂ eh gh₂. lands_as ! (ap only eh) refl gh₂ $
     let w₂ : Val = both (ptr_val v.script) h₂ in let typed = both_good v.script h₂ gh₂ in let v₁ : Val = live 1 (vcons w₂ vnil) in let d₂ : Lr.Denot = record { at = v.script; alloc = r; value = y } in
     let good : Good (layout Out) v₁ = (and_tt _ typed.0, (record { fits = lit< tt }, (typed.1, tt))) in
