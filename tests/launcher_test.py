@@ -54,6 +54,12 @@ def call(*words, given="", **how):
     return ran.returncode, out, err
 
 
+def processor_time():
+    """Seconds of the processor that ended children took."""
+    times = os.times()
+    return times.children_user + times.children_system
+
+
 def kept():
     """The programs that are kept."""
     return sorted((COPY / "out").glob("camac.*"))
@@ -112,12 +118,13 @@ class Launcher(unittest.TestCase):
         self.assertEqual(len(kept()), 1)
 
     def test_3_later_calls_are_fast_and_silent(self):
+        """By processor time: on a busy computer each call also waits for others."""
         times = []
         for _ in range(10):
-            began = time.monotonic()
+            began = processor_time()
             self.assertEqual(call(self.launcher, "check", "@sample", "@in", given=self.script), (0, VERDICT, ""))
-            times.append(time.monotonic() - began)
-        print(f"\na later call took {min(times):.3f} to {max(times):.3f} s", flush=True)
+            times.append(processor_time() - began)
+        print(f"\na later call took {min(times):.3f} to {max(times):.3f} s of processor time", flush=True)
         self.assertLess(min(times), 0.1)
 
     def test_4_links_folders_and_statuses(self):
