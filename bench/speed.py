@@ -51,6 +51,32 @@ def too_many_turns():
     return large_inputs.nested_loops(4095, 14).replace("}", "v = v - 2\n}", 1)
 
 
+def long_names():
+    """63 variables of 32 bytes each, and a script up to the body of its service."""
+    words = [f"variable_number_{n:03}_of_this_text" for n in range(63)]
+    return words, f"{large_inputs.OPENING}var {' '.join(words)}\nservice adc within 0 cycles event 0 words {{\n"
+
+
+def longest_condition():
+    """A sign that has no place, after a condition of 16 parts, each of two sums of 33 long names."""
+    words, opening = long_names()
+    total = " + ".join(words[:33])
+    return f"{opening}if {' and '.join([f'{total} < {total}'] * 16)} )"
+
+
+def most_kept():
+    """A sign that has no place, after a loop's list of 62 kept variables."""
+    words, opening = long_names()
+    return f"{opening}for {words[0]} = 0 to 5 keep {', '.join(f'{it} in 0..4294967295' for it in words[1:])} )"
+
+
+def last_service():
+    """24 services of 160 statements each, and a name that is not declared in the last."""
+    lams = "".join(f"cdlam l{n} 1 1 5 {n % 16}\n" for n in range(24))
+    body = "v = v % 4096\n" * 160
+    return lams + "var v\n" + "".join(f"service l{n} within 0 cycles event 0 words {{\n{body}{'v = vv' * (n == 23)}\n}}\n" for n in range(24))
+
+
 def record(version, number, words):
     usage = struct.pack(">IH", words, 0) if version == 2 else b""
     return struct.pack(">2sHI", b"\xcaM", 3, number) + usage + struct.pack(">H", words) + b"\0\x12\x3f\xff" * words
@@ -129,6 +155,9 @@ def cases():
     yield from explained("4,096 statements", large_inputs.service(4096, 0))
     yield from explained("110,000 tokens", long_statements(4096) + "}")
     yield from explained("14 loops", too_many_turns())
+    yield from explained("the longest condition", longest_condition())
+    yield from explained("62 kept variables", most_kept())
+    yield from explained("24 services", last_service())
     yield from explained_plan("64 full types", large_inputs.greatest_plan() + 'gl=1\n')
     yield ran("run: mixed", MIXED, MIXED_ANSWERS)
     yield ran("run: demands without a service", long_runs.SCRIPT, QUIET)

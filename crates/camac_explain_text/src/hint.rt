@@ -67,10 +67,7 @@ pub fn unexpected_hint<'a>(
             return Some(hint);
         }
     }
-    match arguments(found) {
-        Some(hint) => Some(hint),
-        None => open_block(found),
-    }
+    arguments(found).or_else(|| open_block(found))
 }
 
 /// What may be meant by a name that is not declared: the near word of the language, which may stand there, else the near name.
@@ -134,16 +131,19 @@ fn meant_by_sign(found: &Found<'_>, expected: &[Expected]) -> Option<&'static st
     if *sign == Sign::Equals && expected.contains(&Expected::Comparison) {
         return Some(Sign::Same.spelling());
     }
-    let taken = [
+    for (taken, meant) in [
         (Sign::Same, Sign::Equals.spelling()),
         (Sign::More, Sign::Into.spelling()),
         (Sign::Less, Sign::From.spelling()),
         (Sign::Minus, Sign::Into.spelling()),
         (Sign::Equals, Sign::From.spelling()),
         (Sign::UpTo, Keyword::To.spelling()),
-    ];
-    let mut meant = taken.iter().filter(|it| it.0 == *sign).map(|it| it.1);
-    meant.find(|it| expected.contains(&Expected::Token(it)))
+    ] {
+        if *sign == taken && expected.contains(&Expected::Token(meant)) {
+            return Some(meant);
+        }
+    }
+    None
 }
 
 // How many arguments the procedure of a call takes, unless they are complete.
