@@ -156,7 +156,7 @@ with_type_line-tabular plan line =
 
 with_type_table-tabular : (plan : Layout) (t : Members) → tabular (with_type_table plan t) ≡ true
 with_type_table-tabular plan t =
-    if-tabular _ _ _ (next-tabular (type_of (ModuleType (next_type plan)) t) (with_type_line plan) (type_of-tabular _ t) (with_type_line-tabular plan)) (err-tabular _ rule.OutOfRange _ refl)
+    if-tabular _ _ _ (next-tabular (type_of (ModuleType (next_type plan)) t) (with_type_line plan) (type_of-tabular (ModuleType (next_type plan)) t) (with_type_line-tabular plan)) (err-tabular _ rule.OutOfRange _ refl)
 
 with_types-tabular : (plan : Layout) (items : Items) → tabular (with_types plan items) ≡ true
 with_types-tabular plan no_items = ok-tabular _
@@ -186,7 +186,7 @@ with_station-tabular crates k n plan s = if-tabular _ _ _ (err-tabular _ rule.St
 with_stations-tabular : (crates : Items) (k : CrateLine) (n : ℕ) (plan : Layout) (items : Items) → tabular (with_stations crates k n plan items) ≡ true
 with_stations-tabular crates k n plan no_items = ok-tabular _
 with_stations-tabular crates k n plan (item (table t) rest) =
-    next-tabular _ _ (next-tabular (station_of (Station k.place n) t) (with_station crates k n plan) (station_of-tabular _ t) (with_station-tabular crates k n plan)) (λ p. with_stations-tabular crates k (n + 1) p rest)
+    next-tabular _ _ (next-tabular (station_of (Station k.place n) t) (with_station crates k n plan) (station_of-tabular (Station k.place n) t) (with_station-tabular crates k n plan)) (λ p. with_stations-tabular crates k (n + 1) p rest)
 with_stations-tabular crates k n plan (item (integer z) rest) = err-tabular _ rule.MissingOrWrongKind _ refl
 with_stations-tabular crates k n plan (item (string text) rest) = err-tabular _ rule.MissingOrWrongKind _ refl
 with_stations-tabular crates k n plan (item (float x) rest) = err-tabular _ rule.MissingOrWrongKind _ refl
