@@ -79,7 +79,7 @@ MISTAKES = [
     ("a semicolon", service("put v;"), "S1", 4, "The byte `;` begins no token. A statement ends without a sign."),
     ("conditions joined by &&", service("if v < 3 && q { }"), "S1", 4, "The byte `&` begins no token. Conditions are joined by `and`."),
     ("a condition turned by !", service("if !q { }"), "S1", 4, "The byte `!` begins no token. Write `not` before a condition, and `!=` between two numbers."),
-    ("conditions joined by or", service("if q or x { }"), "S2", 4, "Found `or`; here may stand `{` or `and`. There is no or: write one `if` after the other."),
+    ("conditions joined by or", service("if q or x { }"), "S2", 4, "Found `or`; here may stand `{` or `and`. There is no `or`: put the second `if` into the `else` of the first, or set a variable in both and test it."),
     ("= to compare", service("if v = 3 { }"), "S2", 4, "Found `=`; here may stand an operator or a comparison. Perhaps `==` is meant."),
     ("== to set a variable", service("v == 3"), "S2", 4, "Found `==`; here may stand `=`. Perhaps `=` is meant."),
     ("+= to add", service("v += 1"), "S2", 4, "Found `+`; here may stand `=`. The variable stands again behind the `=`, as in `v = v + 1`."),

@@ -346,7 +346,7 @@ class Install(unittest.TestCase):
         self.assertEqual((status, err), (0, ""))
         lines = out.splitlines()
         not_proved = "not proved: ./install --prove proves it"
-        last = [f"install: camac 0.2.0, {not_proved}", self.said_of_library(not_proved), f"install: {place}/bin is not in PATH"]
+        last = [f"install: camac 0.2.0, {not_proved}", self.said_of_library(not_proved), f'install: {place}/bin is not in PATH. A line for ~/.profile: export PATH="{place}/bin:$PATH"']
         self.assertEqual(lines[-3:], last)
         wanted = "bin/camac share/man/man1/camac.1 share/bash-completion/completions/camac share/zsh/site-functions/_camac"
         wanted += " share/fish/vendor_completions.d/camac.fish share/nvim/site/syntax/camac.vim share/vim/vimfiles/syntax/camac.vim"

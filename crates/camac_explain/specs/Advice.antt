@@ -112,7 +112,7 @@ is_difference case = false
 abbrev pub operation_mend : Case → List ℕ
 operation_mend case =
     if is_difference case then codes "ranges know no relation between two variables: add the greatest number of the right side first, as in `v + 4095 - w`, and test the result by `if`."
-    else codes "test the variables by `if` before, bound them by `%`, or let a loop `keep` them in a range."
+    else codes "test the variables by `if` before, or in the condition of a `while`, bound them by `%`, or let a loop `keep` them in a range."
 
 -- E10: a larger number after `turns`, where that is allowed
 abbrev pub turns_mend : Case → List ℕ
@@ -147,7 +147,7 @@ check_told check.StationNotInstalled case =
     (codes "correct the `cdreg`, add the station to the plan, or bound a computed number before the `cdreg` by `if` or `%`.")
 check_told check.CommandNotDeclared case =
     told (codes "a module is sent only what the plan declares for its type, at every sub-address that the register may hold.")
-    (codes "correct the function or the `cdreg`, add the command to the type in the plan, or bound a computed number by `if` or `%`.")
+    (codes "correct the function, or the address in the `cdreg` or `cdlam`; or add the command to the type in the plan; or bound a computed number by `if` or `%`.")
 check_told check.WrongDirection case =
     told (codes "F0 to F7 read, F16 to F23 write, and the others move no data; `cfmad` reads, and a block transfer writes where it names a table.")
     (direction_mend case)

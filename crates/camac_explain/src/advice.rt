@@ -145,7 +145,7 @@ pub fn check_advice(rule: CheckRule, case: Case) -> Advice
         ),
         CheckRule::CommandNotDeclared => (
             "a module is sent only what the plan declares for its type, at every sub-address that the register may hold.",
-            "correct the function or the `cdreg`, add the command to the type in the plan, or bound a computed number by `if` or `%`.",
+            "correct the function, or the address in the `cdreg` or `cdlam`; or add the command to the type in the plan; or bound a computed number by `if` or `%`.",
         ),
         CheckRule::WrongDirection => (
             "F0 to F7 read, F16 to F23 write, and the others move no data; `cfmad` reads, and a block transfer writes where it names a table.",
@@ -257,7 +257,7 @@ fn operation_mend(case: Case) -> &'static str
     if is_difference(case) {
         "ranges know no relation between two variables: add the greatest number of the right side first, as in `v + 4095 - w`, and test the result by `if`."
     } else {
-        "test the variables by `if` before, bound them by `%`, or let a loop `keep` them in a range."
+        "test the variables by `if` before, or in the condition of a `while`, bound them by `%`, or let a loop `keep` them in a range."
     }
 }
 

@@ -6,14 +6,17 @@ use crate::trial::{Expected, is_comparison, is_operator};
 use camac_text::TokenKind;
 use camac_text_tokens::{Keyword, Sign};
 
-const NO_OR: &str = "There is no or: write one `if` after the other.";
+const NO_OR: &str =
+    "There is no `or`: put the second `if` into the `else` of the first, or set a variable in both and test it.";
 
 /// What takes the place of a byte that other languages use.
 pub fn told_of_byte(byte: u8) -> Option<&'static str> {
     Some(match byte {
         b';' => "A statement ends without a sign.",
         b'&' => "Conditions are joined by `and`.",
-        b'|' => NO_OR,
+        b'|' => {
+            "Conditions have no `or`: put the second `if` into the `else` of the first. Bits are taken apart by `/` and `%`."
+        }
         b'!' => "Write `not` before a condition, and `!=` between two numbers.",
         b'[' | b']' => "There are no lists but a `table`, which a block write sends as a whole.",
         b'"' | b'\'' => "There are no texts in quotes.",
