@@ -90,6 +90,11 @@ class Warnings(Case):
             with self.subTest(keep=keep, after=after):
                 self.assertEqual(self.codes(script([loop.format(keep, body), after, "cclc adc"])), wanted)
 
+    def test_no_service(self):
+        for text in ("", "# nothing\n", "cdlam adc 1 1 5 12\nvar v\n", script(["cclc adc"]).replace("\n", "\r").replace("cdlam", "#\rcdlam")):
+            with self.subTest(script=text):
+                self.assertEqual(self.codes(text), [(1, "W5")])
+
     def test_comments_may_hold_anything(self):
         text = script(["cclc adc  # keep x in {{ cdreg \xff"]).encode("latin-1")
         (self.room / "a.script").write_bytes(text)

@@ -18,6 +18,7 @@ class Code(enum.Enum):
     EMPTY_SCAN = "W2"
     LEFT_CALLING = "W3"
     UNUSED_KEEP = "W4"
+    NO_SERVICE = "W5"
 
 
 class Warned(NamedTuple):
@@ -49,9 +50,11 @@ def warnings(plan: File, script: File, program: Optional[File] = None) -> List[W
     (`looks_for_all`).
 
     Raises as `camac.check`."""
-    check(plan, script, program)
+    services = check(plan, script, program)
     with open(script, "rb") as file:
         text = file.read()
+    if not services:
+        return [Warned(1, Code.NO_SERVICE, "this script has no service, so a run of it makes no cycle")]
     found = [*_left_calling(_tokens(text)), *_unused_keeps(plan, text, program)]
     if looks_for_all(program):
         found += _of_costs(costs(plan, script, program))
