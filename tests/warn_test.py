@@ -129,6 +129,13 @@ class Warnings(Case):
         self.assertEqual(ran.stderr if ran.returncode != 2 else "", "")
         return ran.returncode, ran.stdout
 
+    def test_no_program(self):
+        """A program that is not there is no fault of the plan."""
+        words = [sys.executable, "-m", "camac", "check", "@sample", str(self.write("a.script", script(["cclc adc"])))]
+        env = {**os.environ, "PYTHONPATH": str(TOP / "python"), "CAMAC_PROGRAM": str(self.room / "nowhere")}
+        ran = subprocess.run(words, env=env, stdout=subprocess.PIPE, stderr=subprocess.PIPE, text=True, timeout=60)
+        self.assertEqual((ran.returncode, ran.stdout, ran.stderr), (3, "", f"camac: No such file or directory: {self.room}/nowhere\n"))
+
     def test_statuses(self):
         self.write("good", script(["cclc adc"]))
         self.write("odd", script(["put 1"]))

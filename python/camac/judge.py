@@ -96,6 +96,8 @@ def _faults(look: Callable[[], List[Found]], files: List[str], program: Optional
     except ProgramFault as fault:
         return [Found("fault", None, None, fault.text)]
     except OSError as fault:
+        if fault.filename not in files:
+            raise
         return [Found("fault", None, None, str(fault.strerror or fault))]
 
 
