@@ -289,7 +289,7 @@ class Proved(unittest.TestCase):
         self.assertFalse(self.taken())
 
     def test_library_of_the_gate(self):
-        """The gate makes the archive by `rt lib`, which leaves no stamp."""
+        """The gate makes the archive by tools/proved_library, which leaves no stamp."""
         library = COPY / "crates/camac_c/out/libcamac_c.a"
         library.parent.mkdir()
         self.addCleanup(shutil.rmtree, library.parent)

@@ -1,6 +1,6 @@
 """What tests in C share: the library for C, made of the archive of its crate as ./install makes it, and programs compiled against it.
 
-The archive is crates/camac_c/out/libcamac_c.a (cd crates/camac_c && rt lib makes it), or what the environment variable CAMAC_ARCHIVE names."""
+The archive is crates/camac_c/out/libcamac_c.a (after `rt ci` tools/proved_library makes it), or what the environment variable CAMAC_ARCHIVE names."""
 import atexit
 import functools
 import os
@@ -22,7 +22,7 @@ def lacking():
     if tools:
         return f"{tools[0]} is not here"
     if not ARCHIVE.is_file():
-        return f"{ARCHIVE} is not there: cd crates/camac_c && rt lib makes it, or CAMAC_ARCHIVE names another"
+        return f"{ARCHIVE} is not there: after `rt ci` tools/proved_library makes it, or CAMAC_ARCHIVE names another"
     return ""
 
 
