@@ -11,7 +11,7 @@ use Rattle.camac_branch.proofs.Allowed.{allowed-in_range}
 use Rattle.camac_model.specs.State.{State, fresh}
 use Rattle.camac_model.specs.Behaviour.{Behaviour, does, ends, stops, demanded, event_left, then_do}
 use Rattle.camac_model.specs.Meaning.{Context, bare, context, entered}
-use Rattle.camac_model.specs.Run.{Chosen, service_bit, is_bit, has_bit, with_bit, or_next, first_service, service_for, service_meaning, event_of, serve, rounds, run}
+use Rattle.camac_model.specs.Run.{Chosen, service_bit, is_bit, is_bit_set, with_bit, or_next, first_service, service_for, service_meaning, event_of, serve, rounds, run}
 use Rattle.camac_model.specs.Fine.{Bounds, most_turns, AreInRanges, IsOfAnswers, annotated}
 use Rattle.camac_model.specs.Headline.{no_count, nothing, RunsSafely}
 use Rattle.camac_model.specs.Moments.{Meets, Any}
@@ -51,7 +51,7 @@ module _ (P : Service → Type 0) (c : Context) where
   first_chosen : (m k pattern : ℕ) (vs : List Service) → Each P vs → IfChosen P (first_service c m k pattern vs)
   first_chosen zero k pattern vs h = tt
   first_chosen (suc m) k pattern vs h =
-      either_chosen (if has_bit pattern k then with_bit c k 0 vs else None) (first_service c m (k + 1) pattern vs) (go (has_bit pattern k)) (first_chosen m (k + 1) pattern vs h)
+      either_chosen (if is_bit_set pattern k then with_bit c k 0 vs else None) (first_service c m (k + 1) pattern vs) (go (is_bit_set pattern k)) (first_chosen m (k + 1) pattern vs h)
     where
       go : (t : Bool) → IfChosen P (if t then with_bit c k 0 vs else None)
       go true = with_bit_chosen k 0 vs h

@@ -1,6 +1,6 @@
 -- A guarded block does the same as the plain one, unless it stops as wrong.
 use Rattle.std.proofs.Common.{◌≡◌, ◌≢◌, ℕ, zero, suc, ◌+◌, ◌-◌, List, [], ◌∷◌, ◌++◌, Option, Some, None, Bool, true, false, refl, ap, ◌∙◌}
-use Rattle.std.specs.Prelude.{slice_get}
+use Rattle.std.specs.Prelude.{slice_get, if◌then◌else◌}
 use Rattle.camac_crate.specs.Lock.{permitted}
 use Rattle.camac_lang.specs.Tree.{Condition, Parameter, Procedure, Statement, assign, set_register, single, address_scan, q_stop, q_repeat, put, crate_call, lam_call, choose, choose_else, for_, while_, locked, call, Block, done, next, Script}
 use Rattle.camac_branch.specs.Branch.{Answer}
@@ -8,7 +8,7 @@ use Rattle.camac_branch.specs.Plan.{Layout, crate_waits}
 use Rattle.camac_model.specs.State.{State, stepped}
 use Rattle.camac_model.specs.Behaviour.{lock_taken, Behaviour, does, ends, stops, wrong, stop_of, Action, then_do, given, decide, unless_wrong}
 use Rattle.camac_model.specs.Value.{value, values, truth}
-use Rattle.camac_model.specs.Cycle.{if_permitted, next_answer, after_lock, take_lock, release}
+use Rattle.camac_model.specs.Cycle.{too_long, answered, outcome, follow, after_lock, take_lock, release}
 use Rattle.camac_model.specs.Meaning.{Context, for_state, for_turns, for_from, turns, entered, returned, enter, effect, block_meaning, bare, context, routines_with}
 use Rattle.camac_check_laws.specs.Calls.{guarded, begins_in_ranges, guarded_routines, guarded_context, GuardsOnlyStop}
 
@@ -69,11 +69,11 @@ lock_same c waits false body body' h s = go s.answers
     taken : Action → Answer → List Answer → Action
     taken f a rest t = does (lock_taken c a.wait) (f (after_lock c a.wait rest t))
 
-    may : (b : Bool) (a : Answer) (rest : List Answer) → Same (if_permitted b c a.wait (taken body a rest) s) (if_permitted b c a.wait (taken body' a rest) s)
+    may : (b : Bool) (a : Answer) (rest : List Answer) → Same (follow c (if b then answered a rest else too_long a.wait) (taken body) s) (follow c (if b then answered a rest else too_long a.wait) (taken body') s)
     may true a rest = λ r. ap (does (lock_taken c a.wait)) (h (after_lock c a.wait rest s) r)
     may false a rest = λ r. refl
 
-    go : (answers : List Answer) → Same (next_answer c waits false answers (taken body) s) (next_answer c waits false answers (taken body') s)
+    go : (answers : List Answer) → Same (follow c (outcome (Some waits) false answers) (taken body) s) (follow c (outcome (Some waits) false answers) (taken body') s)
     go [] = λ r. refl
     go (a ∷ rest) = may (permitted false waits a.wait) a rest
 

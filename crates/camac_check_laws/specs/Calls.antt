@@ -10,9 +10,9 @@ use Rattle.camac_model.specs.Behaviour.{Behaviour, stops, wrong, Action, unless_
 use Rattle.camac_model.specs.Value.{values}
 use Rattle.camac_model.specs.Meaning.{Context, bare, context, entered, effect, block_meaning}
 use Rattle.camac_model.specs.Run.{service_meaning, rounds, run}
-use Rattle.camac_model.specs.Fine.{Bounds, most_turns, AreInRanges, IsOfAnswers}
-use Rattle.camac_model.specs.Moments.{Meets, Any}
-use Rattle.camac_model.specs.Headline.{no_count, nothing}
+use Rattle.camac_model.specs.Fine.{Bounds, most_turns, AreInRanges}
+use Rattle.camac_model.specs.Moments.{Holds}
+use Rattle.camac_model.specs.Headline.{nothing, right_watch}
 use Rattle.camac_check_rules.specs.Accept.{accept}
 
 -- whether the first variables, which a body has its arguments in, are in the ranges of these parameters
@@ -77,7 +77,7 @@ pub record CallsKeepToRanges (plan : Layout) (script : Script) : Type 0 where
   pub runs : (n : ℕ) → most_turns ≤ n → (answers : List Answer) → guarded_run n plan script answers ≡ run n plan script answers
   -- the guarded run is neither wrong nor in a loop without end
   pub right : (n : ℕ) → most_turns ≤ n → (answers : List Answer)
-      → Meets no_count Any (λ u w s. IsOfAnswers w) Any nothing (guarded_run n plan script answers)
+      → Holds right_watch nothing (guarded_run n plan script answers)
 
 -- Each call of an accepted script has its arguments in the ranges.
 abbrev pub AcceptedCallsKeep : Type 0

@@ -105,7 +105,7 @@ pub record NeedsMore (place : Body) (line most m : ℕ) (keeps : List Keep) (bod
   pub mended : (n : ℕ) → needed ≤ n → n ≤ turn_limit
       → (at : ℕ) (c : Case) → while_head place line n m keeps body k ≡ Err (broken TooManyTurns at c) → ⊥
 
-abbrev pub WhileShown : Body → ℕ → ℕ → ℕ → List Keep → Block → Facts → Case → Type 0
+abbrev pub WhileShown : Body → (line most measure : ℕ) → List Keep → Block → Facts → Case → Type 0
 WhileShown place line most m keeps body k (Turns needed allowed) = (allowed ≡ most) × NeedsMore place line most m keeps body k needed
 WhileShown place line most m keeps body k (Annotation turns allowed) = (turns ≡ most) × ((allowed ≡ turn_limit) × (allowed < turns))
 WhileShown place line most m keeps body k case = ⊥

@@ -15,10 +15,10 @@ use Rattle.camac_check_rules.specs.Windows.{Window, window_of, stations_of}
 use Rattle.camac_check_laws.specs.ShownAddresses.{IsFirst, HasAddresses}
 
 -- station m with sub-address b comes before station n with sub-address a; or is it
-abbrev pub IsBefore : ℕ → ℕ → ℕ → ℕ → Type 0
+abbrev pub IsBefore : (m b n a : ℕ) → Type 0
 IsBefore m b n a = (m < n) ⊎ ((m ≡ n) × (b < a))
 
-abbrev pub IsUpTo : ℕ → ℕ → ℕ → ℕ → Type 0
+abbrev pub IsUpTo : (m b n a : ℕ) → Type 0
 IsUpTo m b n a = (m < n) ⊎ ((m ≡ n) × (b ≤ a))
 
 -- an address of a window, from its first one to its last one

@@ -10,7 +10,7 @@ use Rattle.camac_range.specs.Interval.{Interval}
 use Rattle.camac_func.specs.Class.{class_of}
 use Rattle.camac_func.specs.declared.data.DataMove.TheVariants as moved
 use Rattle.camac_branch.specs.Address.{Address}
-use Rattle.camac_esone.specs.Transfers.{tally, q_stop_wanted, q_repeat_wanted}
+use Rattle.camac_esone.specs.Transfers.{tally, q_stop_next, q_repeat_next}
 use Rattle.camac_esone.proofs.Parts.{tally_more, tally_most}
 use Rattle.camac_esone.proofs.QStopLists as stop
 use Rattle.camac_esone.proofs.QRepeatLists as repeats
@@ -111,7 +111,7 @@ module _ (c : Setting) (narrow : HasWidths c.plan) (around : Place) (f r : ℕ) 
   abbrev Stops : ℕ → List Bool → Type 0
   Stops m qs = length qs ≤ m
 
-  q_stop_bounded : (at : Address) (m : ℕ) → InRegion g at → m ≤ most → m ≤ greatest → IsBounded c.plan f data'.table (q_stop_wanted at m) g.crates most most (event_words t most) (Stops m)
+  q_stop_bounded : (at : Address) (m : ℕ) → InRegion g at → m ≤ most → m ≤ greatest → IsBounded c.plan f data'.table (q_stop_next at m) g.crates most most (event_words t most) (Stops m)
   q_stop_bounded at m inside le small = record {
     first = omega arith;
     each = λ qs to j e.
@@ -132,7 +132,7 @@ module _ (c : Setting) (narrow : HasWidths c.plan) (around : Place) (f r : ℕ) 
   some_cycles : (n limit : ℕ) → 0 < n → q_repeat_cycles n limit ≡ limit
   some_cycles n limit pos = cond_both (nat_eq n 0) 0 limit (λ z. z ≡ limit) (λ e. absurd (let none = eqb-true n 0 e in omega arith)) (λ e. refl)
 
-  q_repeat_bounded : (at : Address) (m l limit : ℕ) → InRegion g at → m ≤ most → m ≤ greatest → l ≤ limit → IsBounded c.plan f data'.table (q_repeat_wanted at m l) g.crates (q_repeat_cycles most limit) (min most limit) (event_words t (min most limit)) (Repeats m l)
+  q_repeat_bounded : (at : Address) (m l limit : ℕ) → InRegion g at → m ≤ most → m ≤ greatest → l ≤ limit → IsBounded c.plan f data'.table (q_repeat_next at m l) g.crates (q_repeat_cycles most limit) (min most limit) (event_words t (min most limit)) (Repeats m l)
   q_repeat_bounded at m l limit inside le small le' = record {
     first = record { words = omega arith; cycles = omega arith };
     each = λ qs to j e.
@@ -160,11 +160,11 @@ q_stop_sound c narrow around line f r t e x k =
           let table = data' c narrow around f r t most.hi x k g may in
           let a = address_of (region_at k.registers r) (s.registers r) g may.set (i.registers r) in
           let m = value_of (value e s.variables) most (gives s.variables i.variables) in
-          let go : Address → ℕ → Action = λ at n. transfer_to c.plan f table.table (q_stop_wanted at n) x in
-          with_given c.plan around v.after v.costs s (stepped s) (sent (of c) t) (λ o. given (s.registers r) (λ at. given (value e s.variables) (λ n. transfer_to c.plan f o (q_stop_wanted at n) x))) table.table table.is
+          let go : Address → ℕ → Action = λ at n. transfer_to c.plan f table.table (q_stop_next at n) x in
+          with_given c.plan around v.after v.costs s (stepped s) (sent (of c) t) (λ o. given (s.registers r) (λ at. given (value e s.variables) (λ n. transfer_to c.plan f o (q_stop_next at n) x))) table.table table.is
           (with_given c.plan around v.after v.costs s (stepped s) (s.registers r) (λ at. given (value e s.variables) (go at)) a.at a.is
           (with_given c.plan around v.after v.costs s (stepped s) (value e s.variables) (go a.at) m.number m.is
-          (transfer_sound c.plan narrow around k f table.table (q_stop_wanted a.at m.number) x g.crates most.hi most.hi (event_words t most.hi) (Stops c narrow around f r t most.hi x k g may m.number)
+          (transfer_sound c.plan narrow around k f table.table (q_stop_next a.at m.number) x g.crates most.hi most.hi (event_words t most.hi) (Stops c narrow around f r t most.hi x k g may m.number)
           (q_stop_bounded c narrow around f r t most.hi x k g may a.at m.number a.inside m.fits.within.high m.fits.small) may.may s i)));
     })))
 
@@ -181,11 +181,11 @@ q_repeat_sound c narrow around line f r t e1 e2 x k =
           let a = address_of (region_at k.registers r) (s.registers r) g may.set (i.registers r) in
           let m = value_of (value e1 s.variables) most (gives_m s.variables i.variables) in
           let l = value_of (value e2 s.variables) limit (gives_l s.variables i.variables) in
-          let go : Address → ℕ → ℕ → Action = λ at n o. transfer_to c.plan f table.table (q_repeat_wanted at n o) x in
-          with_given c.plan around v.after v.costs s (stepped s) (sent (of c) t) (λ o. given (s.registers r) (λ at. given (value e1 s.variables) (λ n. given (value e2 s.variables) (λ p. transfer_to c.plan f o (q_repeat_wanted at n p) x)))) table.table table.is
+          let go : Address → ℕ → ℕ → Action = λ at n o. transfer_to c.plan f table.table (q_repeat_next at n o) x in
+          with_given c.plan around v.after v.costs s (stepped s) (sent (of c) t) (λ o. given (s.registers r) (λ at. given (value e1 s.variables) (λ n. given (value e2 s.variables) (λ p. transfer_to c.plan f o (q_repeat_next at n p) x)))) table.table table.is
           (with_given c.plan around v.after v.costs s (stepped s) (s.registers r) (λ at. given (value e1 s.variables) (λ n. given (value e2 s.variables) (go at n))) a.at a.is
           (with_given c.plan around v.after v.costs s (stepped s) (value e1 s.variables) (λ n. given (value e2 s.variables) (go a.at n)) m.number m.is
           (with_given c.plan around v.after v.costs s (stepped s) (value e2 s.variables) (go a.at m.number) l.number l.is
-          (transfer_sound c.plan narrow around k f table.table (q_repeat_wanted a.at m.number l.number) x g.crates cycles kept (event_words t kept) (Repeats c narrow around f r t most.hi x k g may m.number l.number)
+          (transfer_sound c.plan narrow around k f table.table (q_repeat_next a.at m.number l.number) x g.crates cycles kept (event_words t kept) (Repeats c narrow around f r t most.hi x k g may m.number l.number)
           (q_repeat_bounded c narrow around f r t most.hi x k g may a.at m.number l.number limit.hi a.inside m.fits.within.high m.fits.small l.fits.within.high) may.may s i))));
     }))))

@@ -11,7 +11,7 @@ use Rattle.camac_branch.specs.Address.{Address}
 use Rattle.camac_branch.specs.Allowed.{width}
 use Rattle.camac_branch.specs.Branch.{Reply, Answer, reply_to}
 use Rattle.camac_branch.specs.Plan.{Layout, crate_waits}
-use Rattle.camac_esone.specs.Transfers.{Wanted, tally}
+use Rattle.camac_esone.specs.Transfers.{NextAddress, tally}
 use Rattle.camac_esone.proofs.Parts.{tally-append}
 use Rattle.camac_model.specs.State.{State, stepped, with_variable, with_word}
 use Rattle.camac_model.specs.Behaviour.{ends, Stop}
@@ -59,9 +59,9 @@ pub record Tallies (table : Option (List ℕ)) (W E : ℕ) (qs : List Bool) : Ty
   pub words : words_after table qs ≤ E
 
 -- what is known of all replies so far, from none on
-pub record IsBounded (plan : Layout) (f : ℕ) (table : Option (List ℕ)) (wanted : Wanted) (crates : Interval) (K W E : ℕ) (J : List Bool → Type 0) : Type 0 where
+pub record IsBounded (plan : Layout) (f : ℕ) (table : Option (List ℕ)) (next_address : NextAddress) (crates : Interval) (K W E : ℕ) (J : List Bool → Type 0) : Type 0 where
   pub first : J []
-  pub each : (qs : List Bool) (at : Address) → J qs → wanted qs ≡ Some at → CanGoOn plan f table crates K J qs at
+  pub each : (qs : List Bool) (at : Address) → J qs → next_address qs ≡ Some at → CanGoOn plan f table crates K J qs at
   pub tallies : (qs : List Bool) → J qs → length qs ≤ K → Tallies table W E qs
 
 kept_small : (bits word : ℕ) → bits ≤ 24 → word % 2 ^ bits < 2 ^ 24
@@ -98,14 +98,14 @@ paid_word d u v word s t small p =
       easy = p.easy;
     }
 
-module _ (plan : Layout) (narrow : HasWidths plan) (around : Place) (k : Facts) (f : ℕ) (table : Option (List ℕ)) (wanted : Wanted) (x : ℕ) (crates : Interval) (K W E : ℕ) (J : List Bool → Type 0) where
+module _ (plan : Layout) (narrow : HasWidths plan) (around : Place) (k : Facts) (f : ℕ) (table : Option (List ℕ)) (next_address : NextAddress) (x : ℕ) (crates : Interval) (K W E : ℕ) (J : List Bool → Type 0) where
   abbrev One : ℕ
   One = cycle_cost plan around.locked crates
 
   abbrev Costs : Bounds
   Costs = transfer_costs K One E
 
-  module _ (b : IsBounded plan f table wanted crates K W E J) (may : may_write (around_of around) x ≡ true) (s : State) (i : Inside around k s) where
+  module _ (b : IsBounded plan f table next_address crates K W E J) (may : may_write (around_of around) x ≡ true) (s : State) (i : Inside around k s) where
     record Moved (qs : List Bool) (t : State) : Type 0 where
       known : J qs
       count : length qs ≤ K
@@ -174,9 +174,9 @@ module _ (plan : Layout) (narrow : HasWidths plan) (around : Place) (k : Facts) 
           locks = λ c. ap (λ br. (br c).locked) same.2 ∙ (cycle_locks t.branch at f c ∙ g.locks c);
         }
 
-    pub transfer_sound : Sound plan around (Some (with_range x (interval 0 W) k)) Costs s (transfer_to plan f table wanted x (stepped s))
+    pub transfer_sound : Sound plan around (Some (with_range x (interval 0 W) k)) Costs s (transfer_to plan f table next_address x (stepped s))
     transfer_sound =
-        transfer_meets step (SafePiece plan) (StopsWell Costs s) (EndsWell around (Some (with_range x (interval 0 W) k)) Costs s) plan f table wanted
+        transfer_meets step (SafePiece plan) (StopsWell Costs s) (EndsWell around (Some (with_range x (interval 0 W) k)) Costs s) plan f table next_address
         (λ qs t. ends (with_variable x (tally qs) t)) (λ u. Moved)
         (record {
           no_word = λ u qs t at g e none. (let can = b.each qs at g.known e in let there = can.moves.is in cc);

@@ -11,7 +11,7 @@ use Rattle.camac_branch.specs.Address.{Address, address}
 use Rattle.camac_branch.specs.Allowed.{width}
 use Rattle.camac_branch.specs.Branch.{Reply, Answer, reply_to}
 use Rattle.camac_branch.specs.Plan.{Layout, crate_waits}
-use Rattle.camac_esone.specs.Transfers.{Wanted, q_stop_wanted, q_repeat_wanted, scan_wanted, tally}
+use Rattle.camac_esone.specs.Transfers.{NextAddress, q_stop_next, q_repeat_next, scan_next, tally}
 use Rattle.camac_model.specs.State.{State, stepped, set_at, with_variable, with_register, with_word}
 use Rattle.camac_model.specs.Behaviour.{Piece, Behaviour, does, ends, stops, Stop, Action, then_do, given, unless_wrong}
 use Rattle.camac_model.specs.Moments.{Meets}
@@ -121,9 +121,9 @@ word_kept w g None bits r s t h =
     cond_both r.q (with_word (kept bits r) t) t (λ u. Same w g s u) (λ e. record { variables = h.variables; registers = h.registers }) (λ e. h)
 word_kept w g (Some ws) bits r s t h = h
 
-transfer_leaves : (w g : ℕ → Bool) (s : State) (plan : Layout) (f : ℕ) (o : Option (List ℕ)) (wanted : Wanted) (x : ℕ) → ((y : ℕ) → w y ≡ false → nat_eq y x ≡ false) → Leaves w g s (transfer_to plan f o wanted x s)
-transfer_leaves w g s plan f o wanted x h =
-    transfer_meets step AnyPiece AnyStop (Left w g s) plan f o wanted (λ qs t. ends (with_variable x (tally qs) t)) (λ u qs t. Same w g s t)
+transfer_leaves : (w g : ℕ → Bool) (s : State) (plan : Layout) (f : ℕ) (o : Option (List ℕ)) (next_address : NextAddress) (x : ℕ) → ((y : ℕ) → w y ≡ false → nat_eq y x ≡ false) → Leaves w g s (transfer_to plan f o next_address x s)
+transfer_leaves w g s plan f o next_address x h =
+    transfer_meets step AnyPiece AnyStop (Left w g s) plan f o next_address (λ qs t. ends (with_variable x (tally qs) t)) (λ u qs t. Same w g s t)
     (record {
       no_word = λ u qs t at i e k. tt;
       no_crate = λ u qs t at i e k. tt;
@@ -160,31 +160,31 @@ module _ (c : Context) (n : ℕ) where
     statement_leaves (address_scan line f r1 r2 max x) s =
         let w : ℕ → Bool = writes (address_scan line f r1 r2 max x) in
         let g : ℕ → Bool = sets (address_scan line f r1 r2 max x) in
-        let go : Address → Address → ℕ → Action = λ a b l. transfer_to c.plan f None (scan_wanted a b l) x in
+        let go : Address → Address → ℕ → Action = λ a b l. transfer_to c.plan f None (scan_next a b l) x in
         let third : Address → Address → ℕ → Action = λ a b l. unless_wrong (nat_eq a.crate_no b.crate_no) (go a b l) in
         let second : Address → Address → Action = λ a b. given (value max s.variables) (third a b) in
         given_leaves w g s (s.registers r1) (λ a. given (s.registers r2) (second a)) (λ a.
         given_leaves w g s (s.registers r2) (second a) (λ b.
         given_leaves w g s (value max s.variables) (third a b) (λ l.
-        unless_leaves w g s (nat_eq a.crate_no b.crate_no) (go a b l) (transfer_leaves w g s c.plan f None (scan_wanted a b l) x (λ y e. e)))))
+        unless_leaves w g s (nat_eq a.crate_no b.crate_no) (go a b l) (transfer_leaves w g s c.plan f None (scan_next a b l) x (λ y e. e)))))
     statement_leaves (q_stop line f r t max x) s =
         let w : ℕ → Bool = writes (q_stop line f r t max x) in
         let g : ℕ → Bool = sets (q_stop line f r t max x) in
-        let second : Option (List ℕ) → Address → ℕ → Action = λ table at l. transfer_to c.plan f table (q_stop_wanted at l) x in
+        let second : Option (List ℕ) → Address → ℕ → Action = λ table at l. transfer_to c.plan f table (q_stop_next at l) x in
         let first : Option (List ℕ) → Address → Action = λ table at. given (value max s.variables) (second table at) in
         given_leaves w g s (sent c t) (λ table. given (s.registers r) (first table)) (λ table.
         given_leaves w g s (s.registers r) (first table) (λ at.
-        given_leaves w g s (value max s.variables) (second table at) (λ l. transfer_leaves w g s c.plan f table (q_stop_wanted at l) x (λ y e. e))))
+        given_leaves w g s (value max s.variables) (second table at) (λ l. transfer_leaves w g s c.plan f table (q_stop_next at l) x (λ y e. e))))
     statement_leaves (q_repeat line f r t max limit x) s =
         let w : ℕ → Bool = writes (q_repeat line f r t max limit x) in
         let g : ℕ → Bool = sets (q_repeat line f r t max limit x) in
-        let third : Option (List ℕ) → Address → ℕ → ℕ → Action = λ table at l m. transfer_to c.plan f table (q_repeat_wanted at l m) x in
+        let third : Option (List ℕ) → Address → ℕ → ℕ → Action = λ table at l m. transfer_to c.plan f table (q_repeat_next at l m) x in
         let second : Option (List ℕ) → Address → ℕ → Action = λ table at l. given (value limit s.variables) (third table at l) in
         let first : Option (List ℕ) → Address → Action = λ table at. given (value max s.variables) (second table at) in
         given_leaves w g s (sent c t) (λ table. given (s.registers r) (first table)) (λ table.
         given_leaves w g s (s.registers r) (first table) (λ at.
         given_leaves w g s (value max s.variables) (second table at) (λ l.
-        given_leaves w g s (value limit s.variables) (third table at l) (λ m. transfer_leaves w g s c.plan f table (q_repeat_wanted at l m) x (λ y e. e)))))
+        given_leaves w g s (value limit s.variables) (third table at l) (λ m. transfer_leaves w g s c.plan f table (q_repeat_next at l m) x (λ y e. e)))))
     statement_leaves (put line e) s =
         given_leaves (writes (put line e)) (sets (put line e)) s (value e s.variables) (λ v t. ends (with_word v t)) (λ v. record { variables = λ y e. refl; registers = λ r e. refl })
     statement_leaves (crate_call line which e) s =

@@ -10,7 +10,7 @@ use Rattle.camac_func.specs.declared.code.FunctionClass.TheVariants.{Read}
 use Rattle.camac_func.specs.declared.data.DataMove.TheVariants as moved
 use Rattle.camac_branch.specs.Address.{Address, address}
 use Rattle.camac_branch.specs.Plan.{Layout}
-use Rattle.camac_esone.specs.Transfers.{tally, next_station, successor, address_after, is_by, scan_wanted}
+use Rattle.camac_esone.specs.Transfers.{tally, next_station, successor, address_after, is_by, scan_next}
 use Rattle.camac_esone.proofs.Parts.{tally-append, tally_none, tally_most}
 use Rattle.camac_esone.proofs.ScanLists.{wanted_goes_on, one_more, by_station}
 use Rattle.camac_model.specs.State.{stepped}
@@ -148,7 +148,7 @@ module _ (plan : Layout) (narrow : HasWidths plan) (around : Place) (f r1 r2 x m
     few_cycles =
         cond_both (nat_eq most 0) 0 (min (window_size Seen) (most + (Seen.last_station - Seen.first_station) + 1)) (λ z. z ≤ window_size Seen) (λ e. omega arith) (λ e. omega arith)
 
-    scan_bounded : IsBounded plan f None (scan_wanted first last m) (only Seen.crate_no) (scan_cycles Seen most) (scan_kept Seen most) (scan_kept Seen most) (λ qs. HasCome first m qs (address_after first qs))
+    scan_bounded : IsBounded plan f None (scan_next first last m) (only Seen.crate_no) (scan_cycles Seen most) (scan_kept Seen most) (scan_kept Seen most) (λ qs. HasCome first m qs (address_after first qs))
     scan_bounded = record {
       first = record { crate_no = refl; sub_address = first_small; place = omega arith; station = omega arith; words = omega arith };
       each = λ qs to j e.
@@ -208,7 +208,7 @@ scan_sound c narrow around line f r1 r2 e x k =
           let a = address_of (region_at k.registers r1) (s.registers r1) g set1 (i.registers r1) in
           let b = address_of (region_at k.registers r2) (s.registers r2) h set2 (i.registers r2) in
           let m = value_of (value e s.variables) most (gives s.variables i.variables) in
-          let go : Address → Address → ℕ → Action = λ first last n. transfer_to c.plan f None (scan_wanted first last n) x in
+          let go : Address → Address → ℕ → Action = λ first last n. transfer_to c.plan f None (scan_next first last n) x in
           let third : Address → Address → ℕ → Action = λ first last n. unless_wrong (nat_eq first.crate_no last.crate_no) (go first last n) in
           let second : Address → Address → Action = λ first last. given (value e s.variables) (third first last) in
           let same : a.at.crate_no ≡ b.at.crate_no = one_crate g h a.at b.at one a.inside b.inside in
@@ -216,7 +216,7 @@ scan_sound c narrow around line f r1 r2 e x k =
           (with_given c.plan around v.after v.costs s (stepped s) (s.registers r2) (second a.at) b.at b.is
           (with_given c.plan around v.after v.costs s (stepped s) (value e s.variables) (third a.at b.at) m.number m.is
           (with_test c.plan around v.after v.costs s (stepped s) (nat_eq a.at.crate_no b.at.crate_no) (go a.at b.at m.number) (eq-eqb a.at.crate_no b.at.crate_no same)
-          (transfer_sound c.plan narrow around k f None (scan_wanted a.at b.at m.number) x (only w.crate_no) (scan_cycles w most.hi) (scan_kept w most.hi) (scan_kept w most.hi) (λ qs. HasCome a.at m.number qs (address_after a.at qs))
+          (transfer_sound c.plan narrow around k f None (scan_next a.at b.at m.number) x (only w.crate_no) (scan_cycles w most.hi) (scan_kept w most.hi) (scan_kept w most.hi) (λ qs. HasCome a.at m.number qs (address_after a.at qs))
           (scan_bounded c.plan narrow around f r1 r2 x most.hi k g h scan a.at b.at m.number a.inside b.inside m.fits.within.high m.fits.small) may s i))));
     })))))))))
   where

@@ -20,7 +20,7 @@ AreEasy (a ∷ rest) = (a.wait ≡ 0) × AreEasy rest
 
 -- what a stretch of a service can cost, from a state to another; it uses no more answers than it makes steps
 pub record Paid (c : Bounds) (s t : State) : Type 0 where
-  pub cycles : t.cycles ≤ s.cycles + c.cycles
+  pub cycles : t.cost ≤ s.cost + c.cycles
   pub words : length t.words ≤ length s.words + c.words
   pub steps : t.steps ≤ s.steps + c.steps
   pub are_words : AreWords s.words → AreWords t.words

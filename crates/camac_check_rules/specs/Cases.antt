@@ -13,7 +13,7 @@ abbrev pub numbers_of : Interval → Numbers
 numbers_of r = record { low = r.lo; high = r.hi }
 
 -- an operator and the numbers on both sides
-abbrev pub operation : Operator → Interval → Interval → Case
+abbrev pub operation : Operator → (left right : Interval) → Case
 operation operator r s = Operation operator (numbers_of r) (numbers_of s)
 
 -- a function, and what the statement moves
@@ -21,11 +21,11 @@ abbrev pub direction : ℕ → FunctionClass → Case
 direction f moves = Direction f (class_of f) moves
 
 -- a kept variable, where it is found, and its range
-abbrev pub kept_at : Body → ℕ → Interval → Interval → Case
+abbrev pub kept_at : Body → (variable : ℕ) → (found kept : Interval) → Case
 kept_at body x found kept = Kept body x (numbers_of found) (numbers_of kept)
 
 -- the crates of two registers
-abbrev pub crates_of : Interval → Interval → Case
+abbrev pub crates_of : (first last : Interval) → Case
 crates_of r s = Crates (numbers_of r) (numbers_of s)
 
 -- the numbers of a crate

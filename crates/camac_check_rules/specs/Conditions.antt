@@ -30,7 +30,7 @@ refine None r k = Some k
 refine (Some x) r k = option_map (λ s. with_range x s k) (meet (range_at k.ranges x) r)
 
 -- where a comparison holds of expressions that are in r and s
-abbrev pub assume : Expression → Cmp → Expression → Interval → Interval → Facts → Known
+abbrev pub assume : (left : Expression) → Cmp → (right : Expression) → (left_range right_range : Interval) → Facts → Known
 assume a c b r s k =
     option_and_then (λ r'. option_and_then (λ s'. option_and_then (refine (sole_variable b) s') (refine (sole_variable a) r' k))
     (narrow (turned c) s r)) (narrow c r s)

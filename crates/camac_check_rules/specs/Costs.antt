@@ -3,7 +3,7 @@ use Rattle.std.specs.Prelude.{ℕ, ◌+◌, ◌*◌, None, max}
 use Rattle.camac_model.specs.Fine.{Bounds}
 use Rattle.camac_check_rules.specs.Known.{Known}
 
-abbrev pub costs : ℕ → ℕ → ℕ → Bounds
+abbrev pub costs : (cycles words steps : ℕ) → Bounds
 costs cycles words steps = record { cycles = cycles; words = words; steps = steps }
 
 abbrev pub no_costs : Bounds
@@ -26,7 +26,7 @@ abbrev pub loop_costs : ℕ → Bounds → Bounds
 loop_costs turns body = costs (turns * body.cycles) (turns * body.words) (1 + turns * (1 + body.steps))
 
 -- a step, and a step for each of so many cycles, each at this cost
-abbrev pub transfer_costs : ℕ → ℕ → ℕ → Bounds
+abbrev pub transfer_costs : (cycles each words : ℕ) → Bounds
 transfer_costs cycles each words = costs (cycles * each) words (1 + cycles)
 
 -- a step, and the annotated costs of the procedure

@@ -15,7 +15,7 @@ pub record Region : Type 0 where
   pub stations : Interval
   pub sub_addresses : Interval
 
-abbrev pub region : Interval → Interval → Interval → Region
+abbrev pub region : (crates stations sub_addresses : Interval) → Region
 region c n a = record { crates = c; stations = n; sub_addresses = a }
 
 -- A range for each variable, 0 past the end. For each register its addresses, or none where it may be unset, as past the end.

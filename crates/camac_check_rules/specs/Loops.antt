@@ -59,7 +59,7 @@ pub record Limits : Type 0 where
   pub first : Interval
   pub last : Interval
 
-abbrev pub limits : Interval → Interval → Limits
+abbrev pub limits : (first last : Interval) → Limits
 limits first last = record { first = first; last = last }
 
 -- the most turns of a `for`, and all values of its variable
@@ -70,7 +70,7 @@ abbrev pub values_between : Limits → Interval
 values_between l = interval l.first.lo l.last.hi
 
 -- the limits of a `for`, by whose rules it may begin
-abbrev pub for_limits : Around → ℕ → ℕ → Expression → Expression → List Keep → Facts → Result Limits Fault
+abbrev pub for_limits : Around → (line variable : ℕ) → (first last : Expression) → List Keep → Facts → Result Limits Fault
 for_limits around line x e1 e2 keeps k = do
   r ← range_of line e1 k.ranges
   s ← range_of line e2 k.ranges
@@ -80,19 +80,19 @@ for_limits around line x e1 e2 keeps k = do
   Ok (limits r s)
 
 -- what is known where the body of a `for` begins, if there may be a turn
-abbrev pub for_head : ℕ → Limits → List Keep → Block → Facts → Known
+abbrev pub for_head : (variable : ℕ) → Limits → List Keep → Block → Facts → Known
 for_head x l keeps body k =
     if nat_lt l.last.hi l.first.lo then None else Some (with_range x (values_between l) (head body keeps k))
 
 -- what is known after it; without a turn all stays
-abbrev pub for_after : ℕ → Limits → List Keep → Block → Facts → Known
+abbrev pub for_after : (variable : ℕ) → Limits → List Keep → Block → Facts → Known
 for_after x l keeps body k =
     if nat_lt l.last.hi l.first.lo then Some k
     else Some (with_range x (hull (range_at k.ranges x) (values_between l)) (head body keeps k))
 
 -- where `check` checks its body
 abbrev pub for_rule :
-    Context → Around → ℕ → ℕ → Expression → Expression → List Keep → Block → (Facts → Result Verdict Fault) → Facts → Result Verdict Fault
+    Context → Around → (line variable : ℕ) → (first last : Expression) → List Keep → Block → (Facts → Result Verdict Fault) → Facts → Result Verdict Fault
 for_rule c around line x e1 e2 keeps body check k = do
   l ← for_limits around line x e1 e2 keeps k
   turn ← if_reached unreached (for_head x l keeps body k) check
@@ -100,11 +100,11 @@ for_rule c around line x e1 e2 keeps body check k = do
   Ok (verdict (for_after x l keeps body k) (c.limit (loop_costs (turns_between l) turn.costs)))
 
 -- the turns that a `while` may need, or its own number, where that is above the most of any loop
-abbrev pub turns_case : ℕ → ℕ → Case
+abbrev pub turns_case : (needed most : ℕ) → Case
 turns_case needed most = if nat_le most turn_limit then Turns needed most else Annotation most turn_limit
 
 -- what is known at the head of a `while` of at most so many turns with measure m, by whose rules it may begin
-abbrev pub while_head : Body → ℕ → ℕ → ℕ → List Keep → Block → Facts → Result Facts Fault
+abbrev pub while_head : Body → (line most measure : ℕ) → List Keep → Block → Facts → Result Facts Fault
 while_head place line most m keeps body k = do
   fall ← given (fall_of m body) MeasureBroken line (Measure place m)
   required (nat_le most turn_limit && nat_le ((range_at k.ranges m).hi / fall) most) TooManyTurns line (turns_case ((range_at k.ranges m).hi / fall) most)
@@ -112,13 +112,13 @@ while_head place line most m keeps body k = do
   Ok (with_range m (interval 0 (range_at k.ranges m).hi) (head body keeps k))
 
 -- no turn where the condition never holds
-abbrev pub turn_bound : Known → ℕ → ℕ
+abbrev pub turn_bound : Known → (most : ℕ) → ℕ
 turn_bound None most = 0
 turn_bound (Some k) most = most
 
 -- where `check` checks its body
 abbrev pub while_rule :
-    Context → Around → ℕ → Condition → ℕ → ℕ → List Keep → Block → (Facts → Result Verdict Fault) → Facts → Result Verdict Fault
+    Context → Around → (line : ℕ) → Condition → (most measure : ℕ) → List Keep → Block → (Facts → Result Verdict Fault) → Facts → Result Verdict Fault
 while_rule c around line test most m keeps body check k = do
   top ← while_head around.body line most m keeps body k
   arms ← split line test top

@@ -39,12 +39,12 @@ undeclared_by plan f g h =
     else past_sub_addresses f g
 
 -- what a scan of at most so many words leaves and costs
-abbrev pub scan_verdict : Context → Around → Window → ℕ → ℕ → Facts → Verdict
+abbrev pub scan_verdict : Context → Around → Window → (most tally_variable : ℕ) → Facts → Verdict
 scan_verdict c around w most x k =
     verdict (Some (with_range x (interval 0 (scan_kept w most)) k))
     (c.limit (transfer_costs (scan_cycles w most) (cycle_cost c.plan around.locked (only w.crate_no)) (scan_kept w most)))
 
-abbrev pub scan_rule : Context → Around → ℕ → ℕ → ℕ → ℕ → Expression → ℕ → Facts → Result Verdict Fault
+abbrev pub scan_rule : Context → Around → (line function first last : ℕ) → (most : Expression) → (tally_variable : ℕ) → Facts → Result Verdict Fault
 scan_rule c around line f r1 r2 e x k = do
   most ← range_of line e k.ranges
   required (may_write around x) LoopVariableAssigned line (Counted around.body x)
@@ -84,13 +84,13 @@ greatest_of [] = 0
 greatest_of (v ∷ vs) = max v (greatest_of vs)
 
 -- a read puts what it keeps into the event
-abbrev pub event_words : Option ℕ → ℕ → ℕ
+abbrev pub event_words : (table : Option ℕ) → (kept : ℕ) → ℕ
 event_words None kept = kept
 event_words (Some t) kept = 0
 
 -- the addresses of a block transfer of at most so many words, by whose rules it may begin once its expressions are in range
 abbrev pub block_region :
-    Context → Around → ℕ → ℕ → ℕ → Option ℕ → ℕ → ℕ → Facts → Result Region Fault
+    Context → Around → (line function register : ℕ) → (table : Option ℕ) → (most tally_variable : ℕ) → Facts → Result Region Fault
 block_region c around line f r t most x k = do
   required (may_write around x) LoopVariableAssigned line (Counted around.body x)
   g ← given (region_at k.registers r) RegisterUnset line (Unset around.body r)
@@ -101,24 +101,24 @@ block_region c around line f r t most x k = do
   Ok g
 
 -- a block transfer of at most so many cycles, that keeps at most so many words
-abbrev pub block_verdict : Context → Around → Option ℕ → ℕ → ℕ → ℕ → Region → Facts → Verdict
+abbrev pub block_verdict : Context → Around → (table : Option ℕ) → (cycles kept tally_variable : ℕ) → Region → Facts → Verdict
 block_verdict c around t cycles kept x g k =
     verdict (Some (with_range x (interval 0 kept) k))
     (c.limit (transfer_costs cycles (cycle_cost c.plan around.locked g.crates) (event_words t kept)))
 
 abbrev pub q_stop_rule :
-    Context → Around → ℕ → ℕ → ℕ → Option ℕ → Expression → ℕ → Facts → Result Verdict Fault
+    Context → Around → (line function register : ℕ) → (table : Option ℕ) → (most : Expression) → (tally_variable : ℕ) → Facts → Result Verdict Fault
 q_stop_rule c around line f r t e x k = do
   most ← range_of line e k.ranges
   g ← block_region c around line f r t most.hi x k
   Ok (block_verdict c around t most.hi most.hi x g k)
 
 -- where no word is wanted there is no cycle
-abbrev pub q_repeat_cycles : ℕ → ℕ → ℕ
+abbrev pub q_repeat_cycles : (most limit : ℕ) → ℕ
 q_repeat_cycles most limit = if nat_eq most 0 then 0 else limit
 
 abbrev pub q_repeat_rule :
-    Context → Around → ℕ → ℕ → ℕ → Option ℕ → Expression → Expression → ℕ → Facts → Result Verdict Fault
+    Context → Around → (line function register : ℕ) → (table : Option ℕ) → (most limit : Expression) → (tally_variable : ℕ) → Facts → Result Verdict Fault
 q_repeat_rule c around line f r t e1 e2 x k = do
   most ← range_of line e1 k.ranges
   limit ← range_of line e2 k.ranges

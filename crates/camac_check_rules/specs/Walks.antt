@@ -17,11 +17,11 @@ first_failing test k zero = None
 first_failing test k (suc n) = if test k then first_failing test (k + 1) n else Some k
 
 -- the first number of a range that is not below an end, or of which the test does not hold
-abbrev pub first_outside : ℕ → Interval → (ℕ → Bool) → ℕ
+abbrev pub first_outside : (end : ℕ) → Interval → (ℕ → Bool) → ℕ
 first_outside end r test = unwrap_or (first_failing test r.lo (count_below end r)) (max r.lo end)
 
--- the greatest of n values from that of k on, 0 of none
-abbrev pub greatest_from : (ℕ → ℕ) → ℕ → ℕ → ℕ
+-- the greatest of so many values from the first on, 0 of none
+abbrev pub greatest_from : (value : ℕ → ℕ) → (first count : ℕ) → ℕ
 greatest_from value k zero = 0
 greatest_from value k (suc n) = max (value k) (greatest_from value (k + 1) n)
 

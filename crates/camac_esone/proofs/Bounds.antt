@@ -4,7 +4,7 @@ use Rattle.std.specs.Prelude.{min, nat_lt, nat_eq, nat_le, ◌&&◌}
 use Rattle.std.proofs.lemmas.Bool.{and_parts, or_cases, ltb-true, leb-true, eqb-true, cond_both}
 use Rattle.std.proofs.lemmas.List.{append-nil, length-append}
 use Rattle.camac_branch.specs.Address.{Address}
-use Rattle.camac_esone.specs.Transfers.{Wanted, tally, next_station, successor, address_after, is_by, q_stop_wanted, q_repeat_wanted, scan_wanted}
+use Rattle.camac_esone.specs.Transfers.{NextAddress, tally, next_station, successor, address_after, is_by, q_stop_next, q_repeat_next, scan_next}
 use Rattle.camac_esone.specs.Lists.{Cycle, replies}
 use Rattle.camac_esone.specs.Laws.{IsDriven}
 use Rattle.camac_esone.specs.Bounds.{place, addresses, QStopIsBounded, QRepeatIsBounded, ScanIsBounded, ScanIsWithinAddresses}
@@ -14,26 +14,26 @@ use Rattle.camac_esone.proofs.QRepeatLists as repeat
 use Rattle.camac_esone.proofs.ScanLists as scan
 
 -- a number falls with each reply that was wanted
-abbrev pub FallsAlways : Wanted → (List Bool → ℕ) → Type 0
-FallsAlways wanted left = (qs : List Bool) (q : Bool) (at : Address) → wanted qs ≡ Some at → left (qs ++ q ∷ []) < left qs
+abbrev pub FallsAlways : NextAddress → (List Bool → ℕ) → Type 0
+FallsAlways next_address left = (qs : List Bool) (q : Bool) (at : Address) → next_address qs ≡ Some at → left (qs ++ q ∷ []) < left qs
 
 -- So many cycles, and what is left after them, are no more than what was left before.
-bounded_from : (wanted : Wanted) (left : List Bool → ℕ) → FallsAlways wanted left → (rest before : List Cycle) → IsDriven wanted (before ++ rest) → length rest + left (replies (before ++ rest)) ≤ left (replies before)
-bounded_from wanted left falls [] before h = subst (λ l. 0 + left (replies l) ≤ left (replies before)) (sym (append-nil before)) (omega arith)
-bounded_from wanted left falls (c ∷ rest) before h =
+bounded_from : (next_address : NextAddress) (left : List Bool → ℕ) → FallsAlways next_address left → (rest before : List Cycle) → IsDriven next_address (before ++ rest) → length rest + left (replies (before ++ rest)) ≤ left (replies before)
+bounded_from next_address left falls [] before h = subst (λ l. 0 + left (replies l) ≤ left (replies before)) (sym (append-nil before)) (omega arith)
+bounded_from next_address left falls (c ∷ rest) before h =
     let same : (before ++ c ∷ []) ++ rest ≡ before ++ c ∷ rest = append_assoc before (c ∷ []) rest in
     let fell = falls (replies before) c.q c.at (h before rest c refl) in
     let qs : replies (before ++ c ∷ []) ≡ replies before ++ c.q ∷ [] = replies-append before (c ∷ []) in
     let less : left (replies (before ++ c ∷ [])) < left (replies before) = subst (λ l. left l < left (replies before)) (sym qs) fell in
-    let others = bounded_from wanted left falls rest (before ++ c ∷ []) (subst (IsDriven wanted) (sym same) h) in
+    let others = bounded_from next_address left falls rest (before ++ c ∷ []) (subst (IsDriven next_address) (sym same) h) in
     let moved : length rest + left (replies (before ++ c ∷ rest)) ≤ left (replies (before ++ c ∷ []))
     = subst (λ l. length rest + left (replies l) ≤ left (replies (before ++ c ∷ []))) same others in
     omega arith
 
-pub bounded : (wanted : Wanted) (left : List Bool → ℕ) → FallsAlways wanted left → (cycles : List Cycle) → IsDriven wanted cycles → length cycles ≤ left []
-bounded wanted left falls cycles h = let all = bounded_from wanted left falls cycles [] h in omega arith
+pub bounded : (next_address : NextAddress) (left : List Bool → ℕ) → FallsAlways next_address left → (cycles : List Cycle) → IsDriven next_address cycles → length cycles ≤ left []
+bounded next_address left falls cycles h = let all = bounded_from next_address left falls cycles [] h in omega arith
 
-pub stop_left_falls : (at : Address) (max : ℕ) → FallsAlways (q_stop_wanted at max) (λ qs. max - length qs)
+pub stop_left_falls : (at : Address) (max : ℕ) → FallsAlways (q_stop_next at max) (λ qs. max - length qs)
 stop_left_falls at max qs q to e =
     let g = (stop.wanted_goes_on at to max qs e).0 in
     let parts = length-append qs (q ∷ []) in
@@ -41,12 +41,12 @@ stop_left_falls at max qs q to e =
 
 pub q_stop_bounded : QStopIsBounded
 q_stop_bounded at max cycles h =
-    let count = bounded (q_stop_wanted at max) (λ qs. max - length qs) (stop_left_falls at max) cycles h in
+    let count = bounded (q_stop_next at max) (λ qs. max - length qs) (stop_left_falls at max) cycles h in
     let words = tally_most (replies cycles) in
     let same = length-replies cycles in
     record { count = omega arith; tally = omega arith }
 
-pub repeat_left_falls : (at : Address) (max limit : ℕ) → FallsAlways (q_repeat_wanted at max limit) (λ qs. limit - length qs)
+pub repeat_left_falls : (at : Address) (max limit : ℕ) → FallsAlways (q_repeat_next at max limit) (λ qs. limit - length qs)
 repeat_left_falls at max limit qs q to e =
     let g = (repeat.wanted_goes_on at to max limit qs e).0 in
     let parts = length-append qs (q ∷ []) in
@@ -65,7 +65,7 @@ same_or_next at =
 abbrev pub scan_left : Address → Address → ℕ → List Bool → ℕ
 scan_left first last max qs = (max - tally qs) + (last.station + 1 - (address_after first qs).station)
 
-pub scan_left_falls : (first last : Address) (max : ℕ) → FallsAlways (scan_wanted first last max) (scan_left first last max)
+pub scan_left_falls : (first last : Address) (max : ℕ) → FallsAlways (scan_next first last max) (scan_left first last max)
 scan_left_falls first last max qs true to e =
     let g = (scan.wanted_goes_on first last to max qs e).0 in
     let words : tally (qs ++ true ∷ []) ≡ tally qs + 1 = tally-append qs (true ∷ []) in
@@ -83,7 +83,7 @@ scan_left_falls first last max qs false to e =
 
 pub scan_bounded : ScanIsBounded
 scan_bounded first last max cycles h =
-    let count = bounded (scan_wanted first last max) (scan_left first last max) (scan_left_falls first last max) cycles h in
+    let count = bounded (scan_next first last max) (scan_left first last max) (scan_left_falls first last max) cycles h in
     record { count = omega arith; tally = scan.up_to first last max cycles h }
 
 -- the next address has a sub-address up to 15 too, and a later place
@@ -119,7 +119,7 @@ by_place last at h e =
 abbrev pub addresses_left : Address → Address → List Bool → ℕ
 addresses_left first last qs = addresses (address_after first qs) last
 
-pub addresses_left_fall : (first last : Address) (max : ℕ) → first.sub_address ≤ 15 → FallsAlways (scan_wanted first last max) (addresses_left first last)
+pub addresses_left_fall : (first last : Address) (max : ℕ) → first.sub_address ≤ 15 → FallsAlways (scan_next first last max) (addresses_left first last)
 addresses_left_fall first last max h qs q to e =
     let g = (scan.wanted_goes_on first last to max qs e).0 in
     let sub = up_to_15 first qs h in
@@ -130,4 +130,4 @@ addresses_left_fall first last max h qs q to e =
 
 pub scan_within_addresses : ScanIsWithinAddresses
 scan_within_addresses first last max cycles h driven =
-    bounded (scan_wanted first last max) (addresses_left first last) (addresses_left_fall first last max h) cycles driven
+    bounded (scan_next first last max) (addresses_left first last) (addresses_left_fall first last max h) cycles driven

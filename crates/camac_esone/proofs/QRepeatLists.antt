@@ -4,7 +4,7 @@ use Rattle.std.specs.Prelude.{◌&&◌, nat_lt}
 use Rattle.std.proofs.lemmas.Bool.{and_parts, lt-ltb, ltb-true, cases_lt}
 use Rattle.std.proofs.lemmas.List.{length-append}
 use Rattle.camac_branch.specs.Address.{Address}
-use Rattle.camac_esone.specs.Transfers.{tally, q_repeat_wanted}
+use Rattle.camac_esone.specs.Transfers.{tally, q_repeat_next}
 use Rattle.camac_esone.specs.Lists.{Cycle, replies, EachCycle, IsQRepeatList}
 use Rattle.camac_esone.specs.Laws.{IsDriven, IsDrivenToEnd, RepeatTestGivesQRepeat}
 use Rattle.camac_esone.specs.Bounds.{IsUpTo}
@@ -16,25 +16,25 @@ pub record GoesOn (max limit : ℕ) (qs : List Bool) : Type 0 where
   pub fewer : tally qs < max
   pub room : length qs < limit
 
-go_on_wanted : (at : Address) (max limit : ℕ) (qs : List Bool) → GoesOn max limit qs → q_repeat_wanted at max limit qs ≡ Some at
+go_on_wanted : (at : Address) (max limit : ℕ) (qs : List Bool) → GoesOn max limit qs → q_repeat_next at max limit qs ≡ Some at
 go_on_wanted at max limit qs g =
     when_true (nat_lt (tally qs) max && nat_lt (length qs) limit) at
     (ap (λ b. b && nat_lt (length qs) limit) (lt-ltb (tally qs) max g.fewer) ∙ lt-ltb (length qs) limit g.room)
 
-pub wanted_goes_on : (at to : Address) (max limit : ℕ) (qs : List Bool) → q_repeat_wanted at max limit qs ≡ Some to → GoesOn max limit qs × (to ≡ at)
+pub wanted_goes_on : (at to : Address) (max limit : ℕ) (qs : List Bool) → q_repeat_next at max limit qs ≡ Some to → GoesOn max limit qs × (to ≡ at)
 wanted_goes_on at to max limit qs e =
     let was = was_true (nat_lt (tally qs) max && nat_lt (length qs) limit) at to e in
     let parts = and_parts (nat_lt (tally qs) max) (nat_lt (length qs) limit) was.0 in
     (record { fewer = ltb-true (tally qs) max parts.0; room = ltb-true (length qs) limit parts.1 }, was.1)
 
-not_wanted : (at : Address) (max limit : ℕ) (qs : List Bool) → (GoesOn max limit qs → ⊥) → q_repeat_wanted at max limit qs ≡ None
+not_wanted : (at : Address) (max limit : ℕ) (qs : List Bool) → (GoesOn max limit qs → ⊥) → q_repeat_next at max limit qs ≡ None
 not_wanted at max limit qs never =
-    elim (asks (q_repeat_wanted at max limit qs)) [
+    elim (asks (q_repeat_next at max limit qs)) [
       | inl e ↦ e
       | inr w ↦ absurd (never (wanted_goes_on at w.at max limit qs w.same).0)
     ]
 
-stands_still : (at : Address) (max limit : ℕ) (qs : List Bool) → q_repeat_wanted at max limit qs ≡ None → GoesOn max limit qs → ⊥
+stands_still : (at : Address) (max limit : ℕ) (qs : List Bool) → q_repeat_next at max limit qs ≡ None → GoesOn max limit qs → ⊥
 stands_still at max limit qs e g = let some = go_on_wanted at max limit qs g in cc
 
 fewer_before : (at : Address) (max limit : ℕ) (cycles : List Cycle) → IsQRepeatList at max limit cycles → EachCycle (λ before c. tally (replies before) < max) cycles
@@ -50,7 +50,7 @@ stops at max limit cycles h g =
     let same = length-replies cycles in
     elim (h.count) [ inl k ↦ omega (arith, k.0.reached, g.fewer) | inr k ↦ omega (arith, k.1, g.room) ]
 
-to_end : (at : Address) (max limit : ℕ) (cycles : List Cycle) → IsQRepeatList at max limit cycles → IsDrivenToEnd (q_repeat_wanted at max limit) cycles
+to_end : (at : Address) (max limit : ℕ) (cycles : List Cycle) → IsQRepeatList at max limit cycles → IsDrivenToEnd (q_repeat_next at max limit) cycles
 to_end at max limit cycles h = record {
   driven = λ before after c e.
       let same = ap length e in
@@ -63,7 +63,7 @@ to_end at max limit cycles h = record {
   ended = not_wanted at max limit (replies cycles) (stops at max limit cycles h);
 }
 
-pub up_to : (at : Address) (max limit : ℕ) (cycles : List Cycle) → IsDriven (q_repeat_wanted at max limit) cycles → IsUpTo limit max cycles
+pub up_to : (at : Address) (max limit : ℕ) (cycles : List Cycle) → IsDriven (q_repeat_next at max limit) cycles → IsUpTo limit max cycles
 up_to at max limit cycles h =
     elim (empty_or_ending cycles) [
       | inl e ↦ subst (IsUpTo limit max) (sym e) (record { count = omega arith; tally = omega arith })
@@ -77,7 +77,7 @@ up_to at max limit cycles h =
           subst (IsUpTo limit max) end.parts (record { count = omega (arith, g.room); tally = words })
     ]
 
-from_end : (at : Address) (max limit : ℕ) (cycles : List Cycle) → IsDrivenToEnd (q_repeat_wanted at max limit) cycles → IsQRepeatList at max limit cycles
+from_end : (at : Address) (max limit : ℕ) (cycles : List Cycle) → IsDrivenToEnd (q_repeat_next at max limit) cycles → IsQRepeatList at max limit cycles
 from_end at max limit cycles h =
     let most = up_to at max limit cycles h.driven in
     let same = length-replies cycles in
@@ -94,7 +94,7 @@ from_end at max limit cycles h =
       ];
     }
 
-repeat_falls : (at : Address) (max limit : ℕ) → Falls (q_repeat_wanted at max limit) (λ qs. limit - length qs)
+repeat_falls : (at : Address) (max limit : ℕ) → Falls (q_repeat_next at max limit) (λ qs. limit - length qs)
 repeat_falls at max limit qs to e =
     let g = (wanted_goes_on at to max limit qs e).0 in
     let parts = length-append qs (false ∷ []) in
@@ -102,5 +102,5 @@ repeat_falls at max limit qs to e =
 
 pub q_repeat_gives : RepeatTestGivesQRepeat
 q_repeat_gives at max limit =
-    gives (q_repeat_wanted at max limit) (IsQRepeatList at max limit) (λ qs. limit - length qs) (repeat_falls at max limit)
+    gives (q_repeat_next at max limit) (IsQRepeatList at max limit) (λ qs. limit - length qs) (repeat_falls at max limit)
     (λ cycles. (to_end at max limit cycles, from_end at max limit cycles))

@@ -5,7 +5,7 @@ use Rattle.std.specs.Option.{unwrap_or}
 use Rattle.std.proofs.lemmas.Bool.{and_parts, lt-ltb, le-ltb, ltb-true, ltb-false}
 use Rattle.std.proofs.lemmas.List.{length-append, length-take, take_all}
 use Rattle.camac_branch.specs.Address.{Address}
-use Rattle.camac_esone.specs.Transfers.{all_true, q_stop_wanted}
+use Rattle.camac_esone.specs.Transfers.{all_true, q_stop_next}
 use Rattle.camac_esone.specs.Lists.{Cycle, replies, first_zero, IsQStopList}
 use Rattle.camac_esone.specs.Laws.{IsDrivenToEnd, StopTestGivesQStop}
 use Rattle.camac_esone.proofs.Parts.{replies-append, length-replies, empty_or_ending, when_true, when_false, was_true, was_false}
@@ -97,12 +97,12 @@ pub record GoesOn (max : ℕ) (qs : List Bool) : Type 0 where
   pub ones : all_true qs ≡ true
   pub less : length qs < max
 
-go_on_wanted : (at : Address) (max : ℕ) (qs : List Bool) → GoesOn max qs → q_stop_wanted at max qs ≡ Some at
+go_on_wanted : (at : Address) (max : ℕ) (qs : List Bool) → GoesOn max qs → q_stop_next at max qs ≡ Some at
 go_on_wanted at max qs g =
     when_true (all_true qs && nat_lt (length qs) max) at
     (ap (λ b. b && nat_lt (length qs) max) g.ones ∙ lt-ltb (length qs) max g.less)
 
-pub wanted_goes_on : (at to : Address) (max : ℕ) (qs : List Bool) → q_stop_wanted at max qs ≡ Some to → GoesOn max qs × (to ≡ at)
+pub wanted_goes_on : (at to : Address) (max : ℕ) (qs : List Bool) → q_stop_next at max qs ≡ Some to → GoesOn max qs × (to ≡ at)
 wanted_goes_on at to max qs e =
     let was = was_true (all_true qs && nat_lt (length qs) max) at to e in
     let parts = and_parts (all_true qs) (nat_lt (length qs) max) was.0 in
@@ -145,7 +145,7 @@ goes_on_before max qs xs ys x (inr z) e =
     let f = prefix_of xs ys z.before x false (e ∙ sym z.parts) z.ones in
     record { ones = f.0; less = omega (arith, z.count) }
 
-ends_after : (at : Address) (max : ℕ) (qs : List Bool) → IsStop max qs → q_stop_wanted at max qs ≡ None
+ends_after : (at : Address) (max : ℕ) (qs : List Bool) → IsStop max qs → q_stop_next at max qs ≡ None
 unfolding IsStop
 ends_after at max qs (inl a) =
     when_false (all_true qs && nat_lt (length qs) max) at
@@ -155,7 +155,7 @@ ends_after at max qs (inr z) =
     (ap (λ b. b && nat_lt (length qs) max) (ap all_true (sym z.parts) ∙ zero_last z.before))
 
 -- a whole transfer, from its replies before the last and the last
-whole_of : (at : Address) (max : ℕ) (qs : List Bool) (q : Bool) → GoesOn max qs → q_stop_wanted at max (qs ++ q ∷ []) ≡ None → IsStop max (qs ++ q ∷ [])
+whole_of : (at : Address) (max : ℕ) (qs : List Bool) (q : Bool) → GoesOn max qs → q_stop_next at max (qs ++ q ∷ []) ≡ None → IsStop max (qs ++ q ∷ [])
 unfolding IsStop
 whole_of at max qs false g e = inr (record { before = qs; ones = g.ones; parts = refl; count = g.less })
 whole_of at max qs true g e =
@@ -167,13 +167,13 @@ whole_of at max qs true g e =
     let parts = length-append qs (true ∷ []) in
     inl (record { ones = ones; count = omega (arith, g.less) })
 
-nothing_wanted : (at : Address) (max : ℕ) → q_stop_wanted at max [] ≡ None → IsStop max []
+nothing_wanted : (at : Address) (max : ℕ) → q_stop_next at max [] ≡ None → IsStop max []
 unfolding IsStop
 nothing_wanted at max e =
     let none : max ≤ 0 = ltb-false 0 max (was_false (nat_lt 0 max) at e) in
     inl (record { ones = refl; count = omega arith })
 
-to_end : (at : Address) (max : ℕ) (cycles : List Cycle) → IsQStopList at max cycles → IsDrivenToEnd (q_stop_wanted at max) cycles
+to_end : (at : Address) (max : ℕ) (cycles : List Cycle) → IsQStopList at max cycles → IsDrivenToEnd (q_stop_next at max) cycles
 unfolding stop_count
 to_end at max cycles h =
     let stop = count_means max (replies cycles) (length-replies cycles ∙ h.count) in
@@ -186,27 +186,27 @@ to_end at max cycles h =
       ended = ends_after at max (replies cycles) stop;
     }
 
-stops : (at : Address) (max : ℕ) (cycles : List Cycle) → IsDrivenToEnd (q_stop_wanted at max) cycles → IsStop max (replies cycles)
+stops : (at : Address) (max : ℕ) (cycles : List Cycle) → IsDrivenToEnd (q_stop_next at max) cycles → IsStop max (replies cycles)
 stops at max cycles h =
     elim (empty_or_ending cycles) [
       | inl e ↦ subst (λ l. IsStop max (replies l)) (sym e)
-          (nothing_wanted at max (subst (λ l. q_stop_wanted at max (replies l) ≡ None) e h.ended))
+          (nothing_wanted at max (subst (λ l. q_stop_next at max (replies l) ≡ None) e h.ended))
       | inr end ↦ let qs : replies end.prefix ++ end.last.q ∷ [] ≡ replies cycles
           = sym (replies-append end.prefix (end.last ∷ [])) ∙ ap replies end.parts in
           subst (IsStop max) qs
           (whole_of at max (replies end.prefix) end.last.q
           (wanted_goes_on at end.last.at max (replies end.prefix) (h.driven end.prefix [] end.last end.parts)).0
-          (subst (λ l. q_stop_wanted at max l ≡ None) (sym qs) h.ended))
+          (subst (λ l. q_stop_next at max l ≡ None) (sym qs) h.ended))
     ]
 
-from_end : (at : Address) (max : ℕ) (cycles : List Cycle) → IsDrivenToEnd (q_stop_wanted at max) cycles → IsQStopList at max cycles
+from_end : (at : Address) (max : ℕ) (cycles : List Cycle) → IsDrivenToEnd (q_stop_next at max) cycles → IsQStopList at max cycles
 unfolding stop_count
 from_end at max cycles h = record {
   address = λ before after c e. (wanted_goes_on at c.at max (replies before) (h.driven before after c e)).1;
   count = sym (length-replies cycles) ∙ means_count max (replies cycles) (stops at max cycles h);
 }
 
-stop_falls : (at : Address) (max : ℕ) → Falls (q_stop_wanted at max) (λ qs. max - length qs)
+stop_falls : (at : Address) (max : ℕ) → Falls (q_stop_next at max) (λ qs. max - length qs)
 stop_falls at max qs to e =
     let g = (wanted_goes_on at to max qs e).0 in
     let parts = length-append qs (false ∷ []) in
@@ -214,5 +214,5 @@ stop_falls at max qs to e =
 
 pub q_stop_gives : StopTestGivesQStop
 q_stop_gives at max =
-    gives (q_stop_wanted at max) (IsQStopList at max) (λ qs. max - length qs) (stop_falls at max)
+    gives (q_stop_next at max) (IsQStopList at max) (λ qs. max - length qs) (stop_falls at max)
     (λ cycles. (to_end at max cycles, from_end at max cycles))

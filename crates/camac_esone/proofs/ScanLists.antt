@@ -3,7 +3,7 @@ use Rattle.std.proofs.Common.{◌≡◌, ℕ, ◌+◌, ◌-◌, ◌<◌, ◌≤�
 use Rattle.std.specs.Prelude.{◌&&◌, nat_eq, nat_lt, nat_le}
 use Rattle.std.proofs.lemmas.Bool.{and_parts, lt-ltb, ltb-true, eqb-true, or_cases, cases_lt, cases_Bool, cond_both}
 use Rattle.camac_branch.specs.Address.{Address}
-use Rattle.camac_esone.specs.Transfers.{tally, next_station, successor, address_after, is_by, scan_wanted}
+use Rattle.camac_esone.specs.Transfers.{tally, next_station, successor, address_after, is_by, scan_next}
 use Rattle.camac_esone.specs.Lists.{Cycle, replies, EachCycle, next_after, IsScanList}
 use Rattle.camac_esone.specs.Laws.{IsDriven, IsDrivenToEnd, ScanTestGivesScan}
 use Rattle.camac_esone.proofs.Parts.{replies-append, ending_of, empty_or_ending, tally-append, tally_more, when_true, was_true}
@@ -14,25 +14,25 @@ pub record GoesOn (first last : Address) (max : ℕ) (qs : List Bool) : Type 0 w
   pub fewer : tally qs < max
   pub by : is_by last (address_after first qs) ≡ true
 
-go_on_wanted : (first last : Address) (max : ℕ) (qs : List Bool) → GoesOn first last max qs → scan_wanted first last max qs ≡ Some (address_after first qs)
+go_on_wanted : (first last : Address) (max : ℕ) (qs : List Bool) → GoesOn first last max qs → scan_next first last max qs ≡ Some (address_after first qs)
 go_on_wanted first last max qs g =
     when_true (nat_lt (tally qs) max && is_by last (address_after first qs)) (address_after first qs)
     (ap (λ b. b && is_by last (address_after first qs)) (lt-ltb (tally qs) max g.fewer) ∙ g.by)
 
-pub wanted_goes_on : (first last to : Address) (max : ℕ) (qs : List Bool) → scan_wanted first last max qs ≡ Some to → GoesOn first last max qs × (to ≡ address_after first qs)
+pub wanted_goes_on : (first last to : Address) (max : ℕ) (qs : List Bool) → scan_next first last max qs ≡ Some to → GoesOn first last max qs × (to ≡ address_after first qs)
 wanted_goes_on first last to max qs e =
     let was = was_true (nat_lt (tally qs) max && is_by last (address_after first qs)) (address_after first qs) to e in
     let parts = and_parts (nat_lt (tally qs) max) (is_by last (address_after first qs)) was.0 in
     (record { fewer = ltb-true (tally qs) max parts.0; by = parts.1 }, was.1)
 
-not_wanted : (first last : Address) (max : ℕ) (qs : List Bool) → (GoesOn first last max qs → ⊥) → scan_wanted first last max qs ≡ None
+not_wanted : (first last : Address) (max : ℕ) (qs : List Bool) → (GoesOn first last max qs → ⊥) → scan_next first last max qs ≡ None
 not_wanted first last max qs never =
-    elim (asks (scan_wanted first last max qs)) [
+    elim (asks (scan_next first last max qs)) [
       | inl e ↦ e
       | inr w ↦ absurd (never (wanted_goes_on first last w.at max qs w.same).0)
     ]
 
-stands_still : (first last : Address) (max : ℕ) (qs : List Bool) → scan_wanted first last max qs ≡ None → GoesOn first last max qs → ⊥
+stands_still : (first last : Address) (max : ℕ) (qs : List Bool) → scan_next first last max qs ≡ None → GoesOn first last max qs → ⊥
 stands_still first last max qs e g = let some = go_on_wanted first last max qs g in cc
 
 -- each cycle at the successor of the one before, and at the address that the replies before it lead to
@@ -91,7 +91,7 @@ stops first last max cycles h g =
           let at = ap (is_by last) same in cc
     ]
 
-to_end : (first last : Address) (max : ℕ) (cycles : List Cycle) → IsScanList first last max cycles → IsDrivenToEnd (scan_wanted first last max) cycles
+to_end : (first last : Address) (max : ℕ) (cycles : List Cycle) → IsScanList first last max cycles → IsDrivenToEnd (scan_next first last max) cycles
 to_end first last max cycles h = record {
   driven = λ before after c e.
       go_on_wanted first last max (replies before) (goes_on_before first last max cycles before after c h e)
@@ -114,7 +114,7 @@ one_more first [] q = refl
 one_more first (p ∷ qs) q = one_more (successor p first) qs q
 
 -- no more words than asked for
-pub up_to : (first last : Address) (max : ℕ) (cycles : List Cycle) → IsDriven (scan_wanted first last max) cycles → tally (replies cycles) ≤ max
+pub up_to : (first last : Address) (max : ℕ) (cycles : List Cycle) → IsDriven (scan_next first last max) cycles → tally (replies cycles) ≤ max
 up_to first last max cycles h =
     elim (empty_or_ending cycles) [
       | inl e ↦ subst (λ l. tally (replies l) ≤ max) (sym e) (omega arith)
@@ -125,10 +125,10 @@ up_to first last max cycles h =
           subst (λ l. tally (replies l) ≤ max) end.parts words
     ]
 
-driven_by_replies : (first last : Address) (max : ℕ) (cycles : List Cycle) → IsDriven (scan_wanted first last max) cycles → ByReplies first cycles
+driven_by_replies : (first last : Address) (max : ℕ) (cycles : List Cycle) → IsDriven (scan_next first last max) cycles → ByReplies first cycles
 driven_by_replies first last max cycles h before after c e = (wanted_goes_on first last c.at max (replies before) (h before after c e)).1
 
-from_end : (first last : Address) (max : ℕ) (cycles : List Cycle) → IsDrivenToEnd (scan_wanted first last max) cycles → IsScanList first last max cycles
+from_end : (first last : Address) (max : ℕ) (cycles : List Cycle) → IsDrivenToEnd (scan_next first last max) cycles → IsScanList first last max cycles
 from_end first last max cycles h =
     let at = driven_by_replies first last max cycles h.driven in
     let most = up_to first last max cycles h.driven in
@@ -161,7 +161,7 @@ by_station last at e =
 abbrev stations_left : Address → Address → List Bool → ℕ
 stations_left first last qs = last.station + 1 - (address_after first qs).station
 
-scan_falls : (first last : Address) (max : ℕ) → Falls (scan_wanted first last max) (stations_left first last)
+scan_falls : (first last : Address) (max : ℕ) → Falls (scan_next first last max) (stations_left first last)
 scan_falls first last max qs to e =
     let g = (wanted_goes_on first last to max qs e).0 in
     let le = by_station last (address_after first qs) g.by in
@@ -171,5 +171,5 @@ scan_falls first last max qs to e =
 
 pub scan_gives : ScanTestGivesScan
 scan_gives first last max =
-    gives (scan_wanted first last max) (IsScanList first last max) (stations_left first last) (scan_falls first last max)
+    gives (scan_next first last max) (IsScanList first last max) (stations_left first last) (scan_falls first last max)
     (λ cycles. (to_end first last max cycles, from_end first last max cycles))

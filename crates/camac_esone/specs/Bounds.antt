@@ -1,7 +1,7 @@
 -- How many cycles a transfer makes at most, and how many of them with Q=1.
 use Rattle.std.specs.Prelude.{ℕ, ◌+◌, ◌-◌, ◌*◌, ◌≤◌, List, length, min}
 use Rattle.camac_branch.specs.Address.{Address}
-use Rattle.camac_esone.specs.Transfers.{tally, q_stop_wanted, q_repeat_wanted, scan_wanted}
+use Rattle.camac_esone.specs.Transfers.{tally, q_stop_next, q_repeat_next, scan_next}
 use Rattle.camac_esone.specs.Lists.{Cycle, replies}
 use Rattle.camac_esone.specs.Laws.{IsDriven}
 
@@ -23,18 +23,18 @@ abbrev pub addresses : Address → Address → ℕ
 addresses first last = 16 * last.station + min 15 last.sub_address + 1 - place first
 
 abbrev pub QStopIsBounded : Type 0
-QStopIsBounded = (at : Address) (max : ℕ) (cycles : List Cycle) → IsDriven (q_stop_wanted at max) cycles → IsUpTo max max cycles
+QStopIsBounded = (at : Address) (max : ℕ) (cycles : List Cycle) → IsDriven (q_stop_next at max) cycles → IsUpTo max max cycles
 
 abbrev pub QRepeatIsBounded : Type 0
 QRepeatIsBounded =
-    (at : Address) (max limit : ℕ) (cycles : List Cycle) → IsDriven (q_repeat_wanted at max limit) cycles → IsUpTo limit max cycles
+    (at : Address) (max limit : ℕ) (cycles : List Cycle) → IsDriven (q_repeat_next at max limit) cycles → IsUpTo limit max cycles
 
 -- A scan leaves a station at each Q=0.
 abbrev pub ScanIsBounded : Type 0
 ScanIsBounded =
-    (first last : Address) (max : ℕ) (cycles : List Cycle) → IsDriven (scan_wanted first last max) cycles → IsUpTo (max + stations first last) max cycles
+    (first last : Address) (max : ℕ) (cycles : List Cycle) → IsDriven (scan_next first last max) cycles → IsUpTo (max + stations first last) max cycles
 
 -- It comes to no address twice.
 abbrev pub ScanIsWithinAddresses : Type 0
 ScanIsWithinAddresses =
-    (first last : Address) (max : ℕ) (cycles : List Cycle) → first.sub_address ≤ 15 → IsDriven (scan_wanted first last max) cycles → length cycles ≤ addresses first last
+    (first last : Address) (max : ℕ) (cycles : List Cycle) → first.sub_address ≤ 15 → IsDriven (scan_next first last max) cycles → length cycles ≤ addresses first last

@@ -15,20 +15,20 @@ all_true (true ∷ qs) = all_true qs
 all_true (false ∷ qs) = false
 
 -- where the next cycle goes, from all Q so far
-abbrev pub Wanted : Type 0
-Wanted = List Bool → Option Address
+abbrev pub NextAddress : Type 0
+NextAddress = List Bool → Option Address
 
 abbrev pub when : Bool → Address → Option Address
 when true at = Some at
 when false at = None
 
 -- Q-stop: up to the first Q=0, at most max cycles
-abbrev pub q_stop_wanted : Address → ℕ → Wanted
-q_stop_wanted at max qs = when (all_true qs && nat_lt (length qs) max) at
+abbrev pub q_stop_next : Address → ℕ → NextAddress
+q_stop_next at max qs = when (all_true qs && nat_lt (length qs) max) at
 
 -- Q-repeat: until max replies had Q=1, at most limit cycles
-abbrev pub q_repeat_wanted : Address → ℕ → ℕ → Wanted
-q_repeat_wanted at max limit qs = when (nat_lt (tally qs) max && nat_lt (length qs) limit) at
+abbrev pub q_repeat_next : Address → ℕ → ℕ → NextAddress
+q_repeat_next at max limit qs = when (nat_lt (tally qs) max && nat_lt (length qs) limit) at
 
 -- the next station
 abbrev pub next_station : Address → Address
@@ -50,6 +50,6 @@ is_by last at =
     nat_lt at.station last.station || (nat_eq at.station last.station && nat_le at.sub_address last.sub_address)
 
 -- Scan: until max replies had Q=1, or past the final address
-abbrev pub scan_wanted : Address → Address → ℕ → Wanted
-scan_wanted first last max qs =
+abbrev pub scan_next : Address → Address → ℕ → NextAddress
+scan_next first last max qs =
     when (nat_lt (tally qs) max && is_by last (address_after first qs)) (address_after first qs)

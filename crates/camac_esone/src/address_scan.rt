@@ -3,7 +3,7 @@
 ghost use Rattle.std.specs.Prelude.{◌≡◌, ◌<◌, ◌^◌, ◌∷◌, [], IsSome, IsTrue};
 ghost use Rattle.camac_esone.specs.InProgress.{scan_left, LeadsAlongScan};
 ghost use Rattle.camac_esone.specs.Progress.{Continues, StandsAt, AddsCycle, IsTally};
-ghost use Rattle.camac_esone.specs.Transfers.{is_by, scan_wanted};
+ghost use Rattle.camac_esone.specs.Transfers.{is_by, scan_next};
 
 use crate::address::Address;
 use std::marker::Model;
@@ -41,7 +41,7 @@ impl Scan {
     pub fn new(first: Address, last: Address, max: u32) -> Self
         requires one_crate { first.crate_no ≡ last.crate_no }
         ensures held { result ≡ record { at = first; last = last; words = max; tally = 0 } }
-        ensures stands { StandsAt (scan_wanted first last max) (scan_left result) [] }
+        ensures stands { StandsAt (scan_next first last max) (scan_left result) [] }
     {
         Scan {
             c: first.c,
@@ -55,7 +55,7 @@ impl Scan {
 
     /// Where the next cycle goes, or none at the end.
     pub fn next(&self) -> Option<Address>
-        ensures wanted { result ≡ (scan_left self.now).wanted [] }
+        ensures next_address { result ≡ (scan_left self.now).next_address [] }
         ensures list { LeadsAlongScan (scan_left self.now) result }
     {
         if self.words > 0 && self.is_by_last() {
@@ -80,7 +80,7 @@ impl Scan {
 
     /// Takes the Q of the cycle that `next` asked for.
     pub fn take(&mut self, q: bool)
-        requires { IsSome ((scan_left self.old).wanted []) }
+        requires { IsSome ((scan_left self.old).next_address []) }
         ensures continues { Continues (scan_left self.old) q (scan_left self.new) }
         ensures stands { AddsCycle (scan_left self.old) q (scan_left self.new) }
     {

@@ -3,7 +3,7 @@
 ghost use Rattle.std.specs.Prelude.{◌≡◌, ◌∷◌, [], IsSome};
 ghost use Rattle.camac_esone.specs.InProgress.{q_repeat_left, LeadsAlongQRepeat};
 ghost use Rattle.camac_esone.specs.Progress.{Continues, StandsAt, AddsCycle, IsTally};
-ghost use Rattle.camac_esone.specs.Transfers.{q_repeat_wanted};
+ghost use Rattle.camac_esone.specs.Transfers.{q_repeat_next};
 
 use crate::address::Address;
 use std::marker::Model;
@@ -37,7 +37,7 @@ impl QRepeat {
     /// The transfer before its first cycle; with a `max` or `limit` of 0 there is none.
     pub fn new(address: Address, max: u32, limit: u32) -> Self
         ensures held { result ≡ record { at = address; words = max; cycles = limit; tally = 0 } }
-        ensures stands { StandsAt (q_repeat_wanted address max limit) (q_repeat_left result) [] }
+        ensures stands { StandsAt (q_repeat_next address max limit) (q_repeat_left result) [] }
     {
         QRepeat {
             address,
@@ -49,7 +49,7 @@ impl QRepeat {
 
     /// Where the next cycle goes, or none at the end.
     pub fn next(&self) -> Option<Address>
-        ensures wanted { result ≡ (q_repeat_left self.now).wanted [] }
+        ensures next_address { result ≡ (q_repeat_left self.now).next_address [] }
         ensures list { LeadsAlongQRepeat (q_repeat_left self.now) result }
     {
         if self.words > 0 && self.cycles > 0 {
@@ -61,7 +61,7 @@ impl QRepeat {
 
     /// Takes the Q of the cycle that `next` asked for.
     pub fn take(&mut self, q: bool)
-        requires { IsSome ((q_repeat_left self.old).wanted []) }
+        requires { IsSome ((q_repeat_left self.old).next_address []) }
         ensures continues { Continues (q_repeat_left self.old) q (q_repeat_left self.new) }
         ensures stands { AddsCycle (q_repeat_left self.old) q (q_repeat_left self.new) }
     {

@@ -3,7 +3,7 @@
 ghost use Rattle.std.specs.Prelude.{◌≡◌, ◌∷◌, [], IsSome};
 ghost use Rattle.camac_esone.specs.InProgress.{q_stop_left, LeadsAlongQStop};
 ghost use Rattle.camac_esone.specs.Progress.{Continues, StandsAt, AddsCycle, IsTally};
-ghost use Rattle.camac_esone.specs.Transfers.{q_stop_wanted};
+ghost use Rattle.camac_esone.specs.Transfers.{q_stop_next};
 
 use crate::address::Address;
 use std::marker::Model;
@@ -34,7 +34,7 @@ impl QStop {
     /// The transfer before its first cycle; with a `max` of 0 there is none.
     pub fn new(address: Address, max: u32) -> Self
         ensures held { result ≡ record { at = address; cycles = max; tally = 0 } }
-        ensures stands { StandsAt (q_stop_wanted address max) (q_stop_left result) [] }
+        ensures stands { StandsAt (q_stop_next address max) (q_stop_left result) [] }
     {
         QStop {
             address,
@@ -45,7 +45,7 @@ impl QStop {
 
     /// Where the next cycle goes, or none at the end.
     pub fn next(&self) -> Option<Address>
-        ensures wanted { result ≡ (q_stop_left self.now).wanted [] }
+        ensures next_address { result ≡ (q_stop_left self.now).next_address [] }
         ensures list { LeadsAlongQStop (q_stop_left self.now) result }
     {
         if self.cycles > 0 {
@@ -57,7 +57,7 @@ impl QStop {
 
     /// Takes the Q of the cycle that `next` asked for.
     pub fn take(&mut self, q: bool)
-        requires { IsSome ((q_stop_left self.old).wanted []) }
+        requires { IsSome ((q_stop_left self.old).next_address []) }
         ensures continues { Continues (q_stop_left self.old) q (q_stop_left self.new) }
         ensures stands { AddsCycle (q_stop_left self.old) q (q_stop_left self.new) }
     {

@@ -28,7 +28,7 @@ abbrev pub shown_byte : ℕ → ℕ
 shown_byte b = if (nat_lt b 32 && not (nat_eq b 9)) || nat_eq b 127 then 63 else b
 
 -- the first of the 120 bytes that are shown: 60 before the one of the column, but none too late
-abbrev pub begin_of : List ℕ → ℕ → ℕ
+abbrev pub begin_of : (line : List ℕ) → (column : ℕ) → ℕ
 begin_of line column = min (column - 60) (length line - 120)
 
 -- for what is left out
@@ -52,7 +52,7 @@ abbrev pub number_column : ℕ → List ℕ
 number_column n = drop (min (length (decimal n)) 5) (codes "     ") ++ decimal n ++ codes " | "
 
 -- the first line of a text, which has this number, with a token after so many of its bytes
-abbrev pub source_text : List ℕ → ℕ → ℕ → List ℕ
+abbrev pub source_text : (text : List ℕ) → (number column : ℕ) → List ℕ
 source_text text n column = number_column n ++ shown_or_end (first_line text) column ++ codes "\n"
 
 -- of a script's text; of a token, which stands at so many bytes before the text's end, the line around it

@@ -32,7 +32,7 @@ abbrev pub AnyPiece : ℕ → Piece → Type 0
 AnyPiece x p = Unit {0}
 
 abbrev Cycles : ℕ → State → Type 0
-Cycles x s = s.cycles ≡ x
+Cycles x s = s.cost ≡ x
 
 cycles_stepwise : IsStepwise (adding piece_cost) AnyPiece Cycles
 cycles_stepwise = record {

@@ -9,7 +9,7 @@ use Rattle.camac_branch.specs.Branch.{IsSet}
 use Rattle.camac_branch.specs.Plan.{Layout, IsPlan, gl}
 use Rattle.camac_branch.proofs.Numbered.{none_is_some}
 use Rattle.camac_model.specs.Meaning.{Context, context}
-use Rattle.camac_model.specs.Run.{Chosen, has_bit, service_bit, is_bit, with_bit, or_next, first_service, service_for}
+use Rattle.camac_model.specs.Run.{Chosen, is_bit_set, service_bit, is_bit, with_bit, or_next, first_service, service_for}
 use Rattle.camac_model.specs.Demands.{IsAsked, IsCalled, CallsAsAsked, DemandsCallServices}
 
 bit_is : (o : Option ℕ) (k : ℕ) → is_bit o k ≡ true → o ≡ Some k
@@ -119,7 +119,7 @@ asked_found c k pattern vs v set f =
       first = λ w asked same. let before = f.first w.number w.service asked.numbered (asked.bit ∙ ap Some (same ∙ f.bit)) in omega (arith, at, before);
     }
 
-none_set : (c : Context) (k pattern : ℕ) (vs : List Service) → has_bit pattern k ≡ false → NoneHas c k pattern vs
+none_set : (c : Context) (k pattern : ℕ) (vs : List Service) → is_bit_set pattern k ≡ false → NoneHas c k pattern vs
 unfolding NoneHas
 none_set c k pattern vs e w asked same =
     true≢false (sym (eq-eqb (bit_at pattern (k - 1)) 1 (subst (IsSet pattern) same asked.in_pattern)) ∙ e)
@@ -129,7 +129,7 @@ none_found : (c : Context) (k pattern : ℕ) (vs : List Service)
 unfolding NoneHas
 none_found c k pattern vs none w asked same = none w.number w.service asked.numbered (asked.bit ∙ ap Some same)
 
-lowest_next : (c : Context) (m k pattern : ℕ) (vs : List Service) (set : Bool) → has_bit pattern k ≡ set
+lowest_next : (c : Context) (m k pattern : ℕ) (vs : List Service) (set : Bool) → is_bit_set pattern k ≡ set
     → (here : Option Chosen) → Found c k 0 vs here → (rest : Option Chosen) → Lowest c m (k + 1) pattern vs rest
     → Lowest c (suc m) k pattern vs (or_next (cond set here None) rest)
 unfolding Found Lowest
@@ -141,7 +141,7 @@ lowest : (c : Context) (m k pattern : ℕ) (vs : List Service) → Lowest c m k 
 unfolding Lowest
 lowest c zero k pattern vs = λ w asked from below. absurd (omega (arith, from, below))
 lowest c (suc m) k pattern vs =
-    lowest_next c m k pattern vs (has_bit pattern k) refl (with_bit c k 0 vs) (found c k 0 vs) (first_service c m (k + 1) pattern vs) (lowest c m (k + 1) pattern vs)
+    lowest_next c m k pattern vs (is_bit_set pattern k) refl (with_bit c k 0 vs) (found c k 0 vs) (first_service c m (k + 1) pattern vs) (lowest c m (k + 1) pattern vs)
 
 -- bits of a plan are 1 to 24
 module _ (c : Context) (vs : List Service) (pattern : ℕ) (ranged : (v : Service) (b : ℕ) → service_bit c v ≡ Some b → (1 ≤ b) × (b ≤ 24)) where

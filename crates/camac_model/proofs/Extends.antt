@@ -10,11 +10,11 @@ use Rattle.camac_branch.specs.Allowed.{width}
 use Rattle.camac_branch.specs.Branch.{Reply, Answer, reply_to}
 use Rattle.camac_branch.specs.Plan.{Layout, crate_waits}
 use Rattle.camac_crate.specs.Lock.{permitted}
-use Rattle.camac_esone.specs.Transfers.{Wanted, tally}
+use Rattle.camac_esone.specs.Transfers.{NextAddress, tally}
 use Rattle.camac_model.specs.State.{State, stepped, with_word, with_variable}
 use Rattle.camac_model.specs.Behaviour.{Behaviour, does, ends, stops, Stop, short, more, Action, then_do, given, decide, unless_wrong, lock_taken}
 use Rattle.camac_model.specs.Value.{value, truth}
-use Rattle.camac_model.specs.Cycle.{if_permitted, next_answer, after_cycle, make_cycle, cycle, kept, sized, after_lock, take_lock}
+use Rattle.camac_model.specs.Cycle.{too_long, answered, outcome, follow, after_cycle, make_cycle, cycle, kept, sized, after_lock, take_lock}
 use Rattle.camac_model.specs.Transfer.{transfer_data, keep_word, request, transfer}
 use Rattle.camac_model.specs.Meaning.{fits_size, act, transfer_to, for_state, for_turns, for_from, turns, entered, returned, enter}
 use Rattle.camac_model.specs.Laws.{longer, Extends, SameEnd}
@@ -54,17 +54,20 @@ module _ (open' : Stop → Bool) (bs : List Answer) where
   unless_extends true go go' s h = h
   unless_extends false go go' s h = λ e. refl
 
-  pub permitted_extends : (b : Bool) (c w : ℕ) (go go' : Action) (s : State) → Goes (go s) (go' (longer bs s)) → Goes (if_permitted b c w go s) (if_permitted b c w go' (longer bs s))
-  permitted_extends true c w go go' s h = h
-  permitted_extends false c w go go' s h = λ e. refl
+  -- an answer that is left, whose wait is permitted or not
+  made_extends : (b : Bool) (c : ℕ) (a : Answer) (rest : List Answer) (go go' : Answer → List Answer → Action) (s : State) → Goes (go a rest s) (go' a (rest ++ bs) (longer bs s)) → Goes (follow c (if b then answered a rest else too_long a.wait) go s) (follow c (if b then answered a (rest ++ bs) else too_long a.wait) go' (longer bs s))
+  made_extends true c a rest go go' s h = h
+  made_extends false c a rest go go' s h = λ e. refl
 
   -- no answer is left; cs are those that were added
-  none_extends : (c waits : ℕ) (l : Bool) (cs : List Answer) (go' : Answer → List Answer → Action) (s : State) → (open' short ≡ false → cs ≡ []) → Goes (stops short s) (next_answer c waits l cs go' (longer bs s))
-  none_extends c waits l cs go' s closed = λ e. ap (λ cs'. next_answer c waits l cs' go' (longer bs s)) (closed e)
+  last_extends : (c : ℕ) (o : Option ℕ) (l : Bool) (cs : List Answer) (go go' : Answer → List Answer → Action) (s : State) → (open' short ≡ false → cs ≡ []) → Goes (follow c (outcome o l []) go s) (follow c (outcome o l cs) go' (longer bs s))
+  last_extends c None l cs go go' s closed = λ e. refl
+  last_extends c (Some waits) l cs go go' s closed = λ e. ap (λ cs'. follow c (outcome (Some waits) l cs') go' (longer bs s)) (closed e)
 
-  pub next_extends : (closed : open' short ≡ false → bs ≡ []) (c waits : ℕ) (l : Bool) (answers : List Answer) (go go' : Answer → List Answer → Action) (s : State) → ((a : Answer) (rest : List Answer) → answers ≡ a ∷ rest → Goes (go a rest s) (go' a (rest ++ bs) (longer bs s))) → Goes (next_answer c waits l answers go s) (next_answer c waits l (answers ++ bs) go' (longer bs s))
-  next_extends closed c waits l [] go go' s h = none_extends c waits l bs go' s closed
-  next_extends closed c waits l (a ∷ rest) go go' s h = permitted_extends (permitted l waits a.wait) c a.wait (go a rest) (go' a (rest ++ bs)) s (h a rest refl)
+  pub next_extends : (closed : open' short ≡ false → bs ≡ []) (c : ℕ) (o : Option ℕ) (l : Bool) (answers : List Answer) (go go' : Answer → List Answer → Action) (s : State) → ((a : Answer) (rest : List Answer) → answers ≡ a ∷ rest → Goes (go a rest s) (go' a (rest ++ bs) (longer bs s))) → Goes (follow c (outcome o l answers) go s) (follow c (outcome o l (answers ++ bs)) go' (longer bs s))
+  next_extends closed c o l [] go go' s h = last_extends c o l bs go go' s closed
+  next_extends closed c None l (a ∷ rest) go go' s h = λ e. refl
+  next_extends closed c (Some waits) l (a ∷ rest) go go' s h = made_extends (permitted l waits a.wait) c a rest go go' s (h a rest refl)
 
   -- what follows a cycle
   abbrev Follows : List Answer → (Reply → Action) → (Reply → Action) → Type 0
@@ -72,10 +75,9 @@ module _ (open' : Stop → Bool) (bs : List Answer) where
 
   pub cycle_extends : (closed : open' short ≡ false → bs ≡ []) (plan : Layout) (at : Address) (f : ℕ) (d : DataMove) (answers : List Answer) (go go' : Reply → Action) (s : State) → Follows answers go go' → Goes (cycle plan at f d answers go s) (cycle plan at f d (answers ++ bs) go' (longer bs s))
   cycle_extends closed plan at f d answers go go' s h =
-      given_extends (crate_waits plan at.crate_no) (λ waits. next_answer at.crate_no waits (s.branch at.crate_no).locked answers (make_cycle plan at f d go)) (λ waits. next_answer at.crate_no waits (s.branch at.crate_no).locked (answers ++ bs) (make_cycle plan at f d go')) s (λ waits _.
-      next_extends closed at.crate_no waits (s.branch at.crate_no).locked answers (make_cycle plan at f d go) (make_cycle plan at f d go') s (λ a rest e.
+      next_extends closed at.crate_no (crate_waits plan at.crate_no) (s.branch at.crate_no).locked answers (make_cycle plan at f d go) (make_cycle plan at f d go') s (λ a rest e.
       let r : Reply = reply_to plan s.branch at f a in
-      (go' r (longer bs (after_cycle at f r a.wait rest s)), refl, h r (after_cycle at f r a.wait rest s) a e)))
+      (go' r (longer bs (after_cycle at f r a.wait rest s)), refl, h r (after_cycle at f r a.wait rest s) a e))
 
   keep_longer : (g : Option (List ℕ)) (w : ℕ) (r : Reply) (s : State) → longer bs (keep_word g w r s) ≡ keep_word g w r (longer bs s)
   keep_longer None w r s = go r.q
@@ -93,39 +95,38 @@ module _ (open' : Stop → Bool) (bs : List Answer) where
       go false = refl
   keep_answers (Some ws) w r s = refl
 
-  module _ (closed : open' short ≡ false → bs ≡ []) (plan : Layout) (f : ℕ) (g : Option (List ℕ)) (wanted : Wanted) (finish finish' : List Bool → Action) (h : (qs : List Bool) (t : State) → Goes (finish qs t) (finish' qs (longer bs t))) where
+  module _ (closed : open' short ≡ false → bs ≡ []) (plan : Layout) (f : ℕ) (g : Option (List ℕ)) (next_address : NextAddress) (finish finish' : List Bool → Action) (h : (qs : List Bool) (t : State) → Goes (finish qs t) (finish' qs (longer bs t))) where
     -- where no answer is left, against the answers that were added
-    at_last : (cs : List Answer) → (open' short ≡ false → cs ≡ []) → (qs : List Bool) (s : State) → Goes (transfer plan f g wanted finish qs [] s) (transfer plan f g wanted finish' qs cs (longer bs s))
-    at_last [] closed' qs s = go (wanted qs)
+    at_last : (cs : List Answer) → (open' short ≡ false → cs ≡ []) → (qs : List Bool) (s : State) → Goes (transfer plan f g next_address finish qs [] s) (transfer plan f g next_address finish' qs cs (longer bs s))
+    at_last [] closed' qs s = go (next_address qs)
       where
         go : (o : Option Address) → Goes (request o (λ at. given (transfer_data g qs) (λ d. cycle plan at f d [] (λ r. stops short))) (finish qs) s) (request o (λ at. given (transfer_data g qs) (λ d. cycle plan at f d [] (λ r. stops short))) (finish' qs) (longer bs s))
         go None = h qs s
         go (Some at) =
             given_extends (transfer_data g qs) (λ d. cycle plan at f d [] (λ r. stops short)) (λ d. cycle plan at f d [] (λ r. stops short)) s (λ d _.
-            given_extends (crate_waits plan at.crate_no) (λ waits. stops short) (λ waits. stops short) s (λ waits _. λ e. refl))
-    at_last (c ∷ rest) closed' qs s = go (wanted qs)
+            last_extends at.crate_no (crate_waits plan at.crate_no) (s.branch at.crate_no).locked [] (make_cycle plan at f d (λ r. stops short)) (make_cycle plan at f d (λ r. stops short)) s closed')
+    at_last (c ∷ rest) closed' qs s = go (next_address qs)
       where
-        go : (o : Option Address) → Goes (request o (λ at. given (transfer_data g qs) (λ d. cycle plan at f d [] (λ r. stops short))) (finish qs) s) (request o (λ at. given (transfer_data g qs) (λ d. cycle plan at f d (c ∷ rest) (λ r u. transfer plan f g wanted finish' (qs ++ r.q ∷ []) rest (stepped (keep_word g (width plan at f) r u))))) (finish' qs) (longer bs s))
+        go : (o : Option Address) → Goes (request o (λ at. given (transfer_data g qs) (λ d. cycle plan at f d [] (λ r. stops short))) (finish qs) s) (request o (λ at. given (transfer_data g qs) (λ d. cycle plan at f d (c ∷ rest) (λ r u. transfer plan f g next_address finish' (qs ++ r.q ∷ []) rest (stepped (keep_word g (width plan at f) r u))))) (finish' qs) (longer bs s))
         go None = h qs s
         go (Some at) =
-            let next' : Reply → Action = λ r u. transfer plan f g wanted finish' (qs ++ r.q ∷ []) rest (stepped (keep_word g (width plan at f) r u)) in
+            let next' : Reply → Action = λ r u. transfer plan f g next_address finish' (qs ++ r.q ∷ []) rest (stepped (keep_word g (width plan at f) r u)) in
             given_extends (transfer_data g qs) (λ d. cycle plan at f d [] (λ r. stops short)) (λ d. cycle plan at f d (c ∷ rest) next') s (λ d _.
-            given_extends (crate_waits plan at.crate_no) (λ waits. stops short) (λ waits. next_answer at.crate_no waits (s.branch at.crate_no).locked (c ∷ rest) (make_cycle plan at f d next')) s (λ waits _.
-            none_extends at.crate_no waits (s.branch at.crate_no).locked (c ∷ rest) (make_cycle plan at f d next') s closed'))
+            last_extends at.crate_no (crate_waits plan at.crate_no) (s.branch at.crate_no).locked (c ∷ rest) (make_cycle plan at f d (λ r. stops short)) (make_cycle plan at f d next') s closed')
 
-    pub transfer_extends : (answers : List Answer) (qs : List Bool) (s : State) → Goes (transfer plan f g wanted finish qs answers s) (transfer plan f g wanted finish' qs (answers ++ bs) (longer bs s))
+    pub transfer_extends : (answers : List Answer) (qs : List Bool) (s : State) → Goes (transfer plan f g next_address finish qs answers s) (transfer plan f g next_address finish' qs (answers ++ bs) (longer bs s))
     transfer_extends [] qs s = at_last bs closed qs s
-    transfer_extends (c ∷ rest) qs s = go (λ qs' t. transfer_extends rest qs' t) (wanted qs)
+    transfer_extends (c ∷ rest) qs s = go (λ qs' t. transfer_extends rest qs' t) (next_address qs)
       where
-        go : ((qs' : List Bool) (t : State) → Goes (transfer plan f g wanted finish qs' rest t) (transfer plan f g wanted finish' qs' (rest ++ bs) (longer bs t))) → (o : Option Address) → Goes (request o (λ at. given (transfer_data g qs) (λ d. cycle plan at f d (c ∷ rest) (λ r u. transfer plan f g wanted finish (qs ++ r.q ∷ []) rest (stepped (keep_word g (width plan at f) r u))))) (finish qs) s) (request o (λ at. given (transfer_data g qs) (λ d. cycle plan at f d (c ∷ (rest ++ bs)) (λ r u. transfer plan f g wanted finish' (qs ++ r.q ∷ []) (rest ++ bs) (stepped (keep_word g (width plan at f) r u))))) (finish' qs) (longer bs s))
+        go : ((qs' : List Bool) (t : State) → Goes (transfer plan f g next_address finish qs' rest t) (transfer plan f g next_address finish' qs' (rest ++ bs) (longer bs t))) → (o : Option Address) → Goes (request o (λ at. given (transfer_data g qs) (λ d. cycle plan at f d (c ∷ rest) (λ r u. transfer plan f g next_address finish (qs ++ r.q ∷ []) rest (stepped (keep_word g (width plan at f) r u))))) (finish qs) s) (request o (λ at. given (transfer_data g qs) (λ d. cycle plan at f d (c ∷ (rest ++ bs)) (λ r u. transfer plan f g next_address finish' (qs ++ r.q ∷ []) (rest ++ bs) (stepped (keep_word g (width plan at f) r u))))) (finish' qs) (longer bs s))
         go ih None = h qs s
         go ih (Some at) =
             let w : ℕ = width plan at f in
-            let next' : Reply → Action = λ r u. transfer plan f g wanted finish (qs ++ r.q ∷ []) rest (stepped (keep_word g w r u)) in
-            let next'' : Reply → Action = λ r u. transfer plan f g wanted finish' (qs ++ r.q ∷ []) (rest ++ bs) (stepped (keep_word g w r u)) in
+            let next' : Reply → Action = λ r u. transfer plan f g next_address finish (qs ++ r.q ∷ []) rest (stepped (keep_word g w r u)) in
+            let next'' : Reply → Action = λ r u. transfer plan f g next_address finish' (qs ++ r.q ∷ []) (rest ++ bs) (stepped (keep_word g w r u)) in
             given_extends (transfer_data g qs) (λ d. cycle plan at f d (c ∷ rest) next') (λ d. cycle plan at f d (c ∷ (rest ++ bs)) next'') s (λ d _.
             cycle_extends closed plan at f d (c ∷ rest) next' next'' s (λ r t a e.
-            subst (λ u. Goes (next' r t) (transfer plan f g wanted finish' (qs ++ r.q ∷ []) (rest ++ bs) (stepped u))) (keep_longer g w r t)
+            subst (λ u. Goes (next' r t) (transfer plan f g next_address finish' (qs ++ r.q ∷ []) (rest ++ bs) (stepped u))) (keep_longer g w r t)
             (ih (qs ++ r.q ∷ []) (stepped (keep_word g w r t)))))
 
   module _ (closed : open' short ≡ false → bs ≡ []) where
@@ -140,15 +141,15 @@ module _ (open' : Stop → Bool) (bs : List Answer) where
         given_extends (value e s.variables) (λ v. unless_wrong (fits_size size v) (send v)) (λ v. unless_wrong (fits_size size v) (send v)) s (λ v _.
         unless_extends (fits_size size v) (send v) (send v) s (cycle_extends closed plan at f (moved.Out v) s.answers (λ r. ends) (λ r. ends) s (λ r t a e. refl)))
 
-    pub transfer_to_extends : (plan : Layout) (f : ℕ) (g : Option (List ℕ)) (wanted : Wanted) (x : ℕ) (s : State) → Goes (transfer_to plan f g wanted x s) (transfer_to plan f g wanted x (longer bs s))
-    transfer_to_extends plan f g wanted x s =
+    pub transfer_to_extends : (plan : Layout) (f : ℕ) (g : Option (List ℕ)) (next_address : NextAddress) (x : ℕ) (s : State) → Goes (transfer_to plan f g next_address x s) (transfer_to plan f g next_address x (longer bs s))
+    transfer_to_extends plan f g next_address x s =
         let finish : List Bool → Action = λ qs t. ends (with_variable x (tally qs) t) in
-        transfer_extends closed plan f g wanted finish finish (λ qs t. refl) s.answers [] s
+        transfer_extends closed plan f g next_address finish finish (λ qs t. refl) s.answers [] s
 
     pub lock_extends : (c waits : ℕ) (l : Bool) (body body' : Action) → ((t : State) → Goes (body t) (body' (longer bs t))) → (s : State) → Goes (take_lock c waits l body s) (take_lock c waits l body' (longer bs s))
     lock_extends c waits true body body' h s = λ e. refl
     lock_extends c waits false body body' h s =
-        next_extends closed c waits false s.answers (λ a rest t. does (lock_taken c a.wait) (body (after_lock c a.wait rest t))) (λ a rest t. does (lock_taken c a.wait) (body' (after_lock c a.wait rest t))) s (λ a rest e.
+        next_extends closed c (Some waits) false s.answers (λ a rest t. does (lock_taken c a.wait) (body (after_lock c a.wait rest t))) (λ a rest t. does (lock_taken c a.wait) (body' (after_lock c a.wait rest t))) s (λ a rest e.
         (body' (longer bs (after_lock c a.wait rest s)), refl, h (after_lock c a.wait rest s)))
 
   pub enter_extends : (body body' : Action) → ((t : State) → Goes (body t) (body' (longer bs t))) → (vs : List ℕ) (s : State) → Goes (enter body vs s) (enter body' vs (longer bs s))

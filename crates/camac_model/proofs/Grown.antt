@@ -20,18 +20,18 @@ Grown s u t = HasGrown s t
 one_more : (s t : State) (w : ℕ) → HasGrown s t → HasGrown s (with_word w t)
 one_more s t w h = record {
   steps = h.steps;
-  cycles = h.cycles;
+  cost = h.cost;
   words = (h.words.0 ++ w ∷ [], ap (λ l. l ++ w ∷ []) h.words.1 ∙ append_assoc s.words h.words.0 (w ∷ []));
 }
 
 stepwise : (s : State) → IsStepwise step AnyPiece (Grown s)
 stepwise s = record {
-  on_step = λ u t h. record { steps = let le = h.steps in omega arith; cycles = h.cycles; words = h.words };
-  on_store = λ u env regs t h. record { steps = h.steps; cycles = h.cycles; words = h.words };
+  on_step = λ u t h. record { steps = let le = h.steps in omega arith; cost = h.cost; words = h.words };
+  on_store = λ u env regs t h. record { steps = h.steps; cost = h.cost; words = h.words };
   on_word = λ u w t h. one_more s t w h;
-  on_cycle = λ u at f d r a rest t e h. (tt, record { steps = h.steps; cycles = let le = h.cycles in omega arith; words = h.words });
-  on_lock = λ u c a rest t e h. (tt, record { steps = h.steps; cycles = let le = h.cycles in omega arith; words = h.words });
-  on_release = λ u c t h. (tt, record { steps = let le = h.steps in omega arith; cycles = h.cycles; words = h.words });
+  on_cycle = λ u at f d r a rest t e h. (tt, record { steps = h.steps; cost = let le = h.cost in omega arith; words = h.words });
+  on_lock = λ u c a rest t e h. (tt, record { steps = h.steps; cost = let le = h.cost in omega arith; words = h.words });
+  on_release = λ u c t h. (tt, record { steps = let le = h.steps in omega arith; cost = h.cost; words = h.words });
 }
 
 at_last : (s : State) (u : Unit {0}) (b : Behaviour State) → Meets step AnyPiece (Still step AnyPiece (Grown s)) (Grown s) u b → HasGrown s (reached b)
@@ -42,4 +42,4 @@ at_last s u (stops w t) h = h
 pub counts_grow : CountsGrow
 counts_grow plan script n b s =
     at_last s tt (block_meaning (context plan script) n b s)
-    (script_keeps step AnyPiece (Grown s) (stepwise s) plan script b n tt s (record { steps = omega arith; cycles = omega arith; words = ([], sym (append-nil s.words)) }))
+    (script_keeps step AnyPiece (Grown s) (stepwise s) plan script b n tt s (record { steps = omega arith; cost = omega arith; words = ([], sym (append-nil s.words)) }))

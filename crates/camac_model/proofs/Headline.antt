@@ -106,15 +106,15 @@ module _ (i : ℕ) (rest : List Answer) (plan : Layout) (ks : List Bounds) (k : 
 
   words_here : (s : State) → IsHere i rest m s → IsWithin k s → InService ks m (WordsFit s.words)
   words_here s e h =
-      in_service i rest plan ks k its m s.cycles (WordsFit s.words) (progress_of s e) (record { most = h.words; are_words = h.are_words })
+      in_service i rest plan ks k its m s.cost (WordsFit s.words) (progress_of s e) (record { most = h.words; are_words = h.are_words })
 
   steps_here : (s : State) → IsHere i rest m s → IsWithin k s → InService ks m (StepsFit s)
   steps_here s e h =
-      in_service i rest plan ks k its m s.cycles (StepsFit s) (progress_of s e) (record { counted = refl; most = h.cycles; steps = h.steps })
+      in_service i rest plan ks k its m s.cost (StepsFit s) (progress_of s e) (record { counted = refl; most = h.cycles; steps = h.steps })
 
   event_here : (bit : ℕ) (s : State) → IsHere i rest m s → IsWithin k s → InService ks m (EventCost (event_of bit s))
   event_here bit s e h =
-      in_service i rest plan ks k its m s.cycles (EventCost (event_of bit s)) (progress_of s e) (record { counted = refl; most = h.cycles })
+      in_service i rest plan ks k its m s.cost (EventCost (event_of bit s)) (progress_of s e) (record { counted = refl; most = h.cycles })
 
   short_here : (w : Stop) (s : State) → AtStop i rest plan ks k its m w s → IsShortOfAnswers ks m w s
   short_here short s h =
@@ -122,7 +122,7 @@ module _ (i : ℕ) (rest : List Answer) (plan : Layout) (ks : List Bounds) (k : 
       let steps = h.within.steps in
       let none : length s.answers ≡ 0 = ap length h.few.1 in (
         ap (λ x. x.left) h.is_here ∙ none,
-        in_service i rest plan ks k its m s.cycles FewAnswers (progress_of s h.is_here) (omega (arith, few, steps)),
+        in_service i rest plan ks k its m s.cost FewAnswers (progress_of s h.is_here) (omega (arith, few, steps)),
       )
   short_here (overrun c w) s h = tt
   short_here wrong s h = tt

@@ -10,7 +10,7 @@ use Rattle.camac_branch.specs.Address.{Address, address}
 use Rattle.camac_branch.specs.Allowed.{width}
 use Rattle.camac_branch.specs.Branch.{Reply, Answer, reply_to}
 use Rattle.camac_branch.specs.Plan.{Layout, crate_waits}
-use Rattle.camac_esone.specs.Transfers.{Wanted, tally, q_stop_wanted, q_repeat_wanted, scan_wanted}
+use Rattle.camac_esone.specs.Transfers.{NextAddress, tally, q_stop_next, q_repeat_next, scan_next}
 use Rattle.camac_model.specs.State.{State, Variables, Registers, stepped, with_variable, with_register, with_word}
 use Rattle.camac_model.specs.Behaviour.{Piece, cycled, lock_taken, lock_released, ends, Stop, Action, then_do, given, unless_wrong}
 use Rattle.camac_model.specs.Value.{value, values, truth}
@@ -68,9 +68,9 @@ module _ {X : Type 0} (step : X → Piece → X) (S : X → Piece → Type 0) (I
         given_keeps (value e s.variables) (λ v. unless_wrong (fits_size size v) (send v)) x s i (λ v _.
         unless_meets step S Still I x (fits_size size v) (send v) s (λ _. i) (λ _. cycle_keeps plan at f (moved.Out v) (λ r. ends) (λ r y t j. j) x s i))
 
-    transfer_keeps : (plan : Layout) (f : ℕ) (g : Option (List ℕ)) (wanted : Wanted) (v : ℕ) → Keeps (transfer_to plan f g wanted v)
-    transfer_keeps plan f g wanted v x s i =
-        transfer_meets step S Still I plan f g wanted (λ qs t. ends (with_variable v (tally qs) t)) (λ y qs t. I y t)
+    transfer_keeps : (plan : Layout) (f : ℕ) (g : Option (List ℕ)) (next_address : NextAddress) (v : ℕ) → Keeps (transfer_to plan f g next_address v)
+    transfer_keeps plan f g next_address v x s i =
+        transfer_meets step S Still I plan f g next_address (λ qs t. ends (with_variable v (tally qs) t)) (λ y qs t. I y t)
         (record {
           no_word = λ y qs t at j _ _. j;
           no_crate = λ y qs t at j _ _. j;
@@ -128,27 +128,27 @@ module _ {X : Type 0} (step : X → Piece → X) (S : X → Piece → Type 0) (I
         statement_keeps (single line size f r d) x s i =
             given_keeps (s.registers r) (λ at. act c.plan at f size d) x s i (λ at _. act_keeps c.plan at f size d x s i)
         statement_keeps (address_scan line f r1 r2 max v) x s i =
-            let go : Address → Address → ℕ → Action = λ a b l. transfer_to c.plan f None (scan_wanted a b l) v in
+            let go : Address → Address → ℕ → Action = λ a b l. transfer_to c.plan f None (scan_next a b l) v in
             let third : Address → Address → ℕ → Action = λ a b l. unless_wrong (nat_eq a.crate_no b.crate_no) (go a b l) in
             let second : Address → Address → Action = λ a b. given (value max s.variables) (third a b) in
             given_keeps (s.registers r1) (λ a. given (s.registers r2) (second a)) x s i (λ a _.
             given_keeps (s.registers r2) (second a) x s i (λ b _.
             given_keeps (value max s.variables) (third a b) x s i (λ l _.
-            unless_meets step S Still I x (nat_eq a.crate_no b.crate_no) (go a b l) s (λ _. i) (λ _. transfer_keeps c.plan f None (scan_wanted a b l) v x s i))))
+            unless_meets step S Still I x (nat_eq a.crate_no b.crate_no) (go a b l) s (λ _. i) (λ _. transfer_keeps c.plan f None (scan_next a b l) v x s i))))
         statement_keeps (q_stop line f r g max v) x s i =
-            let second : Option (List ℕ) → Address → ℕ → Action = λ table at l. transfer_to c.plan f table (q_stop_wanted at l) v in
+            let second : Option (List ℕ) → Address → ℕ → Action = λ table at l. transfer_to c.plan f table (q_stop_next at l) v in
             let first : Option (List ℕ) → Address → Action = λ table at. given (value max s.variables) (second table at) in
             given_keeps (sent c g) (λ table. given (s.registers r) (first table)) x s i (λ table _.
             given_keeps (s.registers r) (first table) x s i (λ at _.
-            given_keeps (value max s.variables) (second table at) x s i (λ l _. transfer_keeps c.plan f table (q_stop_wanted at l) v x s i)))
+            given_keeps (value max s.variables) (second table at) x s i (λ l _. transfer_keeps c.plan f table (q_stop_next at l) v x s i)))
         statement_keeps (q_repeat line f r g max limit v) x s i =
-            let third : Option (List ℕ) → Address → ℕ → ℕ → Action = λ table at l l'. transfer_to c.plan f table (q_repeat_wanted at l l') v in
+            let third : Option (List ℕ) → Address → ℕ → ℕ → Action = λ table at l l'. transfer_to c.plan f table (q_repeat_next at l l') v in
             let second : Option (List ℕ) → Address → ℕ → Action = λ table at l. given (value limit s.variables) (third table at l) in
             let first : Option (List ℕ) → Address → Action = λ table at. given (value max s.variables) (second table at) in
             given_keeps (sent c g) (λ table. given (s.registers r) (first table)) x s i (λ table _.
             given_keeps (s.registers r) (first table) x s i (λ at _.
             given_keeps (value max s.variables) (second table at) x s i (λ l _.
-            given_keeps (value limit s.variables) (third table at l) x s i (λ l' _. transfer_keeps c.plan f table (q_repeat_wanted at l l') v x s i))))
+            given_keeps (value limit s.variables) (third table at l) x s i (λ l' _. transfer_keeps c.plan f table (q_repeat_next at l l') v x s i))))
         statement_keeps (put line e) x s i =
             given_keeps (value e s.variables) (λ w t. ends (with_word w t)) x s i (λ w _. k.on_word x w s i)
         statement_keeps (crate_call line op e) x s i =

@@ -14,7 +14,7 @@ use Rattle.camac_crate.specs.Controller.{controller}
 use Rattle.camac_crate.specs.State as crate_state
 use Rattle.camac_branch.specs.Branch.{Branch, CrateNow, Reply, effect_in, branch_after, with_crate, with_lock, reply_to}
 use Rattle.camac_branch.specs.Plan.{Layout, crate_waits}
-use Rattle.camac_esone.specs.Transfers.{Wanted, tally, q_stop_wanted, q_repeat_wanted, scan_wanted}
+use Rattle.camac_esone.specs.Transfers.{NextAddress, tally, q_stop_next, q_repeat_next, scan_next}
 use Rattle.camac_model.specs.State.{State, stepped, fresh, with_variable, with_register, with_word}
 use Rattle.camac_model.specs.Behaviour.{Piece, Behaviour, does, ends, stops, Stop, Action, then_do, given, unless_wrong}
 use Rattle.camac_model.specs.Value.{value, values, truth}
@@ -98,9 +98,9 @@ act_leaves plan at f size (from e) s =
     given_meets step AnyPiece AnyStop (Keeps s) tt (value e s.variables) (λ v. unless_wrong (fits_size size v) (send v)) s (λ _. tt) (λ v _.
     unless_meets step AnyPiece AnyStop (Keeps s) tt (fits_size size v) (send v) s (λ _. tt) (λ _. cycle_leaves plan at f (moved.Out v) (λ r. ends) s (λ r t g. g)))
 
-transfer_leaves : (plan : Layout) (f : ℕ) (g : Option (List ℕ)) (wanted : Wanted) (x : ℕ) (s : State) → Leaves s (transfer_to plan f g wanted x s)
-transfer_leaves plan f g wanted x s =
-    transfer_meets step AnyPiece AnyStop (Keeps s) plan f g wanted (λ qs t. ends (with_variable x (tally qs) t)) (λ _ qs t. SameLocks s.branch t.branch)
+transfer_leaves : (plan : Layout) (f : ℕ) (g : Option (List ℕ)) (next_address : NextAddress) (x : ℕ) (s : State) → Leaves s (transfer_to plan f g next_address x s)
+transfer_leaves plan f g next_address x s =
+    transfer_meets step AnyPiece AnyStop (Keeps s) plan f g next_address (λ qs t. ends (with_variable x (tally qs) t)) (λ _ qs t. SameLocks s.branch t.branch)
     (record {
       no_word = λ _ _ _ _ _ _ _. tt;
       no_crate = λ _ _ _ _ _ _ _. tt;
@@ -142,27 +142,27 @@ module _ (c : Context) (routines : AllRoutines LeavesWithin c) (n : ℕ) where
         given_leaves s (value e3 s.variables) (third k' m') (λ a' _. same s.branch)))
     statement_leaves (single line size f r d) s = given_leaves s (s.registers r) (λ at. act c.plan at f size d) (λ at _. act_leaves c.plan at f size d s)
     statement_leaves (address_scan line f r1 r2 max x) s =
-        let go : Address → Address → ℕ → Action = λ a b l. transfer_to c.plan f None (scan_wanted a b l) x in
+        let go : Address → Address → ℕ → Action = λ a b l. transfer_to c.plan f None (scan_next a b l) x in
         let third : Address → Address → ℕ → Action = λ a b l. unless_wrong (nat_eq a.crate_no b.crate_no) (go a b l) in
         let second : Address → Address → Action = λ a b. given (value max s.variables) (third a b) in
         given_leaves s (s.registers r1) (λ a. given (s.registers r2) (second a)) (λ a _.
         given_leaves s (s.registers r2) (second a) (λ b _.
         given_leaves s (value max s.variables) (third a b) (λ l _.
-        unless_meets step AnyPiece AnyStop (Keeps s) tt (nat_eq a.crate_no b.crate_no) (go a b l) s (λ _. tt) (λ _. transfer_leaves c.plan f None (scan_wanted a b l) x s))))
+        unless_meets step AnyPiece AnyStop (Keeps s) tt (nat_eq a.crate_no b.crate_no) (go a b l) s (λ _. tt) (λ _. transfer_leaves c.plan f None (scan_next a b l) x s))))
     statement_leaves (q_stop line f r g max x) s =
-        let second : Option (List ℕ) → Address → ℕ → Action = λ table at l. transfer_to c.plan f table (q_stop_wanted at l) x in
+        let second : Option (List ℕ) → Address → ℕ → Action = λ table at l. transfer_to c.plan f table (q_stop_next at l) x in
         let first : Option (List ℕ) → Address → Action = λ table at. given (value max s.variables) (second table at) in
         given_leaves s (sent c g) (λ table. given (s.registers r) (first table)) (λ table _.
         given_leaves s (s.registers r) (first table) (λ at _.
-        given_leaves s (value max s.variables) (second table at) (λ l _. transfer_leaves c.plan f table (q_stop_wanted at l) x s)))
+        given_leaves s (value max s.variables) (second table at) (λ l _. transfer_leaves c.plan f table (q_stop_next at l) x s)))
     statement_leaves (q_repeat line f r g max limit x) s =
-        let third : Option (List ℕ) → Address → ℕ → ℕ → Action = λ table at l l'. transfer_to c.plan f table (q_repeat_wanted at l l') x in
+        let third : Option (List ℕ) → Address → ℕ → ℕ → Action = λ table at l l'. transfer_to c.plan f table (q_repeat_next at l l') x in
         let second : Option (List ℕ) → Address → ℕ → Action = λ table at l. given (value limit s.variables) (third table at l) in
         let first : Option (List ℕ) → Address → Action = λ table at. given (value max s.variables) (second table at) in
         given_leaves s (sent c g) (λ table. given (s.registers r) (first table)) (λ table _.
         given_leaves s (s.registers r) (first table) (λ at _.
         given_leaves s (value max s.variables) (second table at) (λ l _.
-        given_leaves s (value limit s.variables) (third table at l) (λ l' _. transfer_leaves c.plan f table (q_repeat_wanted at l l') x s))))
+        given_leaves s (value limit s.variables) (third table at l) (λ l' _. transfer_leaves c.plan f table (q_repeat_next at l l') x s))))
     statement_leaves (put line e) s = given_leaves s (value e s.variables) (λ v t. ends (with_word v t)) (λ v _. same s.branch)
     statement_leaves (crate_call line op e) s =
         given_leaves s (value e s.variables) (λ d. act c.plan (crate_address op d) (crate_function op) Full no_data) (λ d _. act_leaves c.plan (crate_address op d) (crate_function op) Full no_data s)

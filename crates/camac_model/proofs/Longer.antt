@@ -6,7 +6,7 @@ use Rattle.camac_lang.specs.Tree.{no_data, Statement, assign, set_register, sing
 use Rattle.camac_branch.specs.Address.{Address, address}
 use Rattle.camac_branch.specs.Branch.{Answer}
 use Rattle.camac_branch.specs.Plan.{Layout, crate_waits}
-use Rattle.camac_esone.specs.Transfers.{q_stop_wanted, q_repeat_wanted, scan_wanted}
+use Rattle.camac_esone.specs.Transfers.{q_stop_next, q_repeat_next, scan_next}
 use Rattle.camac_model.specs.State.{State, stepped, with_word, with_variable, with_register}
 use Rattle.camac_model.specs.Behaviour.{ends, Stop, short, Action, then_do, given, unless_wrong}
 use Rattle.camac_model.specs.Value.{value, values, truth}
@@ -39,28 +39,28 @@ module _ (open' : Stop → Bool) (n m : ℕ) (bs : List Answer) (k : Further ope
       statement_extends (single line size f r d) s =
           given_extends open' bs (s.registers r) (λ at. act c.plan at f size d) (λ at. act c.plan at f size d) s (λ at _. act_extends open' bs closed c.plan at f size d s)
       statement_extends (address_scan line f r1 r2 max x) s =
-          let go : Address → Address → ℕ → Action = λ a b l. transfer_to c.plan f None (scan_wanted a b l) x in
+          let go : Address → Address → ℕ → Action = λ a b l. transfer_to c.plan f None (scan_next a b l) x in
           let third : Address → Address → ℕ → Action = λ a b l. unless_wrong (nat_eq a.crate_no b.crate_no) (go a b l) in
           let second : Address → Address → Action = λ a b. given (value max s.variables) (third a b) in
           let first : Address → Action = λ a. given (s.registers r2) (second a) in
           given_extends open' bs (s.registers r1) first first s (λ a _.
           given_extends open' bs (s.registers r2) (second a) (second a) s (λ b _.
           given_extends open' bs (value max s.variables) (third a b) (third a b) s (λ l _.
-          unless_extends open' bs (nat_eq a.crate_no b.crate_no) (go a b l) (go a b l) s (transfer_to_extends open' bs closed c.plan f None (scan_wanted a b l) x s))))
+          unless_extends open' bs (nat_eq a.crate_no b.crate_no) (go a b l) (go a b l) s (transfer_to_extends open' bs closed c.plan f None (scan_next a b l) x s))))
       statement_extends (q_stop line f r g max x) s =
-          let second : Option (List ℕ) → Address → ℕ → Action = λ table at l. transfer_to c.plan f table (q_stop_wanted at l) x in
+          let second : Option (List ℕ) → Address → ℕ → Action = λ table at l. transfer_to c.plan f table (q_stop_next at l) x in
           let first : Option (List ℕ) → Address → Action = λ table at. given (value max s.variables) (second table at) in
           given_extends open' bs (sent c g) (λ table. given (s.registers r) (first table)) (λ table. given (s.registers r) (first table)) s (λ table _.
           given_extends open' bs (s.registers r) (first table) (first table) s (λ at _.
-          given_extends open' bs (value max s.variables) (second table at) (second table at) s (λ l _. transfer_to_extends open' bs closed c.plan f table (q_stop_wanted at l) x s)))
+          given_extends open' bs (value max s.variables) (second table at) (second table at) s (λ l _. transfer_to_extends open' bs closed c.plan f table (q_stop_next at l) x s)))
       statement_extends (q_repeat line f r g max limit x) s =
-          let third : Option (List ℕ) → Address → ℕ → ℕ → Action = λ table at l l'. transfer_to c.plan f table (q_repeat_wanted at l l') x in
+          let third : Option (List ℕ) → Address → ℕ → ℕ → Action = λ table at l l'. transfer_to c.plan f table (q_repeat_next at l l') x in
           let second : Option (List ℕ) → Address → ℕ → Action = λ table at l. given (value limit s.variables) (third table at l) in
           let first : Option (List ℕ) → Address → Action = λ table at. given (value max s.variables) (second table at) in
           given_extends open' bs (sent c g) (λ table. given (s.registers r) (first table)) (λ table. given (s.registers r) (first table)) s (λ table _.
           given_extends open' bs (s.registers r) (first table) (first table) s (λ at _.
           given_extends open' bs (value max s.variables) (second table at) (second table at) s (λ l _.
-          given_extends open' bs (value limit s.variables) (third table at l) (third table at l) s (λ l' _. transfer_to_extends open' bs closed c.plan f table (q_repeat_wanted at l l') x s))))
+          given_extends open' bs (value limit s.variables) (third table at l) (third table at l) s (λ l' _. transfer_to_extends open' bs closed c.plan f table (q_repeat_next at l l') x s))))
       statement_extends (put line e) s =
           given_extends open' bs (value e s.variables) (λ v t. ends (with_word v t)) (λ v t. ends (with_word v t)) s (λ v _. refl)
       statement_extends (crate_call line op e) s =

@@ -7,7 +7,7 @@ use Rattle.camac_branch.specs.Plan.{Layout}
 use Rattle.camac_model.specs.State.{State}
 use Rattle.camac_model.specs.Behaviour.{Behaviour, does, ends, stops, Stop, Piece, demanded, event_left, reached, pieces, uses}
 use Rattle.camac_model.specs.Meaning.{Context, context}
-use Rattle.camac_model.specs.Run.{Chosen, service_bit, is_bit, has_bit, with_bit, or_next, first_service, service_for, service_meaning, event_of, serve, rounds}
+use Rattle.camac_model.specs.Run.{Chosen, service_bit, is_bit, is_bit_set, with_bit, or_next, first_service, service_for, service_meaning, event_of, serve, rounds}
 use Rattle.camac_model.specs.Laws.{EndsWith}
 use Rattle.camac_model.proofs.Rules.{Meets, then_meets}
 use Rattle.camac_model.proofs.Counts.{services_count}
@@ -29,7 +29,7 @@ with_bit_listed c k i (w ∷ vs) v e = go (with_bit_listed c k (i + 1) vs v) (is
 
 first_listed : (c : Context) (m k pattern : ℕ) (vs : List Service) (v : Chosen) → first_service c m k pattern vs ≡ Some v → slice_get vs v.number ≡ Some v.service
 first_listed c zero k pattern vs v e = absurd (cc)
-first_listed c (suc m) k pattern vs v e = go (first_listed c m (k + 1) pattern vs v) (has_bit pattern k) e
+first_listed c (suc m) k pattern vs v e = go (first_listed c m (k + 1) pattern vs v) (is_bit_set pattern k) e
   where
     here : with_bit c k 0 vs ≡ Some v → slice_get vs v.number ≡ Some v.service
     here e' =

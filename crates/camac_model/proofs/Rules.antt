@@ -9,12 +9,12 @@ use Rattle.camac_branch.specs.Allowed.{width}
 use Rattle.camac_branch.specs.Branch.{Reply, Answer, reply_to}
 use Rattle.camac_branch.specs.Plan.{Layout, crate_waits}
 use Rattle.camac_crate.specs.Lock.{permitted}
-use Rattle.camac_esone.specs.Transfers.{Wanted}
+use Rattle.camac_esone.specs.Transfers.{NextAddress}
 use Rattle.camac_model.specs.State.{State, stepped, with_variable, with_word}
 use Rattle.camac_model.specs.Behaviour.{Piece, cycled, lock_taken, Behaviour, does, ends, stops, Stop, short, overrun, wrong, more, Action, then_do, given, decide, unless_wrong}
 use Rattle.camac_model.specs.Value.{truth}
 pub use Rattle.camac_model.specs.Moments.{Meets}
-use Rattle.camac_model.specs.Cycle.{if_permitted, next_answer, after_cycle, make_cycle, cycle, kept, after_lock, take_lock}
+use Rattle.camac_model.specs.Cycle.{too_long, answered, outcome, follow, after_cycle, make_cycle, cycle, kept, after_lock, take_lock}
 use Rattle.camac_model.specs.Transfer.{transfer_data, keep_word, request, transfer}
 use Rattle.camac_model.specs.Meaning.{for_state, for_turns, turns, entered, returned, enter}
 
@@ -52,18 +52,31 @@ module _ {X : Type 0} (step : X → Piece → X) (S : X → Piece → Type 0) (P
     unless_meets true go s bad h = h refl
     unless_meets false go s bad h = bad refl
 
-    pub permitted_meets : (b : Bool) (c w : ℕ) (go : Action) (s : State) → (b ≡ false → P x (overrun c w) s) → (b ≡ true → Meets step S P Q x (go s)) → Meets step S P Q x (if_permitted b c w go s)
-    permitted_meets true c w go s bad h = h refl
-    permitted_meets false c w go s bad h = bad refl
+    -- an answer that is left, whose wait is permitted or not
+    made_meets : (b : Bool) (c : ℕ) (a : Answer) (rest : List Answer) (go : Answer → List Answer → Action) (s : State) → (b ≡ false → P x (overrun c a.wait) s) → (b ≡ true → Meets step S P Q x (go a rest s)) → Meets step S P Q x (follow c (if b then answered a rest else too_long a.wait) go s)
+    made_meets true c a rest go s bad h = h refl
+    made_meets false c a rest go s bad h = bad refl
 
-    pub next_meets : (c waits : ℕ) (l : Bool) (answers : List Answer) (go : Answer → List Answer → Action) (s : State) → (answers ≡ [] → P x short s) → ((a : Answer) (rest : List Answer) → answers ≡ a ∷ rest → permitted l waits a.wait ≡ false → P x (overrun c a.wait) s) → ((a : Answer) (rest : List Answer) → answers ≡ a ∷ rest → permitted l waits a.wait ≡ true → Meets step S P Q x (go a rest s)) → Meets step S P Q x (next_answer c waits l answers go s)
+    -- in a crate of the plan
+    next_meets : (c waits : ℕ) (l : Bool) (answers : List Answer) (go : Answer → List Answer → Action) (s : State) → (answers ≡ [] → P x short s) → ((a : Answer) (rest : List Answer) → answers ≡ a ∷ rest → permitted l waits a.wait ≡ false → P x (overrun c a.wait) s) → ((a : Answer) (rest : List Answer) → answers ≡ a ∷ rest → permitted l waits a.wait ≡ true → Meets step S P Q x (go a rest s)) → Meets step S P Q x (follow c (outcome (Some waits) l answers) go s)
     next_meets c waits l [] go s no_answer no_wait h = no_answer refl
-    next_meets c waits l (a ∷ rest) go s no_answer no_wait h = permitted_meets (permitted l waits a.wait) c a.wait (go a rest) s (no_wait a rest refl) (h a rest refl)
+    next_meets c waits l (a ∷ rest) go s no_answer no_wait h = made_meets (permitted l waits a.wait) c a rest go s (no_wait a rest refl) (h a rest refl)
+
+    -- where no answer is left
+    last_meets : (c : ℕ) (o : Option ℕ) (l : Bool) (go : Answer → List Answer → Action) (s : State) → (o ≡ None → P x wrong s) → P x short s → Meets step S P Q x (follow c (outcome o l []) go s)
+    last_meets c None l go s no_crate no_answer = no_crate refl
+    last_meets c (Some waits) l go s no_crate no_answer = no_answer
+
+    -- where one is left
+    one_meets : (c : ℕ) (o : Option ℕ) (l : Bool) (a : Answer) (rest : List Answer) (go : Answer → List Answer → Action) (s : State) → (o ≡ None → P x wrong s) → ((waits : ℕ) → o ≡ Some waits → permitted l waits a.wait ≡ false → P x (overrun c a.wait) s) → ((waits : ℕ) → o ≡ Some waits → permitted l waits a.wait ≡ true → Meets step S P Q x (go a rest s)) → Meets step S P Q x (follow c (outcome o l (a ∷ rest)) go s)
+    one_meets c None l a rest go s no_crate no_wait h = no_crate refl
+    one_meets c (Some waits) l a rest go s no_crate no_wait h = made_meets (permitted l waits a.wait) c a rest go s (no_wait waits refl) (h waits refl)
 
     pub cycle_meets : (plan : Layout) (at : Address) (f : ℕ) (d : DataMove) (answers : List Answer) (go : Reply → Action) (s : State) → (crate_waits plan at.crate_no ≡ None → P x wrong s) → (answers ≡ [] → P x short s) → ((waits : ℕ) (a : Answer) (rest : List Answer) → crate_waits plan at.crate_no ≡ Some waits → answers ≡ a ∷ rest → permitted (s.branch at.crate_no).locked waits a.wait ≡ false → P x (overrun at.crate_no a.wait) s) → ((waits : ℕ) (a : Answer) (rest : List Answer) → crate_waits plan at.crate_no ≡ Some waits → answers ≡ a ∷ rest → permitted (s.branch at.crate_no).locked waits a.wait ≡ true → Meets step S P Q x (make_cycle plan at f d go a rest s)) → Meets step S P Q x (cycle plan at f d answers go s)
-    cycle_meets plan at f d answers go s no_crate no_answer no_wait h =
-        given_meets (crate_waits plan at.crate_no) (λ waits. next_answer at.crate_no waits (s.branch at.crate_no).locked answers (make_cycle plan at f d go)) s no_crate (λ waits e.
-        next_meets at.crate_no waits (s.branch at.crate_no).locked answers (make_cycle plan at f d go) s no_answer (λ a rest g p. no_wait waits a rest e g p) (λ a rest g p. h waits a rest e g p))
+    cycle_meets plan at f d [] go s no_crate no_answer no_wait h =
+        last_meets at.crate_no (crate_waits plan at.crate_no) (s.branch at.crate_no).locked (make_cycle plan at f d go) s no_crate (no_answer refl)
+    cycle_meets plan at f d (a ∷ rest) go s no_crate no_answer no_wait h =
+        one_meets at.crate_no (crate_waits plan at.crate_no) (s.branch at.crate_no).locked a rest (make_cycle plan at f d go) s no_crate (λ waits e. no_wait waits a rest e refl) (λ waits e. h waits a rest e refl)
 
     pub lock_meets : (c waits : ℕ) (l : Bool) (body : Action) (s : State) → (l ≡ true → P x wrong s) → (s.answers ≡ [] → P x short s) → ((a : Answer) (rest : List Answer) → s.answers ≡ a ∷ rest → permitted false waits a.wait ≡ false → P x (overrun c a.wait) s) → ((a : Answer) (rest : List Answer) → l ≡ false → s.answers ≡ a ∷ rest → permitted false waits a.wait ≡ true → S x (lock_taken c a.wait) × Meets step S P Q (step x (lock_taken c a.wait)) (body (after_lock c a.wait rest s))) → Meets step S P Q x (take_lock c waits l body s)
     lock_meets c waits true body s bad no_answer no_wait h = bad refl
@@ -78,35 +91,34 @@ module _ {X : Type 0} (step : X → Piece → X) (S : X → Piece → Type 0) (P
   after_one plan at f g r wait rest s = stepped (keep_word g (width plan at f) r (after_cycle at f r wait rest s))
 
   -- an invariant on all Q so far and the state, kept from cycle to cycle of a transfer
-  pub record Carries (plan : Layout) (f : ℕ) (g : Option (List ℕ)) (wanted : Wanted) (I : X → List Bool → State → Type 0) : Type 0 where
-    pub no_word : (x : X) (qs : List Bool) (s : State) (at : Address) → I x qs s → wanted qs ≡ Some at → transfer_data g qs ≡ None → P x wrong s
-    pub no_crate : (x : X) (qs : List Bool) (s : State) (at : Address) → I x qs s → wanted qs ≡ Some at → crate_waits plan at.crate_no ≡ None → P x wrong s
-    pub no_answer : (x : X) (qs : List Bool) (s : State) (at : Address) → I x qs s → wanted qs ≡ Some at → s.answers ≡ [] → P x short s
-    pub no_wait : (x : X) (qs : List Bool) (s : State) (at : Address) (waits : ℕ) (a : Answer) (rest : List Answer) → I x qs s → wanted qs ≡ Some at → crate_waits plan at.crate_no ≡ Some waits → s.answers ≡ a ∷ rest → permitted (s.branch at.crate_no).locked waits a.wait ≡ false → P x (overrun at.crate_no a.wait) s
-    pub keeps : (x : X) (qs : List Bool) (s : State) (at : Address) (d : DataMove) (waits : ℕ) (a : Answer) (rest : List Answer) → I x qs s → wanted qs ≡ Some at → transfer_data g qs ≡ Some d → crate_waits plan at.crate_no ≡ Some waits → s.answers ≡ a ∷ rest → permitted (s.branch at.crate_no).locked waits a.wait ≡ true
+  pub record Carries (plan : Layout) (f : ℕ) (g : Option (List ℕ)) (next_address : NextAddress) (I : X → List Bool → State → Type 0) : Type 0 where
+    pub no_word : (x : X) (qs : List Bool) (s : State) (at : Address) → I x qs s → next_address qs ≡ Some at → transfer_data g qs ≡ None → P x wrong s
+    pub no_crate : (x : X) (qs : List Bool) (s : State) (at : Address) → I x qs s → next_address qs ≡ Some at → crate_waits plan at.crate_no ≡ None → P x wrong s
+    pub no_answer : (x : X) (qs : List Bool) (s : State) (at : Address) → I x qs s → next_address qs ≡ Some at → s.answers ≡ [] → P x short s
+    pub no_wait : (x : X) (qs : List Bool) (s : State) (at : Address) (waits : ℕ) (a : Answer) (rest : List Answer) → I x qs s → next_address qs ≡ Some at → crate_waits plan at.crate_no ≡ Some waits → s.answers ≡ a ∷ rest → permitted (s.branch at.crate_no).locked waits a.wait ≡ false → P x (overrun at.crate_no a.wait) s
+    pub keeps : (x : X) (qs : List Bool) (s : State) (at : Address) (d : DataMove) (waits : ℕ) (a : Answer) (rest : List Answer) → I x qs s → next_address qs ≡ Some at → transfer_data g qs ≡ Some d → crate_waits plan at.crate_no ≡ Some waits → s.answers ≡ a ∷ rest → permitted (s.branch at.crate_no).locked waits a.wait ≡ true
         → S x (cycled at f d (reply_to plan s.branch at f a) a.wait) × I (step x (cycled at f d (reply_to plan s.branch at f a) a.wait)) (qs ++ (reply_to plan s.branch at f a).q ∷ []) (after_one plan at f g (reply_to plan s.branch at f a) a.wait rest s)
 
-  module _ (Q : X → State → Type 0) (plan : Layout) (f : ℕ) (g : Option (List ℕ)) (wanted : Wanted) (finish : List Bool → Action) (I : X → List Bool → State → Type 0) (k : Carries plan f g wanted I) (h : (x : X) (qs : List Bool) (s : State) → I x qs s → wanted qs ≡ None → Meets step S P Q x (finish qs s)) where
-    pub transfer_meets : (answers : List Answer) (x : X) (qs : List Bool) (s : State) → s.answers ≡ answers → I x qs s → Meets step S P Q x (transfer plan f g wanted finish qs answers s)
-    transfer_meets [] x qs s e i = go (wanted qs) refl
+  module _ (Q : X → State → Type 0) (plan : Layout) (f : ℕ) (g : Option (List ℕ)) (next_address : NextAddress) (finish : List Bool → Action) (I : X → List Bool → State → Type 0) (k : Carries plan f g next_address I) (h : (x : X) (qs : List Bool) (s : State) → I x qs s → next_address qs ≡ None → Meets step S P Q x (finish qs s)) where
+    pub transfer_meets : (answers : List Answer) (x : X) (qs : List Bool) (s : State) → s.answers ≡ answers → I x qs s → Meets step S P Q x (transfer plan f g next_address finish qs answers s)
+    transfer_meets [] x qs s e i = go (next_address qs) refl
       where
-        go : (o : Option Address) → wanted qs ≡ o → Meets step S P Q x (request o (λ at. given (transfer_data g qs) (λ d. cycle plan at f d [] (λ r. stops short))) (finish qs) s)
+        go : (o : Option Address) → next_address qs ≡ o → Meets step S P Q x (request o (λ at. given (transfer_data g qs) (λ d. cycle plan at f d [] (λ r. stops short))) (finish qs) s)
         go None w = h x qs s i w
         go (Some at) w =
             given_meets Q x (transfer_data g qs) (λ d. cycle plan at f d [] (λ r. stops short)) s (k.no_word x qs s at i w) (λ d y.
-            given_meets Q x (crate_waits plan at.crate_no) (λ waits. stops short) s (k.no_crate x qs s at i w) (λ waits z. k.no_answer x qs s at i w e))
-    transfer_meets (b ∷ bs) x qs s e i = go (λ x' qs' t. transfer_meets bs x' qs' t) (wanted qs) refl
+            last_meets Q x at.crate_no (crate_waits plan at.crate_no) (s.branch at.crate_no).locked (make_cycle plan at f d (λ r. stops short)) s (k.no_crate x qs s at i w) (k.no_answer x qs s at i w e))
+    transfer_meets (b ∷ bs) x qs s e i = go (λ x' qs' t. transfer_meets bs x' qs' t) (next_address qs) refl
       where
-        go : ((x' : X) (qs' : List Bool) (t : State) → t.answers ≡ bs → I x' qs' t → Meets step S P Q x' (transfer plan f g wanted finish qs' bs t)) → (o : Option Address) → wanted qs ≡ o → Meets step S P Q x (request o (λ at. given (transfer_data g qs) (λ d. cycle plan at f d (b ∷ bs) (λ r u. transfer plan f g wanted finish (qs ++ r.q ∷ []) bs (stepped (keep_word g (width plan at f) r u))))) (finish qs) s)
+        go : ((x' : X) (qs' : List Bool) (t : State) → t.answers ≡ bs → I x' qs' t → Meets step S P Q x' (transfer plan f g next_address finish qs' bs t)) → (o : Option Address) → next_address qs ≡ o → Meets step S P Q x (request o (λ at. given (transfer_data g qs) (λ d. cycle plan at f d (b ∷ bs) (λ r u. transfer plan f g next_address finish (qs ++ r.q ∷ []) bs (stepped (keep_word g (width plan at f) r u))))) (finish qs) s)
         go ih None w = h x qs s i w
         go ih (Some at) w =
-            let next' : Reply → Action = λ r u. transfer plan f g wanted finish (qs ++ r.q ∷ []) bs (stepped (keep_word g (width plan at f) r u)) in
+            let next' : Reply → Action = λ r u. transfer plan f g next_address finish (qs ++ r.q ∷ []) bs (stepped (keep_word g (width plan at f) r u)) in
             given_meets Q x (transfer_data g qs) (λ d. cycle plan at f d (b ∷ bs) next') s (k.no_word x qs s at i w) (λ d y.
-            given_meets Q x (crate_waits plan at.crate_no) (λ waits. next_answer at.crate_no waits (s.branch at.crate_no).locked (b ∷ bs) (make_cycle plan at f d next')) s (k.no_crate x qs s at i w) (λ waits z.
-            permitted_meets Q x (permitted (s.branch at.crate_no).locked waits b.wait) at.crate_no b.wait (make_cycle plan at f d next' b bs) s (k.no_wait x qs s at waits b bs i w z e) (λ p.
+            one_meets Q x at.crate_no (crate_waits plan at.crate_no) (s.branch at.crate_no).locked b bs (make_cycle plan at f d next') s (k.no_crate x qs s at i w) (λ waits z. k.no_wait x qs s at waits b bs i w z e) (λ waits z p.
             let r : Reply = reply_to plan s.branch at f b in
             let one = k.keeps x qs s at d waits b bs i w y z e p in
-            (one.0, ih (step x (cycled at f d r b.wait)) (qs ++ r.q ∷ []) (after_one plan at f g r b.wait bs s) (keeps_answers g (width plan at f) r (after_cycle at f r b.wait bs s)) one.1))))
+            (one.0, ih (step x (cycled at f d r b.wait)) (qs ++ r.q ∷ []) (after_one plan at f g r b.wait bs s) (keeps_answers g (width plan at f) r (after_cycle at f r b.wait bs s)) one.1)))
 
   -- a `while` keeps an invariant on the turns that are allowed and the state
   module _ (Q : X → State → Type 0) (c : Condition) (body : Action) (I : X → ℕ → State → Type 0)

@@ -30,7 +30,7 @@ module _ (i : ℕ) (answers : List Answer) where
 
   -- the moment at which a state of the service is
   abbrev pub here : State → Moment
-  here s = record { left = length s.answers; progress = Some (at_cost s.cycles) }
+  here s = record { left = length s.answers; progress = Some (at_cost s.cost) }
 
   abbrev pub IsHere : Moment → State → Type 0
   IsHere m s = m ≡ here s
@@ -41,7 +41,7 @@ module _ (i : ℕ) (answers : List Answer) where
     pub is_piece : IsPiece p
 
   in_it : (m : Moment) (s : State) (p : Piece) → IsHere m s → IsPiece p → InIt m p
-  in_it m s p e h = record { cost = s.cycles; is_in = ap (λ x. x.progress) e; is_piece = h }
+  in_it m s p e h = record { cost = s.cost; is_in = ap (λ x. x.progress) e; is_piece = h }
 
   after_one : (m : Moment) (s : State) (p : Piece) (n : Moment) → IsHere m s → moment_after (here s) p ≡ n → moment_after m p ≡ n
   after_one m s p n e h = ap (λ x. moment_after x p) e ∙ h
@@ -53,16 +53,16 @@ module _ (i : ℕ) (answers : List Answer) where
     on_word = λ m w s e. e;
     on_cycle = λ m at f d r a rest s l e. (
       in_it m s (cycled at f d r a.wait) e tt,
-      after_one m s (cycled at f d r a.wait) (here (after_cycle at f r a.wait rest s)) e (ap (λ k. record { left = k; progress = Some (at_cost (s.cycles + (1 + a.wait))) }) (one_less s a rest l)),
+      after_one m s (cycled at f d r a.wait) (here (after_cycle at f r a.wait rest s)) e (ap (λ k. record { left = k; progress = Some (at_cost (s.cost + (1 + a.wait))) }) (one_less s a rest l)),
     );
     on_lock = λ m c a rest s l e. (
       in_it m s (lock_taken c a.wait) e tt,
-      after_one m s (lock_taken c a.wait) (here (after_lock c a.wait rest s)) e (ap (λ k. record { left = k; progress = Some (at_cost (s.cycles + a.wait)) }) (one_less s a rest l)),
+      after_one m s (lock_taken c a.wait) (here (after_lock c a.wait rest s)) e (ap (λ k. record { left = k; progress = Some (at_cost (s.cost + a.wait)) }) (one_less s a rest l)),
     );
     on_release = λ m c s e.
         let same : length s.answers - 0 ≡ length s.answers = omega arith in (
           in_it m s (lock_released c) e tt,
-          after_one m s (lock_released c) (here (after_release c s)) e (ap (λ k. record { left = k; progress = Some (at_cost s.cycles) }) same),
+          after_one m s (lock_released c) (here (after_release c s)) e (ap (λ k. record { left = k; progress = Some (at_cost s.cost) }) same),
         );
   }
 
@@ -86,18 +86,18 @@ module _ (i : ℕ) (answers : List Answer) where
         let le = most (moment_after m p) (c + piece_cost p) (next_in m p c e h.0.is_piece) b h.1 f.1 in omega (arith, le)
     most m c e (ends s) h f = at_last m c e s h f.cycles
       where
-        at_last : (m : Moment) (c : ℕ) → m.progress ≡ Some (at_cost c) → (s : State) → IsHere m s → s.cycles ≤ k.cycles → c ≤ k.cycles
+        at_last : (m : Moment) (c : ℕ) → m.progress ≡ Some (at_cost c) → (s : State) → IsHere m s → s.cost ≤ k.cycles → c ≤ k.cycles
         at_last m c e s h le =
-            let both : Some (at_cost c) ≡ Some (at_cost s.cycles) = sym e ∙ ap (λ x. x.progress) h in
-            let same : at_cost c ≡ at_cost s.cycles = cc in
-            let costs : c ≡ s.cycles = ap (λ g. g.cost) same in omega (arith, costs, le)
+            let both : Some (at_cost c) ≡ Some (at_cost s.cost) = sym e ∙ ap (λ x. x.progress) h in
+            let same : at_cost c ≡ at_cost s.cost = cc in
+            let costs : c ≡ s.cost = ap (λ g. g.cost) same in omega (arith, costs, le)
     most m c e (stops w s) h f = at_last m c e s h f.1.cycles
       where
-        at_last : (m : Moment) (c : ℕ) → m.progress ≡ Some (at_cost c) → (s : State) → IsHere m s → s.cycles ≤ k.cycles → c ≤ k.cycles
+        at_last : (m : Moment) (c : ℕ) → m.progress ≡ Some (at_cost c) → (s : State) → IsHere m s → s.cost ≤ k.cycles → c ≤ k.cycles
         at_last m c e s h le =
-            let both : Some (at_cost c) ≡ Some (at_cost s.cycles) = sym e ∙ ap (λ x. x.progress) h in
-            let same : at_cost c ≡ at_cost s.cycles = cc in
-            let costs : c ≡ s.cycles = ap (λ g. g.cost) same in omega (arith, costs, le)
+            let both : Some (at_cost c) ≡ Some (at_cost s.cost) = sym e ∙ ap (λ x. x.progress) h in
+            let same : at_cost c ≡ at_cost s.cost = cc in
+            let costs : c ≡ s.cost = ap (λ g. g.cost) same in omega (arith, costs, le)
 
     pub record AtPiece (m : Moment) (p : Piece) : Type 0 where
       pub is_piece : IsPiece p

@@ -10,7 +10,7 @@ use Rattle.camac_branch.specs.Address.{Address, address}
 use Rattle.camac_branch.specs.Allowed.{width}
 use Rattle.camac_branch.specs.Branch.{Reply, Answer, reply_to}
 use Rattle.camac_branch.specs.Plan.{Layout, crate_waits}
-use Rattle.camac_esone.specs.Transfers.{Wanted, tally, q_stop_wanted, q_repeat_wanted, scan_wanted}
+use Rattle.camac_esone.specs.Transfers.{NextAddress, tally, q_stop_next, q_repeat_next, scan_next}
 use Rattle.camac_model.specs.State.{State, stepped, fresh, with_variable, with_register, with_word}
 use Rattle.camac_model.specs.Behaviour.{Piece, Behaviour, does, ends, stops, Stop, short, overrun, wrong, more, Action, then_do, given, unless_wrong}
 use Rattle.camac_model.specs.Value.{value, values, truth}
@@ -84,9 +84,9 @@ module _ (total : ℕ) where
       given_meets step AnyPiece AtStop AtEnd tt (value e s.variables) (λ v. unless_wrong (fits_size size v) (send v)) s (λ _. tt) (λ v _.
       unless_meets step AnyPiece AtStop AtEnd tt (fits_size size v) (send v) s (λ _. tt) (λ _. cycle_spends plan at f (moved.Out v) (λ r. ends) s i (λ r t g. g)))
 
-  transfer_spends : (plan : Layout) (f : ℕ) (g : Option (List ℕ)) (wanted : Wanted) (x : ℕ) (s : State) → Ready s → Spends (transfer_to plan f g wanted x s)
-  transfer_spends plan f g wanted x s i =
-      transfer_meets step AnyPiece AtStop AtEnd plan f g wanted (λ qs t. ends (with_variable x (tally qs) t)) (λ _ qs t. Ready t)
+  transfer_spends : (plan : Layout) (f : ℕ) (g : Option (List ℕ)) (next_address : NextAddress) (x : ℕ) (s : State) → Ready s → Spends (transfer_to plan f g next_address x s)
+  transfer_spends plan f g next_address x s i =
+      transfer_meets step AnyPiece AtStop AtEnd plan f g next_address (λ qs t. ends (with_variable x (tally qs) t)) (λ _ qs t. Ready t)
       (record {
         no_word = λ _ _ _ _ _ _ _. tt;
         no_crate = λ _ _ _ _ _ _ _. tt;
@@ -130,27 +130,27 @@ module _ (total : ℕ) where
           given_spends s (value e3 s.variables) (third k' m') (λ a' _. ready_spent s i)))
       statement_spends (single line size f r d) s i = given_spends s (s.registers r) (λ at. act c.plan at f size d) (λ at _. act_spends c.plan at f size d s i)
       statement_spends (address_scan line f r1 r2 max x) s i =
-          let go : Address → Address → ℕ → Action = λ a b l. transfer_to c.plan f None (scan_wanted a b l) x in
+          let go : Address → Address → ℕ → Action = λ a b l. transfer_to c.plan f None (scan_next a b l) x in
           let third : Address → Address → ℕ → Action = λ a b l. unless_wrong (nat_eq a.crate_no b.crate_no) (go a b l) in
           let second : Address → Address → Action = λ a b. given (value max s.variables) (third a b) in
           given_spends s (s.registers r1) (λ a. given (s.registers r2) (second a)) (λ a _.
           given_spends s (s.registers r2) (second a) (λ b _.
           given_spends s (value max s.variables) (third a b) (λ l _.
-          unless_meets step AnyPiece AtStop AtEnd tt (nat_eq a.crate_no b.crate_no) (go a b l) s (λ _. tt) (λ _. transfer_spends c.plan f None (scan_wanted a b l) x s i))))
+          unless_meets step AnyPiece AtStop AtEnd tt (nat_eq a.crate_no b.crate_no) (go a b l) s (λ _. tt) (λ _. transfer_spends c.plan f None (scan_next a b l) x s i))))
       statement_spends (q_stop line f r g max x) s i =
-          let second : Option (List ℕ) → Address → ℕ → Action = λ table at l. transfer_to c.plan f table (q_stop_wanted at l) x in
+          let second : Option (List ℕ) → Address → ℕ → Action = λ table at l. transfer_to c.plan f table (q_stop_next at l) x in
           let first : Option (List ℕ) → Address → Action = λ table at. given (value max s.variables) (second table at) in
           given_spends s (sent c g) (λ table. given (s.registers r) (first table)) (λ table _.
           given_spends s (s.registers r) (first table) (λ at _.
-          given_spends s (value max s.variables) (second table at) (λ l _. transfer_spends c.plan f table (q_stop_wanted at l) x s i)))
+          given_spends s (value max s.variables) (second table at) (λ l _. transfer_spends c.plan f table (q_stop_next at l) x s i)))
       statement_spends (q_repeat line f r g max limit x) s i =
-          let third : Option (List ℕ) → Address → ℕ → ℕ → Action = λ table at l l'. transfer_to c.plan f table (q_repeat_wanted at l l') x in
+          let third : Option (List ℕ) → Address → ℕ → ℕ → Action = λ table at l l'. transfer_to c.plan f table (q_repeat_next at l l') x in
           let second : Option (List ℕ) → Address → ℕ → Action = λ table at l. given (value limit s.variables) (third table at l) in
           let first : Option (List ℕ) → Address → Action = λ table at. given (value max s.variables) (second table at) in
           given_spends s (sent c g) (λ table. given (s.registers r) (first table)) (λ table _.
           given_spends s (s.registers r) (first table) (λ at _.
           given_spends s (value max s.variables) (second table at) (λ l _.
-          given_spends s (value limit s.variables) (third table at l) (λ l' _. transfer_spends c.plan f table (q_repeat_wanted at l l') x s i))))
+          given_spends s (value limit s.variables) (third table at l) (λ l' _. transfer_spends c.plan f table (q_repeat_next at l l') x s i))))
       statement_spends (put line e) s i = given_spends s (value e s.variables) (λ v t. ends (with_word v t)) (λ v _. ready_spent s i)
       statement_spends (crate_call line op e) s i =
           given_spends s (value e s.variables) (λ d. act c.plan (crate_address op d) (crate_function op) Full no_data) (λ d _. act_spends c.plan (crate_address op d) (crate_function op) Full no_data s i)

@@ -147,7 +147,7 @@ cut_steps = refl
 cut_words : at_cut (λ u. u.words) ≡ Some (0xabc ∷ 2 ∷ [])
 cut_words = refl
 
-cut_cycles : at_cut (λ u. u.cycles) ≡ Some 5
+cut_cycles : at_cut (λ u. u.cost) ≡ Some 5
 cut_cycles = refl
 
 cut_missed : at_cut (λ u. u.missed) ≡ Some 1

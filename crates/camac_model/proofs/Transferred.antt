@@ -8,7 +8,7 @@ use Rattle.camac_branch.specs.Address.{Address}
 use Rattle.camac_branch.specs.Allowed.{width}
 use Rattle.camac_branch.specs.Branch.{Answer, Reply, reply_to}
 use Rattle.camac_branch.specs.Plan.{Layout}
-use Rattle.camac_esone.specs.Transfers.{Wanted, tally, q_stop_wanted, q_repeat_wanted, scan_wanted}
+use Rattle.camac_esone.specs.Transfers.{NextAddress, tally, q_stop_next, q_repeat_next, scan_next}
 use Rattle.camac_esone.specs.Lists.{Cycle, replies, IsQStopList, IsQRepeatList, IsScanList}
 use Rattle.camac_esone.specs.Laws.{IsDriven, IsDrivenToEnd, IsDrivenSoFar, GivesExactly}
 use Rattle.camac_esone.proofs.Parts.{replies-append, each_more, each_none}
@@ -37,24 +37,24 @@ words-append plan (p ∷ ps) qs = ap (λ l. word_in plan p ++ l) (words-append p
 same_place : {A : Type 0} (x : ℕ) (v : A) (old : ℕ → A) → set_at x v old x ≡ v
 same_place x v old = ap (λ t. if t then v else old x) (eq-eqb x x refl)
 
-module _ (plan : Layout) (f : ℕ) (table : Option (List ℕ)) (wanted : Wanted) (x : ℕ) (s : State) where
+module _ (plan : Layout) (f : ℕ) (table : Option (List ℕ)) (next_address : NextAddress) (x : ℕ) (s : State) where
   pub record SoFar (ps : List Piece) (qs : List Bool) (t : State) : Type 0 where
-    driven : IsDriven wanted (cycles_in ps)
+    driven : IsDriven next_address (cycles_in ps)
     q : replies (cycles_in ps) ≡ qs
     made : HasMade plan table s ps t
 
   pub record AtEnd (ps : List Piece) (t : State) : Type 0 where
-    pub driven : IsDrivenToEnd wanted (cycles_in ps)
+    pub driven : IsDrivenToEnd next_address (cycles_in ps)
     pub made : HasMade plan table s ps t
     pub tally : t.variables x ≡ tally (replies (cycles_in ps))
 
   pub record AtStop (ps : List Piece) (w : Stop) (t : State) : Type 0 where
-    pub driven : IsDrivenSoFar wanted (cycles_in ps)
+    pub driven : IsDrivenSoFar next_address (cycles_in ps)
     pub made : HasMade plan table s ps t
 
-  so_far : (ps : List Piece) (qs : List Bool) (t : State) (w : Stop) (at : Address) → SoFar ps qs t → wanted qs ≡ Some at → AtStop ps w t
+  so_far : (ps : List Piece) (qs : List Bool) (t : State) (w : Stop) (at : Address) → SoFar ps qs t → next_address qs ≡ Some at → AtStop ps w t
   so_far ps qs t w at i e = record {
-    driven = record { driven = i.driven; goes_on = is_some (wanted (replies (cycles_in ps))) at (ap wanted i.q ∙ e) };
+    driven = record { driven = i.driven; goes_on = is_some (next_address (replies (cycles_in ps))) at (ap next_address i.q ∙ e) };
     made = i.made;
   }
 
@@ -75,7 +75,7 @@ module _ (plan : Layout) (f : ℕ) (table : Option (List ℕ)) (wanted : Wanted)
       go false = refl
   steps_kept (Some ws) w r t = refl
 
-  module _ (ps : List Piece) (qs : List Bool) (t : State) (at : Address) (d : DataMove) (r : Reply) (wait : ℕ) (rest : List Answer) (i : SoFar ps qs t) (e : wanted qs ≡ Some at) where
+  module _ (ps : List Piece) (qs : List Bool) (t : State) (at : Address) (d : DataMove) (r : Reply) (wait : ℕ) (rest : List Answer) (i : SoFar ps qs t) (e : next_address qs ≡ Some at) where
     more_cycles : cycles_in (with_piece ps (cycled at f d r wait)) ≡ cycles_in ps ++ (record { at = at; q = r.q }) ∷ []
     more_cycles = cycles-append ps (cycled at f d r wait ∷ [])
 
@@ -84,7 +84,7 @@ module _ (plan : Layout) (f : ℕ) (table : Option (List ℕ)) (wanted : Wanted)
         let u : State = after_cycle at f r wait rest t in
         let c : Cycle = record { at = at; q = r.q } in
         record {
-          driven = subst (IsDriven wanted) (sym more_cycles) (each_more (λ before k. wanted (replies before) ≡ Some k.at) (cycles_in ps) c i.driven (ap wanted i.q ∙ e));
+          driven = subst (IsDriven next_address) (sym more_cycles) (each_more (λ before k. next_address (replies before) ≡ Some k.at) (cycles_in ps) c i.driven (ap next_address i.q ∙ e));
           q = ap replies more_cycles ∙ replies-append (cycles_in ps) (c ∷ []) ∙ ap (λ l. l ++ r.q ∷ []) i.q;
           made = record {
             words = words_after r at d wait table ps u i.made.words;
@@ -100,9 +100,9 @@ module _ (plan : Layout) (f : ℕ) (table : Option (List ℕ)) (wanted : Wanted)
   finish qs t = ends (with_variable x (tally qs) t)
 
   -- every cycle is wanted by those before it
-  made_by : Meets with_piece (MovesNext table) AtStop AtEnd [] (transfer_to plan f table wanted x s)
+  made_by : Meets with_piece (MovesNext table) AtStop AtEnd [] (transfer_to plan f table next_address x s)
   made_by =
-      transfer_meets with_piece (MovesNext table) AtStop AtEnd plan f table wanted (λ qs t. ends (with_variable x (tally qs) t)) SoFar
+      transfer_meets with_piece (MovesNext table) AtStop AtEnd plan f table next_address (λ qs t. ends (with_variable x (tally qs) t)) SoFar
       (record {
         no_word = λ ps qs t at i e _. so_far ps qs t _ at i e;
         no_crate = λ ps qs t at i e _. so_far ps qs t _ at i e;
@@ -112,11 +112,11 @@ module _ (plan : Layout) (f : ℕ) (table : Option (List ℕ)) (wanted : Wanted)
             (ap (transfer_data table) i.q ∙ data', one_on ps qs t at d (reply_to plan t.branch at f a) a.wait rest i e);
       })
       (λ ps qs t i e. record {
-        driven = record { driven = i.driven; ended = ap wanted i.q ∙ e };
+        driven = record { driven = i.driven; ended = ap next_address i.q ∙ e };
         made = record { words = i.made.words; steps = i.made.steps };
         tally = same_place x (tally qs) t.variables ∙ ap tally (sym i.q);
       })
-      s.answers [] [] s refl (record { driven = each_none (λ before k. wanted (replies before) ≡ Some k.at); q = refl; made = record { words = none_yet table; steps = omega arith } })
+      s.answers [] [] s refl (record { driven = each_none (λ before k. next_address (replies before) ≡ Some k.at); q = refl; made = record { words = none_yet table; steps = omega arith } })
     where
       none_yet : (g : Option (List ℕ)) → s.words ≡ s.words ++ words_kept plan g []
       none_yet None = sym (append-nil s.words)
@@ -132,9 +132,9 @@ module _ (plan : Layout) (f : ℕ) (table : Option (List ℕ)) (wanted : Wanted)
   at_last ps (stops v t) h =
       (λ e. absurd (cc), λ w e. (let same : v ≡ w = cc in subst (λ z. AtStop (ps ++ []) z t) same (subst (λ l. AtStop l v t) (sym (append-nil ps)) h)))
 
-  pub is_transfer : (IsList : List Cycle → Type 0) → GivesExactly wanted IsList → IsTransfer plan table x IsList s (transfer_to plan f table wanted x s)
+  pub is_transfer : (IsList : List Cycle → Type 0) → GivesExactly next_address IsList → IsTransfer plan table x IsList s (transfer_to plan f table next_address x s)
   is_transfer IsList exact =
-      let b : Behaviour State = transfer_to plan f table wanted x s in
+      let b : Behaviour State = transfer_to plan f table next_address x s in
       let all = at_last [] b made_by in
       record {
         ended = λ e. (let h = all.0 e in record { is_list = (exact.whole (cycles_in (pieces b))).1 h.driven; has_made = h.made; tally = h.tally });
@@ -143,10 +143,10 @@ module _ (plan : Layout) (f : ℕ) (table : Option (List ℕ)) (wanted : Wanted)
       }
 
 pub stops_are_q_stop : StopsAreQStop
-stops_are_q_stop plan f table x s at max = is_transfer plan f table (q_stop_wanted at max) x s (IsQStopList at max) (q_stop_gives at max)
+stops_are_q_stop plan f table x s at max = is_transfer plan f table (q_stop_next at max) x s (IsQStopList at max) (q_stop_gives at max)
 
 pub repeats_are_q_repeat : RepeatsAreQRepeat
-repeats_are_q_repeat plan f table x s at max limit = is_transfer plan f table (q_repeat_wanted at max limit) x s (IsQRepeatList at max limit) (q_repeat_gives at max limit)
+repeats_are_q_repeat plan f table x s at max limit = is_transfer plan f table (q_repeat_next at max limit) x s (IsQRepeatList at max limit) (q_repeat_gives at max limit)
 
 pub scans_are_scan : ScansAreScan
-scans_are_scan plan f table x s first last max = is_transfer plan f table (scan_wanted first last max) x s (IsScanList first last max) (scan_gives first last max)
+scans_are_scan plan f table x s first last max = is_transfer plan f table (scan_next first last max) x s (IsScanList first last max) (scan_gives first last max)

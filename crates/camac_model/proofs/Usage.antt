@@ -15,7 +15,7 @@ use Rattle.camac_model.proofs.Counts.{one_missed}
 
 -- a state counts the usage so far
 abbrev Counted : Usage → State → Type 0
-Counted u s = (s.cycles ≡ u.cycles) × (s.missed ≡ min 65535 u.missed)
+Counted u s = (s.cost ≡ u.cycles) × (s.missed ≡ min 65535 u.missed)
 
 stepwise : IsStepwise used_with TellsUsage Counted
 stepwise = record {

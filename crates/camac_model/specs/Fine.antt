@@ -26,7 +26,7 @@ AreWords (w ∷ ws) = (w < 2 ^ 24) × AreWords ws
 
 -- a service in this state is within its bounds
 pub record IsWithin (k : Bounds) (s : State) : Type 0 where
-  pub cycles : s.cycles ≤ k.cycles
+  pub cycles : s.cost ≤ k.cycles
   pub words : length s.words ≤ k.words
   pub steps : s.steps ≤ k.steps
   pub are_words : AreWords s.words

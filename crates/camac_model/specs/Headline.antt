@@ -8,7 +8,7 @@ use Rattle.camac_model.specs.Behaviour.{Event, Piece, demanded, cycled, lock_tak
 use Rattle.camac_model.specs.Value.{greatest}
 use Rattle.camac_model.specs.Run.{run, the_run}
 use Rattle.camac_model.specs.Safe.{IsSafePiece}
-use Rattle.camac_model.specs.Moments.{Meets, Any, AnyStop}
+use Rattle.camac_model.specs.Moments.{Watch, Holds, Any, AnyStop}
 use Rattle.camac_model.specs.Fine.{most_turns, Bounds, AreWords, IsOfAnswers, AreFineServices}
 
 -- the service in progress: its number, what it has cost so far, and how many answers followed its demand
@@ -66,7 +66,7 @@ pub record EventCost (e : Event) (k : Bounds) (g : Progress) : Type 0 where
 
 -- where it stopped, a service counts what it has cost, and its steps fit
 pub record StepsFit (s : State) (k : Bounds) (g : Progress) : Type 0 where
-  pub counted : s.cycles ≡ g.cost
+  pub counted : s.cost ≡ g.cost
   pub most : g.cost ≤ k.cycles
   pub steps : s.steps ≤ k.steps
 
@@ -132,28 +132,40 @@ pub record IsOver (m : Moment) (u : Unit {0}) : Type 0 where
   pub none_left : m.left ≡ 0
   pub none_in_progress : m.progress ≡ None
 
+-- right values and loops end: neither Wrong nor More
+abbrev pub right_watch : Watch (Unit {0}) (Unit {0})
+right_watch = record { step = no_count; at_piece = Any; at_stop = λ u w s. IsOfAnswers w; at_end = Any }
+
+-- words within bounds
+abbrev pub words_watch : List Bounds → Watch Moment (Unit {0})
+words_watch ks = record { step = moment_after; at_piece = EventFits ks; at_stop = λ m w s. InService ks m (WordsFit s.words); at_end = Any }
+
+-- cost within bounds
+abbrev pub cost_watch : List Bounds → Watch Moment (Unit {0})
+cost_watch ks = record { step = moment_after; at_piece = CostStays ks; at_stop = λ m w s. InService ks m (StepsFit s); at_end = Any }
+
+-- short only when answers run out
+abbrev pub short_watch : List Bounds → Watch Moment (Unit {0})
+short_watch ks = record { step = moment_after; at_piece = Any; at_stop = IsShortOfAnswers ks; at_end = IsOver }
+
+-- locks released, with this where the run ends
+abbrev pub locks_watch : (Locked → Unit {0} → Type 0) → Watch Locked (Unit {0})
+locks_watch at_end = record { step = locked_after; at_piece = NoneHeld; at_stop = AnyStop; at_end = at_end }
+
+abbrev pub no_lock : Locked
+no_lock c = false
+
 -- each part of the headline, of every list of answers
 pub record RunsSafely (plan : Layout) (script : Script) (ks : List Bounds) : Type 0 where
-  -- right values and loops end: neither Wrong nor More; more turns change nothing
-  pub right_and_ending : (answers : List Answer)
-      → Meets no_count Any (λ u w s. IsOfAnswers w) Any nothing (the_run plan script answers)
+  pub right_and_ending : (answers : List Answer) → Holds right_watch nothing (the_run plan script answers)
+  -- more turns change nothing
   pub same_turns : (n : ℕ) → most_turns ≤ n → (answers : List Answer) → run n plan script answers ≡ the_run plan script answers
   -- safe cycles
   pub safe_cycles : (answers : List Answer) → AreSafe plan (pieces (the_run plan script answers))
-  -- words within bounds
-  pub words_within : (answers : List Answer)
-      → Meets moment_after (EventFits ks) (λ m w s. InService ks m (WordsFit s.words)) Any (first_moment answers)
-      (the_run plan script answers)
-  -- cost within bounds
-  pub cost_within : (answers : List Answer)
-      → Meets moment_after (CostStays ks) (λ m w s. InService ks m (StepsFit s)) Any (first_moment answers)
-      (the_run plan script answers)
-  -- short only when answers run out
-  pub short_of_answers : (answers : List Answer)
-      → Meets moment_after Any (IsShortOfAnswers ks) IsOver (first_moment answers) (the_run plan script answers)
-  -- locks released
-  pub locks_released : (answers : List Answer)
-      → Meets locked_after NoneHeld AnyStop Any (λ c. false) (the_run plan script answers)
+  pub words_within : (answers : List Answer) → Holds (words_watch ks) (first_moment answers) (the_run plan script answers)
+  pub cost_within : (answers : List Answer) → Holds (cost_watch ks) (first_moment answers) (the_run plan script answers)
+  pub short_of_answers : (answers : List Answer) → Holds (short_watch ks) (first_moment answers) (the_run plan script answers)
+  pub locks_released : (answers : List Answer) → Holds (locks_watch Any) no_lock (the_run plan script answers)
 
 -- the bounds of a service keep to its heading, its event to the plan's buffer and its steps to M
 pub record IsWithinHeading (plan : Layout) (k : Bounds) (v : Service) : Type 0 where

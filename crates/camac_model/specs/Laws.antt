@@ -114,7 +114,7 @@ RunsGoOn =
 
 -- what a service has counted, wherever it ends or stops, is what its pieces tell
 pub record CountsPieces (answers : List Answer) (o : Behaviour State) : Type 0 where
-  pub cycles : (reached o).cycles ≡ cost (pieces o)
+  pub cycles : (reached o).cost ≡ cost (pieces o)
   pub missed : (reached o).missed ≡ min 65535 (misses (pieces o))
   -- answers are used in order, one for each cycle and each lock taken, and no more of them than there are
   pub answers_left : (reached o).answers ≡ drop (uses (pieces o)) answers
@@ -190,7 +190,7 @@ ServicesUnlock =
 -- the later state has counted at least what the earlier one has: steps, cycles, and words after those that were there
 pub record HasGrown (before after : State) : Type 0 where
   pub steps : before.steps ≤ after.steps
-  pub cycles : before.cycles ≤ after.cycles
+  pub cost : before.cost ≤ after.cost
   pub words : (ws : List ℕ) × (after.words ≡ before.words ++ ws)
 
 -- the counts of a service only grow along a block, wherever it ends or stops: so each moment of it has counted at most what the run

@@ -11,7 +11,7 @@ use Rattle.camac_branch.specs.Address.{Address, address}
 use Rattle.camac_branch.specs.Allowed.{width}
 use Rattle.camac_branch.specs.Plan.{Layout, crate_waits}
 pub use Rattle.camac_esone.specs.Calls.{crate_address, crate_function, lam_function}
-use Rattle.camac_esone.specs.Transfers.{Wanted, q_stop_wanted, q_repeat_wanted, scan_wanted, tally}
+use Rattle.camac_esone.specs.Transfers.{NextAddress, q_stop_next, q_repeat_next, scan_next, tally}
 use Rattle.camac_model.specs.State.{State, Variables, stepped, with_variable, with_register, with_word}
 use Rattle.camac_model.specs.Behaviour.{ends, stops, more, Action, then_do, given, decide, unless_wrong}
 use Rattle.camac_model.specs.Value.{value, values, truth}
@@ -31,7 +31,7 @@ fits_size Full v = true
 fits_size Short v = nat_le v 65535
 
 -- one cycle of a single action
-abbrev pub act : Layout → Address → ℕ → WordSize → Move → Action
+abbrev pub act : Layout → Address → (function : ℕ) → WordSize → Move → Action
 act plan at f size no_data s = cycle plan at f moved.None s.answers (λ r. ends) s
 act plan at f size (into x) s =
     cycle plan at f moved.In s.answers (λ r t. ends (with_variable x (kept (sized size (width plan at f)) r) t)) s
@@ -39,9 +39,9 @@ act plan at f size (from e) s =
     given (value e s.variables) (λ v. unless_wrong (fits_size size v) (λ t. cycle plan at f (moved.Out v) t.answers (λ r. ends) t)) s
 
 -- a transfer from its first cycle on, which ends by setting its tally
-abbrev pub transfer_to : Layout → ℕ → Option (List ℕ) → Wanted → ℕ → Action
-transfer_to plan f table wanted x s =
-    transfer plan f table wanted (λ qs t. ends (with_variable x (tally qs) t)) [] s.answers s
+abbrev pub transfer_to : Layout → (function : ℕ) → (table : Option (List ℕ)) → NextAddress → (tally_variable : ℕ) → Action
+transfer_to plan f table next_address x s =
+    transfer plan f table next_address (λ qs t. ends (with_variable x (tally qs) t)) [] s.answers s
 
 -- what a transfer sends: nothing, or the words of the table that is named
 abbrev pub sent : Context → Option ℕ → Option (Option (List ℕ))
@@ -49,22 +49,22 @@ sent c None = Some None
 sent c (Some k) = option_map Some (slice_get c.tables k)
 
 -- a turn of a `for` begins
-abbrev pub for_state : ℕ → ℕ → State → State
+abbrev pub for_state : (variable current : ℕ) → State → State
 for_state x v s = stepped (with_variable x v s)
 
--- k further turns of a `for`, from v up to the last
-abbrev pub for_turns : ℕ → ℕ → ℕ → ℕ → ℕ → Action → Action
+-- further turns of a `for`, of which so many are allowed: its variable has the current value in the next one, and the last one at its end
+abbrev pub for_turns : (turns allowed variable current last : ℕ) → Action → Action
 for_turns zero n x v last body s = ends (with_variable x last s)
 for_turns (suc k) zero x v last body s = stops more s
 for_turns (suc k) (suc n) x v last body s = then_do (body (for_state x v s)) (for_turns k n x (v + 1) last body)
 
 -- a `for` of k turns; without a turn the variable stays
-abbrev pub for_from : ℕ → ℕ → ℕ → ℕ → ℕ → Action → Action
+abbrev pub for_from : (turns allowed variable first last : ℕ) → Action → Action
 for_from zero n x v last body s = ends s
 for_from (suc k) n x v last body s = for_turns (suc k) n x v last body s
 
 -- at most n turns of a `while`
-abbrev pub turns : ℕ → Condition → Action → Action
+abbrev pub turns : (allowed : ℕ) → Condition → Action → Action
 turns zero c body s = decide (truth c s.variables s.q s.x) (stops more) ends s
 turns (suc n) c body s = decide (truth c s.variables s.q s.x) (λ t. then_do (body (stepped t)) (turns n c body)) ends s
 
@@ -94,13 +94,13 @@ abbrev mutual
   effect c n (single line size f r data') s = given (s.registers r) (λ at. act c.plan at f size data') s
   effect c n (address_scan line f r1 r2 max x) s =
       given (s.registers r1) (λ first. given (s.registers r2) (λ last. given (value max s.variables) (λ m.
-      unless_wrong (nat_eq first.crate_no last.crate_no) (transfer_to c.plan f None (scan_wanted first last m) x)))) s
+      unless_wrong (nat_eq first.crate_no last.crate_no) (transfer_to c.plan f None (scan_next first last m) x)))) s
   effect c n (q_stop line f r g max x) s =
       given (sent c g) (λ table. given (s.registers r) (λ at. given (value max s.variables) (λ m.
-      transfer_to c.plan f table (q_stop_wanted at m) x))) s
+      transfer_to c.plan f table (q_stop_next at m) x))) s
   effect c n (q_repeat line f r g max limit x) s =
       given (sent c g) (λ table. given (s.registers r) (λ at. given (value max s.variables) (λ m. given (value limit s.variables) (λ l.
-      transfer_to c.plan f table (q_repeat_wanted at m l) x)))) s
+      transfer_to c.plan f table (q_repeat_next at m l) x)))) s
   effect c n (put line e) s = given (value e s.variables) (λ v t. ends (with_word v t)) s
   effect c n (crate_call line k e) s =
       given (value e s.variables) (λ v. act c.plan (crate_address k v) (crate_function k) Full no_data) s

@@ -9,6 +9,17 @@ module _ {X : Type 0} (step : X → Piece → X) (S : X → Piece → Type 0) (P
   Meets Q x (ends a) = Q x a
   Meets Q x (stops w s) = P x w s
 
+-- What is watched along a behaviour: how what is known goes on with a piece, and what has to hold at a piece, at a stop and at an end
+pub record Watch (X A : Type 0) : Type 1 where
+  pub step : X → Piece → X
+  pub at_piece : X → Piece → Type 0
+  pub at_stop : X → Stop → State → Type 0
+  pub at_end : X → A → Type 0
+
+-- it holds along a behaviour, from what is known at its start
+abbrev pub Holds : {X A : Type 0} → Watch X A → X → Behaviour A → Type 0
+Holds w x b = Meets w.step w.at_piece w.at_stop w.at_end x b
+
 -- nothing is said at this place
 abbrev pub Any : {X A : Type 0} → X → A → Type 0
 Any x a = Unit {0}

@@ -101,15 +101,14 @@ abbrev pub s : ℕ
 s = 1
 
 -- `cdreg` of a register, on line 4, in crate 1
-abbrev pub register : ℕ → ℕ → ℕ → Statement
+abbrev pub register : (register station sub_address : ℕ) → Statement
 register g n a = set_register 4 g (number 1) (number n) (number a)
 
 -- the standard opening with this heading and these registers
-abbrev pub script : ℕ → ℕ → List Text → List Statement → Script
+abbrev pub script : (cycles words : ℕ) → List Text → List Statement → Script
 script cycles words registers ss = script_of opening [] [] cycles words registers ss
 
--- x, q, word, wait and graded-L pattern
-abbrev pub answer : Bool → Bool → ℕ → ℕ → ℕ → Answer
+abbrev pub answer : (x q : Bool) → (word wait gl : ℕ) → Answer
 answer x q word wait gl = record { x = x; q = q; word = word; wait = wait; gl = gl }
 
 -- an answer of a graded-L operation
@@ -126,14 +125,14 @@ abbrev pub busy : ℕ → List Answer
 busy zero = []
 busy (suc n) = answer true false 0 2 0 ∷ busy n
 
-abbrev pub reply : Bool → Bool → ℕ → Reply
+abbrev pub reply : (x q : Bool) → (word : ℕ) → Reply
 reply x q word = record { x = x; q = q; word = word }
 
 -- a cycle in crate 1
-abbrev pub cycle_at : ℕ → ℕ → ℕ → DataMove → Reply → ℕ → Piece
+abbrev pub cycle_at : (station sub_address function : ℕ) → DataMove → Reply → (wait : ℕ) → Piece
 cycle_at n a f d r wait = cycled (address 1 n a) f d r wait
 
-abbrev pub event : ℕ → ℕ → ℕ → List ℕ → Event
+abbrev pub event : (bit cycles missed : ℕ) → (words : List ℕ) → Event
 event bit cycles missed words = record { bit = bit; cycles = cycles; missed = missed; words = words }
 
 -- a demand of the LAM's service

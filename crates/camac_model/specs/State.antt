@@ -21,7 +21,7 @@ pub record State : Type 0 where
   -- of the service so far: its event words, its steps, what its cycles and locks cost, and how many of its cycles had X=0
   pub words : List ℕ
   pub steps : ℕ
-  pub cycles : ℕ
+  pub cost : ℕ
   pub missed : ℕ
   -- the answers that are left
   pub answers : List Answer
@@ -40,7 +40,7 @@ fresh b answers = record {
   x = false;
   words = [];
   steps = 0;
-  cycles = 0;
+  cost = 0;
   missed = 0;
   answers = answers;
 }

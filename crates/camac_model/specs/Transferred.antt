@@ -3,7 +3,7 @@ use Rattle.std.specs.Prelude.{◌≡◌, ℕ, ◌+◌, List, [], ◌∷◌, ◌+
 use Rattle.camac_branch.specs.Address.{Address}
 use Rattle.camac_branch.specs.Allowed.{width}
 use Rattle.camac_branch.specs.Plan.{Layout}
-use Rattle.camac_esone.specs.Transfers.{tally, q_stop_wanted, q_repeat_wanted, scan_wanted}
+use Rattle.camac_esone.specs.Transfers.{tally, q_stop_next, q_repeat_next, scan_next}
 use Rattle.camac_esone.specs.Lists.{Cycle, replies, IsQStopList, IsQRepeatList, IsScanList, IsCut}
 use Rattle.camac_model.specs.State.{State}
 use Rattle.camac_model.specs.Behaviour.{Piece, demanded, cycled, lock_taken, lock_released, event_left, Behaviour, Stop, pieces, reached, stop_of}
@@ -78,14 +78,14 @@ pub record IsTransfer (plan : Layout) (table : Option (List ℕ)) (x : ℕ) (IsL
 abbrev pub StopsAreQStop : Type 0
 StopsAreQStop =
     (plan : Layout) (f : ℕ) (table : Option (List ℕ)) (x : ℕ) (s : State) (at : Address) (max : ℕ)
-    → IsTransfer plan table x (IsQStopList at max) s (transfer_to plan f table (q_stop_wanted at max) x s)
+    → IsTransfer plan table x (IsQStopList at max) s (transfer_to plan f table (q_stop_next at max) x s)
 
 abbrev pub RepeatsAreQRepeat : Type 0
 RepeatsAreQRepeat =
     (plan : Layout) (f : ℕ) (table : Option (List ℕ)) (x : ℕ) (s : State) (at : Address) (max limit : ℕ)
-    → IsTransfer plan table x (IsQRepeatList at max limit) s (transfer_to plan f table (q_repeat_wanted at max limit) x s)
+    → IsTransfer plan table x (IsQRepeatList at max limit) s (transfer_to plan f table (q_repeat_next at max limit) x s)
 
 abbrev pub ScansAreScan : Type 0
 ScansAreScan =
     (plan : Layout) (f : ℕ) (table : Option (List ℕ)) (x : ℕ) (s : State) (first last : Address) (max : ℕ)
-    → IsTransfer plan table x (IsScanList first last max) s (transfer_to plan f table (scan_wanted first last max) x s)
+    → IsTransfer plan table x (IsScanList first last max) s (transfer_to plan f table (scan_next first last max) x s)

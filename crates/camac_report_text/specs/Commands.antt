@@ -40,7 +40,7 @@ width_text Control width = []
 abbrev pub kind_text : ℕ → Entry → List ℕ
 kind_text f e = if e.is_probe then codes " probe" else width_text (class_of f) e.width
 
-abbrev pub command_line : ℕ → ℕ → ℕ → Entry → List ℕ
+abbrev pub command_line : (function first last : ℕ) → Entry → List ℕ
 command_line f first last e =
     codes "command f " ++ decimal f ++ codes " a " ++ decimal first ++ to_text first last ++ kind_text f e ++ codes "\n"
 

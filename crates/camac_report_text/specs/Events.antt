@@ -11,7 +11,7 @@ usage_text None = []
 usage_text (Some u) = codes " cycles " ++ decimal u.cycles ++ codes " missed " ++ decimal u.missed
 
 -- the line of an event up to its words
-abbrev pub start_text : ℕ → ℕ → Option Usage → ℕ → List ℕ
+abbrev pub start_text : (number gl : ℕ) → Option Usage → (words : ℕ) → List ℕ
 start_text number gl usage words = codes "event " ++ decimal number ++ codes " gl " ++ decimal gl ++ usage_text usage ++ codes " words " ++ decimal words
 
 abbrev pub event_start : ℕ → Entry → List ℕ

@@ -9,7 +9,7 @@ use Rattle.camac_model.specs.Behaviour.{Behaviour, does, ends, stops, Piece, dem
 use Rattle.camac_model.specs.Meaning.{Context, context}
 use Rattle.camac_model.specs.Moments.{Meets, Any, AnyStop}
 use Rattle.camac_model.specs.Headline.{no_count, nothing}
-use Rattle.camac_model.specs.Run.{Chosen, service_bit, is_bit, has_bit, with_bit, or_next, first_service, service_for, service_meaning, event_of, serve, rounds, the_run}
+use Rattle.camac_model.specs.Run.{Chosen, service_bit, is_bit, is_bit_set, with_bit, or_next, first_service, service_for, service_meaning, event_of, serve, rounds, the_run}
 use Rattle.camac_model.proofs.Rules.{then_meets}
 use Rattle.camac_model.proofs.Kept.{IsStepwise, script_keeps}
 
@@ -29,7 +29,7 @@ record IsFrom (k m : ℕ) (v : Chosen) : Type 0 where
 
 first_from : (c : Context) (m k pattern : ℕ) (vs : List Service) (v : Chosen) → first_service c m k pattern vs ≡ Some v → IsFrom k m v
 first_from c zero k pattern vs v e = absurd (cc)
-first_from c (suc m) k pattern vs v e = go (λ e'. next_from (first_from c m (k + 1) pattern vs v e')) (has_bit pattern k) e
+first_from c (suc m) k pattern vs v e = go (λ e'. next_from (first_from c m (k + 1) pattern vs v e')) (is_bit_set pattern k) e
   where
     next_from : IsFrom (k + 1) m v → IsFrom k (suc m) v
     next_from h =

@@ -7,9 +7,9 @@ use Rattle.camac_event.specs.Spelling.{Entry, spelling}
 use Rattle.camac_event.specs.Reading.{file_at}
 use Rattle.camac_event.specs.declared.event.Version.TheVariants.{Two}
 use Rattle.camac_model.specs.Behaviour.{Behaviour, Event, pieces, events}
-use Rattle.camac_model.specs.Fine.{Bounds, IsOfAnswers, AreFineServices}
-use Rattle.camac_model.specs.Headline.{AreSafe, WithinHeadings, InService, WordsFit, EventFits, StepsFit, CostStays, IsShortOfAnswers, IsOver, Locked, locked_after, NoneHeld, first_moment, moment_after, no_count, nothing}
-use Rattle.camac_model.specs.Moments.{Meets, Any, AnyStop}
+use Rattle.camac_model.specs.Fine.{Bounds, AreFineServices}
+use Rattle.camac_model.specs.Headline.{AreSafe, WithinHeadings, Locked, no_lock, first_moment, nothing, right_watch, words_watch, cost_watch, short_watch, locks_watch}
+use Rattle.camac_model.specs.Moments.{Holds}
 use Rattle.camac_model.specs.Run.{the_run}
 
 -- an event as an event file of version Two has it
@@ -35,23 +35,18 @@ pub record RunHeadline (plan : Layout) (script : Script) (ks : List Bounds) (ans
   -- the run sends only commands that are declared, moves data only as the function code says and within the register's width,
   pub safe_cycles : AreSafe plan (pieces (the_run plan script answers))
   -- keeps each event within its declared words,
-  pub words_within :
-      Meets moment_after (EventFits ks) (λ m w s. InService ks m (WordsFit s.words)) Any (first_moment answers)
-      (the_run plan script answers)
+  pub words_within : Holds (words_watch ks) (first_moment answers) (the_run plan script answers)
   -- and every service within its annotated dataway cycles,
-  pub cost_within :
-      Meets moment_after (CostStays ks) (λ m w s. InService ks m (StepsFit s)) Any (first_moment answers)
-      (the_run plan script answers)
+  pub cost_within : Holds (cost_watch ks) (first_moment answers) (the_run plan script answers)
   -- where the bounds keep to the headings;
   pub within_headings : WithinHeadings plan script ks
   -- at each moment of a service, as of all that it counts, its steps are within its bounds;
   pub services : AreFineServices plan script ks
   -- every service ends, while answers last and auxiliaries keep their waits:
-  pub right_and_ending : Meets no_count Any (λ u w s. IsOfAnswers w) Any nothing (the_run plan script answers)
-  pub short_of_answers :
-      Meets moment_after Any (IsShortOfAnswers ks) IsOver (first_moment answers) (the_run plan script answers)
+  pub right_and_ending : Holds right_watch nothing (the_run plan script answers)
+  pub short_of_answers : Holds (short_watch ks) (first_moment answers) (the_run plan script answers)
   -- no crate stays locked where a service ends, and where the run ends
-  pub locks_released : Meets locked_after NoneHeld AnyStop NoneLocked (λ c. false) (the_run plan script answers)
+  pub locks_released : Holds (locks_watch NoneLocked) no_lock (the_run plan script answers)
 
 -- And with these bytes of an event file
 pub record Headline (plan : Layout) (script : Script) (ks : List Bounds) (answers : List Answer) (file : List ℕ) : Type 0 where

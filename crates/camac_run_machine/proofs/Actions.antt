@@ -19,7 +19,7 @@ use Rattle.camac_branch.specs.Crates.{branch_of}
 use Rattle.camac_branch.specs.Plan.{Layout, crate_waits}
 use Rattle.camac_branch.specs.declared.answer.Command.{Command}
 use Rattle.camac_esone.specs.Calls.{command_at, crate_address, crate_function, lam_function}
-use Rattle.camac_esone.specs.Transfers.{Wanted, q_stop_wanted, q_repeat_wanted, scan_wanted, tally}
+use Rattle.camac_esone.specs.Transfers.{NextAddress, q_stop_next, q_repeat_next, scan_next, tally}
 use Rattle.camac_model.specs.State.{State, Variables, Registers, stepped, set_at, with_variable, with_register, with_word}
 use Rattle.camac_model.specs.Behaviour.{ends, Action, then_do, given, decide, unless_wrong}
 use Rattle.camac_model.specs.Cycle.{cycle, sized, kept, take_lock, release}
@@ -29,8 +29,8 @@ use Rattle.camac_model.specs.Safe.{IsSafe}
 use Rattle.camac_model.specs.Transfer.{transfer}
 use Rattle.camac_model.specs.Value.{value, values, truth}
 use Rattle.camac_run_machine.specs.declared.machine.Machine.{Machine}
-use Rattle.camac_run_machine.specs.declared.machine.Wanting.TheVariants.{Cycle, Read, Lock}
-use Rattle.camac_run_machine.specs.MachineState.{registers_here, variables_here, context_in, reach, state_of, bounds_of, left_in, free, IsFineHere, FineThen, Wants}
+use Rattle.camac_run_machine.specs.declared.machine.Pending.TheVariants.{Cycle, Read, Lock}
+use Rattle.camac_run_machine.specs.MachineState.{registers_here, variables_here, context_in, reach, state_of, bounds_of, left_in, free, IsFineHere, FineThen, Awaits}
 use Rattle.camac_run_machine.specs.Rest.{address_of, awaited}
 use Rattle.camac_run_machine.specs.Within.{Reach, StatementFits, Opens}
 use Rattle.camac_run_machine.proofs.Transfers.{transfer_within}
@@ -60,12 +60,12 @@ module _ {V D C : ℕ} (h : Machine V D C) where
       (subst (λ l. IsFineHere h (then_do (cycle plan at f (moved.Out g.0) l (λ r. ends) s) (left_in h))) e u.1)
 
   -- a transfer that can be begun has room for the step
-  transfer_steps : (f : ℕ) (table : Option (List ℕ)) (wanted : Wanted) (x : ℕ) (s : State) → s.answers ≡ [] → IsFineHere h (then_do (transfer_to plan f table wanted x s) (left_in h)) → s.steps ≤ (bounds_of h).steps
-  transfer_steps f table wanted x s e fine =
+  transfer_steps : (f : ℕ) (table : Option (List ℕ)) (next_address : NextAddress) (x : ℕ) (s : State) → s.answers ≡ [] → IsFineHere h (then_do (transfer_to plan f table next_address x s) (left_in h)) → s.steps ≤ (bounds_of h).steps
+  transfer_steps f table next_address x s e fine =
       let over : List Bool → Action = λ qs t. ends (with_variable x (tally qs) t) in
-      (transfer_within plan f table wanted over [] (bounds_of h) (left_in h)
+      (transfer_within plan f table next_address over [] (bounds_of h) (left_in h)
       (λ t k. let w = keeps (with_variable x 0 t) k in record { cycles = w.cycles; words = w.words; steps = w.steps; are_words = w.are_words }) s
-      (subst (λ l. IsFineHere h (then_do (transfer plan f table wanted over [] l s) (left_in h))) e fine)).steps
+      (subst (λ l. IsFineHere h (then_do (transfer plan f table next_address over [] l s) (left_in h))) e fine)).steps
 
   abbrev Does : Statement → Type 0
   Does s = FineThen h (λ c. effect c most_turns s)
@@ -121,18 +121,18 @@ module _ {V D C : ℕ} (h : Machine V D C) where
       (known (value e (variables_here h)) v _ (blank ∷ []) val (acts size f r (from e) at (blank ∷ []) is fine)) in
       (u.0, fine_cycle h.checked.now.plan (bounds_of h) at f (moved.Out v) (λ r. ends) (state_of h (blank ∷ [])) (left_in h) u.1)
 
-  pub control_wants : (size : WordSize) (f r : ℕ) (at : Address) (k : Command) → registers_here h r ≡ Some at → k ≡ command_at at f moved.None → CanCycle at f moved.None → Wants h (λ c. effect c most_turns (single 0 size f r no_data)) (Cycle k)
+  pub control_wants : (size : WordSize) (f r : ℕ) (at : Address) (k : Command) → registers_here h r ≡ Some at → k ≡ command_at at f moved.None → CanCycle at f moved.None → Awaits h (λ c. effect c most_turns (single 0 size f r no_data)) (Cycle k)
   unfolding awaited
-  control_wants size f r at k is e can = rw e (record { wants = (can.0, tt); goes = λ answers. rw is refl })
+  control_wants size f r at k is e can = rw e (record { pending = (can.0, tt); goes = λ answers. rw is refl })
 
-  pub read_wants : (size : WordSize) (f r x : ℕ) (at : Address) (k : Command) (bits : ℕ) → registers_here h r ≡ Some at → k ≡ command_at at f moved.In → bits ≡ sized size (width h.checked.now.plan (address_of k) k.f) → x < (reach h).variables → bits ≤ 24 → CanCycle at f moved.In → Wants h (λ c. effect c most_turns (single 0 size f r (into x))) (Read k x bits)
+  pub read_wants : (size : WordSize) (f r x : ℕ) (at : Address) (k : Command) (bits : ℕ) → registers_here h r ≡ Some at → k ≡ command_at at f moved.In → bits ≡ sized size (width h.checked.now.plan (address_of k) k.f) → x < (reach h).variables → bits ≤ 24 → CanCycle at f moved.In → Awaits h (λ c. effect c most_turns (single 0 size f r (into x))) (Read k x bits)
   unfolding awaited
   read_wants size f r x at k bits is e b below few can =
-      record { wants = (rw e can.0, (below, few)); goes = λ answers. rw (b, e, is) refl }
+      record { pending = (rw e can.0, (below, few)); goes = λ answers. rw (b, e, is) refl }
 
-  pub write_wants : (size : WordSize) (f r : ℕ) (e : Expression) (at : Address) (v : ℕ) (k : Command) → registers_here h r ≡ Some at → value e (variables_here h) ≡ Some v → k ≡ command_at at f (moved.Out v) → (fits_size size v ≡ true) × CanCycle at f (moved.Out v) → Wants h (λ c. effect c most_turns (single 0 size f r (from e))) (Cycle k)
+  pub write_wants : (size : WordSize) (f r : ℕ) (e : Expression) (at : Address) (v : ℕ) (k : Command) → registers_here h r ≡ Some at → value e (variables_here h) ≡ Some v → k ≡ command_at at f (moved.Out v) → (fits_size size v ≡ true) × CanCycle at f (moved.Out v) → Awaits h (λ c. effect c most_turns (single 0 size f r (from e))) (Cycle k)
   unfolding awaited
-  write_wants size f r e at v k is val q can = rw q (record { wants = (can.1.0, tt); goes = λ answers. rw (is, val, can.0) refl })
+  write_wants size f r e at v k is val q can = rw q (record { pending = (can.1.0, tt); goes = λ answers. rw (is, val, can.0) refl })
 
   -- a crate call
   pub crate_has : (which : CrateCall) (e : Expression) → Does (crate_call 0 which e) → IsSome (value e (variables_here h))
@@ -143,9 +143,9 @@ module _ {V D C : ℕ} (h : Machine V D C) where
       fine_cycle h.checked.now.plan (bounds_of h) (crate_address which v) (crate_function which) moved.None (λ r. ends) (state_of h (blank ∷ [])) (left_in h)
       (known (value e (variables_here h)) v (λ v. act h.checked.now.plan (crate_address which v) (crate_function which) Full no_data) (blank ∷ []) val (fine (blank ∷ [])))
 
-  pub crate_wants : (which : CrateCall) (e : Expression) (v : ℕ) (k : Command) → value e (variables_here h) ≡ Some v → k ≡ command_at (crate_address which v) (crate_function which) moved.None → CanCycle (crate_address which v) (crate_function which) moved.None → Wants h (λ c. effect c most_turns (crate_call 0 which e)) (Cycle k)
+  pub crate_wants : (which : CrateCall) (e : Expression) (v : ℕ) (k : Command) → value e (variables_here h) ≡ Some v → k ≡ command_at (crate_address which v) (crate_function which) moved.None → CanCycle (crate_address which v) (crate_function which) moved.None → Awaits h (λ c. effect c most_turns (crate_call 0 which e)) (Cycle k)
   unfolding awaited
-  crate_wants which e v k val q can = rw q (record { wants = (can.0, tt); goes = λ answers. rw val refl })
+  crate_wants which e v k val q can = rw q (record { pending = (can.0, tt); goes = λ answers. rw val refl })
 
   -- a LAM call
   pub lam_can : (which : LamCall) (l : ℕ) (at : Address) → slice_get (context_in h.checked.now).lams l ≡ Some at → Does (lam_call 0 which l) → CanCycle at (lam_function which) moved.None
@@ -153,9 +153,9 @@ module _ {V D C : ℕ} (h : Machine V D C) where
       fine_cycle h.checked.now.plan (bounds_of h) at (lam_function which) moved.None (λ r. ends) (state_of h (blank ∷ [])) (left_in h)
       (known (slice_get (context_in h.checked.now).lams l) at (λ at. act h.checked.now.plan at (lam_function which) Full no_data) (blank ∷ []) is (fine (blank ∷ [])))
 
-  pub lam_wants : (which : LamCall) (l : ℕ) (at : Address) (k : Command) → slice_get (context_in h.checked.now).lams l ≡ Some at → k ≡ command_at at (lam_function which) moved.None → CanCycle at (lam_function which) moved.None → Wants h (λ c. effect c most_turns (lam_call 0 which l)) (Cycle k)
+  pub lam_wants : (which : LamCall) (l : ℕ) (at : Address) (k : Command) → slice_get (context_in h.checked.now).lams l ≡ Some at → k ≡ command_at at (lam_function which) moved.None → CanCycle at (lam_function which) moved.None → Awaits h (λ c. effect c most_turns (lam_call 0 which l)) (Cycle k)
   unfolding awaited
-  lam_wants which l at k is q can = rw q (record { wants = (can.0, tt); goes = λ answers. rw is refl })
+  lam_wants which l at k is q can = rw q (record { pending = (can.0, tt); goes = λ answers. rw is refl })
 
   -- the crate of a crate call
   pub crate_of : (which : CrateCall) (v : ℕ) → (crate_address which v).crate_no ≡ v
@@ -234,10 +234,10 @@ module _ {V D C : ℕ} (h : Machine V D C) where
       fine_lock plan (bounds_of h) k (inside k body) (state_of h []) (left_in h)
       (known (value e (variables_here h)) k (λ n. lock_of n body) [] is (fine []))
 
-  pub lock_wants : (e : Expression) (body : Bor (List Stmt)) (k : ℕ) → value e (variables_here h) ≡ Some k → (1 ≤ k) × (k ≤ 7) → Opens (reach h) (free h) (statements_of body.now) → IsSome (crate_waits plan k) × ((branch_of h.branch k).locked ≡ false) → Wants h (λ c. effect c most_turns (locked 0 e (statements_of body.now))) (Lock k body)
+  pub lock_wants : (e : Expression) (body : Bor (List Stmt)) (k : ℕ) → value e (variables_here h) ≡ Some k → (1 ≤ k) × (k ≤ 7) → Opens (reach h) (free h) (statements_of body.now) → IsSome (crate_waits plan k) × ((branch_of h.branch k).locked ≡ false) → Awaits h (λ c. effect c most_turns (locked 0 e (statements_of body.now))) (Lock k body)
   unfolding awaited
   lock_wants e body k is range opens can =
-      record { wants = (can.0, (can.1, range.0, range.1, opens)); goes = λ answers. rw is refl }
+      record { pending = (can.0, (can.1, range.0, range.1, opens)); goes = λ answers. rw is refl }
 
   count_steps : (j x v w : ℕ) (b : Block) (s : State) → IsFineHere h (then_do (for_from j most_turns x v w (block_meaning (context_in h.checked.now) most_turns b) s) (left_in h)) → IsWithin (bounds_of h) s
   count_steps zero x v w b s fine = keeps s fine
@@ -299,32 +299,32 @@ module _ {V D C : ℕ} (h : Machine V D C) where
       act_steps g.0 (lam_function which) Full no_data s refl g.2
   begun (address_scan line f r1 r2 max x) to d fits fine =
       let s : State = stepped (state_of h []) in
-      let go : Address → Address → ℕ → Action = λ first last m. transfer_to plan f None (scan_wanted first last m) x in
+      let go : Address → Address → ℕ → Action = λ first last m. transfer_to plan f None (scan_next first last m) x in
       let third : Address → Address → ℕ → Action = λ first last m. unless_wrong (nat_eq first.crate_no last.crate_no) (go first last m) in
       let second : Address → Address → Action = λ first last. given (value max (variables_here h)) (third first last) in
       let g1 = fine_given plan (bounds_of h) (registers_here h r1) (λ first. given (registers_here h r2) (second first)) s (left_in h) (fine []) in
       let g2 = fine_given plan (bounds_of h) (registers_here h r2) (second g1.0) s (left_in h) g1.2 in
       let g3 = fine_given plan (bounds_of h) (value max (variables_here h)) (third g1.0 g2.0) s (left_in h) g2.2 in
       let g4 = fine_unless plan (bounds_of h) (nat_eq g1.0.crate_no g2.0.crate_no) (go g1.0 g2.0 g3.0) s (left_in h) g3.2 in
-      transfer_steps f None (scan_wanted g1.0 g2.0 g3.0) x s refl g4.1
+      transfer_steps f None (scan_next g1.0 g2.0 g3.0) x s refl g4.1
   begun (q_stop line f r t max x) to d fits fine =
       let s : State = stepped (state_of h []) in
-      let third : Option (List ℕ) → Address → ℕ → Action = λ table at m. transfer_to plan f table (q_stop_wanted at m) x in
+      let third : Option (List ℕ) → Address → ℕ → Action = λ table at m. transfer_to plan f table (q_stop_next at m) x in
       let second : Option (List ℕ) → Address → Action = λ table at. given (value max (variables_here h)) (third table at) in
       let g1 = fine_given plan (bounds_of h) (sent (context_in h.checked.now) t) (λ table. given (registers_here h r) (second table)) s (left_in h) (fine []) in
       let g2 = fine_given plan (bounds_of h) (registers_here h r) (second g1.0) s (left_in h) g1.2 in
       let g3 = fine_given plan (bounds_of h) (value max (variables_here h)) (third g1.0 g2.0) s (left_in h) g2.2 in
-      transfer_steps f g1.0 (q_stop_wanted g2.0 g3.0) x s refl g3.2
+      transfer_steps f g1.0 (q_stop_next g2.0 g3.0) x s refl g3.2
   begun (q_repeat line f r t max limit x) to d fits fine =
       let s : State = stepped (state_of h []) in
-      let fourth : Option (List ℕ) → Address → ℕ → ℕ → Action = λ table at m n. transfer_to plan f table (q_repeat_wanted at m n) x in
+      let fourth : Option (List ℕ) → Address → ℕ → ℕ → Action = λ table at m n. transfer_to plan f table (q_repeat_next at m n) x in
       let third : Option (List ℕ) → Address → ℕ → Action = λ table at m. given (value limit (variables_here h)) (fourth table at m) in
       let second : Option (List ℕ) → Address → Action = λ table at. given (value max (variables_here h)) (third table at) in
       let g1 = fine_given plan (bounds_of h) (sent (context_in h.checked.now) t) (λ table. given (registers_here h r) (second table)) s (left_in h) (fine []) in
       let g2 = fine_given plan (bounds_of h) (registers_here h r) (second g1.0) s (left_in h) g1.2 in
       let g3 = fine_given plan (bounds_of h) (value max (variables_here h)) (third g1.0 g2.0) s (left_in h) g2.2 in
       let g4 = fine_given plan (bounds_of h) (value limit (variables_here h)) (fourth g1.0 g2.0 g3.0) s (left_in h) g3.2 in
-      transfer_steps f g1.0 (q_repeat_wanted g2.0 g3.0 g4.0) x s refl g4.2
+      transfer_steps f g1.0 (q_repeat_next g2.0 g3.0 g4.0) x s refl g4.2
   begun (choose line test a) to d fits fine = choose_steps test a done (stepped (state_of h [])) (fine [])
   begun (choose_else line test a b) to d fits fine = choose_steps test a b (stepped (state_of h [])) (fine [])
   begun (for_ line x e1 e2 ks body) to d fits fine =

@@ -17,7 +17,7 @@ use Rattle.camac_branch.specs.declared.answer.CycleDone.{CycleDone}
 use Rattle.camac_branch.specs.declared.answer.Overrun.{Overrun}
 use Rattle.camac_esone.specs.Calls.{IsOnBranch}
 use Rattle.camac_esone.specs.Progress.{Left, Continues}
-use Rattle.camac_esone.specs.Transfers.{Wanted, q_stop_wanted, q_repeat_wanted, scan_wanted, tally}
+use Rattle.camac_esone.specs.Transfers.{NextAddress, q_stop_next, q_repeat_next, scan_next, tally}
 use Rattle.camac_model.specs.State.{State, stepped, missed_with, with_variable}
 use Rattle.camac_model.specs.Behaviour.{does, ends, stops, overrun, Action, then_do, given, unless_wrong}
 use Rattle.camac_model.specs.Cycle.{cycle, after_cycle}
@@ -29,12 +29,12 @@ use Rattle.camac_model.specs.Value.{value}
 use Rattle.camac_run_machine.specs.declared.item.Item.TheVariants as item
 use Rattle.camac_run_machine.specs.declared.machine.Machine.{Machine}
 use Rattle.camac_run_machine.specs.declared.machine.TransferCycle.{TransferCycle}
-use Rattle.camac_run_machine.specs.declared.machine.Wanting.{Wanting}
-use Rattle.camac_run_machine.specs.declared.machine.Wanting.TheVariants.{Cycle, Read, Lock, Transfer}
+use Rattle.camac_run_machine.specs.declared.machine.Pending.{Pending}
+use Rattle.camac_run_machine.specs.declared.machine.Pending.TheVariants.{Cycle, Read, Lock, Transfer}
 use Rattle.camac_run_machine.specs.declared.transfer.Course.{Course}
 use Rattle.camac_run_machine.specs.declared.transfer.Transfer as held
 use Rattle.camac_run_machine.specs.Course.{left_at, words_from, words_sent, data_of, words_after}
-use Rattle.camac_run_machine.specs.MachineState.{variables_here, registers_here, reach, with_value, context_in, state_of, bounds_of, left_in, stands, made, want_of, after_wanting, cycle_of, transferred, IsFineHere, FineThen, HasRoom, IsWanting, Advances, Proceeds, Settles, Makes, IsRefused, Takes, Overruns}
+use Rattle.camac_run_machine.specs.MachineState.{variables_here, registers_here, reach, with_value, context_in, state_of, bounds_of, left_in, stands, made, pending_of, after_pending, cycle_of, transferred, IsFineHere, FineThen, HasRoom, IsPending, Advances, Proceeds, Settles, Makes, IsRefused, Takes, Overruns}
 use Rattle.camac_run_machine.specs.Rest.{address_of, transfers, awaited, follows, transfer_left, rest_in, says}
 use Rattle.camac_run_machine.proofs.Actions.{known}
 use Rattle.camac_run_machine.proofs.Commands.{on_branch}
@@ -63,46 +63,46 @@ module _ {V D C : ℕ} (h : Machine V D C) where
       record { cycles = w.cycles; words = w.words; steps = w.steps; are_words = w.are_words }
 
   -- a transfer that is fine begins within the bounds
-  left_within : (f : ℕ) (table : Option (List ℕ)) (left : Left) (x : ℕ) (qs : List Bool) (s : State) → IsFineHere h (then_do (transfer plan f (words_from left.tally table) left.wanted (finish left.tally x) qs [] s) (left_in h)) → IsWithin (bounds_of h) s
+  left_within : (f : ℕ) (table : Option (List ℕ)) (left : Left) (x : ℕ) (qs : List Bool) (s : State) → IsFineHere h (then_do (transfer plan f (words_from left.tally table) left.next_address (finish left.tally x) qs [] s) (left_in h)) → IsWithin (bounds_of h) s
   left_within f table left x qs s fine =
-      transfer_within plan f (words_from left.tally table) left.wanted (finish left.tally x) qs (bounds_of h) (left_in h) (ends_within left.tally x qs) s fine
+      transfer_within plan f (words_from left.tally table) left.next_address (finish left.tally x) qs (bounds_of h) (left_in h) (ends_within left.tally x qs) s fine
 
   -- its next cycle can be made
-  next_can : (t : held.Transfer) (at : Address) → (left_at t.course).wanted [] ≡ Some at → FineThen h (λ c. transferred c t)
+  next_can : (t : held.Transfer) (at : Address) → (left_at t.course).next_address [] ≡ Some at → FineThen h (λ c. transferred c t)
       → (d : DataMove) × (data_of t.course (words_sent t.table) ≡ Some d) × IsSome (crate_waits plan at.crate_no) × IsSafe plan at t.function d
   unfolding awaited
   next_can t at e fine =
       let left : Left = left_at t.course in
-      transfer_can plan t.function (words_from left.tally (words_sent t.table)) left.wanted (finish left.tally t.tally) [] (bounds_of h) (left_in h) at e (state_of h (blank ∷ [])) (fine (blank ∷ []))
+      transfer_can plan t.function (words_from left.tally (words_sent t.table)) left.next_address (finish left.tally t.tally) [] (bounds_of h) (left_in h) at e (state_of h (blank ∷ [])) (fine (blank ∷ []))
 
-  pub next_at : (t : held.Transfer) → AllowsCommands plan → FineThen h (λ c. transferred c t) → IfSome ((left_at t.course).wanted []) IsOnBranch
-  next_at t all fine = go ((left_at t.course).wanted []) refl
+  pub next_at : (t : held.Transfer) → AllowsCommands plan → FineThen h (λ c. transferred c t) → IfSome ((left_at t.course).next_address []) IsOnBranch
+  next_at t all fine = go ((left_at t.course).next_address []) refl
     where
-      go : (o : Option Address) → (left_at t.course).wanted [] ≡ o → IfSome o IsOnBranch
+      go : (o : Option Address) → (left_at t.course).next_address [] ≡ o → IfSome o IsOnBranch
       go None e = tt
       go (Some at) e = let can = next_can t at e fine in on_branch plan all at t.function can.0 can.3
 
-  pub next_data : (t : held.Transfer) → FineThen h (λ c. transferred c t) → IfSome ((left_at t.course).wanted []) (λ at. IsSome (data_of t.course (words_sent t.table)))
-  next_data t fine = go ((left_at t.course).wanted []) refl
+  pub next_data : (t : held.Transfer) → FineThen h (λ c. transferred c t) → IfSome ((left_at t.course).next_address []) (λ at. IsSome (data_of t.course (words_sent t.table)))
+  next_data t fine = go ((left_at t.course).next_address []) refl
     where
-      go : (o : Option Address) → (left_at t.course).wanted [] ≡ o → IfSome o (λ at. IsSome (data_of t.course (words_sent t.table)))
+      go : (o : Option Address) → (left_at t.course).next_address [] ≡ o → IfSome o (λ at. IsSome (data_of t.course (words_sent t.table)))
       go None e = tt
       go (Some at) e = let can = next_can t at e fine in some_is (data_of t.course (words_sent t.table)) can.0 can.1
 
   -- a transfer goes on to its next cycle
-  pub proceeds_on : (t : held.Transfer) (k : Command) → FineThen h (λ c. transferred c t) → t.tally < (reach h).variables → (left_at t.course).wanted [] ≡ Some (address_of k) → data_of t.course (words_sent t.table) ≡ Some k.mv → k.f ≡ t.function → HasRoom h
+  pub proceeds_on : (t : held.Transfer) (k : Command) → FineThen h (λ c. transferred c t) → t.tally < (reach h).variables → (left_at t.course).next_address [] ≡ Some (address_of k) → data_of t.course (words_sent t.table) ≡ Some k.mv → k.f ≡ t.function → HasRoom h
       → Proceeds h (λ c. transferred c t) (option_map (cycle_of t) (Some k)) h
   proceeds_on t k fine lt e d same r =
       let can = next_can t (address_of k) e fine in
       record {
         room = r;
         same = refl;
-        wants = (can.2, (lt, e, d));
+        pending = (can.2, (lt, e, d));
         goes = λ answers. ap (λ f. then_do (awaited (context_in h.checked.now) (transfers t.course f (words_sent t.table) t.tally) (state_of h answers)) (left_in h)) same;
       }
 
   -- or to its end
-  pub proceeds_over : (t : held.Transfer) (new : Machine V D C) → (left_at t.course).wanted [] ≡ None → t.tally < (reach h).variables → new ≡ with_value h t.tally (left_at t.course).tally → HasRoom h → Proceeds h (λ c. transferred c t) None new
+  pub proceeds_over : (t : held.Transfer) (new : Machine V D C) → (left_at t.course).next_address [] ≡ None → t.tally < (reach h).variables → new ≡ with_value h t.tally (left_at t.course).tally → HasRoom h → Proceeds h (λ c. transferred c t) None new
   unfolding awaited
   proceeds_over t new e lt same r =
       let left : Left = left_at t.course in
@@ -112,31 +112,31 @@ module _ {V D C : ℕ} (h : Machine V D C) where
       subst (λ m. Proceeds h (λ c. transferred c t) None m) (sym same) (record {
         room = room_written h x n r;
         same = refl;
-        wants = tt;
+        pending = tt;
         goes = λ answers.
             ap (λ os. rest_in (context_in h.checked.now) os (state_of (with_value h x n) answers)) (sym (opens_written h x n r))
             ∙ ap (left_in h) (state_written h x n lt r answers)
             ∙ ap (λ m. left_in h (with_variable x m (state_of h answers))) all
-            ∙ ap (λ b. then_do b (left_in h)) (sym (transfer_over plan t.function (words_from n (words_sent t.table)) left.wanted (finish n x) [] e answers (state_of h answers)));
+            ∙ ap (λ b. then_do b (left_in h)) (sym (transfer_over plan t.function (words_from n (words_sent t.table)) left.next_address (finish n x) [] e answers (state_of h answers)));
       })
 
   -- a statement that begins a transfer
-  module _ (st : Statement) (t : held.Transfer) (table : Option (List ℕ)) (wanted : Wanted) (sends : words_sent t.table ≡ table) (starts : left_at t.course ≡ record { wanted = wanted; tally = 0 })
-      (is : (answers : List Answer) → effect (context_in h.checked.now) most_turns st (state_of h answers) ≡ transfer_to plan t.function table wanted t.tally (state_of h answers)) where
+  module _ (st : Statement) (t : held.Transfer) (table : Option (List ℕ)) (next_address : NextAddress) (sends : words_sent t.table ≡ table) (starts : left_at t.course ≡ record { next_address = next_address; tally = 0 })
+      (is : (answers : List Answer) → effect (context_in h.checked.now) most_turns st (state_of h answers) ≡ transfer_to plan t.function table next_address t.tally (state_of h answers)) where
     begins : (answers : List Answer) → effect (context_in h.checked.now) most_turns st (state_of h answers) ≡ transferred (context_in h.checked.now) t (state_of h answers)
     unfolding awaited
     begins answers =
         is answers
-        ∙ sym (transfer_starts plan t.function table wanted t.tally (state_of h answers))
-        ∙ ap (λ g. transfer_left plan t.function g (record { wanted = wanted; tally = 0 }) t.tally [] (state_of h answers)) (sym sends)
+        ∙ sym (transfer_starts plan t.function table next_address t.tally (state_of h answers))
+        ∙ ap (λ g. transfer_left plan t.function g (record { next_address = next_address; tally = 0 }) t.tally [] (state_of h answers)) (sym sends)
         ∙ ap (λ l. transfer_left plan t.function (words_sent t.table) l t.tally [] (state_of h answers)) (sym starts)
 
     pub begins_fine : FineThen h (λ c. effect c most_turns st) → FineThen h (λ c. transferred c t)
     begins_fine fine = fine_as h (λ c. effect c most_turns st) (λ c. transferred c t) begins fine
 
-    pub begins_proceed : (next' : Option Wanting) (new : Machine V D C) → Proceeds h (λ c. transferred c t) next' new → Proceeds h (λ c. effect c most_turns st) next' new
+    pub begins_proceed : (next' : Option Pending) (new : Machine V D C) → Proceeds h (λ c. transferred c t) next' new → Proceeds h (λ c. effect c most_turns st) next' new
     begins_proceed next' new p =
-        record { room = p.room; same = p.same; wants = p.wants; goes = λ answers. p.goes answers ∙ ap (λ b. then_do b (left_in h)) (sym (begins answers)) }
+        record { room = p.room; same = p.same; pending = p.pending; goes = λ answers. p.goes answers ∙ ap (λ b. then_do b (left_in h)) (sym (begins answers)) }
 
   has_some : {A : Type 0} (o : Option A) (go : A → Action) → IsFineHere h (then_do (given o go (state_of h [])) (left_in h)) → IsSome o
   has_some o go fine = let g = fine_given plan (bounds_of h) o go (state_of h []) (left_in h) fine in some_is o g.0 g.1
@@ -144,7 +144,7 @@ module _ {V D C : ℕ} (h : Machine V D C) where
   -- the address scan
   module _ (f r1 r2 : ℕ) (max : Expression) (x : ℕ) (fine : FineThen h (λ c. effect c most_turns (address_scan 0 f r1 r2 max x))) where
     abbrev scans : Address → Address → ℕ → Action
-    scans first last m = unless_wrong (nat_eq first.crate_no last.crate_no) (transfer_to plan f None (scan_wanted first last m) x)
+    scans first last m = unless_wrong (nat_eq first.crate_no last.crate_no) (transfer_to plan f None (scan_next first last m) x)
 
     abbrev scans_up : Address → Address → Action
     scans_up first last = given (value max (variables_here h)) (scans first last)
@@ -172,23 +172,23 @@ module _ {V D C : ℕ} (h : Machine V D C) where
         module _ (m : ℕ) (is3 : value max (variables_here h) ≡ Some m) where
           same_crate : nat_eq first.crate_no last.crate_no ≡ true
           same_crate =
-              (fine_unless plan (bounds_of h) (nat_eq first.crate_no last.crate_no) (transfer_to plan f None (scan_wanted first last m) x) (state_of h []) (left_in h)
+              (fine_unless plan (bounds_of h) (nat_eq first.crate_no last.crate_no) (transfer_to plan f None (scan_next first last m) x) (state_of h []) (left_in h)
               (known h (value max (variables_here h)) m (scans first last) [] is3 up_to_last)).0
 
           pub one_crate : first.crate_no ≡ last.crate_no
           one_crate = eqb-true first.crate_no last.crate_no same_crate
 
-          pub scan_goes : (answers : List Answer) → effect (context_in h.checked.now) most_turns (address_scan 0 f r1 r2 max x) (state_of h answers) ≡ transfer_to plan f None (scan_wanted first last m) x (state_of h answers)
+          pub scan_goes : (answers : List Answer) → effect (context_in h.checked.now) most_turns (address_scan 0 f r1 r2 max x) (state_of h answers) ≡ transfer_to plan f None (scan_next first last m) x (state_of h answers)
           scan_goes answers =
               ap (λ o. given o scans_from (state_of h answers)) is1
               ∙ ap (λ o. given o (scans_up first) (state_of h answers)) is2
               ∙ ap (λ o. given o (scans first last) (state_of h answers)) is3
-              ∙ ap (λ b. unless_wrong b (transfer_to plan f None (scan_wanted first last m) x) (state_of h answers)) same_crate
+              ∙ ap (λ b. unless_wrong b (transfer_to plan f None (scan_next first last m) x) (state_of h answers)) same_crate
 
   -- Q-stop
   module _ (f r : ℕ) (g : Option ℕ) (max : Expression) (x : ℕ) (fine : FineThen h (λ c. effect c most_turns (q_stop 0 f r g max x))) where
     abbrev stops_after : Option (List ℕ) → Address → ℕ → Action
-    stops_after table at m = transfer_to plan f table (q_stop_wanted at m) x
+    stops_after table at m = transfer_to plan f table (q_stop_next at m) x
 
     abbrev stops_at : Option (List ℕ) → Address → Action
     stops_at table at = given (value max (variables_here h)) (stops_after table at)
@@ -212,7 +212,7 @@ module _ {V D C : ℕ} (h : Machine V D C) where
             has_some (value max (variables_here h)) (stops_after table at)
             (known h (registers_here h r) at (stops_at table) [] is2 with_table)
 
-        pub stop_goes : (m : ℕ) → value max (variables_here h) ≡ Some m → (answers : List Answer) → effect (context_in h.checked.now) most_turns (q_stop 0 f r g max x) (state_of h answers) ≡ transfer_to plan f table (q_stop_wanted at m) x (state_of h answers)
+        pub stop_goes : (m : ℕ) → value max (variables_here h) ≡ Some m → (answers : List Answer) → effect (context_in h.checked.now) most_turns (q_stop 0 f r g max x) (state_of h answers) ≡ transfer_to plan f table (q_stop_next at m) x (state_of h answers)
         stop_goes m is3 answers =
             ap (λ o. given o stops_with (state_of h answers)) is1
             ∙ ap (λ o. given o (stops_at table) (state_of h answers)) is2
@@ -221,7 +221,7 @@ module _ {V D C : ℕ} (h : Machine V D C) where
   -- Q-repeat
   module _ (f r : ℕ) (g : Option ℕ) (max limit : Expression) (x : ℕ) (fine : FineThen h (λ c. effect c most_turns (q_repeat 0 f r g max limit x))) where
     abbrev q_repeats_up : Option (List ℕ) → Address → ℕ → ℕ → Action
-    q_repeats_up table at m n = transfer_to plan f table (q_repeat_wanted at m n) x
+    q_repeats_up table at m n = transfer_to plan f table (q_repeat_next at m n) x
 
     abbrev q_repeats_for : Option (List ℕ) → Address → ℕ → Action
     q_repeats_for table at m = given (value limit (variables_here h)) (q_repeats_up table at m)
@@ -255,7 +255,7 @@ module _ {V D C : ℕ} (h : Machine V D C) where
               has_some (value limit (variables_here h)) (q_repeats_up table at m)
               (known h (value max (variables_here h)) m (q_repeats_for table at) [] is3 at_address)
 
-          pub repeat_goes : (n : ℕ) → value limit (variables_here h) ≡ Some n → (answers : List Answer) → effect (context_in h.checked.now) most_turns (q_repeat 0 f r g max limit x) (state_of h answers) ≡ transfer_to plan f table (q_repeat_wanted at m n) x (state_of h answers)
+          pub repeat_goes : (n : ℕ) → value limit (variables_here h) ≡ Some n → (answers : List Answer) → effect (context_in h.checked.now) most_turns (q_repeat 0 f r g max limit x) (state_of h answers) ≡ transfer_to plan f table (q_repeat_next at m n) x (state_of h answers)
           repeat_goes n is4 answers =
               ap (λ o. given o q_repeats_with (state_of h answers)) is1
               ∙ ap (λ o. given o (q_repeats_at table) (state_of h answers)) is2
@@ -263,7 +263,7 @@ module _ {V D C : ℕ} (h : Machine V D C) where
               ∙ ap (λ o. given o (q_repeats_up table at m) (state_of h answers)) is4
 
   -- what goes on at once is begun like any statement
-  pub proceeds_advance : (st : Statement) (next' : Option Wanting) (new : Machine V D C) → Proceeds (record h { steps = h.steps + 1 }) (λ c. effect c most_turns st) next' new → Advances h (λ c s. effect c most_turns st (stepped s)) next' new
+  pub proceeds_advance : (st : Statement) (next' : Option Pending) (new : Machine V D C) → Proceeds (record h { steps = h.steps + 1 }) (λ c. effect c most_turns st) next' new → Advances h (λ c s. effect c most_turns st (stepped s)) next' new
   proceeds_advance st next' new p =
       let steps : new.steps ≡ h.steps + 1 = ap (λ (m : Machine V D C). m.steps) p.same in
       let frames : length new.frames.items ≡ length h.frames.items = ap (λ (m : Machine V D C). length m.frames.items) p.same in
@@ -271,14 +271,14 @@ module _ {V D C : ℕ} (h : Machine V D C) where
         room = p.room;
         checked = ap (λ (m : Machine V D C). m.checked) p.same;
         service = ap (λ (m : Machine V D C). m.service) p.same;
-        wants = p.wants;
+        pending = p.pending;
         pace = omega (arith, steps, frames);
         released = [];
         unlocks = ap (λ (m : Machine V D C). m.unlocks.items) p.same ∙ sym (append-nil h.unlocks.items);
         goes = p.goes;
       }
 
-  pub proceeds_pace : (st : Statement) (next' : Option Wanting) (new : Machine V D C) → Proceeds (record h { steps = h.steps + 1 }) (λ c. effect c most_turns st) next' new → length new.frames.items + 2 * h.steps < 2 * new.steps + length h.frames.items
+  pub proceeds_pace : (st : Statement) (next' : Option Pending) (new : Machine V D C) → Proceeds (record h { steps = h.steps + 1 }) (λ c. effect c most_turns st) next' new → length new.frames.items + 2 * h.steps < 2 * new.steps + length h.frames.items
   proceeds_pace st next' new p =
       let steps : new.steps ≡ h.steps + 1 = ap (λ (m : Machine V D C). m.steps) p.same in
       let frames : length new.frames.items ≡ length h.frames.items = ap (λ (m : Machine V D C). length m.frames.items) p.same in
@@ -289,30 +289,30 @@ module _ {V D C : ℕ} (h : Machine V D C) where
     abbrev further : held.Transfer
     further = record { course = later; function = k.f; table = table; tally = x }
 
-    follows_on : (answers : List Answer) → follows (context_in h.checked.now) (want_of (Transfer (cycle_at k t table x))) (state_of h answers) ≡ transferred (context_in h.checked.now) further (state_of h answers)
+    follows_on : (answers : List Answer) → follows (context_in h.checked.now) (pending_of (Transfer (cycle_at k t table x))) (state_of h answers) ≡ transferred (context_in h.checked.now) further (state_of h answers)
     unfolding awaited follows
     follows_on answers = transfer_continues plan k.f (words_sent table) (left_at t) (left_at later) x h.q (state_of h answers) c
 
-    pub further_fine : FineThen h (λ c. follows c (want_of (Transfer (cycle_at k t table x)))) → FineThen h (λ c. transferred c further)
-    further_fine fine = fine_as h (λ c. follows c (want_of (Transfer (cycle_at k t table x)))) (λ c. transferred c further) follows_on fine
+    pub further_fine : FineThen h (λ c. follows c (pending_of (Transfer (cycle_at k t table x)))) → FineThen h (λ c. transferred c further)
+    further_fine fine = fine_as h (λ c. follows c (pending_of (Transfer (cycle_at k t table x)))) (λ c. transferred c further) follows_on fine
 
-    pub further_proceeds : (next' : Option Wanting) (new : Machine V D C) → Proceeds h (λ c. transferred c further) next' new → Proceeds h (λ c. after_wanting c (Some (Transfer (cycle_at k t table x)))) next' new
+    pub further_proceeds : (next' : Option Pending) (new : Machine V D C) → Proceeds h (λ c. transferred c further) next' new → Proceeds h (λ c. after_pending c (Some (Transfer (cycle_at k t table x)))) next' new
     further_proceeds next' new p =
-        record { room = p.room; same = p.same; wants = p.wants; goes = λ answers. p.goes answers ∙ ap (λ b. then_do b (left_in h)) (sym (follows_on answers)) }
+        record { room = p.room; same = p.same; pending = p.pending; goes = λ answers. p.goes answers ∙ ap (λ b. then_do b (left_in h)) (sym (follows_on answers)) }
 
   -- what goes on at once, whatever it is
   module _ (go : Context → Action) (mid : Machine V D C) (quiet : h.unlocks.items ≡ []) where
-    pub mid_quiet : (next' : Option Wanting) → Proceeds h go next' mid → mid.unlocks.items ≡ []
+    pub mid_quiet : (next' : Option Pending) → Proceeds h go next' mid → mid.unlocks.items ≡ []
     mid_quiet next' p = ap (λ (m : Machine V D C). m.unlocks.items) p.same ∙ quiet
 
     -- it wants an answer
-    pub wants_settles : (next' : Option Wanting) → IsSome next' → Proceeds h go next' mid → Settles h go next' mid
+    pub wants_settles : (next' : Option Pending) → IsSome next' → Proceeds h go next' mid → Settles h go next' mid
     wants_settles None some p = absurd (false≢true some)
     wants_settles (Some w) some p = record {
       room = p.room;
       checked = ap (λ (m : Machine V D C). m.checked) p.same;
       service = ap (λ (m : Machine V D C). m.service) p.same;
-      wants = p.wants;
+      pending = p.pending;
       over = tt;
       goes = λ answers. ap (λ us. says us (stands (Some w) mid answers)) (mid_quiet (Some w) p) ∙ p.goes answers;
     }
@@ -322,30 +322,30 @@ module _ {V D C : ℕ} (h : Machine V D C) where
     over_fine fine p answers =
         fine_along mid h (ap (λ (m : Machine V D C). m.checked) p.same) (ap (λ (m : Machine V D C). m.service) p.same) (stands None mid answers) _ (p.goes answers) (fine answers)
 
-    pub over_settles : (next' : Option Wanting) (new : Machine V D C) → Proceeds h go None mid → Settles mid (λ c. ends) next' new → Settles h go next' new
+    pub over_settles : (next' : Option Pending) (new : Machine V D C) → Proceeds h go None mid → Settles mid (λ c. ends) next' new → Settles h go next' new
     over_settles next' new p s = record {
       room = s.room;
       checked = s.checked ∙ ap (λ (m : Machine V D C). m.checked) p.same;
       service = s.service ∙ ap (λ (m : Machine V D C). m.service) p.same;
-      wants = s.wants;
+      pending = s.pending;
       over = s.over;
       goes = λ answers. s.goes answers ∙ p.goes answers;
     }
 
   -- nothing of the statement is left
-  module _ (w : Wanting) (nothing : (answers : List Answer) → follows (context_in h.checked.now) (want_of w) (state_of h answers) ≡ ends (state_of h answers)) where
-    pub alone_proceeds : HasRoom h → Proceeds h (λ c. after_wanting c (Some w)) None h
-    alone_proceeds r = record { room = r; same = refl; wants = tt; goes = λ answers. ap (λ b. then_do b (left_in h)) (sym (nothing answers)) }
+  module _ (w : Pending) (nothing : (answers : List Answer) → follows (context_in h.checked.now) (pending_of w) (state_of h answers) ≡ ends (state_of h answers)) where
+    pub alone_proceeds : HasRoom h → Proceeds h (λ c. after_pending c (Some w)) None h
+    alone_proceeds r = record { room = r; same = refl; pending = tt; goes = λ answers. ap (λ b. then_do b (left_in h)) (sym (nothing answers)) }
 
-  pub cycle_alone : (k : Command) (answers : List Answer) → follows (context_in h.checked.now) (want_of (Cycle k)) (state_of h answers) ≡ ends (state_of h answers)
+  pub cycle_alone : (k : Command) (answers : List Answer) → follows (context_in h.checked.now) (pending_of (Cycle k)) (state_of h answers) ≡ ends (state_of h answers)
   unfolding follows
   cycle_alone k answers = refl
 
-  pub read_alone : (k : Command) (x bits : ℕ) (answers : List Answer) → follows (context_in h.checked.now) (want_of (Read k x bits)) (state_of h answers) ≡ ends (state_of h answers)
+  pub read_alone : (k : Command) (x bits : ℕ) (answers : List Answer) → follows (context_in h.checked.now) (pending_of (Read k x bits)) (state_of h answers) ≡ ends (state_of h answers)
   unfolding follows
   read_alone k x bits answers = refl
 
-  pub lock_alone : (k : ℕ) (body : Bor (List Stmt)) (answers : List Answer) → follows (context_in h.checked.now) (want_of (Lock k body)) (state_of h answers) ≡ ends (state_of h answers)
+  pub lock_alone : (k : ℕ) (body : Bor (List Stmt)) (answers : List Answer) → follows (context_in h.checked.now) (pending_of (Lock k body)) (state_of h answers) ≡ ends (state_of h answers)
   unfolding follows
   lock_alone k body answers = refl
 
@@ -367,7 +367,7 @@ module _ {V D C : ℕ} (h : Machine V D C) where
   }
 
 -- a cycle of a transfer
-module _ {V D C : ℕ} (h : Machine V D C) (k : Command) (t : Course) (table : Option (Bor (List ℕ))) (x : ℕ) (a : Answer) (p : IsWanting h (Transfer (cycle_at k t table x))) where
+module _ {V D C : ℕ} (h : Machine V D C) (k : Command) (t : Course) (table : Option (Bor (List ℕ))) (x : ℕ) (a : Answer) (p : IsPending h (Transfer (cycle_at k t table x))) where
   abbrev left : Left
   left = left_at t
 
@@ -381,16 +381,16 @@ module _ {V D C : ℕ} (h : Machine V D C) (k : Command) (t : Course) (table : O
   over = finish h left.tally x
 
   abbrev G : List Answer → Reply → Action
-  G answers r u = transfer h.checked.now.plan k.f words_left left.wanted over (r.q ∷ []) answers (stepped (keep_word words_left bits r u))
+  G answers r u = transfer h.checked.now.plan k.f words_left left.next_address over (r.q ∷ []) answers (stepped (keep_word words_left bits r u))
 
-  goes_first : (answers : List Answer) → awaited (context_in h.checked.now) (want_of (Transfer (cycle_at k t table x))) (state_of h (a ∷ answers)) ≡ cycle h.checked.now.plan (address_of k) k.f k.mv (a ∷ answers) (G answers) (state_of h (a ∷ answers))
+  goes_first : (answers : List Answer) → awaited (context_in h.checked.now) (pending_of (Transfer (cycle_at k t table x))) (state_of h (a ∷ answers)) ≡ cycle h.checked.now.plan (address_of k) k.f k.mv (a ∷ answers) (G answers) (state_of h (a ∷ answers))
   unfolding awaited
-  goes_first answers = transfer_goes h.checked.now.plan k.f words_left left.wanted over [] (address_of k) k.mv p.1.1 p.1.2 a answers (state_of h (a ∷ answers))
+  goes_first answers = transfer_goes h.checked.now.plan k.f words_left left.next_address over [] (address_of k) k.mv p.1.1 p.1.2 a answers (state_of h (a ∷ answers))
 
   within_after : (r : Reply) (u : State) → IsFineHere h (then_do (G [] r u) (left_in h)) → IsWithin (bounds_of h) (stepped (record u { words = words_after (words_sent table) bits r u.words }))
   within_after r u fine =
       left_within h k.f (words_sent table) left x (r.q ∷ []) (stepped (record u { words = words_after (words_sent table) bits r u.words }))
-      (subst (λ (v : State). IsFineHere h (then_do (transfer h.checked.now.plan k.f words_left left.wanted over (r.q ∷ []) [] (stepped v)) (left_in h))) (keep_is left.tally (words_sent table) bits r u) fine)
+      (subst (λ (v : State). IsFineHere h (then_do (transfer h.checked.now.plan k.f words_left left.next_address over (r.q ∷ []) [] (stepped v)) (left_in h))) (keep_is left.tally (words_sent table) bits r u) fine)
 
   pub transfer_overruns : (o : Overrun) → IsRefused h k.c a o → Overruns h (Transfer (cycle_at k t table x)) a o
   transfer_overruns o r = λ answers.
@@ -402,7 +402,7 @@ module _ {V D C : ℕ} (h : Machine V D C) (k : Command) (t : Course) (table : O
     cycle_fine : (answers : List Answer) → IsFineHere h (then_do (cycle h.checked.now.plan (address_of k) k.f k.mv (a ∷ answers) (G answers) (state_of h (a ∷ answers))) (left_in h))
     cycle_fine answers = subst (λ b. IsFineHere h (then_do b (left_in h))) (goes_first answers) (fine (a ∷ answers))
 
-    pub transfer_cost : is_permitted h.checked.now.plan (branch_of h.branch) k.c a.wait ≡ true → h.cycles + (1 + a.wait) < 2 ^ 32
+    pub transfer_cost : is_permitted h.checked.now.plan (branch_of h.branch) k.c a.wait ≡ true → h.cost + (1 + a.wait) < 2 ^ 32
     transfer_cost permitted = cost_fits h k a p.0 G cycle_fine (λ u f. (within_after _ u f).cycles) room.cycles permitted
 
     module _ (mid : Machine V D C) (d : CycleDone) (m : Makes h k a d mid) where
@@ -428,7 +428,7 @@ module _ {V D C : ℕ} (h : Machine V D C) (k : Command) (t : Course) (table : O
         step_fits = let w = both_within.1 in let most = room.steps in omega (arith, w, most, last_steps)
 
         abbrev after : Machine V D C
-        after = record h { branch = mid.branch; q = d.reply.q; x = d.reply.x; cycles = h.cycles + (1 + d.wait); missed = missed_with d.reply.x h.missed }
+        after = record h { branch = mid.branch; q = d.reply.q; x = d.reply.x; cost = h.cost + (1 + d.wait); missed = missed_with d.reply.x h.missed }
 
         abbrev final : Machine V D C
         final = record after { words = last.words; steps = h.steps + 1 }
@@ -448,12 +448,12 @@ module _ {V D C : ℕ} (h : Machine V D C) (k : Command) (t : Course) (table : O
               checked = refl;
               service = refl;
               unlocks = refl;
-              can_follow = (p.1.0, some_is ((left_at t).wanted []) (address_of k) p.1.1);
+              can_follow = (p.1.0, some_is ((left_at t).next_address []) (address_of k) p.1.1);
               goes = λ answers.
                   let made' : State = after_cycle (address_of k) k.f d.reply d.wait answers (state_of h (a ∷ answers)) in
                   ap (λ b. then_do b (left_in h)) (goes_first answers)
                   ∙ goes_on h k a p.0 G d answers m.permitted m.done
-                  ∙ ap (λ (u : State). does (made d) (then_do (transfer h.checked.now.plan k.f words_left left.wanted over (d.reply.q ∷ []) answers (stepped u)) (left_in h)))
+                  ∙ ap (λ (u : State). does (made d) (then_do (transfer h.checked.now.plan k.f words_left left.next_address over (d.reply.q ∷ []) answers (stepped u)) (left_in h)))
                   (keep_is left.tally (words_sent table) bits d.reply made'
                   ∙ ap (λ us. record made' { words = us }) (sym ws)
                   ∙ ap (λ b. record made' { branch = b; words = last.words }) (sym m.branch));

@@ -8,7 +8,7 @@ use Rattle.camac_branch.specs.Branch.{Answer, Reply, reply_to}
 use Rattle.camac_branch.specs.Plan.{Layout, crate_waits}
 use Rattle.camac_model.specs.State.{State, stepped, with_word}
 use Rattle.camac_model.specs.Behaviour.{Behaviour, does, ends, stops, more, Action, then_do, given, decide, unless_wrong, reached, lock_taken}
-use Rattle.camac_model.specs.Cycle.{cycle, next_answer, make_cycle, after_cycle, take_lock, after_lock}
+use Rattle.camac_model.specs.Cycle.{outcome, follow, cycle, make_cycle, after_cycle, take_lock, after_lock}
 use Rattle.camac_model.specs.Fine.{Bounds, AreWords, IsWithin, IsFine, most_turns}
 use Rattle.camac_model.specs.Laws.{HasGrown}
 use Rattle.camac_model.specs.Meaning.{context, for_state, for_turns, turns, block_meaning}
@@ -41,6 +41,11 @@ module _ (plan : Layout) (k : Bounds) where
   pub fine_given : {A : Type 0} (o : Option A) (go : A → Action) (s : State) (rest : Action) → IsFine plan k (then_do (given o go s) rest) → (v : A) × (o ≡ Some v) × IsFine plan k (then_do (go v s) rest)
   fine_given None go s rest h = absurd h.0
   fine_given (Some v) go s rest h = (v, refl, h)
+
+  -- what can follow is in a crate of the plan
+  pub fine_follow : (c : ℕ) (o : Option ℕ) (l : Bool) (answers : List Answer) (go : Answer → List Answer → Action) (s : State) (rest : Action) → IsFine plan k (then_do (follow c (outcome o l answers) go s) rest) → (waits : ℕ) × (o ≡ Some waits) × IsFine plan k (then_do (follow c (outcome (Some waits) l answers) go s) rest)
+  fine_follow c None l answers go s rest h = absurd h.0
+  fine_follow c (Some waits) l answers go s rest h = (waits, refl, h)
 
   pub fine_unless : (b : Bool) (go : Action) (s : State) (rest : Action) → IsFine plan k (then_do (unless_wrong b go s) rest) → (b ≡ true) × IsFine plan k (then_do (go s) rest)
   fine_unless true go s rest h = (refl, h)
@@ -156,18 +161,18 @@ module _ (plan : Layout) (k : Bounds) where
       go : (l : Bool) (waits : ℕ) → IsFine plan k (then_do (take_lock c waits l body s) rest) → IsWithin k s
       go true waits f = absurd f.0
       go false waits f =
-          let at = subst (λ left. IsFine plan k (then_do (next_answer c waits false left (λ a more t. does (lock_taken c a.wait) (body (after_lock c a.wait more t))) s) rest)) e f in at.1
+          let at = subst (λ left. IsFine plan k (then_do (follow c (outcome (Some waits) false left) (λ a more t. does (lock_taken c a.wait) (body (after_lock c a.wait more t))) s) rest)) e f in at.1
 
   -- a cycle that can be made is safe
   pub fine_cycle : (at : Address) (f : ℕ) (d : DataMove) (go : Reply → Action) (s : State) (rest : Action) → IsFine plan k (then_do (cycle plan at f d (blank ∷ []) go s) rest) → IsSome (crate_waits plan at.crate_no) × IsSafe plan at f d
   fine_cycle at f d go s rest h =
-      let g = fine_given (crate_waits plan at.crate_no) (λ waits. next_answer at.crate_no waits (s.branch at.crate_no).locked (blank ∷ []) (make_cycle plan at f d go)) s rest h in
+      let g = fine_follow at.crate_no (crate_waits plan at.crate_no) (s.branch at.crate_no).locked (blank ∷ []) (make_cycle plan at f d go) s rest h in
       (some_is (crate_waits plan at.crate_no) g.0 g.1, g.2.0)
 
   -- a cycle makes no step, so that what follows it counts the same
   pub cycle_steps : (at : Address) (f : ℕ) (d : DataMove) (go : Reply → Action) (s : State) (rest : Action) → ((r : Reply) (t : State) → IsFine plan k (then_do (go r t) rest) → t.steps ≤ k.steps) → IsFine plan k (then_do (cycle plan at f d (blank ∷ []) go s) rest) → s.steps ≤ k.steps
   cycle_steps at f d go s rest keeps h =
-      let g = fine_given (crate_waits plan at.crate_no) (λ waits. next_answer at.crate_no waits (s.branch at.crate_no).locked (blank ∷ []) (make_cycle plan at f d go)) s rest h in
+      let g = fine_follow at.crate_no (crate_waits plan at.crate_no) (s.branch at.crate_no).locked (blank ∷ []) (make_cycle plan at f d go) s rest h in
       let r : Reply = reply_to plan s.branch at f blank in
       keeps r (after_cycle at f r 0 [] s) g.2.1
 

@@ -19,11 +19,11 @@ use Rattle.camac_model.proofs.Runs.{then_assoc}
 use Rattle.camac_run_machine.specs.declared.machine.Frame.{Frame}
 use Rattle.camac_run_machine.specs.declared.machine.Machine.{Machine}
 use Rattle.camac_run_machine.specs.declared.machine.Owner.TheVariants.{Plain}
-use Rattle.camac_run_machine.specs.declared.machine.Wanting.{Wanting}
+use Rattle.camac_run_machine.specs.declared.machine.Pending.{Pending}
 use Rattle.camac_run_machine.specs.declared.scope.Scope.{Scope}
 use Rattle.camac_run_machine.specs.Rest.{nothing, owed, Open, left_of, rest_in, says}
 use Rattle.camac_run_machine.specs.Within.{StatementFits, Opens, OwnerFits, outer, OpenFit}
-use Rattle.camac_run_machine.specs.MachineState.{bounds_at, bounds_of, open_in, opens_in, holds, AreHeld, free, reach, context_in, state_of, left_in, stands, IsFineHere, HasRoomFor, HasRoom, Wants, Enters, Advances}
+use Rattle.camac_run_machine.specs.MachineState.{bounds_at, bounds_of, open_in, opens_in, holds, AreHeld, free, reach, context_in, state_of, left_in, stands, IsFineHere, HasRoomFor, HasRoom, Awaits, Enters, Advances}
 use Rattle.camac_run_machine.proofs.Blocks.{then_ends, rest_push, opens_push, opens_pop, says_more, measure_falls}
 use Rattle.camac_run_machine.proofs.Locks.{held_push, held_same}
 
@@ -131,12 +131,12 @@ module _ {V D C : ℕ} (h : Machine V D C) where
         ap (λ (gs : List Frame). rest_in (context_in h.checked.now) (map (open_in h) gs) s) e ∙ left_pushed (context_in h.checked.now) (open_in h) fs.items f s
 
   -- a statement that wants an answer
-  pub wants_advance : (st : Statement) (w : Wanting) → HasRoom h → Wants (record h { steps = h.steps + 1 }) (λ c. effect c most_turns st) w → Advances h (λ c s. effect c most_turns st (stepped s)) (Some w) (record h { steps = h.steps + 1 })
+  pub wants_advance : (st : Statement) (w : Pending) → HasRoom h → Awaits (record h { steps = h.steps + 1 }) (λ c. effect c most_turns st) w → Advances h (λ c s. effect c most_turns st (stepped s)) (Some w) (record h { steps = h.steps + 1 })
   wants_advance st w r k = record {
     room = room_stepped (h.steps + 1) r;
     checked = refl;
     service = refl;
-    wants = k.wants;
+    pending = k.pending;
     pace = omega arith;
     released = [];
     unlocks = sym (append-nil h.unlocks.items);
@@ -168,7 +168,7 @@ module _ {V D C : ℕ} (h : Machine V D C) where
     room = k.room;
     checked = k.checked;
     service = k.service;
-    wants = tt;
+    pending = tt;
     pace = let n = k.blocks in let m = k.steps in omega (arith, n, m);
     released = [];
     unlocks = ap (λ (us : ArrayVec ℕ). us.items) k.unlocks ∙ sym (append-nil h.unlocks.items);
@@ -176,12 +176,12 @@ module _ {V D C : ℕ} (h : Machine V D C) where
   }
 
   -- one that is done at once
-  pub step_advances : (st : Statement) (w : Option Wanting) (new : Machine V D C) → Advances (record h { steps = h.steps + 1 }) (λ c. effect c most_turns st) w new → Advances h (λ c s. effect c most_turns st (stepped s)) w new
+  pub step_advances : (st : Statement) (w : Option Pending) (new : Machine V D C) → Advances (record h { steps = h.steps + 1 }) (λ c. effect c most_turns st) w new → Advances h (λ c s. effect c most_turns st (stepped s)) w new
   step_advances st w new k = record {
     room = k.room;
     checked = k.checked;
     service = k.service;
-    wants = k.wants;
+    pending = k.pending;
     pace = let p = k.pace in omega arith;
     released = k.released;
     unlocks = k.unlocks;
@@ -208,7 +208,7 @@ smaller new h fs f e1 e2 within pace popped =
     more gs g = omega (arith, length-append gs (g ∷ []))
 
 -- what was left, after what the frame that was taken came to
-pub goes_further : {V D C : ℕ} (h new : Machine V D C) (f : Frame) (fs : ArrayVec Frame) → h.frames.items ≡ fs.items ++ f ∷ [] → (released : List ℕ) → new.unlocks.items ≡ h.unlocks.items ++ released → (w : Option Wanting) (answers : List Answer)
+pub goes_further : {V D C : ℕ} (h new : Machine V D C) (f : Frame) (fs : ArrayVec Frame) → h.frames.items ≡ fs.items ++ f ∷ [] → (released : List ℕ) → new.unlocks.items ≡ h.unlocks.items ++ released → (w : Option Pending) (answers : List Answer)
     → says released (stands w new answers) ≡ then_do (left_of (context_in h.checked.now) (open_in h f) (state_of h answers)) (left_in (record h { frames = fs }))
     → says new.unlocks.items (stands w new answers) ≡ says h.unlocks.items (stands None h answers)
 goes_further h new f fs popped released e w answers goes =

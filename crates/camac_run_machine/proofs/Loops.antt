@@ -16,7 +16,7 @@ use Rattle.camac_model.specs.Value.{value, truth}
 use Rattle.camac_run_machine.specs.declared.machine.Frame.{Frame}
 use Rattle.camac_run_machine.specs.declared.machine.Machine.{Machine}
 use Rattle.camac_run_machine.specs.declared.machine.Owner.TheVariants.{For, While}
-use Rattle.camac_run_machine.specs.declared.machine.Wanting.{Wanting}
+use Rattle.camac_run_machine.specs.declared.machine.Pending.{Pending}
 use Rattle.camac_run_machine.specs.MachineState.{reach, with_value, variables_here, open_in, context_in, state_of, bounds_of, left_in, IsFineHere, FineThen, HasRoom, Advances}
 use Rattle.camac_run_machine.specs.Rest.{owed, left_of, rest_in}
 use Rattle.camac_run_machine.proofs.Fine.{fine_first, fine_decide, keeps_block, keeps_for, keeps_turns, keeps_rest, turns_are}
@@ -37,12 +37,12 @@ module _ {V D C : ℕ} (h : Machine V D C) where
   pub fine_as : (go to : Context → Action) → ((answers : List Answer) → go ctx (state_of h answers) ≡ to ctx (state_of h answers)) → FineThen h go → FineThen h to
   fine_as go to e fine = λ answers. subst (λ b. IsFineHere h (then_do b (left_in h))) (e answers) (fine answers)
 
-  pub advances_as : (go to : Context → Action) (w : Option Wanting) (new : Machine V D C) → ((answers : List Answer) → go ctx (state_of h answers) ≡ to ctx (state_of h answers)) → Advances h go w new → Advances h to w new
+  pub advances_as : (go to : Context → Action) (w : Option Pending) (new : Machine V D C) → ((answers : List Answer) → go ctx (state_of h answers) ≡ to ctx (state_of h answers)) → Advances h go w new → Advances h to w new
   advances_as go to w new e k = record {
     room = k.room;
     checked = k.checked;
     service = k.service;
-    wants = k.wants;
+    pending = k.pending;
     pace = k.pace;
     released = k.released;
     unlocks = k.unlocks;
@@ -55,7 +55,7 @@ module _ {V D C : ℕ} (h : Machine V D C) where
     room = r;
     checked = refl;
     service = refl;
-    wants = tt;
+    pending = tt;
     pace = omega arith;
     released = [];
     unlocks = sym (append-nil h.unlocks.items);
@@ -92,7 +92,7 @@ module _ {V D C : ℕ} (h : Machine V D C) where
         room = k;
         checked = refl;
         service = refl;
-        wants = tt;
+        pending = tt;
         pace = omega (arith, long);
         released = [];
         unlocks = sym (append-nil h.unlocks.items);
@@ -171,7 +171,7 @@ module _ {V D C : ℕ} (h : Machine V D C) where
         room = k;
         checked = refl;
         service = refl;
-        wants = tt;
+        pending = tt;
         pace = omega (arith, long);
         released = [];
         unlocks = sym (append-nil h.unlocks.items);

@@ -46,7 +46,7 @@ module _ {V D C : ℕ} (h : Machine V D C) (i : ℕ) (sc : Scope) (fs : ArrayVec
     x = false;
     words = [];
     steps = 0;
-    cycles = 0;
+    cost = 0;
     missed = 0;
   }
 

@@ -3,7 +3,7 @@ use Rattle.std.proofs.Common.{◌≡◌, ℕ, ◌+◌, ◌-◌, ◌^◌, ◌<◌
 use Rattle.std.proofs.lemmas.Bool.{false≢true}
 use Rattle.std.proofs.lemmas.List.{length-map, map-append}
 use Rattle.std.specs.Borrow.{Bor}
-use Rattle.std.specs.Prelude.{IsSome, unwrap_or}
+use Rattle.std.specs.Prelude.{IsSome, unwrap_or, if◌then◌else◌}
 use Rattle.arrayvec.specs.ArrayVec.{ArrayVec}
 use Rattle.camac_lang.specs.declared.tree.Stmt.{Stmt}
 use Rattle.camac_lang.specs.Tree.{Block}
@@ -15,7 +15,7 @@ use Rattle.camac_branch.specs.declared.answer.Overrun.{Overrun}
 use Rattle.camac_crate.specs.Lock.{permitted}
 use Rattle.camac_model.specs.State.{State}
 use Rattle.camac_model.specs.Behaviour.{does, stops, overrun, lock_taken, Action, then_do, given}
-use Rattle.camac_model.specs.Cycle.{if_permitted, next_answer, take_lock, after_lock, release}
+use Rattle.camac_model.specs.Cycle.{too_long, answered, outcome, follow, take_lock, after_lock, release}
 use Rattle.camac_model.specs.Fine.{most_turns}
 use Rattle.camac_model.specs.Meaning.{block_meaning}
 use Rattle.camac_model.specs.Value.{greatest}
@@ -23,8 +23,8 @@ use Rattle.camac_run_machine.specs.declared.item.Item.TheVariants as item
 use Rattle.camac_run_machine.specs.declared.machine.Frame.{Frame}
 use Rattle.camac_run_machine.specs.declared.machine.Machine.{Machine}
 use Rattle.camac_run_machine.specs.declared.machine.Owner.TheVariants.{Locked}
-use Rattle.camac_run_machine.specs.declared.machine.Wanting.TheVariants.{Lock}
-use Rattle.camac_run_machine.specs.MachineState.{context_in, open_in, opens_in, AreHeld, locked_among, reach, state_of, bounds_of, left_in, stands, IsFineHere, HasRoom, IsWanting, TakesLock, IsRefused, Takes, Overruns}
+use Rattle.camac_run_machine.specs.declared.machine.Pending.TheVariants.{Lock}
+use Rattle.camac_run_machine.specs.MachineState.{context_in, open_in, opens_in, AreHeld, locked_among, reach, state_of, bounds_of, left_in, stands, IsFineHere, HasRoom, IsPending, TakesLock, IsRefused, Takes, Overruns}
 use Rattle.camac_run_machine.specs.Rest.{awaited, follows, owed, Open, rest_in}
 use Rattle.camac_run_machine.specs.Within.{Opens, OpenFit}
 use Rattle.camac_run_machine.proofs.Blocks.{opens_push}
@@ -36,12 +36,12 @@ module _ (k : ℕ) (body : Action) (s : State) (a : Answer) (answers : List Answ
   abbrev taken : Answer → List Answer → Action
   taken b rest t = does (lock_taken k b.wait) (body (after_lock k b.wait rest t))
 
-  locks : (o : Option ℕ) (t : Bool) → IsSome o → permitted (s.branch k).locked (unwrap_or o 0) a.wait ≡ t → given o (λ waits u. take_lock k waits (u.branch k).locked body u) s ≡ if_permitted t k a.wait (taken a answers) s
+  locks : (o : Option ℕ) (t : Bool) → IsSome o → permitted (s.branch k).locked (unwrap_or o 0) a.wait ≡ t → given o (λ waits u. take_lock k waits (u.branch k).locked body u) s ≡ follow k (if t then answered a answers else too_long a.wait) taken s
   locks None t h p = absurd (false≢true h)
   locks (Some w) t h p =
       ap (λ l. take_lock k w l body s) is_free
-      ∙ ap (λ rest. next_answer k w false rest taken s) here
-      ∙ ap (λ u. if_permitted u k a.wait (taken a answers) s) (ap (λ l. permitted l w a.wait) (sym is_free) ∙ p)
+      ∙ ap (λ rest. follow k (outcome (Some w) false rest) taken s) here
+      ∙ ap (λ u. follow k (if u then answered a answers else too_long a.wait) taken s) (ap (λ l. permitted l w a.wait) (sym is_free) ∙ p)
 
   pub lock_goes : (plan : Layout) → IsSome (crate_waits plan k) → is_permitted plan s.branch k a.wait ≡ true → given (crate_waits plan k) (λ waits u. take_lock k waits (u.branch k).locked body u) s ≡ does (lock_taken k a.wait) (body (after_lock k a.wait answers s))
   lock_goes plan planned p = locks (crate_waits plan k) true planned p
@@ -49,7 +49,7 @@ module _ (k : ℕ) (body : Action) (s : State) (a : Answer) (answers : List Answ
   pub lock_halts : (plan : Layout) → IsSome (crate_waits plan k) → is_permitted plan s.branch k a.wait ≡ false → given (crate_waits plan k) (λ waits u. take_lock k waits (u.branch k).locked body u) s ≡ stops (overrun k a.wait) s
   lock_halts plan planned p = locks (crate_waits plan k) false planned p
 
-module _ {V D C : ℕ} (h : Machine V D C) (k : ℕ) (body : Bor (List Stmt)) (a : Answer) (ready : IsWanting h (Lock k body)) where
+module _ {V D C : ℕ} (h : Machine V D C) (k : ℕ) (body : Bor (List Stmt)) (a : Answer) (ready : IsPending h (Lock k body)) where
   abbrev b : Block
   b = statements_of body.now
 
@@ -80,7 +80,7 @@ module _ {V D C : ℕ} (h : Machine V D C) (k : ℕ) (body : Bor (List Stmt)) (a
       ∙ ap (λ (x : Overrun). stops (overrun x.c x.wait) (state_of h (a ∷ answers))) (sym r.overrun)
 
   -- its cost has room
-  pub lock_cost : ((answers : List Answer) → IsFineHere h (stands (Some (Lock k body)) h answers)) → (bounds_of h).cycles ≤ greatest → is_permitted h.checked.now.plan (branch_of h.branch) k a.wait ≡ true → h.cycles + a.wait < 2 ^ 32
+  pub lock_cost : ((answers : List Answer) → IsFineHere h (stands (Some (Lock k body)) h answers)) → (bounds_of h).cycles ≤ greatest → is_permitted h.checked.now.plan (branch_of h.branch) k a.wait ≡ true → h.cost + a.wait < 2 ^ 32
   lock_cost fine most p =
       let ok = subst (λ x. IsFineHere h x) (goes [] p) (fine (a ∷ [])) in
       let within = keeps_rest h.checked.now.plan (bounds_of h) h.checked.now.script _ (later []) ok.1 in
@@ -88,7 +88,7 @@ module _ {V D C : ℕ} (h : Machine V D C) (k : ℕ) (body : Bor (List Stmt)) (a
 
   module _ (mid : Machine V D C) (w : ℕ) (fs : ArrayVec Frame) (room : HasRoom h) (quiet : h.unlocks.items ≡ []) (m : TakesLock h k a w mid) (pushed : fs.items ≡ h.frames.items ++ opened ∷ []) where
     abbrev after : Machine V D C
-    after = record h { branch = mid.branch; cycles = h.cycles + w; frames = fs }
+    after = record h { branch = mid.branch; cost = h.cost + w; frames = fs }
 
     abbrev os : List Open
     os = opens_in h

@@ -10,32 +10,32 @@ use Rattle.camac_lang.specs.Code.{clash, condition_coded, block_coded}
 use Rattle.camac_lang.specs.Tree.{Block}
 use Rattle.camac_run_machine.specs.contracts.scope.Scope as scope
 use Rattle.camac_run_machine.specs.contracts.transfer.Course as course
-use Rattle.camac_run_machine.specs.Rest.{Want, makes, reads, locks, transfers, Owner, nothing, releases, for_loop, while_loop, returns, Open}
+use Rattle.camac_run_machine.specs.Rest.{Operation, makes, reads, locks, transfers, Owner, nothing, releases, for_loop, while_loop, returns, Open}
 
 abbrev pub table_coded : Coded (Option (List ℕ))
 table_coded = coded_option (coded_list coded_ℕ)
 
-abbrev pub want_code : Want → Gv
-want_code (makes k) = gcons (gnum 0) (command.the_row.coded.code k)
-want_code (reads k x bits) = gcons (gnum 1) (gcons (command.the_row.coded.code k) (gcons (gnum x) (gnum bits)))
-want_code (locks k body) = gcons (gnum 2) (gcons (gnum k) (block_coded.code body))
-want_code (transfers t f table x) = gcons (gnum 3) (gcons (course.the_row.coded.code t) (gcons (gnum f) (gcons (table_coded.code table) (gnum x))))
+abbrev pub operation_code : Operation → Gv
+operation_code (makes k) = gcons (gnum 0) (command.the_row.coded.code k)
+operation_code (reads k x bits) = gcons (gnum 1) (gcons (command.the_row.coded.code k) (gcons (gnum x) (gnum bits)))
+operation_code (locks k body) = gcons (gnum 2) (gcons (gnum k) (block_coded.code body))
+operation_code (transfers t f table x) = gcons (gnum 3) (gcons (course.the_row.coded.code t) (gcons (gnum f) (gcons (table_coded.code table) (gnum x))))
 
-pub same_want : (a b : Want) → want_code a ≡ want_code b → a ≡ b
-same_want (makes k) (makes l) e =
+pub same_operation : (a b : Operation) → operation_code a ≡ operation_code b → a ≡ b
+same_operation (makes k) (makes l) e =
     let h : command.the_row.coded.code k ≡ command.the_row.coded.code l = cc in ap makes (command.the_row.coded.inj k l h)
-same_want (reads k x m) (reads l y n) e =
+same_operation (reads k x m) (reads l y n) e =
     let h : command.the_row.coded.code k ≡ command.the_row.coded.code l = cc in cc (command.the_row.coded.inj k l h)
-same_want (locks k a) (locks l b) e =
+same_operation (locks k a) (locks l b) e =
     let h : block_coded.code a ≡ block_coded.code b = cc in cc (block_coded.inj a b h)
-same_want (transfers t f table x) (transfers u g words y) e =
+same_operation (transfers t f table x) (transfers u g words y) e =
     let h : course.the_row.coded.code t ≡ course.the_row.coded.code u = cc in
     let k : table_coded.code table ≡ table_coded.code words = cc in
     cc (course.the_row.coded.inj t u h, table_coded.inj table words k)
-same_want x y e = clash (want_code x) (want_code y) e refl
+same_operation x y e = clash (operation_code x) (operation_code y) e refl
 
-abbrev pub want_coded : Coded Want
-want_coded = record { code = want_code; inj = same_want }
+abbrev pub want_coded : Coded Operation
+want_coded = record { code = operation_code; inj = same_operation }
 
 abbrev variables_coded : Coded (List ℕ)
 variables_coded = coded_list coded_ℕ

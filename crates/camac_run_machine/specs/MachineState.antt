@@ -23,16 +23,16 @@ use Rattle.camac_names.specs.Linked.{bit_of_service}
 use Rattle.camac_run_machine.specs.Store.{variables_in, registers_in, held_at}
 use Rattle.camac_lang.specs.Fits.{fits}
 use Rattle.camac_run_machine.specs.Course.{left_at, words_sent, data_of}
-use Rattle.camac_run_machine.specs.Rest.{address_of, Want, makes, reads, locks, transfers, awaited, follows, Owner, nothing, releases, for_loop, while_loop, returns, Open, left_of, rest_in, says}
+use Rattle.camac_run_machine.specs.Rest.{address_of, Operation, makes, reads, locks, transfers, awaited, follows, Owner, nothing, releases, for_loop, while_loop, returns, Open, left_of, rest_in, says}
 use Rattle.camac_run_machine.specs.Within.{Reach, reach_of, ScopeFits, Opens, OpenFit}
 use Rattle.camac_run_machine.specs.declared.item.Item.{Item}
 use Rattle.camac_run_machine.specs.declared.item.Item.TheVariants as item
 use Rattle.camac_run_machine.specs.declared.machine.Frame.{Frame}
 use Rattle.camac_run_machine.specs.declared.machine.Machine.{Machine}
 use Rattle.camac_run_machine.specs.declared.machine.Owner as rust
-use Rattle.camac_run_machine.specs.declared.machine.Wanting.{Wanting}
-use Rattle.camac_run_machine.specs.declared.machine.Wanting.TheVariants as wanting
-use Rattle.camac_run_machine.specs.declared.machine.Wanting.TheVariants.{Cycle, Read, Lock}
+use Rattle.camac_run_machine.specs.declared.machine.Pending.{Pending}
+use Rattle.camac_run_machine.specs.declared.machine.Pending.TheVariants as pending
+use Rattle.camac_run_machine.specs.declared.machine.Pending.TheVariants.{Cycle, Read, Lock}
 use Rattle.camac_run_machine.specs.declared.transfer.Course.{Course}
 use Rattle.camac_run_machine.specs.declared.transfer.Transfer.{Transfer}
 
@@ -65,7 +65,7 @@ open_of vs rs f = record { block = statements_of f.rest.now; owner = owner_of vs
 abbrev pub opens_of : List ℕ → List (Option Address) → List Frame → List Open
 opens_of vs rs fs = map (open_of vs rs) fs
 
-abbrev pub transfer_of : Transfer → Want
+abbrev pub transfer_of : Transfer → Operation
 transfer_of t = transfers t.course t.function (words_sent t.table) t.tally
 
 -- a transfer that is so far, with this function, the words that it sends and the variable of its tally
@@ -76,18 +76,18 @@ transfer_at course function table tally = record { course = course; function = f
 abbrev pub transferred : Context → Transfer → Action
 transferred c t s = awaited c (transfer_of t) s
 
-abbrev pub want_of : Wanting → Want
-want_of (Cycle k) = makes k
-want_of (Read k x bits) = reads k x bits
-want_of (Lock k body) = locks k (statements_of body.now)
-want_of (wanting.Transfer w) = transfers w.course w.command.f (words_sent w.table) w.tally
+abbrev pub pending_of : Pending → Operation
+pending_of (Cycle k) = makes k
+pending_of (Read k x bits) = reads k x bits
+pending_of (Lock k body) = locks k (statements_of body.now)
+pending_of (pending.Transfer w) = transfers w.course w.command.f (words_sent w.table) w.tally
 
 -- a transfer goes on after a cycle that it wanted, and sets one of so many variables
-abbrev pub CanFollow : ℕ → Wanting → Type 0
+abbrev pub CanFollow : ℕ → Pending → Type 0
 CanFollow v (Cycle k) = Unit {0}
 CanFollow v (Read k x bits) = Unit {0}
 CanFollow v (Lock k body) = Unit {0}
-CanFollow v (wanting.Transfer w) = (w.tally < v) × IsSome ((left_at w.course).wanted [])
+CanFollow v (pending.Transfer w) = (w.tally < v) × IsSome ((left_at w.course).next_address [])
 
 -- the first statement of the innermost of open blocks is taken off it
 pub record TakesFirst (old : List Frame) (first : Stmt) (new : List Frame) : Type 0 where
@@ -116,25 +116,25 @@ abbrev pub LastIsOver : List Frame → Type 0
 LastIsOver fs = (before : List Frame) (last : Frame) → fs ≡ before ++ last ∷ [] → last.rest.now ≡ []
 
 -- the next cycle of a transfer, with this command
-abbrev pub cycle_of : Transfer → Command → Wanting
-cycle_of t k = wanting.Transfer (record { command = k; course = t.course; table = t.table; tally = t.tally })
+abbrev pub cycle_of : Transfer → Command → Pending
+cycle_of t k = pending.Transfer (record { command = k; course = t.course; table = t.table; tally = t.tally })
 
 -- what is wanted, where something is
-abbrev pub wanted_if : Bool → Option Wanting → Option Wanting
+abbrev pub wanted_if : Bool → Option Pending → Option Pending
 wanted_if true w = w
 wanted_if false w = None
 
 -- what is left of a statement after the answer that it wanted, where it wanted one
-abbrev pub after_wanting : Context → Option Wanting → Action
-after_wanting c None = ends
-after_wanting c (Some w) = follows c (want_of w)
+abbrev pub after_pending : Context → Option Pending → Action
+after_pending c None = ends
+after_pending c (Some w) = follows c (pending_of w)
 
 -- the crate in which the answer is to be used
-abbrev pub crate_of : Wanting → ℕ
+abbrev pub crate_of : Pending → ℕ
 crate_of (Cycle k) = k.c
 crate_of (Read k x bits) = k.c
 crate_of (Lock k body) = k
-crate_of (wanting.Transfer w) = w.command.c
+crate_of (pending.Transfer w) = w.command.c
 
 -- the piece of a cycle that was made
 abbrev pub made : CycleDone → Piece
@@ -195,7 +195,7 @@ module _ {V D C : ℕ} where
     x = h.x;
     words = h.words;
     steps = h.steps;
-    cycles = h.cycles;
+    cost = h.cost;
     missed = h.missed;
     answers = answers;
   }
@@ -213,32 +213,32 @@ module _ {V D C : ℕ} where
 
   -- the event of the service in progress, or of the last one, under this number
   abbrev pub event_here : Machine V D C → ℕ → Left
-  event_here h n = (n, bit_at h.checked.now h.service, record { cycles = h.cycles; missed = h.missed })
+  event_here h n = (n, bit_at h.checked.now h.service, record { cycles = h.cost; missed = h.missed })
 
   -- what is left of the open blocks
   abbrev pub left_in : Machine V D C → Action
   left_in h = rest_in (context_in h.checked.now) (opens_in h)
 
   -- what is left of the service: where it wants an answer, from that on
-  abbrev pub stands : Option Wanting → Machine V D C → List Answer → Behaviour State
+  abbrev pub stands : Option Pending → Machine V D C → List Answer → Behaviour State
   stands None h answers = left_in h (state_of h answers)
-  stands (Some w) h answers = then_do (awaited (context_in h.checked.now) (want_of w) (state_of h answers)) (left_in h)
+  stands (Some w) h answers = then_do (awaited (context_in h.checked.now) (pending_of w) (state_of h answers)) (left_in h)
 
   -- how many blocks more can be opened
   abbrev pub free : Machine V D C → ℕ
   free h = D - length h.frames.items
 
   -- for a read a variable, for a lock a free crate and room for the block, for a transfer that its next cycle is this command
-  abbrev pub IsReady : Machine V D C → Wanting → Type 0
+  abbrev pub IsReady : Machine V D C → Pending → Type 0
   IsReady h (Cycle k) = Unit {0}
   IsReady h (Read k x bits) = (x < (reach h).variables) × (bits ≤ 24)
   IsReady h (Lock k body) =
       ((branch_of h.branch k).locked ≡ false) × (1 ≤ k) × (k ≤ 7) × Opens (reach h) (free h) (statements_of body.now)
-  IsReady h (wanting.Transfer w) =
-      (w.tally < (reach h).variables) × ((left_at w.course).wanted [] ≡ Some (address_of w.command)) × (data_of w.course (words_sent w.table) ≡ Some w.command.mv)
+  IsReady h (pending.Transfer w) =
+      (w.tally < (reach h).variables) × ((left_at w.course).next_address [] ≡ Some (address_of w.command)) × (data_of w.course (words_sent w.table) ≡ Some w.command.mv)
 
-  abbrev pub IsWanting : Machine V D C → Wanting → Type 0
-  IsWanting h w = IsSome (crate_waits h.checked.now.plan (crate_of w)) × IsReady h w
+  abbrev pub IsPending : Machine V D C → Pending → Type 0
+  IsPending h w = IsSome (crate_waits h.checked.now.plan (crate_of w)) × IsReady h w
 
   abbrev pub IsFineHere : Machine V D C → Behaviour State → Type 0
   IsFineHere h b = IsFine h.checked.now.plan (bounds_of h) b
@@ -260,7 +260,7 @@ module _ {V D C : ℕ} where
     pub steps : (bounds_of h).steps ≤ greatest
     pub cycles : (bounds_of h).cycles ≤ greatest
     pub few_missed : h.missed ≤ 65535
-    pub missed : h.missed ≤ h.cycles
+    pub missed : h.missed ≤ h.cost
     pub locks : AreHeld (branch_of h.branch) os
     pub unlocks : length h.unlocks.items + locked_among (branch_of h.branch) 7 ≤ 7
 
@@ -268,11 +268,11 @@ module _ {V D C : ℕ} where
   HasRoom h = HasRoomFor h (opens_in h)
 
   -- what the new machine has left is to do this, and then what the old one had left
-  pub record Advances (old : Machine V D C) (go : Context → Action) (wanting : Option Wanting) (new : Machine V D C) : Type 0 where
+  pub record Advances (old : Machine V D C) (go : Context → Action) (pending : Option Pending) (new : Machine V D C) : Type 0 where
     pub room : HasRoom new
     pub checked : new.checked ≡ old.checked
     pub service : new.service ≡ old.service
-    pub wants : IfSome wanting (IsWanting new)
+    pub pending : IfSome pending (IsPending new)
     -- a block more costs a step
     pub pace : length new.frames.items + 2 * old.steps ≤ 2 * new.steps + length old.frames.items
     -- the locks that it releases
@@ -280,20 +280,20 @@ module _ {V D C : ℕ} where
     pub unlocks : new.unlocks.items ≡ old.unlocks.items ++ released
     pub goes :
         (answers : List Answer)
-        → says released (stands wanting new answers) ≡ then_do (go (context_in old.checked.now) (state_of old answers)) (left_in old)
+        → says released (stands pending new answers) ≡ then_do (go (context_in old.checked.now) (state_of old answers)) (left_in old)
 
   -- what the new machine has left is what was left of the innermost block, and then what the blocks around it had left
-  pub record GoesOn (old : Machine V D C) (wanting : Option Wanting) (new : Machine V D C) : Type 0 where
+  pub record GoesOn (old : Machine V D C) (pending : Option Pending) (new : Machine V D C) : Type 0 where
     pub before : List Frame
     pub last : Frame
     pub was : old.frames.items ≡ before ++ last ∷ []
-    pub advances : Advances (record old { frames = record { items = before } }) (λ c. left_of c (open_in old last)) wanting new
+    pub advances : Advances (record old { frames = record { items = before } }) (λ c. left_of c (open_in old last)) pending new
 
   -- this goes on at once, and sets a variable at most
-  pub record Proceeds (old : Machine V D C) (go : Context → Action) (next : Option Wanting) (new : Machine V D C) : Type 0 where
+  pub record Proceeds (old : Machine V D C) (go : Context → Action) (next : Option Pending) (new : Machine V D C) : Type 0 where
     pub room : HasRoom new
     pub same : new ≡ record old { variables = new.variables }
-    pub wants : IfSome next (IsWanting new)
+    pub pending : IfSome next (IsPending new)
     pub goes :
         (answers : List Answer)
         → stands next new answers ≡ then_do (go (context_in old.checked.now) (state_of old answers)) (left_in old)
@@ -311,11 +311,11 @@ module _ {V D C : ℕ} where
         → stands None new answers ≡ then_do (go (context_in old.checked.now) (state_of old answers)) (left_in old)
 
   -- this wants an answer first
-  pub record Wants (h : Machine V D C) (go : Context → Action) (wanting : Wanting) : Type 0 where
-    pub wants : IsWanting h wanting
+  pub record Awaits (h : Machine V D C) (go : Context → Action) (pending : Pending) : Type 0 where
+    pub pending : IsPending h pending
     pub goes :
         (answers : List Answer)
-        → awaited (context_in h.checked.now) (want_of wanting) (state_of h answers) ≡ go (context_in h.checked.now) (state_of h answers)
+        → awaited (context_in h.checked.now) (pending_of pending) (state_of h answers) ≡ go (context_in h.checked.now) (state_of h answers)
 
   -- the cycle was made with this answer; all else stays
   pub record Makes (old : Machine V D C) (k : Command) (answer : Answer) (done' : CycleDone) (new : Machine V D C) : Type 0 where
@@ -328,7 +328,7 @@ module _ {V D C : ℕ} where
           branch = new.branch;
           q = done'.reply.q;
           x = done'.reply.x;
-          cycles = old.cycles + (1 + done'.wait);
+          cost = old.cost + (1 + done'.wait);
           missed = missed_with done'.reply.x old.missed;
         }
 
@@ -342,44 +342,44 @@ module _ {V D C : ℕ} where
     pub permitted : is_permitted old.checked.now.plan (branch_of old.branch) crate_no answer.wait ≡ true
     pub waited : cost ≡ answer.wait
     pub branch : branch_of new.branch ≡ with_lock crate_no true (branch_of old.branch)
-    pub same : new ≡ record old { branch = new.branch; cycles = old.cycles + cost }
+    pub same : new ≡ record old { branch = new.branch; cost = old.cost + cost }
 
   -- what is left stays the same, up to where an answer is wanted or no block is left
-  pub record Settles (old : Machine V D C) (go : Context → Action) (wanting : Option Wanting) (new : Machine V D C) : Type 0 where
+  pub record Settles (old : Machine V D C) (go : Context → Action) (pending : Option Pending) (new : Machine V D C) : Type 0 where
     pub room : HasRoom new
     pub checked : new.checked ≡ old.checked
     pub service : new.service ≡ old.service
-    pub wants : IfSome wanting (IsWanting new)
-    pub over : IfNone wanting (new.frames.items ≡ [])
+    pub pending : IfSome pending (IsPending new)
+    pub over : IfNone pending (new.frames.items ≡ [])
     pub goes :
         (answers : List Answer)
-        → says new.unlocks.items (stands wanting new answers) ≡ then_do (go (context_in old.checked.now) (state_of old answers)) (left_in old)
+        → says new.unlocks.items (stands pending new answers) ≡ then_do (go (context_in old.checked.now) (state_of old answers)) (left_in old)
 
   -- the answer was used for this, and then what is left is what the new machine has left
-  pub record Takes (old : Machine V D C) (wanting : Wanting) (answer : Answer) (used : Item) (new : Machine V D C) : Type 0 where
+  pub record Takes (old : Machine V D C) (pending : Pending) (answer : Answer) (used : Item) (new : Machine V D C) : Type 0 where
     pub room : HasRoom new
     pub checked : new.checked ≡ old.checked
     pub service : new.service ≡ old.service
     pub unlocks : new.unlocks ≡ old.unlocks
-    pub can_follow : CanFollow (reach new).variables wanting
+    pub can_follow : CanFollow (reach new).variables pending
     pub goes :
         (answers : List Answer)
-        → stands (Some wanting) old (answer ∷ answers) ≡ does (piece_of used) (then_do (follows (context_in new.checked.now) (want_of wanting) (state_of new answers)) (left_in new))
+        → stands (Some pending) old (answer ∷ answers) ≡ does (piece_of used) (then_do (follows (context_in new.checked.now) (pending_of pending) (state_of new answers)) (left_in new))
 
   -- the answer's wait is not permitted
-  abbrev pub Overruns : Machine V D C → Wanting → Answer → Overrun → Type 0
-  Overruns h wanting answer o =
+  abbrev pub Overruns : Machine V D C → Pending → Answer → Overrun → Type 0
+  Overruns h pending answer o =
       (answers : List Answer)
-      → stands (Some wanting) h (answer ∷ answers) ≡ stops (overrun o.c o.wait) (state_of h (answer ∷ answers))
+      → stands (Some pending) h (answer ∷ answers) ≡ stops (overrun o.c o.wait) (state_of h (answer ∷ answers))
 
   -- what is left is this service from its start
-  pub record Serves (old : Machine V D C) (number : ℕ) (v : Service) (wanting : Option Wanting) (new : Machine V D C) : Type 0 where
+  pub record Serves (old : Machine V D C) (number : ℕ) (v : Service) (pending : Option Pending) (new : Machine V D C) : Type 0 where
     pub room : HasRoom new
     pub checked : new.checked ≡ old.checked
     pub service : new.service ≡ number
-    pub wants : IfSome wanting (IsWanting new)
-    pub over : IfNone wanting (new.frames.items ≡ [])
+    pub pending : IfSome pending (IsPending new)
+    pub over : IfNone pending (new.frames.items ≡ [])
     pub goes :
         (answers : List Answer)
-        → says new.unlocks.items (stands wanting new answers)
+        → says new.unlocks.items (stands pending new answers)
         ≡ service_meaning (context_in old.checked.now) most_turns v (branch_of old.branch) answers

@@ -24,19 +24,19 @@ address_of k = address k.c k.n k.a
 
 -- what an answer is wanted for: a cycle, with a read the variable that keeps so many bits of the word; the lock of a crate over a block; the
 -- next cycle of a transfer with this function, the table that it sends and the variable of its tally
-pub data Want : Type 0 where
-  makes : Command → Want
-  reads : Command → (variable bits : ℕ) → Want
-  locks : (crate_no : ℕ) → Block → Want
-  transfers : Course → (function : ℕ) → (table : Option (List ℕ)) → (variable : ℕ) → Want
+pub data Operation : Type 0 where
+  makes : Command → Operation
+  reads : Command → (variable bits : ℕ) → Operation
+  locks : (crate_no : ℕ) → Block → Operation
+  transfers : Course → (function : ℕ) → (table : Option (List ℕ)) → (variable : ℕ) → Operation
 
 -- what is left of a transfer is a smaller one: with the words of its table from the tally on, and at its end the tally of all cycles.
 -- This is that after these Q more
 abbrev pub transfer_left : Layout → ℕ → Option (List ℕ) → Left → ℕ → List Bool → Action
 transfer_left plan f table left x qs s =
-    transfer plan f (words_from left.tally table) left.wanted (λ rs t. ends (with_variable x (left.tally + tally rs) t)) qs s.answers s
+    transfer plan f (words_from left.tally table) left.next_address (λ rs t. ends (with_variable x (left.tally + tally rs) t)) qs s.answers s
 
-unfoldable pub awaited : Context → Want → Action
+unfoldable pub awaited : Context → Operation → Action
 awaited c (makes k) s = cycle c.plan (address_of k) k.f k.mv s.answers (λ r. ends) s
 awaited c (reads k x bits) s =
     cycle c.plan (address_of k) k.f k.mv s.answers (λ r t. ends (with_variable x (kept bits r) t)) s
@@ -46,7 +46,7 @@ awaited c (locks k body) s =
 awaited c (transfers course f table x) s = transfer_left c.plan f table (left_at course) x [] s
 
 -- what is left of a statement after the answer that it wanted: further cycles of a transfer, by the Q of this one
-unfoldable pub follows : Context → Want → Action
+unfoldable pub follows : Context → Operation → Action
 follows c (makes k) s = ends s
 follows c (reads k x bits) s = ends s
 follows c (locks k body) s = ends s

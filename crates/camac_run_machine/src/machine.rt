@@ -79,9 +79,9 @@ impl<'a> Default for Frame<'a> {
     }
 }
 
-/// What a service in progress wants an answer for.
+/// What a service in progress waits for: the operation that its next answer is used for.
 #[derive(Clone, Copy)]
-pub enum Wanting<'a> {
+pub enum Pending<'a> {
     /// A cycle that keeps no word.
     Cycle(Command),
     /// A cycle of which a variable keeps so many bits of the word, 24 at most.
@@ -126,9 +126,9 @@ pub struct Machine<'a, const V: usize, const DEPTH: usize, const CAP: usize> {
     pub x: bool,
     /// The words of the event so far.
     pub words: EventBuffer<CAP>,
-    /// The steps, the dataway cycles with their waits, and the cycles without X, at most 65,535, of the service so far (own).
+    /// Of the service so far (own): its steps, what its dataway cycles and locks cost with their waits, and its cycles without X, at most 65,535.
     pub steps: u32,
-    pub cycles: u32,
+    pub cost: u32,
     pub missed: u16,
     pub branch: Branch,
     /// The crates whose locks were released since the last answer.
@@ -172,7 +172,7 @@ impl<'a, const V: usize, const DEPTH: usize, const CAP: usize> Machine<'a, V, DE
             x: false,
             words: EventBuffer::new(),
             steps: 0,
-            cycles: 0,
+            cost: 0,
             missed: 0,
             branch: Branch::start(),
             unlocks: ArrayVec::new(),
@@ -235,13 +235,13 @@ impl<'a, const V: usize, const DEPTH: usize, const CAP: usize> Machine<'a, V, DE
         address_in(self.registers(), register)
     }
 
-    // Begins a statement, and answers whether it wants an answer: `wanting` then says for what.
-    pub(crate) fn begin(&mut self, statement: &'a Stmt, wanting: &mut Option<Wanting<'a>>) -> bool
+    // Begins a statement, and answers whether it waits for an answer: `pending` then says for what.
+    pub(crate) fn begin(&mut self, statement: &'a Stmt, pending: &mut Option<Pending<'a>>) -> bool
         requires room { HasRoom self.old }
         requires fits { StatementFits (reach self.old) (free self.old) (statement_of statement.now) }
         requires fine { FineThen self.old (λ c s. effect c most_turns (statement_of statement.now) (stepped s)) }
-        ensures advances { Advances self.old (λ c s. effect c most_turns (statement_of statement.now) (stepped s)) (wanted_if result wanting.new) self.new }
-        ensures some { result ≡ true → IsSome wanting.new }
+        ensures advances { Advances self.old (λ c s. effect c most_turns (statement_of statement.now) (stepped s)) (wanted_if result pending.new) self.new }
+        ensures some { result ≡ true → IsSome pending.new }
         ensures pace { length self.new.frames.items + 2 * self.old.steps < 2 * self.new.steps + length self.old.frames.items }
     {
         self.steps += 1;
@@ -275,15 +275,15 @@ impl<'a, const V: usize, const DEPTH: usize, const CAP: usize> Machine<'a, V, DE
                 data,
                 ..
             } => {
-                *wanting = Some(self.single(*size, *function, *register, data));
+                *pending = Some(self.single(*size, *function, *register, data));
                 true
             }
             Stmt::CrateCall { call, crate_no, .. } => {
-                *wanting = Some(self.call_crate(*call, crate_no));
+                *pending = Some(self.call_crate(*call, crate_no));
                 true
             }
             Stmt::LamCall { call, lam, .. } => {
-                *wanting = Some(self.call_lam(*call, *lam));
+                *pending = Some(self.call_lam(*call, *lam));
                 true
             }
             Stmt::Scan {
@@ -294,8 +294,8 @@ impl<'a, const V: usize, const DEPTH: usize, const CAP: usize> Machine<'a, V, DE
                 tally,
                 ..
             } => {
-                *wanting = self.scan(*function, *first, *last, max, *tally);
-                wanting.is_some()
+                *pending = self.scan(*function, *first, *last, max, *tally);
+                pending.is_some()
             }
             Stmt::QStop {
                 function,
@@ -305,8 +305,8 @@ impl<'a, const V: usize, const DEPTH: usize, const CAP: usize> Machine<'a, V, DE
                 tally,
                 ..
             } => {
-                *wanting = self.q_stop(*function, *register, *table, max, *tally);
-                wanting.is_some()
+                *pending = self.q_stop(*function, *register, *table, max, *tally);
+                pending.is_some()
             }
             Stmt::QRepeat {
                 function,
@@ -317,8 +317,8 @@ impl<'a, const V: usize, const DEPTH: usize, const CAP: usize> Machine<'a, V, DE
                 tally,
                 ..
             } => {
-                *wanting = self.q_repeat(*function, *register, *table, max, limit, *tally);
-                wanting.is_some()
+                *pending = self.q_repeat(*function, *register, *table, max, limit, *tally);
+                pending.is_some()
             }
             Stmt::If { test, then, .. } => {
                 self.choose(&test.parts, then, &[]);
@@ -334,7 +334,7 @@ impl<'a, const V: usize, const DEPTH: usize, const CAP: usize> Machine<'a, V, DE
                 false
             }
             Stmt::Lock { crate_no, body, .. } => {
-                *wanting = Some(self.want_lock(crate_no, body));
+                *pending = Some(self.want_lock(crate_no, body));
                 true
             }
             Stmt::For {
@@ -363,28 +363,28 @@ impl<'a, const V: usize, const DEPTH: usize, const CAP: usize> Machine<'a, V, DE
     }
 
     // Goes on until an answer is wanted, or the service is over.
-    pub(crate) fn settle(&mut self, wanting: &mut Option<Wanting<'a>>)
+    pub(crate) fn settle(&mut self, pending: &mut Option<Pending<'a>>)
         requires room { HasRoom self.old }
         requires quiet { self.old.unlocks.items ≡ [] }
         requires fine { (answers : List Answer) → IsFineHere self.old (stands None self.old answers) }
-        ensures { Settles self.old (λ c. ends) wanting.new self.new }
+        ensures { Settles self.old (λ c. ends) pending.new self.new }
     {
         while !self.frames.is_empty() {
-            if self.go_on(wanting) {
+            if self.go_on(pending) {
                 return;
             }
         }
-        *wanting = None;
+        *pending = None;
     }
 
     /// Begins the service of this number, and goes on until it wants an answer, or is over: then nothing is wanted.
-    pub fn serve(&mut self, number: usize, wanting: &mut Option<Wanting<'a>>)
+    pub fn serve(&mut self, number: usize, pending: &mut Option<Pending<'a>>)
         requires room { HasRoom self.old }
         requires quiet { self.old.unlocks.items ≡ [] }
         requires idle { self.old.frames.items ≡ [] }
         requires fits { fits self.old.checked.now.script V DEPTH CAP ≡ true }
         requires number { number < length self.old.checked.now.script.services }
-        ensures { (v : Service) → slice_get self.old.checked.now.script.services number ≡ Some v → Serves self.old number v wanting.new self.new }
+        ensures { (v : Service) → slice_get self.old.checked.now.script.services number ≡ Some v → Serves self.old number v pending.new self.new }
     {
         let checked = self.checked;
         checked.is_checked();
@@ -399,13 +399,13 @@ impl<'a, const V: usize, const DEPTH: usize, const CAP: usize> Machine<'a, V, DE
         self.x = false;
         self.words.clear();
         self.steps = 0;
-        self.cycles = 0;
+        self.cost = 0;
         self.missed = 0;
         self.frames.push(Frame {
             rest: service.body.as_slice(),
             owner: Owner::Plain,
         });
-        self.settle(wanting);
+        self.settle(pending);
     }
 
     /// The event of a service that is over, under this number: with its bit of the graded-L pattern and its usage.
@@ -414,7 +414,7 @@ impl<'a, const V: usize, const DEPTH: usize, const CAP: usize> Machine<'a, V, DE
         ensures { result ≡ event_here self.now number }
     {
         let usage = Usage {
-            cycles: self.cycles,
+            cycles: self.cost,
             missed: self.missed,
         };
         (number, self.checked.gl(self.service), usage)

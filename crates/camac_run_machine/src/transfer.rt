@@ -26,7 +26,7 @@ pub enum Course {
 impl Course {
     // Where the next cycle goes, or none at the end.
     pub(crate) fn next(&self) -> Option<Address>
-        ensures { result ≡ (left_at self.now).wanted [] }
+        ensures { result ≡ (left_at self.now).next_address [] }
     {
         match self {
             Course::Stop(stop) => stop.next(),
@@ -37,7 +37,7 @@ impl Course {
 
     // Takes the Q of the cycle that `next` asked for.
     pub(crate) fn take(&mut self, q: bool)
-        requires { IsSome ((left_at self.old).wanted []) }
+        requires { IsSome ((left_at self.old).next_address []) }
         ensures { Continues (left_at self.old) q (left_at self.new) }
     {
         match self {
@@ -68,9 +68,9 @@ impl Course {
 
     // The command of the next cycle, with this function and the words of the table that are sent, or none at the end.
     pub(crate) fn command(&self, function: Function, table: Option<&[Word24]>) -> Option<Command>
-        requires at { IfSome ((left_at self.now).wanted []) IsOnBranch }
-        requires data { IfSome ((left_at self.now).wanted []) (λ at. IsSome (data_of self.now (words_sent table))) }
-        ensures wanted { (left_at self.now).wanted [] ≡ option_map address_of result }
+        requires at { IfSome ((left_at self.now).next_address []) IsOnBranch }
+        requires data { IfSome ((left_at self.now).next_address []) (λ at. IsSome (data_of self.now (words_sent table))) }
+        ensures next_address { (left_at self.now).next_address [] ≡ option_map address_of result }
         ensures moves { IfSome result (λ k. (data_of self.now (words_sent table.entry) ≡ Some k.mv) × (k.f ≡ function)) }
     {
         match self.next() {

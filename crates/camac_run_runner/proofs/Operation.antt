@@ -18,7 +18,7 @@ use Rattle.camac_model.specs.Fine.{most_turns}
 use Rattle.camac_model.specs.Meaning.{block_meaning}
 use Rattle.camac_model.specs.Transfer.{keep_word, transfer}
 use Rattle.camac_run_machine.specs.Course.{left_at, words_from, words_sent}
-use Rattle.camac_run_machine.specs.MachineState.{context_in, left_in, stands, state_of, want_of, IsWanting, bit_at}
+use Rattle.camac_run_machine.specs.MachineState.{context_in, left_in, stands, state_of, pending_of, IsPending, bit_at}
 use Rattle.camac_run_machine.specs.Rest.{address_of, awaited, onward, served}
 use Rattle.camac_run_runner.specs.Runner.{rest}
 use Rattle.camac_run_runner.specs.Sound.{runner_state}
@@ -26,8 +26,8 @@ use Rattle.camac_run_runner.specs.Operation.{Begins, CanLock, IsWaiting, Waits, 
 use Rattle.camac_run_runner.specs.declared.progress.Wanted.{Wanted}
 use Rattle.camac_run_runner.specs.declared.progress.Wanted.TheVariants as wanted
 use Rattle.camac_run_machine.specs.declared.machine.Machine.{Machine}
-use Rattle.camac_run_machine.specs.declared.machine.Wanting.{Wanting}
-use Rattle.camac_run_machine.specs.declared.machine.Wanting.TheVariants.{Cycle, Read, Lock, Transfer}
+use Rattle.camac_run_machine.specs.declared.machine.Pending.{Pending}
+use Rattle.camac_run_machine.specs.declared.machine.Pending.TheVariants.{Cycle, Read, Lock, Transfer}
 use Rattle.camac_run_runner.proofs.Told.{rest_short, rest_over}
 use Rattle.camac_run_machine.proofs.Takes.{cycle_goes, cycle_halts}
 use Rattle.camac_run_machine.proofs.Taken.{lock_goes, lock_halts}
@@ -68,14 +68,14 @@ module _ (plan : Layout) (c : ℕ) (body : Action) (s : State) (a : Answer) (ans
   lock_begins = lock_by (is_permitted plan s.branch c a.wait) refl
 
 -- what is waited for, and is a lock, can be taken
-pub can_lock : {V D C : ℕ} (h : Machine V D C) (w : Wanting) (wanting : Option Wanting) (fed n : ℕ) (has : Bool) (o : Option Overrun) → wanting ≡ Some w → IfSome wanting (IsWanting h) → CanLock (runner_state h wanting fed n has o) (Some (operation w))
-can_lock h (Cycle k) wanting fed n has o e p = tt
-can_lock h (Read k x bits) wanting fed n has o e p = tt
-can_lock h (Lock c body) wanting fed n has o e p = let q : IsWanting h (Lock c body) = rw e at p in (q.0, q.1.0)
-can_lock h (Transfer w) wanting fed n has o e p = tt
+pub can_lock : {V D C : ℕ} (h : Machine V D C) (w : Pending) (pending : Option Pending) (fed n : ℕ) (has : Bool) (o : Option Overrun) → pending ≡ Some w → IfSome pending (IsPending h) → CanLock (runner_state h pending fed n has o) (Some (operation w))
+can_lock h (Cycle k) pending fed n has o e p = tt
+can_lock h (Read k x bits) pending fed n has o e p = tt
+can_lock h (Lock c body) pending fed n has o e p = let q : IsPending h (Lock c body) = rw e at p in (q.0, q.1.0)
+can_lock h (Transfer w) pending fed n has o e p = tt
 
 module _ {V D C : ℕ} (h : Machine V D C) (a : Answer) (answers : List Answer) where
-  first_begins : (w : Wanting) → IsWanting h w → Begins (operation w) a (awaited (context_in h.checked.now) (want_of w) (state_of h (a ∷ answers)))
+  first_begins : (w : Pending) → IsPending h w → Begins (operation w) a (awaited (context_in h.checked.now) (pending_of w) (state_of h (a ∷ answers)))
   unfolding awaited
   first_begins (Cycle k) p = cycle_begins h.checked.now.plan k (λ r. ends) (state_of h (a ∷ answers)) a answers p.0
   first_begins (Read k x bits) p =
@@ -88,41 +88,41 @@ module _ {V D C : ℕ} (h : Machine V D C) (a : Answer) (answers : List Answer) 
       let words : Option (List ℕ) = words_from n (words_sent w.table) in
       let finish : List Bool → Action = λ rs u. ends (with_variable w.tally (n + tally rs) u) in
       subst (Begins (wanted.Cycle w.command) a)
-      (sym (transfer_goes plan w.command.f words (left_at w.course).wanted finish [] (address_of w.command) w.command.mv p.1.1 p.1.2 a answers (state_of h (a ∷ answers))))
-      (cycle_begins plan w.command (λ r t'. transfer plan w.command.f words (left_at w.course).wanted finish (r.q ∷ []) answers (stepped (keep_word words (width plan (address_of w.command) w.command.f) r t'))) (state_of h (a ∷ answers)) a answers p.0)
+      (sym (transfer_goes plan w.command.f words (left_at w.course).next_address finish [] (address_of w.command) w.command.mv p.1.1 p.1.2 a answers (state_of h (a ∷ answers))))
+      (cycle_begins plan w.command (λ r t'. transfer plan w.command.f words (left_at w.course).next_address finish (r.q ∷ []) answers (stepped (keep_word words (width plan (address_of w.command) w.command.f) r t'))) (state_of h (a ∷ answers)) a answers p.0)
 
-  rest_begins : (w : Wanting) → IsWanting h w → Begins (operation w) a (served (context_in h.checked.now) h.checked.now.script.services (bit_at h.checked.now h.service) (stands (Some w) h (a ∷ answers)))
+  rest_begins : (w : Pending) → IsPending h w → Begins (operation w) a (served (context_in h.checked.now) h.checked.now.script.services (bit_at h.checked.now h.service) (stands (Some w) h (a ∷ answers)))
   unfolding served
   rest_begins w p =
       begins_then (operation w) a (stands (Some w) h (a ∷ answers)) _
-      (begins_then (operation w) a (awaited (context_in h.checked.now) (want_of w) (state_of h (a ∷ answers))) (left_in h) (first_begins w p))
+      (begins_then (operation w) a (awaited (context_in h.checked.now) (pending_of w) (state_of h (a ∷ answers))) (left_in h) (first_begins w p))
 
   module _ (fed n : ℕ) (has : Bool) (o : Option Overrun) where
     -- an answer that is wanted is used for what is wanted
-    pub wanted_begins : (wanting : Option Wanting) (w : Wanting) → wanting ≡ Some w → IfSome wanting (IsWanting h) → Begins (operation w) a (rest (runner_state h wanting fed n has o) (a ∷ answers))
-    wanted_begins wanting w e p = let q : IsWanting h w = rw e at p in rw e (rest_begins w q)
+    pub wanted_begins : (pending : Option Pending) (w : Pending) → pending ≡ Some w → IfSome pending (IsPending h) → Begins (operation w) a (rest (runner_state h pending fed n has o) (a ∷ answers))
+    wanted_begins pending w e p = let q : IsPending h w = rw e at p in rw e (rest_begins w q)
 
     -- and where no service is in progress, for a graded-L operation
-    pub idle_begins : (wanting : Option Wanting) → wanting ≡ None → Begins wanted.Demand a (rest (runner_state h wanting fed n has o) (a ∷ answers))
+    pub idle_begins : (pending : Option Pending) → pending ≡ None → Begins wanted.Demand a (rest (runner_state h pending fed n has o) (a ∷ answers))
     unfolding onward
-    idle_begins wanting e = rw e refl
+    idle_begins pending e = rw e refl
 
 -- a runner whose waits were all permitted wants an answer
 module _ {V D C : ℕ} (h : Machine V D C) (fed n : ℕ) (has : Bool) (o : Option Overrun) (first : o ≡ None) where
-  pub wants_some : (wanting : Option Wanting) (w : Wanting) → wanting ≡ Some w → IfSome wanting (IsWanting h) → Wants (runner_state h wanting fed n has o) (Some (operation w))
-  wants_some wanting w e p = (
+  pub wants_some : (pending : Option Pending) (w : Pending) → pending ≡ Some w → IfSome pending (IsPending h) → Wants (runner_state h pending fed n has o) (Some (operation w))
+  wants_some pending w e p = (
     first,
-    subst (λ (b : Behaviour (Unit {0})). Waits b) (sym (rest_short h wanting w fed n has o e p)) tt,
-    λ a answers. wanted_begins h a answers fed n has o wanting w e p,
+    subst (λ (b : Behaviour (Unit {0})). Waits b) (sym (rest_short h pending w fed n has o e p)) tt,
+    λ a answers. wanted_begins h a answers fed n has o pending w e p,
   )
 
-  pub wants_none : (wanting : Option Wanting) → wanting ≡ None → Wants (runner_state h wanting fed n has o) (Some wanted.Demand)
-  wants_none wanting e = (
+  pub wants_none : (pending : Option Pending) → pending ≡ None → Wants (runner_state h pending fed n has o) (Some wanted.Demand)
+  wants_none pending e = (
     first,
-    subst (λ (b : Behaviour (Unit {0})). Waits b) (sym (rest_over h wanting fed n has o e)) tt,
-    λ a answers. idle_begins h a answers fed n has o wanting e,
+    subst (λ (b : Behaviour (Unit {0})). Waits b) (sym (rest_over h pending fed n has o e)) tt,
+    λ a answers. idle_begins h a answers fed n has o pending e,
   )
 
-  pub is_waiting : (wanting : Option Wanting) → IfSome wanting (IsWanting h) → IsWaiting (runner_state h wanting fed n has o)
+  pub is_waiting : (pending : Option Pending) → IfSome pending (IsPending h) → IsWaiting (runner_state h pending fed n has o)
   is_waiting None p = (wanted.Demand, wants_none None refl)
   is_waiting (Some w) p = (operation w, wants_some (Some w) w refl p)

@@ -8,7 +8,7 @@ use Rattle.camac_lang.specs.Tree.{Lam, Service}
 use Rattle.camac_branch.specs.Plan.{Layout, gl}
 use Rattle.camac_check_result.specs.Checked.{CheckedScript, linked_of}
 use Rattle.camac_model.specs.Meaning.{Context, context, lam_address}
-use Rattle.camac_model.specs.Run.{service_bit, is_bit, has_bit, with_bit, or_next, first_service}
+use Rattle.camac_model.specs.Run.{service_bit, is_bit, is_bit_set, with_bit, or_next, first_service}
 use Rattle.camac_names.specs.Link.{lam_bit, service_bit as link_bit}
 use Rattle.camac_names.specs.Linked.{bit_of_service}
 use Rattle.camac_run_machine.proofs.Lists.{place}
@@ -30,7 +30,7 @@ none_further pattern (suc k) e =
 pub none_left : (c : Context) (m k pattern : ℕ) (vs : List Service) → pattern / 2 ^ (k - 1) ≡ 0 → first_service c m k pattern vs ≡ None
 none_left c zero k pattern vs e = refl
 none_left c (suc m) k pattern vs e =
-    let unset : has_bit pattern k ≡ false = ap (λ n. nat_eq (n % 2) 1) e in
+    let unset : is_bit_set pattern k ≡ false = ap (λ n. nat_eq (n % 2) 1) e in
     ap (λ b. or_next (if b then with_bit c k 0 vs else None) (first_service c m (k + 1) pattern vs)) unset ∙ none_left c m (k + 1) pattern vs (none_further pattern k e)
 
 module _ (c : CheckedScript) where

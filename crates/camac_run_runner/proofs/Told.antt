@@ -17,10 +17,10 @@ use Rattle.camac_model.specs.Meaning.{Context}
 use Rattle.camac_model.specs.Run.{service_meaning}
 use Rattle.camac_run_machine.specs.declared.item.Item.{Item}
 use Rattle.camac_run_machine.specs.declared.machine.Machine.{Machine}
-use Rattle.camac_run_machine.specs.declared.machine.Wanting.{Wanting}
-use Rattle.camac_run_machine.specs.declared.machine.Wanting.TheVariants as wanting
-use Rattle.camac_run_machine.specs.declared.machine.Wanting.TheVariants.{Cycle, Read, Lock}
-use Rattle.camac_run_machine.specs.MachineState.{bounds_at, bounds_of, opens_in, locked_among, context_in, state_of, left_in, stands, want_of, FineThen, IsFineHere, HasRoom, IsWanting, Takes, Settles, Serves, Left, bit_at, event_here}
+use Rattle.camac_run_machine.specs.declared.machine.Pending.{Pending}
+use Rattle.camac_run_machine.specs.declared.machine.Pending.TheVariants as pending
+use Rattle.camac_run_machine.specs.declared.machine.Pending.TheVariants.{Cycle, Read, Lock}
+use Rattle.camac_run_machine.specs.MachineState.{bounds_at, bounds_of, opens_in, locked_among, context_in, state_of, left_in, stands, pending_of, FineThen, IsFineHere, HasRoom, IsPending, Takes, Settles, Serves, Left, bit_at, event_here}
 use Rattle.camac_run_machine.specs.Rest.{follows, rest_in, says, served}
 use Rattle.camac_run_runner.specs.Runner.{RunnerState, rest, last_words_in, with_event}
 use Rattle.camac_run_runner.specs.Sound.{runner_state, IsSound}
@@ -33,23 +33,23 @@ use Rattle.camac_run_machine.proofs.Takes.{waits_first}
 
 module _ {V D C : ℕ} where
   -- the event of a service that is over is told and counted, and nothing else changes
-  module _ (new : Machine V D C) (next' : Option Wanting) (event : Option Left) (fed n : ℕ) (has : Bool) (o : Option Overrun) (s : RunnerState) where
+  module _ (new : Machine V D C) (next' : Option Pending) (event : Option Left) (fed n : ℕ) (has : Bool) (o : Option Overrun) (s : RunnerState) where
     abbrev pub IsCounted : Type 0
-    IsCounted = IfNone (option_map want_of next') ((event ≡ Some (event_here new (n + 1))) × (s ≡ record (runner_state new next' fed n has o) { events = n + 1; has_event = true }))
+    IsCounted = IfNone (option_map pending_of next') ((event ≡ Some (event_here new (n + 1))) × (s ≡ record (runner_state new next' fed n has o) { events = n + 1; has_event = true }))
 
     abbrev pub IsAsBefore : Type 0
-    IsAsBefore = OnSome (option_map want_of next') ((event ≡ None) × (s ≡ record (runner_state new next' fed n has o) { has_event = false }))
+    IsAsBefore = OnSome (option_map pending_of next') ((event ≡ None) × (s ≡ record (runner_state new next' fed n has o) { has_event = false }))
 
   -- where nothing is wanted the event is told, and else what is left is that of the machine
-  pub told : (new : Machine V D C) (next' : Option Wanting) (event : Option Left) (fed n : ℕ) (has : Bool) (o : Option Overrun) (s : RunnerState) (answers : List Answer)
+  pub told : (new : Machine V D C) (next' : Option Pending) (event : Option Left) (fed n : ℕ) (has : Bool) (o : Option Overrun) (s : RunnerState) (answers : List Answer)
       → IfNone next' (new.frames.items ≡ []) → IsCounted new next' event fed n has o s → IsAsBefore new next' event fed n has o s
       → served (context_in new.checked.now) new.checked.now.script.services (bit_at new.checked.now new.service) (stands next' new answers) ≡ with_event event (last_words_in s) (rest s answers)
   unfolding served rest_in
   told new None event fed n has o s answers f a b = rw (f, a.0, a.1) refl
   told new (Some w) event fed n has o s answers f a b = rw (b.0, b.1) refl
 
-  pub counted : (new : Machine V D C) (next' : Option Wanting) (event : Option Left) (fed n : ℕ) (has : Bool) (o : Option Overrun) (s : RunnerState)
-      → new.missed ≤ new.cycles → IsCounted new next' event fed n has o s → IsAsBefore new next' event fed n has o s
+  pub counted : (new : Machine V D C) (next' : Option Pending) (event : Option Left) (fed n : ℕ) (has : Bool) (o : Option Overrun) (s : RunnerState)
+      → new.missed ≤ new.cost → IsCounted new next' event fed n has o s → IsAsBefore new next' event fed n has o s
       → IfNone event (s.events ≡ n) × IfSome event (λ e. (e.0 ≡ n + 1) × (s.events ≡ e.0) × (e.2.missed ≤ e.2.cycles)) × IfNone event (last_words_in s ≡ []) × (s.fed ≡ fed) × (s.overrun ≡ o) × (s.checked ≡ new.checked.now)
   counted new None event fed n has o s few a b = rw (a.0, a.1) (tt, (refl, refl, few), tt, refl, refl, refl)
   counted new (Some w) event fed n has o s few a b = rw (b.0, b.1) (refl, tt, refl, refl, refl, refl)
@@ -74,40 +74,40 @@ module _ {V D C : ℕ} where
         unlocks = omega (arith, few, n);
       }
 
-  pub sound_after : (old new : Machine V D C) (none : ArrayVec ℕ) (before next' : Option Wanting) (fed count i : ℕ) → none.items ≡ [] → IsSound old before fed count
-      → HasRoom new → new.checked ≡ old.checked → new.service ≡ i → i < length old.checked.now.script.services → IfSome next' (IsWanting new) → IfNone next' (new.frames.items ≡ [])
+  pub sound_after : (old new : Machine V D C) (none : ArrayVec ℕ) (before next' : Option Pending) (fed count i : ℕ) → none.items ≡ [] → IsSound old before fed count
+      → HasRoom new → new.checked ≡ old.checked → new.service ≡ i → i < length old.checked.now.script.services → IfSome next' (IsPending new) → IfNone next' (new.frames.items ≡ [])
       → ((answers : List Answer) → IsFineHere new (stands next' new answers)) → IsSound (record new { unlocks = none }) next' (fed + 1) count
-  sound_after old new none before next' fed count i quiet s room e service below wants over fine = record {
+  sound_after old new none before next' fed count i quiet s room e service below is_next over fine = record {
     room = room_told new none quiet room;
     quiet = quiet;
     checked = subst (λ (b : Bor CheckedScript). IsChecked b.now) (sym e) s.checked;
     formed = subst (λ (b : Bor CheckedScript). IsTrue (is_well_formed b.now.script)) (sym e) s.formed;
     fits = subst (λ (b : Bor CheckedScript). fits b.now.script V D C ≡ true) (sym e) s.fits;
-    wants = ready next' wants;
+    pending = ready next' is_next;
     idle = over;
     service = there next';
     fine = is_fine next' fine;
     events = let few = s.events in omega (arith, few);
   }
     where
-      there : (o : Option Wanting) → IfSome o (λ w. new.service < length new.checked.now.script.services)
+      there : (o : Option Pending) → IfSome o (λ w. new.service < length new.checked.now.script.services)
       there None = tt
       there (Some w) =
           subst (λ (b : Bor CheckedScript). new.service < length b.now.script.services) (sym e)
           (subst (λ j. j < length old.checked.now.script.services) (sym service) below)
 
-      ready : (o : Option Wanting) → IfSome o (IsWanting new) → IfSome o (IsWanting (record new { unlocks = none }))
+      ready : (o : Option Pending) → IfSome o (IsPending new) → IfSome o (IsPending (record new { unlocks = none }))
       ready None f = tt
       ready (Some (Cycle k)) f = f
       ready (Some (Read k x bits)) f = f
       ready (Some (Lock k body)) f = f
-      ready (Some (wanting.Transfer w)) f = f
+      ready (Some (pending.Transfer w)) f = f
 
-      is_fine : (o : Option Wanting) → ((answers : List Answer) → IsFineHere new (stands o new answers)) → IfSome o (λ w. (answers : List Answer) → IsFineHere (record new { unlocks = none }) (stands (Some w) (record new { unlocks = none }) answers))
+      is_fine : (o : Option Pending) → ((answers : List Answer) → IsFineHere new (stands o new answers)) → IfSome o (λ w. (answers : List Answer) → IsFineHere (record new { unlocks = none }) (stands (Some w) (record new { unlocks = none }) answers))
       is_fine None f = tt
       is_fine (Some w) f = f
 
-  along_told : (new : Machine V D C) (ck : Bor CheckedScript) (i bit : ℕ) (next' : Option Wanting) (event : Option Left) (fed n : ℕ) (has : Bool) (o : Option Overrun) (s : RunnerState) (answers : List Answer)
+  along_told : (new : Machine V D C) (ck : Bor CheckedScript) (i bit : ℕ) (next' : Option Pending) (event : Option Left) (fed n : ℕ) (has : Bool) (o : Option Overrun) (s : RunnerState) (answers : List Answer)
       → new.checked ≡ ck → new.service ≡ i → bit_at ck.now i ≡ bit
       → IfNone next' (new.frames.items ≡ []) → IsCounted new next' event fed n has o s → IsAsBefore new next' event fed n has o s
       → served (context_in ck.now) ck.now.script.services bit (stands next' new answers) ≡ with_event event (last_words_in s) (rest s answers)
@@ -118,7 +118,7 @@ module _ {V D C : ℕ} where
       ∙ told new next' event fed n has o s answers f a b
 
   -- the same along what an answer leaves as it was
-  pub told_along : (new : Machine V D C) (ck : Bor CheckedScript) (i bit : ℕ) (next' : Option Wanting) (event : Option Left) (fed n : ℕ) (has : Bool) (o : Option Overrun) (s : RunnerState) (answers : List Answer)
+  pub told_along : (new : Machine V D C) (ck : Bor CheckedScript) (i bit : ℕ) (next' : Option Pending) (event : Option Left) (fed n : ℕ) (has : Bool) (o : Option Overrun) (s : RunnerState) (answers : List Answer)
       → new.checked ≡ ck → new.service ≡ i → bit_at ck.now i ≡ bit
       → IfNone next' (new.frames.items ≡ []) → IsCounted new next' event fed n has o s → IsAsBefore new next' event fed n has o s
       → (us : List ℕ) → served (context_in ck.now) ck.now.script.services bit (says us (stands next' new answers)) ≡ says us (with_event event (last_words_in s) (rest s answers))
@@ -130,7 +130,7 @@ module _ {V D C : ℕ} where
   fine_told new b f = fine_says new.checked.now.plan (bounds_of new) new.unlocks.items b f
 
   -- a service that is called is fine
-  pub serve_fine : (old new : Machine V D C) (i : ℕ) (v : Service) (next' : Option Wanting) → IsChecked old.checked.now → slice_get old.checked.now.script.services i ≡ Some v → Serves old i v next' new → (answers : List Answer) → IsFineHere new (stands next' new answers)
+  pub serve_fine : (old new : Machine V D C) (i : ℕ) (v : Service) (next' : Option Pending) → IsChecked old.checked.now → slice_get old.checked.now.script.services i ≡ Some v → Serves old i v next' new → (answers : List Answer) → IsFineHere new (stands next' new answers)
   serve_fine old new i v next' checked there s answers =
       let k = old.checked.now in
       let meaning = service_meaning (context_in k) most_turns v (branch_of old.branch) answers in
@@ -139,27 +139,27 @@ module _ {V D C : ℕ} where
       (fine_along new (record old { service = i }) s.checked s.service (says new.unlocks.items (stands next' new answers)) meaning (s.goes answers) fine)
 
   -- what is left after an answer that was taken is fine
-  pub take_fine : (old mid : Machine V D C) (w : Wanting) (a : Answer) (d : Item) → ((answers : List Answer) → IsFineHere old (stands (Some w) old answers)) → Takes old w a d mid → FineThen mid (λ c. follows c (want_of w))
+  pub take_fine : (old mid : Machine V D C) (w : Pending) (a : Answer) (d : Item) → ((answers : List Answer) → IsFineHere old (stands (Some w) old answers)) → Takes old w a d mid → FineThen mid (λ c. follows c (pending_of w))
   take_fine old mid w a d fine t answers =
-      let b = then_do (follows (context_in mid.checked.now) (want_of w) (state_of mid answers)) (left_in mid) in
+      let b = then_do (follows (context_in mid.checked.now) (pending_of w) (state_of mid answers)) (left_in mid) in
       let all = subst (λ x. IsFineHere old x) (t.goes answers) (fine (a ∷ answers)) in
       fine_along mid old t.checked t.service b b refl all.1
 
-  pub settle_fine : (mid new : Machine V D C) (go : Context → Action) (next' : Option Wanting) → FineThen mid go → Settles mid go next' new → (answers : List Answer) → IsFineHere new (stands next' new answers)
+  pub settle_fine : (mid new : Machine V D C) (go : Context → Action) (next' : Option Pending) → FineThen mid go → Settles mid go next' new → (answers : List Answer) → IsFineHere new (stands next' new answers)
   settle_fine mid new go next' fine s answers =
       fine_told new (stands next' new answers)
       (fine_along new mid s.checked s.service (says new.unlocks.items (stands next' new answers)) (then_do (go (context_in mid.checked.now) (state_of mid answers)) (left_in mid)) (s.goes answers) (fine answers))
 
   -- with no answer, a run is short in the service in progress, or over
-  pub rest_short : (h : Machine V D C) (wanting : Option Wanting) (w : Wanting) (fed n : ℕ) (has : Bool) (o : Option Overrun) → wanting ≡ Some w → IfSome wanting (IsWanting h) → rest (runner_state h wanting fed n has o) [] ≡ stops short (state_of h [])
-  rest_short h wanting w fed n has o e p =
-      let q : IsWanting h w = rw e at p in
+  pub rest_short : (h : Machine V D C) (pending : Option Pending) (w : Pending) (fed n : ℕ) (has : Bool) (o : Option Overrun) → pending ≡ Some w → IfSome pending (IsPending h) → rest (runner_state h pending fed n has o) [] ≡ stops short (state_of h [])
+  rest_short h pending w fed n has o e p =
+      let q : IsPending h w = rw e at p in
       let c = context_in h.checked.now in
       rw e (ap (λ b. served c h.checked.now.script.services (bit_at h.checked.now h.service) (then_do b (rest_in c (opens_in h)))) (waits_first h w q)
       ∙ served_stops c h.checked.now.script.services (bit_at h.checked.now h.service) short (state_of h []))
 
-  pub rest_over : (h : Machine V D C) (wanting : Option Wanting) (fed n : ℕ) (has : Bool) (o : Option Overrun) → wanting ≡ None → rest (runner_state h wanting fed n has o) [] ≡ ends tt
-  rest_over h wanting fed n has o e = rw e (onward_over (context_in h.checked.now) h.checked.now.script.services (branch_of h.branch))
+  pub rest_over : (h : Machine V D C) (pending : Option Pending) (fed n : ℕ) (has : Bool) (o : Option Overrun) → pending ≡ None → rest (runner_state h pending fed n has o) [] ≡ ends tt
+  rest_over h pending fed n has o e = rw e (onward_over (context_in h.checked.now) h.checked.now.script.services (branch_of h.branch))
 
 pub below_along : {V D C : ℕ} (new : Machine V D C) (ck : Bor CheckedScript) (i : ℕ) → new.checked ≡ ck → new.service ≡ i → i < length ck.now.script.services → new.service < length new.checked.now.script.services
 below_along new ck i e1 e2 h =
@@ -170,6 +170,6 @@ none_wanted f None e = refl
 none_wanted f (Some a) e = absurd (cc)
 
 -- a service in progress is within its bounds
-pub steps_within : {V D C : ℕ} (h : Machine V D C) (w : Wanting) → IsWanting h w → ((answers : List Answer) → IsFineHere h (stands (Some w) h answers)) → h.steps ≤ (bounds_of h).steps
+pub steps_within : {V D C : ℕ} (h : Machine V D C) (w : Pending) → IsPending h w → ((answers : List Answer) → IsFineHere h (stands (Some w) h answers)) → h.steps ≤ (bounds_of h).steps
 steps_within h w p fine =
     let f = subst (λ b. IsFineHere h (then_do b (rest_in (context_in h.checked.now) (opens_in h)))) (waits_first h w p) (fine []) in f.1.steps

@@ -9,8 +9,8 @@ use Rattle.camac_model.specs.Run.{the_run}
 use Rattle.camac_run_runner.specs.Runner.{RunnerState, rest}
 use Rattle.camac_run_runner.specs.declared.progress.Wanted.{Wanted}
 use Rattle.camac_run_runner.specs.declared.progress.Wanted.TheVariants.{Demand, Cycle, Lock}
-use Rattle.camac_run_machine.specs.declared.machine.Wanting.{Wanting}
-use Rattle.camac_run_machine.specs.declared.machine.Wanting.TheVariants as waits_for
+use Rattle.camac_run_machine.specs.declared.machine.Pending.{Pending}
+use Rattle.camac_run_machine.specs.declared.machine.Pending.TheVariants as waits_for
 
 -- the operation that a piece is; a release and an event are none
 abbrev pub operation_of : Piece → Option Wanted
@@ -77,7 +77,7 @@ CanLock h (Some (Cycle k)) = Unit {0}
 CanLock h (Some (Lock c)) = IsSome (crate_waits h.checked.plan c) × ((branch_of h.crates c).locked ≡ false)
 
 -- the operation that a service in progress waits for
-abbrev pub operation : Wanting → Wanted
+abbrev pub operation : Pending → Wanted
 operation (waits_for.Cycle k) = Cycle k
 operation (waits_for.Read k x bits) = Cycle k
 operation (waits_for.Lock c body) = Lock c

@@ -11,7 +11,7 @@ use Rattle.camac_run_machine.specs.declared.item.Item.{Item}
 use Rattle.camac_run_runner.specs.declared.progress.Progress.{Progress}
 use Rattle.camac_run_runner.specs.declared.progress.Progress.TheVariants as progress
 use Rattle.camac_run_machine.specs.MachineState.{Left, bit_at, context_in, piece_of}
-use Rattle.camac_run_machine.specs.Rest.{Want, awaited, Open, rest_in, says, onward, served}
+use Rattle.camac_run_machine.specs.Rest.{Operation, awaited, Open, rest_in, says, onward, served}
 use Rattle.camac_run_machine.specs.Store.{variables_in, registers_in}
 
 pub record RunnerState : Type 0 where
@@ -20,7 +20,7 @@ pub record RunnerState : Type 0 where
   pub service : ℕ
   -- what is left of its open blocks, and what it wants an answer for, where it is in progress
   pub blocks : List Open
-  pub wanting : Option Want
+  pub pending : Option Operation
   pub crates : Crates
   -- of the innermost body
   pub variables : List ℕ
@@ -29,7 +29,7 @@ pub record RunnerState : Type 0 where
   pub x : Bool
   pub words : List ℕ
   pub steps : ℕ
-  pub cycles : ℕ
+  pub cost : ℕ
   pub missed : ℕ
   -- how many answers were used, and how many events left
   pub fed : ℕ
@@ -48,20 +48,20 @@ state_in h answers = record {
   x = h.x;
   words = h.words;
   steps = h.steps;
-  cycles = h.cycles;
+  cost = h.cost;
   missed = h.missed;
   answers = answers;
 }
 
 -- the run from what a runner holds
-abbrev pub rest_from : Option Want → RunnerState → List Answer → Behaviour (Unit {0})
+abbrev pub rest_from : Option Operation → RunnerState → List Answer → Behaviour (Unit {0})
 rest_from None h answers = onward (context_in h.checked) h.checked.script.services (branch_of h.crates) answers
 rest_from (Some w) h answers =
     served (context_in h.checked) h.checked.script.services (bit_at h.checked h.service)
     (then_do (awaited (context_in h.checked) w (state_in h answers)) (rest_in (context_in h.checked) h.blocks))
 
 abbrev pub rest : RunnerState → List Answer → Behaviour (Unit {0})
-rest h answers = rest_from h.wanting h answers
+rest h answers = rest_from h.pending h answers
 
 -- the words of the event that the last answer left, if it left one
 abbrev pub last_words_in : RunnerState → List ℕ
@@ -69,7 +69,7 @@ last_words_in h = if h.has_event then h.words else []
 
 -- the event of the service in progress, or of the last one, under this number
 abbrev pub event_in : RunnerState → ℕ → Left
-event_in h n = (n, bit_at h.checked h.service, record { cycles = h.cycles; missed = h.missed })
+event_in h n = (n, bit_at h.checked h.service, record { cycles = h.cost; missed = h.missed })
 
 -- an event, where one was left, and then the rest
 abbrev pub with_event : Option Left → List ℕ → Behaviour (Unit {0}) → Behaviour (Unit {0})

@@ -6,18 +6,18 @@ use Rattle.camac_branch.specs.declared.answer.Overrun.{Overrun}
 use Rattle.camac_check_result.specs.Checked.{IsChecked}
 use Rattle.camac_lang.specs.Fits.{fits}
 use Rattle.camac_run_machine.specs.declared.machine.Machine.{Machine}
-use Rattle.camac_run_machine.specs.declared.machine.Wanting.{Wanting}
-use Rattle.camac_run_machine.specs.MachineState.{opens_in, want_of, stands, IsFineHere, HasRoom, IsWanting}
+use Rattle.camac_run_machine.specs.declared.machine.Pending.{Pending}
+use Rattle.camac_run_machine.specs.MachineState.{opens_in, pending_of, stands, IsFineHere, HasRoom, IsPending}
 use Rattle.camac_run_machine.specs.Store.{held_at}
 use Rattle.camac_run_runner.specs.Runner.{RunnerState}
 
 module _ {V D C : ℕ} where
-  abbrev pub runner_state : Machine V D C → Option Wanting → ℕ → ℕ → Bool → Option Overrun → RunnerState
-  runner_state h wanting fed events has_event overrun = record {
+  abbrev pub runner_state : Machine V D C → Option Pending → ℕ → ℕ → Bool → Option Overrun → RunnerState
+  runner_state h pending fed events has_event overrun = record {
     checked = h.checked.now;
     service = h.service;
     blocks = opens_in h;
-    wanting = option_map want_of wanting;
+    pending = option_map pending_of pending;
     crates = h.branch;
     variables = held_at h.scope.variables h.variables;
     registers = held_at h.scope.registers h.registers;
@@ -25,7 +25,7 @@ module _ {V D C : ℕ} where
     x = h.x;
     words = h.words;
     steps = h.steps;
-    cycles = h.cycles;
+    cost = h.cost;
     missed = h.missed;
     fed = fed;
     events = events;
@@ -33,14 +33,14 @@ module _ {V D C : ℕ} where
     overrun = overrun;
   }
 
-  pub record IsSound (h : Machine V D C) (wanting : Option Wanting) (fed count : ℕ) : Type 0 where
+  pub record IsSound (h : Machine V D C) (pending : Option Pending) (fed count : ℕ) : Type 0 where
     pub room : HasRoom h
     pub quiet : h.unlocks.items ≡ []
     pub checked : IsChecked h.checked.now
     pub formed : IsTrue (is_well_formed h.checked.now.script)
     pub fits : fits h.checked.now.script V D C ≡ true
-    pub wants : IfSome wanting (IsWanting h)
-    pub idle : IfNone wanting (h.frames.items ≡ [])
-    pub service : IfSome wanting (λ w. h.service < length h.checked.now.script.services)
-    pub fine : IfSome wanting (λ w. (answers : List Answer) → IsFineHere h (stands (Some w) h answers))
+    pub pending : IfSome pending (IsPending h)
+    pub idle : IfNone pending (h.frames.items ≡ [])
+    pub service : IfSome pending (λ w. h.service < length h.checked.now.script.services)
+    pub fine : IfSome pending (λ w. (answers : List Answer) → IsFineHere h (stands (Some w) h answers))
     pub events : count ≤ fed

@@ -17,7 +17,7 @@ use camac_branch::{Answer, Overrun, demand};
 use camac_check_result::Checked;
 use camac_event::Usage;
 use camac_lang::limits;
-use camac_run_machine::{Item, Machine, Wanting};
+use camac_run_machine::{Item, Machine, Pending};
 use camac_word::{GlBit, Word24};
 use std::marker::Model;
 
@@ -27,7 +27,7 @@ use std::marker::Model;
 pub struct Runner<'a, const V: usize, const DEPTH: usize, const CAP: usize> {
     machine: Machine<'a, V, DEPTH, CAP>,
     // what the service in progress wants, where one is
-    wanting: Option<Wanting<'a>>,
+    pending: Option<Pending<'a>>,
     fed: u32,
     events: u32,
     // whether the last answer left an event
@@ -55,9 +55,9 @@ impl<'a, const V: usize, const DEPTH: usize, const CAP: usize> Model for Runner<
 
     ghost coded = { Prim.hlevel (codes, checked_coded, want_coded, open_coded) };
 
-    ghost view = { λ r. runner_state r.machine r.wanting r.fed r.events r.has_event r.overrun };
+    ghost view = { λ r. runner_state r.machine r.pending r.fed r.events r.has_event r.overrun };
 
-    ghost invariant = { λ r. IsSound r.machine r.wanting r.fed r.events };
+    ghost invariant = { λ r. IsSound r.machine r.pending r.fed r.events };
 }
 
 impl<'a, const V: usize, const DEPTH: usize, const CAP: usize> Runner<'a, V, DEPTH, CAP> {
@@ -76,7 +76,7 @@ impl<'a, const V: usize, const DEPTH: usize, const CAP: usize> Runner<'a, V, DEP
         checked.script().well_formed();
         Runner {
             machine: Machine::start(checked),
-            wanting: None,
+            pending: None,
             fed: 0,
             events: 0,
             has_event: false,
@@ -93,7 +93,7 @@ impl<'a, const V: usize, const DEPTH: usize, const CAP: usize> Runner<'a, V, DEP
         if let Some(overrun) = self.overrun {
             return Progress::Overrun(overrun);
         }
-        match self.wanting {
+        match self.pending {
             None => self.demand(answer),
             Some(_) => self.resume(answer),
         }
@@ -103,7 +103,7 @@ impl<'a, const V: usize, const DEPTH: usize, const CAP: usize> Runner<'a, V, DEP
     fn demand(&mut self, answer: Answer) -> Progress
         requires fed { self.old.fed < 4294967295 }
         requires first { self.old.overrun ≡ None }
-        requires idle { self.old.wanting ≡ None }
+        requires idle { self.old.pending ≡ None }
         ensures { Progresses self.old answer result self.new }
     {
         let checked = self.machine.checked;
@@ -119,7 +119,7 @@ impl<'a, const V: usize, const DEPTH: usize, const CAP: usize> Runner<'a, V, DEP
                 }
             }
             Some(called) => {
-                self.machine.serve(called.number, &mut self.wanting);
+                self.machine.serve(called.number, &mut self.pending);
                 let unlocks = self.machine.unlocks.take();
                 let event = self.close();
                 Progress::Went {
@@ -135,16 +135,16 @@ impl<'a, const V: usize, const DEPTH: usize, const CAP: usize> Runner<'a, V, DEP
     fn resume(&mut self, answer: Answer) -> Progress
         requires fed { self.old.fed < 4294967295 }
         requires first { self.old.overrun ≡ None }
-        requires wanting { IsSome self.old.wanting }
+        requires pending { IsSome self.old.pending }
         ensures { Progresses self.old answer result self.new }
     {
-        let taken = match &self.wanting {
-            Some(wanting) => self.machine.take(wanting, answer),
+        let taken = match &self.pending {
+            Some(pending) => self.machine.take(pending, answer),
             None => unreachable!(),
         };
         match taken {
             Ok(item) => {
-                self.machine.go_further(&mut self.wanting);
+                self.machine.go_further(&mut self.pending);
                 self.fed += 1;
                 let unlocks = self.machine.unlocks.take();
                 let event = self.close();
@@ -167,10 +167,10 @@ impl<'a, const V: usize, const DEPTH: usize, const CAP: usize> Runner<'a, V, DEP
         requires service { self.old.service < length self.old.checked.script.services }
         requires events { self.old.events < self.old.fed }
         requires fed { self.old.fed ≤ 4294967295 }
-        ensures ended { IfNone self.old.wanting ((result ≡ Some (event_in self.old (self.old.events + 1))) × (self.new ≡ record self.old { events = self.old.events + 1; has_event = true })) }
-        ensures goes_on { OnSome self.old.wanting ((result ≡ None) × (self.new ≡ record self.old { has_event = false })) }
+        ensures ended { IfNone self.old.pending ((result ≡ Some (event_in self.old (self.old.events + 1))) × (self.new ≡ record self.old { events = self.old.events + 1; has_event = true })) }
+        ensures goes_on { OnSome self.old.pending ((result ≡ None) × (self.new ≡ record self.old { has_event = false })) }
     {
-        match self.wanting {
+        match self.pending {
             None => {
                 self.events += 1;
                 self.has_event = true;
@@ -192,8 +192,8 @@ impl<'a, const V: usize, const DEPTH: usize, const CAP: usize> Runner<'a, V, DEP
         if self.overrun.is_some() {
             return None;
         }
-        match &self.wanting {
-            Some(wanting) => Some(operation(wanting)),
+        match &self.pending {
+            Some(pending) => Some(operation(pending)),
             None => Some(Wanted::Demand),
         }
     }
@@ -203,14 +203,14 @@ impl<'a, const V: usize, const DEPTH: usize, const CAP: usize> Runner<'a, V, DEP
         requires { self.now.overrun ≡ None }
         ensures { IsWaiting self.now }
     {
-        let _ = &self.wanting;
+        let _ = &self.pending;
     }
 
     /// Whether a service is in progress.
     pub fn in_service(&self) -> bool
         ensures { rest self.now [] ≡ (if result then stops short (state_in self.now []) else ends tt) }
     {
-        match self.wanting {
+        match self.pending {
             Some(_) => true,
             None => false,
         }
@@ -227,7 +227,7 @@ impl<'a, const V: usize, const DEPTH: usize, const CAP: usize> Runner<'a, V, DEP
     pub fn event_words(&self) -> usize
         ensures { result ≡ length (words_of (rest self.now [])) }
     {
-        match self.wanting {
+        match self.pending {
             Some(_) => self.machine.words().len(),
             None => 0,
         }
@@ -238,7 +238,7 @@ impl<'a, const V: usize, const DEPTH: usize, const CAP: usize> Runner<'a, V, DEP
         ensures steps { result ≡ steps_of (rest self.now []) }
         ensures within { result ≤ (bounds_at self.now.checked self.now.service).steps }
     {
-        match self.wanting {
+        match self.pending {
             Some(_) => self.machine.steps,
             None => 0,
         }
@@ -258,14 +258,14 @@ impl<'a, const V: usize, const DEPTH: usize, const CAP: usize> Runner<'a, V, DEP
 }
 
 // The operation that is waited for.
-fn operation(wanting: &Wanting) -> Wanted
-    ensures { result ≡ operation wanting.now }
+fn operation(pending: &Pending) -> Wanted
+    ensures { result ≡ operation pending.now }
 {
-    match wanting {
-        Wanting::Cycle(command) => Wanted::Cycle(*command),
-        Wanting::Read { command, .. } => Wanted::Cycle(*command),
-        Wanting::Lock { crate_no, .. } => Wanted::Lock(*crate_no),
-        Wanting::Transfer(wanted) => Wanted::Cycle(wanted.command),
+    match pending {
+        Pending::Cycle(command) => Wanted::Cycle(*command),
+        Pending::Read { command, .. } => Wanted::Cycle(*command),
+        Pending::Lock { crate_no, .. } => Wanted::Lock(*crate_no),
+        Pending::Transfer(transfer) => Wanted::Cycle(transfer.command),
     }
 }
 

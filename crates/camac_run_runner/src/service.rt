@@ -3,7 +3,7 @@
 ghost use Rattle.std.specs.Prelude.{◌≡◌, ◌≤◌, ◌<◌, ◌-◌, ◌/◌, ◌^◌, nat_eq, length, drop, Some, IfSome, option_and_then};
 ghost use Rattle.camac_check_result.specs.Checked.{linked_of};
 ghost use Rattle.camac_model.specs.Meaning.{context};
-ghost use Rattle.camac_model.specs.Run.{has_bit, with_bit, first_service, service_for};
+ghost use Rattle.camac_model.specs.Run.{is_bit_set, with_bit, first_service, service_for};
 ghost use Rattle.camac_names.specs.Linked.{bit_of_service};
 ghost use Rattle.camac_run_runner.specs.Called.{chosen_of};
 
@@ -41,7 +41,7 @@ fn first_service(checked: &Checked, pattern: Word24, bit: u32) -> Option<Called>
     if ends_before(pattern, bit) {
         return None;
     }
-    if has_bit(pattern, bit) {
+    if is_bit_set(pattern, bit) {
         if let Some(called) = with_bit(checked, bit, 0) {
             return Some(called);
         }
@@ -58,9 +58,9 @@ fn ends_before(pattern: Word24, bit: u32) -> bool
 }
 
 // Whether a pattern has a bit, where bit k has the value 2^(k-1).
-fn has_bit(pattern: Word24, bit: u32) -> bool
+fn is_bit_set(pattern: Word24, bit: u32) -> bool
     requires { bit ≤ 24 }
-    ensures { result ≡ has_bit pattern bit }
+    ensures { result ≡ is_bit_set pattern bit }
 {
     (pattern.get() >> bit.saturating_sub(1)) % 2 == 1
 }

@@ -9,12 +9,12 @@ ghost use Rattle.camac_model.specs.Cycle.{sized};
 ghost use Rattle.camac_model.specs.Fine.{most_turns};
 ghost use Rattle.camac_model.specs.Meaning.{effect};
 ghost use Rattle.camac_model.specs.Value.{value};
-ghost use Rattle.camac_run_machine.specs.MachineState.{reach, with_value, FineThen, HasRoom, Advances, Wants};
+ghost use Rattle.camac_run_machine.specs.MachineState.{reach, with_value, FineThen, HasRoom, Advances, Awaits};
 ghost use Rattle.camac_run_machine.specs.Rest.{address_of};
 ghost use Rattle.camac_run_machine.specs.Within.{Refers, MoveFits};
 
 use crate::command::command;
-use crate::machine::{Machine, Wanting};
+use crate::machine::{Machine, Pending};
 use camac_branch::{Command, Plan};
 use camac_esone::{Address, crate_call, lam_call};
 use camac_func::DataMove;
@@ -110,54 +110,54 @@ impl<'a, const V: usize, const DEPTH: usize, const CAP: usize> Machine<'a, V, DE
         f: Function,
         register: usize,
         moved: &Move,
-    ) -> Wanting<'a>
+    ) -> Pending<'a>
         requires room { HasRoom self.now }
         requires register { register < (reach self.now).registers }
         requires moved { MoveFits (reach self.now).variables (move_of moved.now) }
         requires fine { FineThen self.now (λ c. effect c most_turns (single 0 size f register (move_of moved.now))) }
-        ensures { Wants self.now (λ c. effect c most_turns (single 0 size f register (move_of moved.now))) result }
+        ensures { Awaits self.now (λ c. effect c most_turns (single 0 size f register (move_of moved.now))) result }
     {
         let at = self.address_in(register);
         let plan = self.checked.plan();
         plan.allows_commands();
         match moved {
-            Move::NoData => Wanting::Cycle(command(at, f, DataMove::None)),
+            Move::NoData => Pending::Cycle(command(at, f, DataMove::None)),
             Move::Into(variable) => {
                 let command = command(at, f, DataMove::In);
                 let bits = bits_kept(plan, &command, size);
-                Wanting::Read {
+                Pending::Read {
                     command,
                     variable: *variable,
                     bits,
                 }
             }
             Move::From(value) => match Word24::new(self.value_of(value)) {
-                Some(word) => Wanting::Cycle(command(at, f, DataMove::Out(word))),
+                Some(word) => Pending::Cycle(command(at, f, DataMove::Out(word))),
                 None => unreachable!(),
             },
         }
     }
 
     // A call of a crate's controller.
-    pub(crate) fn call_crate(&self, call: CrateCall, crate_no: &Expr) -> Wanting<'a>
+    pub(crate) fn call_crate(&self, call: CrateCall, crate_no: &Expr) -> Pending<'a>
         requires room { HasRoom self.now }
         requires declared { Refers (reach self.now).variables (expression_of crate_no.now) }
         requires fine { FineThen self.now (λ c. effect c most_turns (crate_call 0 call (expression_of crate_no.now))) }
-        ensures { Wants self.now (λ c. effect c most_turns (crate_call 0 call (expression_of crate_no.now))) result }
+        ensures { Awaits self.now (λ c. effect c most_turns (crate_call 0 call (expression_of crate_no.now))) result }
     {
         let plan = self.checked.plan();
         plan.allows_commands();
         match CrateNo::new(self.value_of(crate_no)) {
-            Some(c) => Wanting::Cycle(crate_call(call, c)),
+            Some(c) => Pending::Cycle(crate_call(call, c)),
             None => unreachable!(),
         }
     }
 
     // A call at a LAM's address.
-    pub(crate) fn call_lam(&self, call: LamCall, lam: usize) -> Wanting<'a>
+    pub(crate) fn call_lam(&self, call: LamCall, lam: usize) -> Pending<'a>
         requires lam { lam < length self.now.checked.now.script.lams }
         requires fine { FineThen self.now (λ c. effect c most_turns (lam_call 0 call lam)) }
-        ensures { Wants self.now (λ c. effect c most_turns (lam_call 0 call lam)) result }
+        ensures { Awaits self.now (λ c. effect c most_turns (lam_call 0 call lam)) result }
     {
         let plan = self.checked.plan();
         plan.allows_commands();
@@ -167,6 +167,6 @@ impl<'a, const V: usize, const DEPTH: usize, const CAP: usize> Machine<'a, V, DE
             n: lam.station,
             a: lam.sub_address.get(),
         };
-        Wanting::Cycle(lam_call(call, at))
+        Pending::Cycle(lam_call(call, at))
     }
 }

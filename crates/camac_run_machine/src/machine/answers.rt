@@ -6,11 +6,11 @@ ghost use Rattle.camac_branch.specs.Crates.{branch_of, is_permitted};
 ghost use Rattle.camac_branch.specs.Plan.{crate_waits};
 ghost use Rattle.camac_lang.specs.Tree.{done};
 ghost use Rattle.camac_model.specs.State.{missed_with};
-ghost use Rattle.camac_run_machine.specs.MachineState.{reach, stands, IsFineHere, FineThen, HasRoom, IsWanting, CanFollow, after_wanting, Makes, TakesLock, IsRefused, Proceeds, Settles, Takes, Overruns};
+ghost use Rattle.camac_run_machine.specs.MachineState.{reach, stands, IsFineHere, FineThen, HasRoom, IsPending, CanFollow, after_pending, Makes, TakesLock, IsRefused, Proceeds, Settles, Takes, Overruns};
 
 use crate::command::command;
 use crate::item::Item;
-use crate::machine::{Frame, Machine, Owner, Wanting};
+use crate::machine::{Frame, Machine, Owner, Pending};
 use camac_branch::{Answer, Command, CycleDone, Overrun, cycle, lock};
 use camac_lang::Stmt;
 use camac_word::{CrateNo, Word24};
@@ -43,7 +43,7 @@ impl<'a, const V: usize, const DEPTH: usize, const CAP: usize> Machine<'a, V, DE
     pub(crate) fn make(&mut self, command: Command, answer: Answer) -> Result<CycleDone, Overrun>
         requires room { HasRoom self.old }
         requires in_plan { IsSome (crate_waits self.old.checked.now.plan command.c) }
-        requires few { is_permitted self.old.checked.now.plan (branch_of self.old.branch) command.c answer.wait ≡ true → self.old.cycles + (1 + answer.wait) < 2 ^ 32 }
+        requires few { is_permitted self.old.checked.now.plan (branch_of self.old.branch) command.c answer.wait ≡ true → self.old.cost + (1 + answer.wait) < 2 ^ 32 }
         ensures made { IfOk result (λ d. Makes self.old command answer d self.new) }
         ensures overrun { IfErr result (λ o. IsRefused self.old command.c answer o) }
         ensures same { OnErr result (self.new ≡ self.old) }
@@ -51,7 +51,7 @@ impl<'a, const V: usize, const DEPTH: usize, const CAP: usize> Machine<'a, V, DE
         let done = cycle(&mut self.branch, self.checked.plan(), command, answer)?;
         self.q = done.reply.q;
         self.x = done.reply.x;
-        self.cycles += 1 + u32::from(done.wait);
+        self.cost += 1 + u32::from(done.wait);
         self.missed = missed_with(done.reply.x, self.missed);
         Ok(done)
     }
@@ -60,23 +60,23 @@ impl<'a, const V: usize, const DEPTH: usize, const CAP: usize> Machine<'a, V, DE
     pub(crate) fn lock(&mut self, crate_no: CrateNo, answer: Answer) -> Result<u8, Overrun>
         requires in_plan { IsSome (crate_waits self.old.checked.now.plan crate_no) }
         requires is_free { (branch_of self.old.branch crate_no).locked ≡ false }
-        requires few { is_permitted self.old.checked.now.plan (branch_of self.old.branch) crate_no answer.wait ≡ true → self.old.cycles + answer.wait < 2 ^ 32 }
+        requires few { is_permitted self.old.checked.now.plan (branch_of self.old.branch) crate_no answer.wait ≡ true → self.old.cost + answer.wait < 2 ^ 32 }
         ensures took { IfOk result (λ w. TakesLock self.old crate_no answer w self.new) }
         ensures overrun { IfErr result (λ o. IsRefused self.old crate_no answer o) }
         ensures same { OnErr result (self.new ≡ self.old) }
     {
         let wait = lock(&mut self.branch, self.checked.plan(), crate_no, answer)?;
-        self.cycles += u32::from(wait);
+        self.cost += u32::from(wait);
         Ok(wait)
     }
 
     // Makes a cycle that keeps no word.
     pub(crate) fn take_cycle(&mut self, command: Command, answer: Answer) -> Result<Item, Overrun>
         requires room { HasRoom self.old }
-        requires wanting { IsWanting self.old (Wanting.Cycle command) }
-        requires fine { (answers : List Answer) → IsFineHere self.old (stands (Some (Wanting.Cycle command)) self.old answers) }
-        ensures took { IfOk result (λ used. Takes self.old (Wanting.Cycle command) answer used self.new) }
-        ensures overrun { IfErr result (λ o. Overruns self.old (Wanting.Cycle command) answer o) }
+        requires pending { IsPending self.old (Pending.Cycle command) }
+        requires fine { (answers : List Answer) → IsFineHere self.old (stands (Some (Pending.Cycle command)) self.old answers) }
+        ensures took { IfOk result (λ used. Takes self.old (Pending.Cycle command) answer used self.new) }
+        ensures overrun { IfErr result (λ o. Overruns self.old (Pending.Cycle command) answer o) }
         ensures same { OnErr result (self.new ≡ self.old) }
     {
         let done = self.make(command, answer)?;
@@ -92,10 +92,10 @@ impl<'a, const V: usize, const DEPTH: usize, const CAP: usize> Machine<'a, V, DE
         answer: Answer,
     ) -> Result<Item, Overrun>
         requires room { HasRoom self.old }
-        requires wanting { IsWanting self.old (Wanting.Read command variable bits) }
-        requires fine { (answers : List Answer) → IsFineHere self.old (stands (Some (Wanting.Read command variable bits)) self.old answers) }
-        ensures took { IfOk result (λ used. Takes self.old (Wanting.Read command variable bits) answer used self.new) }
-        ensures overrun { IfErr result (λ o. Overruns self.old (Wanting.Read command variable bits) answer o) }
+        requires pending { IsPending self.old (Pending.Read command variable bits) }
+        requires fine { (answers : List Answer) → IsFineHere self.old (stands (Some (Pending.Read command variable bits)) self.old answers) }
+        ensures took { IfOk result (λ used. Takes self.old (Pending.Read command variable bits) answer used self.new) }
+        ensures overrun { IfErr result (λ o. Overruns self.old (Pending.Read command variable bits) answer o) }
         ensures same { OnErr result (self.new ≡ self.old) }
     {
         let done = self.make(command, answer)?;
@@ -113,10 +113,10 @@ impl<'a, const V: usize, const DEPTH: usize, const CAP: usize> Machine<'a, V, DE
     ) -> Result<Item, Overrun>
         requires room { HasRoom self.old }
         requires quiet { self.old.unlocks.items ≡ [] }
-        requires wanting { IsWanting self.old (Wanting.Lock crate_no body) }
-        requires fine { (answers : List Answer) → IsFineHere self.old (stands (Some (Wanting.Lock crate_no body)) self.old answers) }
-        ensures took { IfOk result (λ used. Takes self.old (Wanting.Lock crate_no body.entry) answer used self.new) }
-        ensures overrun { IfErr result (λ o. Overruns self.old (Wanting.Lock crate_no body.entry) answer o) }
+        requires pending { IsPending self.old (Pending.Lock crate_no body) }
+        requires fine { (answers : List Answer) → IsFineHere self.old (stands (Some (Pending.Lock crate_no body)) self.old answers) }
+        ensures took { IfOk result (λ used. Takes self.old (Pending.Lock crate_no body.entry) answer used self.new) }
+        ensures overrun { IfErr result (λ o. Overruns self.old (Pending.Lock crate_no body.entry) answer o) }
         ensures same { OnErr result (self.new ≡ self.old) }
     {
         let wait = self.lock(crate_no, answer)?;
@@ -129,26 +129,26 @@ impl<'a, const V: usize, const DEPTH: usize, const CAP: usize> Machine<'a, V, DE
 
     /// Takes the answer that is wanted, and returns the item that it was used for. Where its wait is not permitted, it returns that wait, and
     /// nothing changes.
-    pub fn take(&mut self, wanting: &Wanting<'a>, answer: Answer) -> Result<Item, Overrun>
+    pub fn take(&mut self, pending: &Pending<'a>, answer: Answer) -> Result<Item, Overrun>
         requires room { HasRoom self.old }
         requires quiet { self.old.unlocks.items ≡ [] }
-        requires wanting { IsWanting self.old wanting.now }
-        requires fine { (answers : List Answer) → IsFineHere self.old (stands (Some wanting.now) self.old answers) }
-        ensures took { IfOk result (λ used. Takes self.old wanting.now answer used self.new) }
-        ensures overrun { IfErr result (λ o. Overruns self.old wanting.now answer o) }
+        requires pending { IsPending self.old pending.now }
+        requires fine { (answers : List Answer) → IsFineHere self.old (stands (Some pending.now) self.old answers) }
+        ensures took { IfOk result (λ used. Takes self.old pending.now answer used self.new) }
+        ensures overrun { IfErr result (λ o. Overruns self.old pending.now answer o) }
         ensures same { OnErr result (self.new ≡ self.old) }
     {
-        match wanting {
-            Wanting::Cycle(command) => self.take_cycle(*command, answer),
-            Wanting::Read {
+        match pending {
+            Pending::Cycle(command) => self.take_cycle(*command, answer),
+            Pending::Read {
                 command,
                 variable,
                 bits,
             } => self.take_read(*command, *variable, *bits, answer),
-            Wanting::Lock { crate_no, body } => self.take_lock(*crate_no, body, answer),
-            Wanting::Transfer(wanted) => {
-                let done = self.make(wanted.command, answer)?;
-                self.put_read(wanted.table, &done);
+            Pending::Lock { crate_no, body } => self.take_lock(*crate_no, body, answer),
+            Pending::Transfer(transfer) => {
+                let done = self.make(transfer.command, answer)?;
+                self.put_read(transfer.table, &done);
                 self.steps += 1;
                 Ok(Item::Cycle(done))
             }
@@ -157,46 +157,46 @@ impl<'a, const V: usize, const DEPTH: usize, const CAP: usize> Machine<'a, V, DE
 
     /// Goes on after the answer that was wanted, until the next one is wanted, or the service is over: with the transfer that it was wanted for, or
     /// else with the open blocks.
-    pub fn go_further(&mut self, wanting: &mut Option<Wanting<'a>>)
+    pub fn go_further(&mut self, pending: &mut Option<Pending<'a>>)
         requires room { HasRoom self.old }
         requires quiet { self.old.unlocks.items ≡ [] }
-        requires follows { IfSome wanting.old (CanFollow (reach self.old).variables) }
-        requires fine { FineThen self.old (λ c. after_wanting c wanting.old) }
-        ensures { Settles self.old (λ c. after_wanting c wanting.old) wanting.new self.new }
+        requires follows { IfSome pending.old (CanFollow (reach self.old).variables) }
+        requires fine { FineThen self.old (λ c. after_pending c pending.old) }
+        ensures { Settles self.old (λ c. after_pending c pending.old) pending.new self.new }
     {
-        if !self.follow_transfer(wanting) {
-            self.settle(wanting);
+        if !self.follow_transfer(pending) {
+            self.settle(pending);
         }
     }
 
     // Goes on with the transfer that an answer was wanted for, if one was: to its next cycle, or else to its tally. Answers whether a cycle
     // is wanted next.
-    fn follow_transfer(&mut self, wanting: &mut Option<Wanting<'a>>) -> bool
+    fn follow_transfer(&mut self, pending: &mut Option<Pending<'a>>) -> bool
         requires room { HasRoom self.old }
-        requires follows { IfSome wanting.old (CanFollow (reach self.old).variables) }
-        requires fine { FineThen self.old (λ c. after_wanting c wanting.old) }
-        ensures cycle { result ≡ true → IsSome wanting.new × Proceeds self.old (λ c. after_wanting c wanting.old) wanting.new self.new }
-        ensures tally { result ≡ false → Proceeds self.old (λ c. after_wanting c wanting.old) None self.new }
+        requires follows { IfSome pending.old (CanFollow (reach self.old).variables) }
+        requires fine { FineThen self.old (λ c. after_pending c pending.old) }
+        ensures cycle { result ≡ true → IsSome pending.new × Proceeds self.old (λ c. after_pending c pending.old) pending.new self.new }
+        ensures tally { result ≡ false → Proceeds self.old (λ c. after_pending c pending.old) None self.new }
     {
-        match wanting {
-            Some(Wanting::Transfer(wanted)) => {
-                wanted.course.take(self.q);
+        match pending {
+            Some(Pending::Transfer(transfer)) => {
+                transfer.course.take(self.q);
                 match self.next_cycle(
-                    &wanted.course,
-                    wanted.command.f,
-                    wanted.table,
-                    wanted.tally,
+                    &transfer.course,
+                    transfer.command.f,
+                    transfer.table,
+                    transfer.tally,
                 ) {
                     Some(command) => {
-                        wanted.command = command;
+                        transfer.command = command;
                         true
                     }
                     None => false,
                 }
             }
-            Some(Wanting::Cycle(_)) => false,
-            Some(Wanting::Read { .. }) => false,
-            Some(Wanting::Lock { .. }) => false,
+            Some(Pending::Cycle(_)) => false,
+            Some(Pending::Read { .. }) => false,
+            Some(Pending::Lock { .. }) => false,
             None => false,
         }
     }

@@ -7,13 +7,13 @@ ghost use Rattle.camac_lang.specs.Tree.{done, choose_else, for_, locked, call};
 ghost use Rattle.camac_model.specs.Fine.{most_turns};
 ghost use Rattle.camac_model.specs.Meaning.{effect, block_meaning, for_turns, turns as while_turns};
 ghost use Rattle.camac_model.specs.Value.{value};
-ghost use Rattle.camac_run_machine.specs.MachineState.{context_in, reach, state_of, owner_in, open_in, opens_in, holds, free, FineThen, HasRoomFor, HasRoom, IsFineHere, stands, TakesFirst, TurnsAgain, LastIsOver, wanted_if, GoesOn, Advances, Enters, Wants};
+ghost use Rattle.camac_run_machine.specs.MachineState.{context_in, reach, state_of, owner_in, open_in, opens_in, holds, free, FineThen, HasRoomFor, HasRoom, IsFineHere, stands, TakesFirst, TurnsAgain, LastIsOver, wanted_if, GoesOn, Advances, Enters, Awaits};
 ghost use Rattle.camac_run_machine.specs.Rest.{releases, owed, left_of};
 ghost use Rattle.camac_run_machine.specs.Within.{Refers, CallFits, PartsRefer, Opens, OwnerFits, outer};
 
 use crate::arguments::{pass, wipe};
 use crate::condition::holds;
-use crate::machine::{Frame, MOST_TURNS, Machine, Owner, Wanting};
+use crate::machine::{Frame, MOST_TURNS, Machine, Owner, Pending};
 use camac_branch::{Answer, unlock};
 use camac_lang::{Expr, Part, Stmt};
 use camac_word::CrateNo;
@@ -132,17 +132,17 @@ impl<'a, const V: usize, const DEPTH: usize, const CAP: usize> Machine<'a, V, DE
     }
 
     // `lock`.
-    pub(crate) fn want_lock(&self, crate_no: &Expr, body: &'a [Stmt]) -> Wanting<'a>
+    pub(crate) fn want_lock(&self, crate_no: &Expr, body: &'a [Stmt]) -> Pending<'a>
         requires room { HasRoom self.now }
         requires declared { Refers (reach self.now).variables (expression_of crate_no.now) }
         requires body { Opens (reach self.now) (free self.now) (statements_of body.now) }
         requires fine { FineThen self.now (λ c. effect c most_turns (locked 0 (expression_of crate_no.now) (statements_of body.now))) }
-        ensures { Wants self.now (λ c. effect c most_turns (locked 0 (expression_of crate_no.now) (statements_of body.now))) result }
+        ensures { Awaits self.now (λ c. effect c most_turns (locked 0 (expression_of crate_no.now) (statements_of body.now))) result }
     {
         let plan = self.checked.plan();
         plan.is_plan();
         match CrateNo::new(self.value_of(crate_no)) {
-            Some(crate_no) => Wanting::Lock { crate_no, body },
+            Some(crate_no) => Pending::Lock { crate_no, body },
             None => unreachable!(),
         }
     }
@@ -218,17 +218,17 @@ impl<'a, const V: usize, const DEPTH: usize, const CAP: usize> Machine<'a, V, DE
         }
     }
 
-    // Begins the next statement of the innermost block, or goes on after that block. Answers whether an answer is wanted: `wanting` then
+    // Begins the next statement of the innermost block, or goes on after that block. Answers whether an answer is wanted: `pending` then
     // says for what.
-    pub(crate) fn go_on(&mut self, wanting: &mut Option<Wanting<'a>>) -> bool
+    pub(crate) fn go_on(&mut self, pending: &mut Option<Pending<'a>>) -> bool
         requires room { HasRoom self.old }
         requires open { 1 ≤ length self.old.frames.items }
         requires fine { (answers : List Answer) → IsFineHere self.old (stands None self.old answers) }
-        ensures goes { GoesOn self.old (wanted_if result wanting.new) self.new }
-        ensures some { result ≡ true → IsSome wanting.new }
+        ensures goes { GoesOn self.old (wanted_if result pending.new) self.new }
+        ensures some { result ≡ true → IsSome pending.new }
     {
         match next_statement(self.frames.as_mut_slice()) {
-            Some(first) => self.begin(first, wanting),
+            Some(first) => self.begin(first, pending),
             None => {
                 self.close();
                 false

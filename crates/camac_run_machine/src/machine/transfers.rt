@@ -14,7 +14,7 @@ ghost use Rattle.camac_run_machine.specs.Within.{Refers};
 use crate::command::command;
 use crate::machine::actions::bits_kept;
 use crate::machine::answers::word_of;
-use crate::machine::{Machine, TransferCycle, Wanting};
+use crate::machine::{Machine, TransferCycle, Pending};
 use crate::transfer::{Course, Transfer};
 use camac_branch::{Command, CycleDone};
 use camac_esone::{QRepeat, QStop, Scan};
@@ -60,7 +60,7 @@ impl<'a, const V: usize, const DEPTH: usize, const CAP: usize> Machine<'a, V, DE
         last: usize,
         max: &Expr,
         tally: usize,
-    ) -> Option<Wanting<'a>>
+    ) -> Option<Pending<'a>>
         requires room { HasRoom self.old }
         requires first { first < (reach self.old).registers }
         requires last { last < (reach self.old).registers }
@@ -88,7 +88,7 @@ impl<'a, const V: usize, const DEPTH: usize, const CAP: usize> Machine<'a, V, DE
         table: Option<usize>,
         max: &Expr,
         tally: usize,
-    ) -> Option<Wanting<'a>>
+    ) -> Option<Pending<'a>>
         requires room { HasRoom self.old }
         requires register { register < (reach self.old).registers }
         requires max { Refers (reach self.old).variables (expression_of max.now) }
@@ -116,7 +116,7 @@ impl<'a, const V: usize, const DEPTH: usize, const CAP: usize> Machine<'a, V, DE
         max: &Expr,
         limit: &Expr,
         tally: usize,
-    ) -> Option<Wanting<'a>>
+    ) -> Option<Pending<'a>>
         requires room { HasRoom self.old }
         requires register { register < (reach self.old).registers }
         requires max { Refers (reach self.old).variables (expression_of max.now) }
@@ -138,7 +138,7 @@ impl<'a, const V: usize, const DEPTH: usize, const CAP: usize> Machine<'a, V, DE
     }
 
     // Goes on with a transfer: to its next cycle, or else to its tally.
-    pub(crate) fn proceed(&mut self, transfer: &Transfer<'a>) -> Option<Wanting<'a>>
+    pub(crate) fn proceed(&mut self, transfer: &Transfer<'a>) -> Option<Pending<'a>>
         requires room { HasRoom self.old }
         requires tally { transfer.now.tally < (reach self.old).variables }
         requires fine { FineThen self.old (λ c. transferred c transfer.now) }
@@ -150,7 +150,7 @@ impl<'a, const V: usize, const DEPTH: usize, const CAP: usize> Machine<'a, V, DE
             transfer.table,
             transfer.tally,
         ) {
-            Some(command) => Some(Wanting::Transfer(TransferCycle {
+            Some(command) => Some(Pending::Transfer(TransferCycle {
                 command,
                 course: transfer.course,
                 table: transfer.table,

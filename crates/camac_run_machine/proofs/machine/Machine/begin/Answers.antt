@@ -4,7 +4,7 @@ use Rattle.camac_lang.specs.Tree.{assign, set_register, put, single, crate_call,
 use Rattle.camac_lang.specs.View.{condition_of, expression_of, keep_of, move_of, statement_of, statements_of}
 use Rattle.camac_model.specs.Fine.{most_turns}
 use Rattle.camac_model.specs.Meaning.{turns, block_meaning}
-use Rattle.camac_run_machine.specs.declared.machine.Wanting.{Wanting}
+use Rattle.camac_run_machine.specs.declared.machine.Pending.{Pending}
 use Rattle.camac_run_machine.specs.MachineState.{free, reach, wanted_if, Advances}
 use Rattle.camac_run_machine.proofs.Actions.{begun}
 use Rattle.camac_run_machine.proofs.Courses.{proceeds_advance, proceeds_pace}
@@ -15,7 +15,7 @@ use Rattle.camac_run_machine.proofs.Trees.{assign_is, register_is, put_is, singl
 use Rattle.camac_run_machine.proofs.machine.Machine.begin.Goals as goal
 
 -- what a transfer wants is told by whether it wants something
-wanted_same : (o : Option Wanting) (b : Bool) → b ≡ is_some o → wanted_if b o ≡ o
+wanted_same : (o : Option Pending) (b : Bool) → b ≡ is_some o → wanted_if b o ≡ o
 wanted_same None b e = ap (λ c. wanted_if c None) e
 wanted_same (Some w) b e = ap (λ c. wanted_if c (Some w)) e
 

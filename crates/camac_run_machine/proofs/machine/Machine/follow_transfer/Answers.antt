@@ -1,26 +1,26 @@
 use Rattle.std.proofs.Common.{refl}
 use Rattle.std.specs.Prelude.{None}
-use Rattle.camac_run_machine.specs.declared.machine.Wanting.TheVariants.{Cycle, Read, Lock}
+use Rattle.camac_run_machine.specs.declared.machine.Pending.TheVariants.{Cycle, Read, Lock}
 use Rattle.camac_run_machine.proofs.Courses.{further_fine, further_proceeds, cycle_alone, read_alone, lock_alone, alone_proceeds}
 use Rattle.camac_run_machine.proofs.machine.Machine.follow_transfer.Goals as goal
 
 pub next_cycle-requires : goal.next_cycle-requires
 next_cycle-requires g c =
     let w = c.in-Some-Transfer in
-    let k = w.wanted in
+    let k = w.transfer in
     let follows' = rw (w.is, w.field-0-is) at c.requires.follows in
     (search, (c.requires.room, (follows'.0, further_fine c.args.self.now k.command k.course c.take.new.self k.table k.tally c.take.ensures (rw (w.is, w.field-0-is) at c.requires.fine))))
 
 pub returns-in-Some-clause-cycle : goal.returns-in-Some-clause-cycle
 returns-in-Some-clause-cycle g c = λ yes.
     let w = c.in-Some-Transfer in
-    let k = w.wanted in
+    let k = w.transfer in
     rw (w.is, w.field-0-is) (refl, further_proceeds c.args.self.now k.command k.course c.take.new.self k.table k.tally c.take.ensures _ c.next_cycle.new.self c.in-Some.ensures)
 
 pub returns-in-None-next_cycle-clause-tally : goal.returns-in-None-next_cycle-clause-tally
 returns-in-None-next_cycle-clause-tally g c = λ no.
     let w = c.in-Some-Transfer in
-    let k = w.wanted in
+    let k = w.transfer in
     rw (w.is, w.field-0-is) (further_proceeds c.args.self.now k.command k.course c.take.new.self k.table k.tally c.take.ensures None c.next_cycle.new.self c.in-None-next_cycle.ensures)
 
 pub returns-in-Some-Cycle-clause-tally : goal.returns-in-Some-Cycle-clause-tally

@@ -9,5 +9,5 @@ returns-clause-took g c =
       permitted = sym (c.in_ok-wait.ensures.permitted ∙ ap (λ p. is_permitted p (branch_of h.branch) c.args.crate_no c.args.answer.wait) c.plan.ensures);
       waited = c.in_ok-wait.ensures.wait.0;
       branch = c.in_ok-wait.ensures.next;
-      same = ap (λ n. record h { branch = c.lock.new.branch; cycles = h.cycles + n }) c.from.ensures;
+      same = ap (λ n. record h { branch = c.lock.new.branch; cost = h.cost + n }) c.from.ensures;
     }

@@ -16,11 +16,11 @@ command-requires-clause-data g c = next_data c.args.self.now (transfer_at c.args
 pub returns-in-Some : goal.returns-in-Some
 returns-in-Some g c =
     let m = c.in-Some.ensures.moves in
-    proceeds_on c.args.self.now (transfer_at c.args.course.now c.args.function c.args.table c.args.tally) c.in-Some.command c.requires.fine c.requires.tally c.in-Some.ensures.wanted m.0 m.1 c.requires.room
+    proceeds_on c.args.self.now (transfer_at c.args.course.now c.args.function c.args.table c.args.tally) c.in-Some.command c.requires.fine c.requires.tally c.in-Some.ensures.next_address m.0 m.1 c.requires.room
 
 pub returns-in-None : goal.returns-in-None
 returns-in-None g c =
     let h = c.args.self.now in
     let x = c.args.tally in
-    proceeds_over h (transfer_at c.args.course.now c.args.function c.args.table x) c.set_variable.new.self c.in-None.ensures.wanted c.requires.tally
+    proceeds_over h (transfer_at c.args.course.now c.args.function c.args.table x) c.set_variable.new.self c.in-None.ensures.next_address c.requires.tally
     (c.set_variable.ensures.same ∙ ap (λ n. with_value h x n) c.tally.ensures) c.requires.room

@@ -1,6 +1,6 @@
 use Rattle.std.proofs.Common.{refl, ap}
 use Rattle.camac_esone.specs.InProgress.{q_stop_left}
-use Rattle.camac_esone.specs.Transfers.{q_stop_wanted}
+use Rattle.camac_esone.specs.Transfers.{q_stop_next}
 use Rattle.camac_lang.specs.Tree.{q_stop}
 use Rattle.camac_lang.specs.View.{expression_of}
 use Rattle.camac_run_machine.specs.Course.{words_sent}
@@ -29,7 +29,7 @@ proceed-requires g c =
         c.requires.room,
         (
           c.requires.tally,
-          begins_fine h (q_stop 0 c.args.function c.args.register c.args.table e c.args.tally) _ table (q_stop_wanted at m) refl (ap q_stop_left c.new.ensures.held)
+          begins_fine h (q_stop 0 c.args.function c.args.register c.args.table e c.args.tally) _ table (q_stop_next at m) refl (ap q_stop_left c.new.ensures.held)
               (stop_goes h c.args.function c.args.register c.args.table e c.args.tally c.requires.fine table c.sent-words.ensures at c.address_in-at.ensures m c.value_of-max.ensures) c.requires.fine,
         ),
       ),
@@ -42,5 +42,5 @@ returns g c =
     let table = words_sent c.sent-words.result in
     let at = c.address_in-at.result in
     let m = c.value_of-max.result in
-    begins_proceed h (q_stop 0 c.args.function c.args.register c.args.table e c.args.tally) _ table (q_stop_wanted at m) refl (ap q_stop_left c.new.ensures.held)
+    begins_proceed h (q_stop 0 c.args.function c.args.register c.args.table e c.args.tally) _ table (q_stop_next at m) refl (ap q_stop_left c.new.ensures.held)
     (stop_goes h c.args.function c.args.register c.args.table e c.args.tally c.requires.fine table c.sent-words.ensures at c.address_in-at.ensures m c.value_of-max.ensures) c.proceed.result c.proceed.new.self c.proceed.ensures

@@ -1,7 +1,7 @@
 use Rattle.std.proofs.Common.{refl, ap}
 use Rattle.std.specs.Prelude.{None}
 use Rattle.camac_esone.specs.InProgress.{scan_left}
-use Rattle.camac_esone.specs.Transfers.{scan_wanted}
+use Rattle.camac_esone.specs.Transfers.{scan_next}
 use Rattle.camac_lang.specs.Tree.{address_scan}
 use Rattle.camac_lang.specs.View.{expression_of}
 use Rattle.camac_run_machine.specs.declared.transfer.Course.TheVariants.{Scan}
@@ -34,7 +34,7 @@ proceed-requires g c =
         c.requires.room,
         (
           c.requires.tally,
-          begins_fine h (address_scan 0 c.args.function c.args.first c.args.last e c.args.tally) (record { course = Scan c.new.result; function = c.args.function; table = None; tally = c.args.tally }) None (scan_wanted first last m) refl (ap scan_left c.new.ensures.held)
+          begins_fine h (address_scan 0 c.args.function c.args.first c.args.last e c.args.tally) (record { course = Scan c.new.result; function = c.args.function; table = None; tally = c.args.tally }) None (scan_next first last m) refl (ap scan_left c.new.ensures.held)
               (scan_goes h c.args.function c.args.first c.args.last e c.args.tally c.requires.fine first c.address_in-first.ensures last c.address_in-last.ensures m c.value_of-max.ensures) c.requires.fine,
         ),
       ),
@@ -47,5 +47,5 @@ returns g c =
     let first = c.address_in-first.result in
     let last = c.address_in-last.result in
     let m = c.value_of-max.result in
-    begins_proceed h (address_scan 0 c.args.function c.args.first c.args.last e c.args.tally) (record { course = Scan c.new.result; function = c.args.function; table = None; tally = c.args.tally }) None (scan_wanted first last m) refl (ap scan_left c.new.ensures.held)
+    begins_proceed h (address_scan 0 c.args.function c.args.first c.args.last e c.args.tally) (record { course = Scan c.new.result; function = c.args.function; table = None; tally = c.args.tally }) None (scan_next first last m) refl (ap scan_left c.new.ensures.held)
     (scan_goes h c.args.function c.args.first c.args.last e c.args.tally c.requires.fine first c.address_in-first.ensures last c.address_in-last.ensures m c.value_of-max.ensures) c.proceed.result c.proceed.new.self c.proceed.ensures

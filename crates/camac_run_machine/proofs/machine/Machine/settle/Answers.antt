@@ -39,13 +39,13 @@ returns-then-go_on g c =
     let e = c.go_on.ensures.goes in
     let a = rw c.if-go_on.true at e.advances in
     let new = c.go_on.new.self in
-    let w = c.go_on.new.wanting in
+    let w = c.go_on.new.pending in
     let before : ArrayVec Frame = record { items = e.before } in
     record {
       room = a.room;
       checked = a.checked ∙ v.checked;
       service = a.service ∙ v.service;
-      wants = a.wants;
+      pending = a.pending;
       over = none_if_some w _ (c.go_on.ensures.some c.if-go_on.true);
       goes = λ answers. goes_further h new e.last before e.was a.released a.unlocks w answers (a.goes answers) ∙ v.goes answers;
     }
@@ -82,4 +82,4 @@ pub returns : goal.returns
 returns g c =
     let h = c.loop-self.self in
     let v = c.loop-self.invariant in
-    record { room = v.room; checked = v.checked; service = v.service; wants = tt; over = none_of h.frames.items c.loop-self-test.ensures; goes = v.goes }
+    record { room = v.room; checked = v.checked; service = v.service; pending = tt; over = none_of h.frames.items c.loop-self-test.ensures; goes = v.goes }

@@ -40,7 +40,7 @@ returns-clause-fresh g c = λ answers.
     let b = branch_of c.start.result in
     let sc = c.empty.result in
     let ws = c.new-2.result in
-    let holding : Branch → Variables → Registers → List ℕ → State = λ b vs rs ws. record { branch = b; variables = vs; registers = rs; q = false; x = false; words = ws; steps = 0; cycles = 0; missed = 0; answers = answers } in
+    let holding : Branch → Variables → Registers → List ℕ → State = λ b vs rs ws. record { branch = b; variables = vs; registers = rs; q = false; x = false; words = ws; steps = 0; cost = 0; missed = 0; answers = answers } in
     ap (λ vs. holding b vs (registers_in (held_at sc.registers (replicate g.row.V None))) ws) (held_all 0 sc.variables g.row.V)
     ∙ ap (λ rs. holding b (λ _. 0) rs ws) (held_all None sc.registers g.row.V)
     ∙ ap (λ ws. holding b (λ _. 0) (λ _. None) ws) c.new-2.ensures

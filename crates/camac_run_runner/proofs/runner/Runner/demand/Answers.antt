@@ -8,7 +8,7 @@ use Rattle.arrayvec.specs.ArrayVec.{ArrayVec}
 use Rattle.camac_check_result.specs.Checked.{CheckedScript}
 use Rattle.camac_model.specs.Fine.{most_turns}
 use Rattle.camac_model.specs.Run.{Chosen, service_for, service_meaning}
-use Rattle.camac_run_machine.specs.MachineState.{context_in, want_of, bit_at}
+use Rattle.camac_run_machine.specs.MachineState.{context_in, pending_of, bit_at}
 use Rattle.camac_run_machine.specs.Rest.{onward, served, says}
 use Rattle.camac_run_runner.specs.Runner.{RunnerState, rest, with_event, last_words_in}
 use Rattle.camac_run_machine.proofs.Lists.{place}
@@ -20,8 +20,8 @@ use Rattle.camac_run_runner.proofs.runner.Runner.demand.Goals as goal
 pub serve-requires : goal.serve-requires
 serve-requires g c =
     let inv = c.self.invariant in
-    let wanting : c.self.inside.wanting ≡ None = none_wanted want_of c.self.inside.wanting (ap (λ h. h.wanting) c.self.view_is ∙ c.requires.idle) in
-    let idle = rw wanting at inv.idle in
+    let pending : c.self.inside.pending ≡ None = none_wanted pending_of c.self.inside.pending (ap (λ h. h.pending) c.self.view_is ∙ c.requires.idle) in
+    let idle = rw pending at inv.idle in
     (machine_fits _ c.requires-raw.1.1.1.0, (inv.room, (inv.quiet, (idle, (inv.fits, c.in-Some.ensures.known)))))
 
 pub invariant_of-self : goal.invariant_of-self
@@ -33,7 +33,7 @@ invariant_of-self g c =
       checked = inv.checked;
       formed = inv.formed;
       fits = inv.fits;
-      wants = inv.wants;
+      pending = inv.pending;
       idle = inv.idle;
       service = inv.service;
       fine = inv.fine;
@@ -44,13 +44,13 @@ pub returns-in-None : goal.returns-in-None
 returns-in-None g c =
     let r = c.self.inside in
     let k = r.machine.checked.now in
-    let wanting : r.wanting ≡ None = none_wanted want_of r.wanting (ap (λ h. h.wanting) c.self.view_is ∙ c.requires.idle) in
+    let pending : r.pending ≡ None = none_wanted pending_of r.pending (ap (λ h. h.pending) c.self.view_is ∙ c.requires.idle) in
     let first : r.overrun ≡ None = ap (λ h. h.overrun) c.self.view_is ∙ c.requires.first in
     let pat : c.demand-pattern.result ≡ pattern_of k.plan (branch_of r.machine.branch) c.args.answer.gl = c.demand-pattern.ensures ∙ ap (λ p. pattern_of p (branch_of r.machine.branch) c.args.answer.gl) c.plan.ensures in
     let none : service_for (context_in k) (pattern_of k.plan (branch_of r.machine.branch) c.args.answer.gl) k.script.services ≡ None = ap (λ n. service_for (context_in k) n k.script.services) (sym pat) ∙ c.in-None.ensures.chosen in
     rw (← c.self.view_is) (record {
       first = first;
-      goes = λ answers. rw wanting
+      goes = λ answers. rw pending
           (onward_passes k.plan k.script (branch_of r.machine.branch) c.args.answer answers none
           ∙ ap (λ n. does (demanded n None) (onward (context_in k) k.script.services (branch_of r.machine.branch) answers)) (sym pat)
           ∙ ap (λ us. does (demanded c.demand-pattern.result None) (says us (onward (context_in k) k.script.services (branch_of r.machine.branch) answers))) (sym c.new.ensures));
@@ -71,8 +71,8 @@ invariant_of-self-in-Some g c =
     let p = place k.script.services i c.in-Some.ensures.known in
     let s = c.serve.ensures p.0 p.1 in
     let new = c.serve.new.self in
-    sound_after r.machine new c.take-unlocks.new.self r.wanting c.serve.new.wanting r.fed r.events i c.take-unlocks.ensures.after inv s.room s.checked s.service c.in-Some.ensures.known s.wants s.over
-    (serve_fine r.machine new i p.0 c.serve.new.wanting inv.checked p.1 s)
+    sound_after r.machine new c.take-unlocks.new.self r.pending c.serve.new.pending r.fed r.events i c.take-unlocks.ensures.after inv s.room s.checked s.service c.in-Some.ensures.known s.pending s.over
+    (serve_fine r.machine new i p.0 c.serve.new.pending inv.checked p.1 s)
 
 pub close-event-requires : goal.close-event-requires
 close-event-requires g c =
@@ -93,13 +93,13 @@ returns-in-Some g c =
     let i = c.in-Some.called.number in
     let bit = c.in-Some.called.gl in
     let new = c.serve.new.self in
-    let next' = c.serve.new.wanting in
+    let next' = c.serve.new.pending in
     let event = c.close-event.result in
     let after = c.close-event.new.self in
     let p = place k.script.services i c.in-Some.ensures.known in
     let s = c.serve.ensures p.0 p.1 in
     let v : Chosen = record { number = i; bit = bit; service = p.0 } in
-    let wanting : r.wanting ≡ None = none_wanted want_of r.wanting (ap (λ h. h.wanting) c.self.view_is ∙ c.requires.idle) in
+    let pending : r.pending ≡ None = none_wanted pending_of r.pending (ap (λ h. h.pending) c.self.view_is ∙ c.requires.idle) in
     let first : r.overrun ≡ None = ap (λ h. h.overrun) c.self.view_is ∙ c.requires.first in
     let pat : c.demand-pattern.result ≡ pattern_of k.plan b c.args.answer.gl = c.demand-pattern.ensures ∙ ap (λ p. pattern_of p b c.args.answer.gl) c.plan.ensures in
     let called : service_for (context_in k) (pattern_of k.plan b c.args.answer.gl) k.script.services ≡ Some v =
@@ -108,7 +108,7 @@ returns-in-Some g c =
     let all = counted new next' event (r.fed + 1) r.events r.has_event r.overrun after s.room.missed c.close-event.ensures.ended c.close-event.ensures.goes_on in
     rw (← c.self.view_is) (record {
       first = first;
-      goes = λ answers. rw wanting
+      goes = λ answers. rw pending
           (onward_serves k.plan k.script b c.args.answer answers v called
           ∙ ap (λ n. does (demanded n (Some i)) (served (context_in k) k.script.services bit (service_meaning (context_in k) most_turns p.0 b answers))) (sym pat)
           ∙ ap (does (demanded c.demand-pattern.result (Some i)))
