@@ -6,7 +6,9 @@ mod context;
 mod cycle;
 mod plain;
 mod statement;
+mod table;
 mod transfer;
+mod window;
 
 pub use calls::lock_crate;
 pub use context::Context;

@@ -13,15 +13,14 @@ ghost use Rattle.camac_check_simple.specs.Gives.{Gives, by_code, verdict_of};
 use crate::context::Place;
 use crate::cycle::{addresses_of, may_write, moves};
 use crate::statement::Findings;
+use crate::table::{count_sent, greatest_sent, has_words, words_fit};
+use crate::window::{Window, has_sub_addresses, is_one_crate};
 use camac_branch::Plan;
 use camac_check_known::{
     CheckFault, Costs, Facts, Region, between, command_widths, cycle_cost, numbers_of, range_of,
     required,
 };
 use camac_check_rules::{Case, CheckRule};
-use camac_check_transfers::{
-    Window, count_sent, greatest_sent, has_sub_addresses, has_words, is_one_crate, words_fit,
-};
 use camac_func::FunctionClass;
 use camac_lang::{Expr, Table};
 use camac_range::Range;

@@ -5,7 +5,7 @@ ghost use Rattle.camac_check_rules.specs.Addresses.{station_end};
 ghost use Rattle.camac_check_rules.specs.Transfers.{is_one_crate, has_sub_addresses};
 ghost use Rattle.camac_check_rules.specs.Walks.{count_below, first_failing};
 ghost use Rattle.camac_check_rules.specs.Windows.{window_of, stations_of, sub_addresses_at, is_empty, is_installed, missing_over, is_declared, undeclared_over, window_size, scan_cycles, scan_kept};
-ghost use Rattle.camac_check_transfers.specs.Stations.{has_station, installed_at, declared_at};
+ghost use Rattle.camac_check_simple.specs.Stations.{has_station, installed_at, declared_at};
 
 use camac_branch::Plan;
 use camac_check_known::{Region, is_declared, is_station, not_installed, undeclared_at};
