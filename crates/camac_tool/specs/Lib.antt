@@ -3,3 +3,5 @@ pub mod Run
 pub mod Headline
 pub mod Input
 pub mod Status
+pub mod Gathered
+pub mod Streams

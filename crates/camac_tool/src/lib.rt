@@ -1,11 +1,14 @@
 //! The engines of the program: from its inputs to its output, and its command line.
 #![tactic(auto)]
 
+mod gathered;
 mod input;
 mod launch;
 pub mod laws;
+mod places;
 mod program;
 mod running;
+mod shared;
 mod streams;
 mod target;
 

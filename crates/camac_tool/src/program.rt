@@ -7,18 +7,20 @@ ghost use Rattle.camac_tool_check.specs.declared.fault.ToolFault.TheVariants.{Re
 ghost use Rattle.clap.specs.Words.{kind_of};
 ghost use Rattle.camac_tool.specs.Status.{Ends, EndsJob, EndsUsage};
 ghost use Rattle.camac_tool.specs.declared.launch.ArgumentsFault.TheVariants.{Memory, NotText};
-ghost use Rattle.camac_tool_streams.specs.Gathered.{has_stopped, held_in};
+ghost use Rattle.camac_tool.specs.Gathered.{has_stopped, held_in};
 
+use crate::gathered::Gathered;
 use crate::input::{Input, open};
 use crate::launch::ArgumentsFault;
+use crate::places::hold_places;
 use crate::running::{engine_drive, engine_run};
-use crate::streams::hold_places;
+use crate::shared::{FromAnswers, ToListing, ToRecords};
+use crate::streams::Streams;
 use crate::target::{NewFile, create, keep_apart, settle};
 use camac_tool_check::{
     Outcome, PlanSource, ToolFault, engine_bounds, engine_check, engine_commands, engine_costs,
     engine_events, engine_explain, engine_explain_plan, engine_plan, status,
 };
-use camac_tool_streams::{FromAnswers, Gathered, Streams, ToListing, ToRecords};
 use camac_tool_words::{Job, JobFault, read_words};
 use camac_word::Watched;
 use clap::Error;

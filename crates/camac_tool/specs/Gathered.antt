@@ -2,7 +2,7 @@
 use Rattle.std.specs.Prelude.{ℕ, Bool, List, Option}
 use Rattle.std.specs.Io.KnownBytes.{append_known}
 use Rattle.camac_word.specs.Watched.{inner_of, has_failed}
-use Rattle.camac_tool_streams.specs.declared.gathered.Gathered.{Gathered}
+use Rattle.camac_tool.specs.declared.gathered.Gathered.{Gathered}
 
 -- the writer that it hands on to
 abbrev pub device_of : {W : Type 0} → Gathered W → W

@@ -3,7 +3,7 @@
 ghost use Rattle.std.specs.Prelude.{◌≡◌, ◌≤◌, ◌<◌, ◌+◌, ◌-◌, ◌||◌, true, false, [], ◌++◌, length, take, drop, IfOk, OnOk, is_err, vec_len, vec_capacity};
 ghost use Rattle.std.specs.Io.{WritesAtMost};
 ghost use Rattle.std.specs.Io.KnownBytes.{Keeps, Appends, WriteAppends};
-ghost use Rattle.camac_tool_streams.specs.Gathered.{device_of, given_to, has_stopped, held_in};
+ghost use Rattle.camac_tool.specs.Gathered.{device_of, given_to, has_stopped, held_in};
 ghost use Rattle.camac_word.specs.Watched.{inner_of, has_failed};
 
 use super::Gathered;

@@ -1,9 +1,9 @@
 -- What a clause reads of the streams of a run.
 use Rattle.std.specs.Prelude.{◌≡◌, Bool, ◌||◌, []}
 use Rattle.camac_word.specs.declared.watched.Watched.{Watched}
-use Rattle.camac_tool_streams.specs.Gathered.{has_stopped, held_in}
-use Rattle.camac_tool_streams.specs.declared.gathered.Gathered.{Gathered}
-use Rattle.camac_tool_streams.specs.declared.streams.Streams.{Streams}
+use Rattle.camac_tool.specs.Gathered.{has_stopped, held_in}
+use Rattle.camac_tool.specs.declared.gathered.Gathered.{Gathered}
+use Rattle.camac_tool.specs.declared.streams.Streams.{Streams}
 
 -- the reader of its answers, watched
 abbrev pub answers_of : {R W E : Type 0} → Streams R W E → Watched R

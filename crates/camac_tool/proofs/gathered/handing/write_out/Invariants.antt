@@ -2,7 +2,7 @@
 use Rattle.std.proofs.Common.{◌≡◌, ◌-◌, ◌≤◌, length, take}
 use Rattle.std.specs.Io.KnownBytes.{Appends}
 use Rattle.camac_word.specs.Watched.{inner_of, has_failed}
-use Rattle.camac_tool_streams.proofs.gathered.handing.write_out.Given as goal
+use Rattle.camac_tool.proofs.gathered.handing.write_out.Given as goal
 
 abbrev pub invariant-loop-written : goal.invariant-loop-written
 invariant-loop-written g l = record {

@@ -6,7 +6,7 @@ use Rattle.camac_word.specs.Watched.{has_failed}
 use lib.Seq.{take-add, take-take}
 use Rattle.std.specs.Io.KnownBytes.{Appends}
 use Rattle.std.proofs.KnownBytes.{Appends-trans}
-use Rattle.camac_tool_streams.proofs.gathered.handing.write_out.Goals as goal
+use Rattle.camac_tool.proofs.gathered.handing.write_out.Goals as goal
 
 -- a write that took something has not failed
 took_some : (a b : Bool) (n : ℕ) (x : Bool) → 0 < n → a ≡ (b || (n == 0 && x)) → a ≡ b

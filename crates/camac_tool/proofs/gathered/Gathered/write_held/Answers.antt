@@ -1,6 +1,6 @@
 use Rattle.std.proofs.Common.{◌≡◌, ℕ, List, [], ◌++◌, Result, Ok, Err, OnOk, length, take, drop, sym, ap, ◌∙◌, le_of_eq, drop_of_length-le, take-append-drop}
 use Rattle.std.proofs.KnownBytes.{append_known-moved}
-use Rattle.camac_tool_streams.proofs.gathered.Gathered.write_held.Goals as goal
+use Rattle.camac_tool.proofs.gathered.Gathered.write_held.Goals as goal
 
 -- where all was written, nothing is left
 none_left : {X E : Type 0} (r : Result X E) (xs left : List ℕ) (n : ℕ) → left ≡ drop n xs → OnOk r (n ≡ length xs) → OnOk r (left ≡ [])
