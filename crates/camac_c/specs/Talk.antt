@@ -3,11 +3,11 @@ use Rattle.std.specs.Prelude.{◌≡◌, ◌<◌, ◌≤◌, ℕ, List, [], leng
 use Rattle.camac_branch.specs.Branch.{Answer}
 use Rattle.camac_check_result.specs.Checked.{CheckedScript}
 use Rattle.camac_model.specs.Run.{the_run}
-use Rattle.camac_run_runner.specs.Holds.{HoldsAfter}
-use Rattle.camac_run_runner.specs.Operation.{Wants, CanLock}
-use Rattle.camac_run_runner.specs.Runner.{rest, last_words_in, Progresses}
-use Rattle.camac_run_runner.specs.declared.progress.Progress.{Progress}
-use Rattle.camac_run_runner.specs.declared.progress.Wanted.{Wanted}
+use Rattle.camac_run.specs.Holds.{HoldsAfter}
+use Rattle.camac_run.specs.Operation.{Wants, CanLock}
+use Rattle.camac_run.specs.Runner.{rest, last_words_in, Progresses}
+use Rattle.camac_run.specs.declared.progress.Progress.{Progress}
+use Rattle.camac_run.specs.declared.progress.Wanted.{Wanted}
 use Rattle.camac_c.specs.Filled.{filled}
 use Rattle.camac_c.specs.Plain.{only_code}
 use Rattle.camac_c.specs.Told.{InRange, answer_in, asked, did}

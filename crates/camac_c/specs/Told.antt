@@ -6,10 +6,10 @@ use Rattle.camac_func.specs.declared.data.DataMove.TheVariants as moves
 use Rattle.camac_run_machine.specs.MachineState.{Left}
 use Rattle.camac_run_machine.specs.declared.item.Item.{Item}
 use Rattle.camac_run_machine.specs.declared.item.Item.TheVariants as item
-use Rattle.camac_run_runner.specs.declared.progress.Progress.{Progress}
-use Rattle.camac_run_runner.specs.declared.progress.Progress.TheVariants.{Went, Overrun}
-use Rattle.camac_run_runner.specs.declared.progress.Wanted.{Wanted}
-use Rattle.camac_run_runner.specs.declared.progress.Wanted.TheVariants.{Demand, Cycle, Lock}
+use Rattle.camac_run.specs.declared.progress.Progress.{Progress}
+use Rattle.camac_run.specs.declared.progress.Progress.TheVariants.{Went, Overrun}
+use Rattle.camac_run.specs.declared.progress.Wanted.{Wanted}
+use Rattle.camac_run.specs.declared.progress.Wanted.TheVariants.{Demand, Cycle, Lock}
 use Rattle.camac_c.specs.Plain.{no_want, no_progress, only_code}
 use Rattle.camac_c.specs.declared.plain.CamacAnswer.{CamacAnswer}
 use Rattle.camac_c.specs.declared.plain.CamacWant.{CamacWant}

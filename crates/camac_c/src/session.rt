@@ -1,7 +1,7 @@
 // A run in progress: what is asked of it, and what it tells.
 
 ghost use Rattle.std.specs.Prelude.{◌≡◌, ◌↔◌, ◌^◌, length, IfOk, IfSome, IsSome};
-ghost use Rattle.camac_run_runner.specs.Runner.{last_words_in};
+ghost use Rattle.camac_run.specs.Runner.{last_words_in};
 ghost use Rattle.camac_c.specs.Filled.{filled};
 ghost use Rattle.camac_c.specs.Talk.{StartsOn, Steps, TellsNext, TellsWant};
 ghost use Rattle.camac_c.specs.Told.{InRange, answer_in, crates_in, did, event_in, item_in, movement_in, service_in, want_in, written_in};
@@ -16,7 +16,7 @@ use camac_check_result::Checked;
 use camac_event::Usage;
 use camac_func::DataMove;
 use camac_run_machine::Item;
-use camac_run_runner::{FullRunner, Progress, Wanted};
+use camac_run::{FullRunner, Progress, Wanted};
 use camac_word::{CrateNo, GlBit, Word24};
 use std::alloc::Global;
 

@@ -7,8 +7,8 @@ use Rattle.camac_func.specs.declared.data.DataMove.{DataMove}
 use Rattle.camac_func.specs.declared.data.DataMove.TheVariants as moved
 use Rattle.camac_branch.specs.Address.{address}
 use Rattle.camac_model.specs.Behaviour.{Piece, demanded, cycled, lock_taken, lock_released, event_left}
-use Rattle.camac_run_runner.specs.declared.progress.Wanted.{Wanted}
-use Rattle.camac_run_runner.specs.declared.progress.Wanted.TheVariants as wanted
+use Rattle.camac_run.specs.declared.progress.Wanted.{Wanted}
+use Rattle.camac_run.specs.declared.progress.Wanted.TheVariants as wanted
 
 -- a word is to come in, this one is to go out, or none moves
 abbrev pub asked_text : DataMove → List ℕ

@@ -2,13 +2,13 @@
 
 ghost use Rattle.std.specs.Prelude.{◌≡◌, ◌≤◌, ◌+◌, ◌||◌, ◌++◌, length, is_err, codes, decimal};
 ghost use Rattle.camac_report.specs.Ends.{end_text};
-ghost use Rattle.camac_run_runner.specs.Ends.{stop_in};
+ghost use Rattle.camac_run.specs.Ends.{stop_in};
 ghost use Rattle.camac_word.specs.Watched.{inner_of, has_failed};
 ghost use Rattle.camac_word.specs.Writing.{Writes};
 
 use camac_branch::Overrun;
 use camac_report_text::Line;
-use camac_run_runner::End;
+use camac_run::End;
 use camac_word::{Watched, WriteFault};
 use std::io::Write;
 

@@ -9,7 +9,7 @@ ghost use Rattle.camac_word.specs.Writing.{Writes};
 use camac_check_result::Checked;
 use camac_lang::Script;
 use camac_report_text::{Line, lam_name};
-use camac_run_runner::Item;
+use camac_run::Item;
 use camac_word::{CrateNo, Watched, Word24, WriteFault};
 use std::io::Write;
 

@@ -11,7 +11,7 @@ use crate::item::push_unlocks;
 use camac_branch::Command;
 use camac_func::DataMove;
 use camac_report_text::Line;
-use camac_run_runner::Wanted;
+use camac_run::Wanted;
 use camac_word::{CrateNo, Watched, WriteFault};
 use std::io::Write;
 

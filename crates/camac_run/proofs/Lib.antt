@@ -1,6 +1,12 @@
-pub mod Told
+pub mod Logged
 pub mod Bits
 pub mod Locks
 pub mod Entries
 pub mod Headline
 pub mod Requested
+pub mod Services
+pub mod Serving
+pub mod Told
+pub mod Sizes
+pub mod Operation
+pub mod Holds

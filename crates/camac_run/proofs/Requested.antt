@@ -8,7 +8,7 @@ use Rattle.camac_model.specs.Fine.{Bounds}
 use Rattle.camac_model.specs.Headline.{AreSafe, RunsSafely}
 use Rattle.camac_model.specs.Run.{the_run}
 use Rattle.camac_model.specs.Safe.{IsSafePiece}
-use Rattle.camac_run_runner.specs.Operation.{operation_of, quiet_answer}
+use Rattle.camac_run.specs.Operation.{operation_of, quiet_answer}
 use Rattle.camac_run.specs.Requested.{IsSafeRequest, RequestsAreSafe}
 
 safe_operation : (plan : Layout) (p : Piece) → IsSafePiece plan p → IfSome (operation_of p) (IsSafeRequest plan)

@@ -1,161 +1,175 @@
--- What was told so far, and what the rest tells, is what the whole run tells.
-use Rattle.std.proofs.Common.{◌≡◌, ℕ, zero, suc, ◌+◌, ◌<◌, ◌≤◌, List, [], ◌∷◌, ◌++◌, map, length, drop, get_or, Option, Some, None, refl, sym, ap, subst, ◌∙◌, append_assoc, append-nil, length-append, arith}
-use Rattle.std.specs.Prelude.{IfNone}
-use Rattle.std.proofs.lemmas.List.{map-append}
-use Rattle.camac_lang.specs.Tree.{Script}
+-- What an answer told of a runner, and what is left.
+use Rattle.std.proofs.Common.{◌≡◌, ℕ, ◌+◌, ◌<◌, ◌≤◌, List, [], ◌∷◌, length, Option, Some, None, Bool, true, false, refl, sym, ap, subst, ◌∙◌, arith}
+use Rattle.std.specs.Prelude.{slice_get, option_map, IfSome, IfNone, OnSome, IsTrue}
+use Rattle.std.specs.Borrow.{Bor}
+use Rattle.camac_lang.specs.Scope.{is_well_formed}
+use Rattle.camac_lang.specs.Tree.{Service}
+use Rattle.camac_branch.specs.Crates.{branch_of}
 use Rattle.camac_branch.specs.Branch.{Answer}
-use Rattle.camac_branch.specs.Plan.{Layout}
+use Rattle.arrayvec.specs.ArrayVec.{ArrayVec}
 use Rattle.camac_branch.specs.declared.answer.Overrun.{Overrun}
-use Rattle.camac_event.specs.Spelling.{Entry, Listing, spelling}
-use Rattle.camac_event.specs.declared.event.Version.TheVariants.{Two}
-use Rattle.camac_run_runner.specs.Ends.{stop_in}
-use Rattle.camac_model.specs.Behaviour.{Behaviour, does, stops, Event, Piece, item_of, event_in, lock_released, items, events, stop_of, Stop, overrun}
-use Rattle.camac_model.specs.Fine.{Bounds}
-use Rattle.camac_model.specs.Run.{the_run}
+use Rattle.camac_check_result.specs.Checked.{CheckedScript, IsChecked}
+use Rattle.camac_lang.specs.Fits.{fits}
+use Rattle.camac_model.specs.State.{State}
+use Rattle.camac_model.specs.Behaviour.{Behaviour, ends, stops, short, Action, then_do}
+use Rattle.camac_model.specs.Fine.{IsFine, most_turns}
+use Rattle.camac_model.specs.Meaning.{Context}
+use Rattle.camac_model.specs.Run.{service_meaning}
 use Rattle.camac_run_machine.specs.declared.item.Item.{Item}
-use Rattle.camac_run_machine.specs.declared.item.Item.TheVariants as item
-use Rattle.camac_run_machine.specs.MachineState.{piece_of, Left}
-use Rattle.camac_run_machine.specs.Rest.{says}
-use Rattle.camac_run_runner.specs.Runner.{RunnerState, rest, state_in, with_event, last_words_in, GoesOn, Stops}
-use Rattle.camac_run.specs.Headline.{entry_of, entries_in, event_file, Headline, RunsByHeadline, LeavesFewEvents}
-use Rattle.camac_run.specs.Log.{IsLogOf, left_entries, unlock_items}
-use Rattle.camac_run.specs.declared.log.Log.{Log}
+use Rattle.camac_run_machine.specs.declared.machine.Machine.{Machine}
+use Rattle.camac_run_machine.specs.declared.machine.Pending.{Pending}
+use Rattle.camac_run_machine.specs.declared.machine.Pending.TheVariants as pending
+use Rattle.camac_run_machine.specs.declared.machine.Pending.TheVariants.{Cycle, Read, Lock}
+use Rattle.camac_run_machine.specs.MachineState.{bounds_at, bounds_of, opens_in, locked_among, context_in, state_of, left_in, stands, pending_of, FineThen, IsFineHere, HasRoom, IsPending, Takes, Settles, Serves, Left, bit_at, event_here}
+use Rattle.camac_run_machine.specs.Rest.{follows, rest_in, says, served}
+use Rattle.camac_run.specs.Runner.{RunnerState, rest, last_words_in, with_event}
+use Rattle.camac_run.specs.Sound.{runner_state, IsSound}
+use Rattle.camac_run_machine.proofs.Bounds.{fine_at}
+use Rattle.camac_run_machine.proofs.Fine.{fine_says}
+use Rattle.camac_run_machine.proofs.Frames.{fine_along}
+use Rattle.camac_run_machine.proofs.Locks.{among_few}
+use Rattle.camac_run.proofs.Serving.{served_says, served_stops, onward_over}
+use Rattle.camac_run_machine.proofs.Takes.{waits_first}
 
-abbrev Run : Type 0
-Run = Behaviour (Unit {0})
+module _ {V D C : ℕ} where
+  -- the event of a service that is over is told and counted, and nothing else changes
+  module _ (new : Machine V D C) (next' : Option Pending) (event : Option Left) (fed n : ℕ) (has : Bool) (o : Option Overrun) (s : RunnerState) where
+    abbrev pub IsCounted : Type 0
+    IsCounted = IfNone (option_map pending_of next') ((event ≡ Some (event_here new (n + 1))) × (s ≡ record (runner_state new next' fed n has o) { events = n + 1; has_event = true }))
 
--- a list from an index on
-pub from_index : {A : Type 0} (xs : List A) (i : ℕ) (x : A) → i < length xs → x ≡ get_or xs i x → drop i xs ≡ x ∷ drop (i + 1) xs
-from_index [] i x lt is = absurd (omega arith)
-from_index (y ∷ xs) zero x lt is = ap (λ z. z ∷ xs) (sym is)
-from_index (y ∷ xs) (suc i) x lt is =
-    let same : suc (i + 1) ≡ suc i + 1 = omega arith in
-    from_index xs i x (omega arith) is ∙ ap (λ (j : ℕ). x ∷ drop j (y ∷ xs)) same
+    abbrev pub IsAsBefore : Type 0
+    IsAsBefore = OnSome (option_map pending_of next') ((event ≡ None) × (s ≡ record (runner_state new next' fed n has o) { has_event = false }))
 
-item_is : (item : Item) → item_of (piece_of item) ≡ piece_of item ∷ []
-item_is (item.Cycle d) = refl
-item_is (item.Lock c w) = refl
-item_is (item.Unlock c) = refl
-item_is (item.Demand p v) = refl
+  -- where nothing is wanted the event is told, and else what is left is that of the machine
+  pub told : (new : Machine V D C) (next' : Option Pending) (event : Option Left) (fed n : ℕ) (has : Bool) (o : Option Overrun) (s : RunnerState) (answers : List Answer)
+      → IfNone next' (new.frames.items ≡ []) → IsCounted new next' event fed n has o s → IsAsBefore new next' event fed n has o s
+      → served (context_in new.checked.now) new.checked.now.script.services (bit_at new.checked.now new.service) (stands next' new answers) ≡ with_event event (last_words_in s) (rest s answers)
+  unfolding served rest_in
+  told new None event fed n has o s answers f a b = rw (f, a.0, a.1) refl
+  told new (Some w) event fed n has o s answers f a b = rw (b.0, b.1) refl
 
-no_event : (item : Item) → event_in (piece_of item) ≡ []
-no_event (item.Cycle d) = refl
-no_event (item.Lock c w) = refl
-no_event (item.Unlock c) = refl
-no_event (item.Demand p v) = refl
+  pub counted : (new : Machine V D C) (next' : Option Pending) (event : Option Left) (fed n : ℕ) (has : Bool) (o : Option Overrun) (s : RunnerState)
+      → new.missed ≤ new.cost → IsCounted new next' event fed n has o s → IsAsBefore new next' event fed n has o s
+      → IfNone event (s.events ≡ n) × IfSome event (λ e. (e.0 ≡ n + 1) × (s.events ≡ e.0) × (e.2.missed ≤ e.2.cycles)) × IfNone event (last_words_in s ≡ []) × (s.fed ≡ fed) × (s.overrun ≡ o) × (s.checked ≡ new.checked.now)
+  counted new None event fed n has o s few a b = rw (a.0, a.1) (tt, (refl, refl, few), tt, refl, refl, refl)
+  counted new (Some w) event fed n has o s few a b = rw (b.0, b.1) (refl, tt, refl, refl, refl, refl)
 
-says_items : (ks : List ℕ) (event : Option Left) (words : List ℕ) (b : Run) → items (says ks (with_event event words b)) ≡ map lock_released ks ++ items b
-says_items [] None words b = refl
-says_items [] (Some e) words b = refl
-says_items (k ∷ ks) event words b = ap (λ (ps : List Piece). lock_released k ∷ ps) (says_items ks event words b)
+  -- a machine whose releases are told
+  pub room_told : (h : Machine V D C) (none : ArrayVec ℕ) → none.items ≡ [] → HasRoom h → HasRoom (record h { unlocks = none })
+  room_told h none e r =
+      let few : locked_among (branch_of h.branch) 7 ≤ 7 = among_few (branch_of h.branch) 7 in
+      let n : length none.items ≡ 0 = ap length e in
+      record {
+        variables = r.variables;
+        registers = r.registers;
+        fits = r.fits;
+        scope = r.scope;
+        blocks = r.blocks;
+        words = r.words;
+        steps = r.steps;
+        cycles = r.cycles;
+        few_missed = r.few_missed;
+        missed = r.missed;
+        locks = r.locks;
+        unlocks = omega (arith, few, n);
+      }
 
-says_events : (ks : List ℕ) (event : Option Left) (words : List ℕ) (b : Run) → entries_in (says ks (with_event event words b)) ≡ left_entries event words ++ entries_in b
-says_events [] None words b = refl
-says_events [] (Some e) words b = refl
-says_events (k ∷ ks) event words b = says_events ks event words b
+  pub sound_after : (old new : Machine V D C) (none : ArrayVec ℕ) (before next' : Option Pending) (fed count i : ℕ) → none.items ≡ [] → IsSound old before fed count
+      → HasRoom new → new.checked ≡ old.checked → new.service ≡ i → i < length old.checked.now.script.services → IfSome next' (IsPending new) → IfNone next' (new.frames.items ≡ [])
+      → ((answers : List Answer) → IsFineHere new (stands next' new answers)) → IsSound (record new { unlocks = none }) next' (fed + 1) count
+  sound_after old new none before next' fed count i quiet s room e service below is_next over fine = record {
+    room = room_told new none quiet room;
+    quiet = quiet;
+    checked = subst (λ (b : Bor CheckedScript). IsChecked b.now) (sym e) s.checked;
+    formed = subst (λ (b : Bor CheckedScript). IsTrue (is_well_formed b.now.script)) (sym e) s.formed;
+    fits = subst (λ (b : Bor CheckedScript). fits b.now.script V D C ≡ true) (sym e) s.fits;
+    pending = ready next' is_next;
+    idle = over;
+    service = there next';
+    fine = is_fine next' fine;
+    events = let few = s.events in omega (arith, few);
+  }
+    where
+      there : (o : Option Pending) → IfSome o (λ w. new.service < length new.checked.now.script.services)
+      there None = tt
+      there (Some w) =
+          subst (λ (b : Bor CheckedScript). new.service < length b.now.script.services) (sym e)
+          (subst (λ j. j < length old.checked.now.script.services) (sym service) below)
 
-says_stop : (ks : List ℕ) (event : Option Left) (words : List ℕ) (b : Run) → stop_of (says ks (with_event event words b)) ≡ stop_of b
-says_stop [] None words b = refl
-says_stop [] (Some e) words b = refl
-says_stop (k ∷ ks) event words b = says_stop ks event words b
+      ready : (o : Option Pending) → IfSome o (IsPending new) → IfSome o (IsPending (record new { unlocks = none }))
+      ready None f = tt
+      ready (Some (Cycle k)) f = f
+      ready (Some (Read k x bits)) f = f
+      ready (Some (Lock k body)) f = f
+      ready (Some (pending.Transfer w)) f = f
 
-released : (ks : List ℕ) → map piece_of (unlock_items ks) ≡ map lock_released ks
-released [] = refl
-released (k ∷ ks) = ap (λ (ps : List Piece). lock_released k ∷ ps) (released ks)
+      is_fine : (o : Option Pending) → ((answers : List Answer) → IsFineHere new (stands o new answers)) → IfSome o (λ w. (answers : List Answer) → IsFineHere (record new { unlocks = none }) (stands (Some w) (record new { unlocks = none }) answers))
+      is_fine None f = tt
+      is_fine (Some w) f = f
 
--- an answer was used for an item; then these locks were released, and an event may have been left
-module _ (whole old new : Run) (item : Item) (ks : List ℕ) (event : Option Left) (words : List ℕ) (e : old ≡ does (piece_of item) (says ks (with_event event words new))) where
-  pub items_told : (xs ys zs : List Item) → items whole ≡ map piece_of xs ++ items old → ys ≡ xs ++ item ∷ [] → zs ≡ ys ++ unlock_items ks → items whole ≡ map piece_of zs ++ items new
-  items_told xs ys zs h p n =
-      let later : List Piece = map lock_released ks ++ items new in
-      let first : List Piece = map piece_of xs in
-      let pushed : map piece_of ys ≡ first ++ piece_of item ∷ [] = ap (map piece_of) p ∙ map-append piece_of xs (item ∷ []) in
-      let noted : map piece_of zs ≡ map piece_of ys ++ map lock_released ks =
-      ap (map piece_of) n ∙ map-append piece_of ys (unlock_items ks) ∙ ap (λ (ps : List Piece). map piece_of ys ++ ps) (released ks) in
-      let here : items old ≡ piece_of item ∷ later =
-      ap (λ (b : Run). items b) e ∙ ap (λ (ps : List Piece). ps ++ items (says ks (with_event event words new))) (item_is item) ∙ ap (λ (ps : List Piece). piece_of item ∷ ps) (says_items ks event words new) in
-      h ∙ ap (λ (ps : List Piece). first ++ ps) here
-      ∙ sym (append_assoc first (piece_of item ∷ []) later)
-      ∙ ap (λ (ps : List Piece). ps ++ later) (sym pushed)
-      ∙ sym (append_assoc (map piece_of ys) (map lock_released ks) (items new))
-      ∙ ap (λ (ps : List Piece). ps ++ items new) (sym noted)
+  along_told : (new : Machine V D C) (ck : Bor CheckedScript) (i bit : ℕ) (next' : Option Pending) (event : Option Left) (fed n : ℕ) (has : Bool) (o : Option Overrun) (s : RunnerState) (answers : List Answer)
+      → new.checked ≡ ck → new.service ≡ i → bit_at ck.now i ≡ bit
+      → IfNone next' (new.frames.items ≡ []) → IsCounted new next' event fed n has o s → IsAsBefore new next' event fed n has o s
+      → served (context_in ck.now) ck.now.script.services bit (stands next' new answers) ≡ with_event event (last_words_in s) (rest s answers)
+  along_told new ck i bit next' event fed n has o s answers e1 e2 e3 f a b =
+      ap (λ k. served (context_in ck.now) ck.now.script.services k (stands next' new answers)) (sym e3)
+      ∙ ap (λ j. served (context_in ck.now) ck.now.script.services (bit_at ck.now j) (stands next' new answers)) (sym e2)
+      ∙ ap (λ (z : Bor CheckedScript). served (context_in z.now) z.now.script.services (bit_at z.now new.service) (stands next' new answers)) (sym e1)
+      ∙ told new next' event fed n has o s answers f a b
 
-  pub events_told : (first kept : List Entry) → entries_in whole ≡ first ++ entries_in old → kept ≡ first ++ left_entries event words → entries_in whole ≡ kept ++ entries_in new
-  events_told first kept h p =
-      let here : entries_in old ≡ left_entries event words ++ entries_in new =
-      ap (λ (b : Run). entries_in b) e ∙ ap (λ (es : List Event). map entry_of (es ++ events (says ks (with_event event words new)))) (no_event item) ∙ says_events ks event words new in
-      h ∙ ap (λ (es : List Entry). first ++ es) here
-      ∙ sym (append_assoc first (left_entries event words) (entries_in new))
-      ∙ ap (λ (es : List Entry). es ++ entries_in new) (sym p)
+  -- the same along what an answer leaves as it was
+  pub told_along : (new : Machine V D C) (ck : Bor CheckedScript) (i bit : ℕ) (next' : Option Pending) (event : Option Left) (fed n : ℕ) (has : Bool) (o : Option Overrun) (s : RunnerState) (answers : List Answer)
+      → new.checked ≡ ck → new.service ≡ i → bit_at ck.now i ≡ bit
+      → IfNone next' (new.frames.items ≡ []) → IsCounted new next' event fed n has o s → IsAsBefore new next' event fed n has o s
+      → (us : List ℕ) → served (context_in ck.now) ck.now.script.services bit (says us (stands next' new answers)) ≡ says us (with_event event (last_words_in s) (rest s answers))
+  told_along new ck i bit next' event fed n has o s answers e1 e2 e3 f a b us =
+      served_says (context_in ck.now) ck.now.script.services bit us (stands next' new answers)
+      ∙ ap (says us) (along_told new ck i bit next' event fed n has o s answers e1 e2 e3 f a b)
 
-  pub stop_told : stop_of whole ≡ stop_of old → stop_of whole ≡ stop_of new
-  stop_told h = h ∙ ap (λ (b : Run). stop_of b) e ∙ says_stop ks event words new
+  fine_told : (new : Machine V D C) (b : Behaviour State) → IsFineHere new (says new.unlocks.items b) → IsFineHere new b
+  fine_told new b f = fine_says new.checked.now.plan (bounds_of new) new.unlocks.items b f
 
-one_left : (event : Option Left) (words : List ℕ) → length (left_entries event words) ≤ 1
-one_left None words = omega arith
-one_left (Some e) words = omega arith
+  -- a service that is called is fine
+  pub serve_fine : (old new : Machine V D C) (i : ℕ) (v : Service) (next' : Option Pending) → IsChecked old.checked.now → slice_get old.checked.now.script.services i ≡ Some v → Serves old i v next' new → (answers : List Answer) → IsFineHere new (stands next' new answers)
+  serve_fine old new i v next' checked there s answers =
+      let k = old.checked.now in
+      let meaning = service_meaning (context_in k) most_turns v (branch_of old.branch) answers in
+      let fine : IsFine k.plan (bounds_at k i) meaning = fine_at k k.bounds k.script.services i v (record { cycles = 0; words = 0; steps = 0 }) checked.services there most_turns (omega arith) (branch_of old.branch) answers in
+      fine_told new (stands next' new answers)
+      (fine_along new (record old { service = i }) s.checked s.service (says new.unlocks.items (stands next' new answers)) meaning (s.goes answers) fine)
 
-pub few_left : (first kept : List Entry) (event : Option Left) (words : List ℕ) (n : ℕ) → kept ≡ first ++ left_entries event words → length first ≤ n → length kept ≤ n + 1
-few_left first kept event words n p le =
-    let one = one_left event words in
-    let lengths : length kept ≡ length first + length (left_entries event words) = ap length p ∙ length-append first (left_entries event words) in
-    omega arith
+  -- what is left after an answer that was taken is fine
+  pub take_fine : (old mid : Machine V D C) (w : Pending) (a : Answer) (d : Item) → ((answers : List Answer) → IsFineHere old (stands (Some w) old answers)) → Takes old w a d mid → FineThen mid (λ c. follows c (pending_of w))
+  take_fine old mid w a d fine t answers =
+      let b = then_do (follows (context_in mid.checked.now) (pending_of w) (state_of mid answers)) (left_in mid) in
+      let all = subst (λ x. IsFineHere old x) (t.goes answers) (fine (a ∷ answers)) in
+      fine_along mid old t.checked t.service b b refl all.1
 
--- what an answer was used for
-pub goes_here : (old new : RunnerState) (answer : Answer) (item : Item) (ks : List ℕ) (event : Option Left) → GoesOn old answer item ks event new → (answers : List Answer) (i : ℕ) → i < length answers → answer ≡ get_or answers i answer
-    → rest old (drop i answers) ≡ does (piece_of item) (says ks (with_event event (last_words_in new) (rest new (drop (i + 1) answers))))
-goes_here old new answer item ks event g answers i lt is = ap (rest old) (from_index answers i answer lt is) ∙ g.goes (drop (i + 1) answers)
+  pub settle_fine : (mid new : Machine V D C) (go : Context → Action) (next' : Option Pending) → FineThen mid go → Settles mid go next' new → (answers : List Answer) → IsFineHere new (stands next' new answers)
+  settle_fine mid new go next' fine s answers =
+      fine_told new (stands next' new answers)
+      (fine_along new mid s.checked s.service (says new.unlocks.items (stands next' new answers)) (then_do (go (context_in mid.checked.now) (state_of mid answers)) (left_in mid)) (s.goes answers) (fine answers))
 
-stops_now : (o : Option Overrun) (P : Type 0) → o ≡ None → IfNone o P → P
-stops_now None P e h = h
-stops_now (Some x) P e h = cc
+  -- with no answer, a run is short in the service in progress, or over
+  pub rest_short : (h : Machine V D C) (pending : Option Pending) (w : Pending) (fed n : ℕ) (has : Bool) (o : Option Overrun) → pending ≡ Some w → IfSome pending (IsPending h) → rest (runner_state h pending fed n has o) [] ≡ stops short (state_of h [])
+  rest_short h pending w fed n has o e p =
+      let q : IsPending h w = rw e at p in
+      let c = context_in h.checked.now in
+      rw e (ap (λ b. served c h.checked.now.script.services (bit_at h.checked.now h.service) (then_do b (rest_in c (opens_in h)))) (waits_first h w q)
+      ∙ served_stops c h.checked.now.script.services (bit_at h.checked.now h.service) short (state_of h []))
 
--- a run that stops, and tells nothing more
-pub record Over (left : Run) (stop : Option Stop) : Type 0 where
-  pub no_items : items left ≡ []
-  pub no_events : entries_in left ≡ []
-  pub stop_is : stop_of left ≡ stop
+  pub rest_over : (h : Machine V D C) (pending : Option Pending) (fed n : ℕ) (has : Bool) (o : Option Overrun) → pending ≡ None → rest (runner_state h pending fed n has o) [] ≡ ends tt
+  rest_over h pending fed n has o e = rw e (onward_over (context_in h.checked.now) h.checked.now.script.services (branch_of h.branch))
 
-over_at : (left now : Run) (stop : Option Stop) → left ≡ now → Over now stop → Over left stop
-over_at left now stop e h = record {
-  no_items = ap (λ (b : Run). items b) e ∙ h.no_items;
-  no_events = ap (λ (b : Run). entries_in b) e ∙ h.no_events;
-  stop_is = ap (λ (b : Run). stop_of b) e ∙ h.stop_is;
-}
+pub below_along : {V D C : ℕ} (new : Machine V D C) (ck : Bor CheckedScript) (i : ℕ) → new.checked ≡ ck → new.service ≡ i → i < length ck.now.script.services → new.service < length new.checked.now.script.services
+below_along new ck i e1 e2 h =
+    subst (λ (z : Bor CheckedScript). new.service < length z.now.script.services) (sym e1) (subst (λ j. j < length ck.now.script.services) (sym e2) h)
 
-pub stopped : (old new : RunnerState) (answer : Answer) (o : Overrun) → old.overrun ≡ None → Stops old answer o new → (answers : List Answer) (i : ℕ) → i < length answers → answer ≡ get_or answers i answer → Over (rest old (drop i answers)) (Some (overrun o.c o.wait))
-stopped old new answer o first s answers i lt is =
-    let after : List Answer = drop (i + 1) answers in
-    over_at (rest old (drop i answers)) (stops (overrun o.c o.wait) (state_in old (answer ∷ after))) (Some (overrun o.c o.wait))
-    (ap (rest old) (from_index answers i answer lt is)
-    ∙ stops_now old.overrun ((more : List Answer) → rest old (answer ∷ more) ≡ stops (overrun o.c o.wait) (state_in old (answer ∷ more))) first s.now after)
-    (record { no_items = refl; no_events = refl; stop_is = refl })
+pub none_wanted : {A B : Type 0} (f : A → B) (o : Option A) → option_map f o ≡ None → o ≡ None
+none_wanted f None e = refl
+none_wanted f (Some a) e = absurd (cc)
 
-past_end : {A : Type 0} (xs : List A) (i : ℕ) → length xs ≤ i → drop i xs ≡ []
-past_end [] zero le = refl
-past_end [] (suc i) le = refl
-past_end (x ∷ xs) zero le = absurd (omega arith)
-past_end (x ∷ xs) (suc i) le = past_end xs i (omega arith)
-
-pub used_up : (held : RunnerState) (answers : List Answer) (i : ℕ) (stop : Option Stop) → length answers ≤ i → items (rest held []) ≡ [] → events (rest held []) ≡ [] → stop ≡ stop_of (rest held []) → Over (rest held (drop i answers)) stop
-used_up held answers i stop le no_items no_events is =
-    over_at (rest held (drop i answers)) (rest held []) stop (ap (rest held) (past_end answers i le))
-    (record { no_items = no_items; no_events = ap (map entry_of) no_events; stop_is = sym is })
-
--- the log where the run is over
-pub is_log : (log : Log) (whole left : Run) → log.events.version ≡ Two → items whole ≡ map piece_of log.items ++ items left → entries_in whole ≡ log.events.events ++ entries_in left → stop_of whole ≡ stop_of left → Over left (stop_in log.end) → IsLogOf log whole
-is_log log whole left version same_items same_events same_stop h =
-    let entries : entries_in whole ≡ log.events.events = same_events ∙ ap (λ (es : List Entry). log.events.events ++ es) h.no_events ∙ append-nil log.events.events in
-    record {
-      same_items = sym (same_items ∙ ap (λ (ps : List Piece). map piece_of log.items ++ ps) h.no_items ∙ append-nil (map piece_of log.items));
-      same_events = ap (λ v. record { version = v; events = log.events.events }) version ∙ ap (λ (es : List Entry). record { version = Two; events = es }) (sym entries);
-      same_end = sym (same_stop ∙ h.stop_is);
-    }
-
--- and the headline with its event file
-pub by_log : (plan : Layout) (script : Script) (ks : List Bounds) (answers : List Answer) (log : Log) → RunsByHeadline plan script ks → LeavesFewEvents plan script → length answers ≤ 1000000 → IsLogOf log (the_run plan script answers)
-    → Headline plan script ks answers (spelling log.events.version log.events.events)
-by_log plan script ks answers log law few short h =
-    let le = few answers in
-    let file : event_file plan script answers ≡ spelling log.events.version log.events.events = ap (λ (l : Listing). spelling l.version l.events) (sym h.same_events) in
-    subst (λ (bytes : List ℕ). Headline plan script ks answers bytes) file (law answers (omega arith))
+-- a service in progress is within its bounds
+pub steps_within : {V D C : ℕ} (h : Machine V D C) (w : Pending) → IsPending h w → ((answers : List Answer) → IsFineHere h (stands (Some w) h answers)) → h.steps ≤ (bounds_of h).steps
+steps_within h w p fine =
+    let f = subst (λ b. IsFineHere h (then_do b (rest_in (context_in h.checked.now) (opens_in h)))) (waits_first h w p) (fine []) in f.1.steps

@@ -1,3 +1,9 @@
 pub mod Log
 pub mod Headline
 pub mod Requested
+pub mod Called
+pub mod Runner
+pub mod Sound
+pub mod Ends
+pub mod Operation
+pub mod Holds

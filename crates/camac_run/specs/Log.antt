@@ -2,7 +2,7 @@
 use Rattle.std.specs.Prelude.{◌≡◌, ℕ, List, [], ◌∷◌, map, Option, Some, None}
 use Rattle.camac_event.specs.Spelling.{Entry}
 use Rattle.camac_event.specs.declared.event.Version.TheVariants.{Two}
-use Rattle.camac_run_runner.specs.Ends.{stop_in}
+use Rattle.camac_run.specs.Ends.{stop_in}
 use Rattle.camac_model.specs.Behaviour.{Behaviour, items, stop_of}
 use Rattle.camac_run_machine.specs.MachineState.{piece_of, Left}
 use Rattle.camac_run_machine.specs.declared.item.Item.{Item}

@@ -5,9 +5,9 @@ use Rattle.camac_branch.specs.Address.{address}
 use Rattle.camac_branch.specs.Branch.{Answer}
 use Rattle.camac_branch.specs.Plan.{Layout}
 use Rattle.camac_model.specs.Safe.{IsSafe}
-use Rattle.camac_run_runner.specs.Operation.{wanted_after}
-use Rattle.camac_run_runner.specs.declared.progress.Wanted.{Wanted}
-use Rattle.camac_run_runner.specs.declared.progress.Wanted.TheVariants.{Demand, Cycle, Lock}
+use Rattle.camac_run.specs.Operation.{wanted_after}
+use Rattle.camac_run.specs.declared.progress.Wanted.{Wanted}
+use Rattle.camac_run.specs.declared.progress.Wanted.TheVariants.{Demand, Cycle, Lock}
 
 -- its command may be sent: it is allowed at its address, moves data as its function code says, and a word that goes out fits the register
 abbrev pub IsSafeRequest : Layout → Wanted → Type 0

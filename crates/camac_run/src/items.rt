@@ -2,7 +2,7 @@
 
 ghost use Rattle.std.specs.Prelude.{◌≡◌, ◌++◌, ◌∷◌, [], OnOk};
 
-use camac_run_runner::Item;
+use camac_run_machine::Item;
 use std::alloc::{AllocError, Global};
 use std::marker::Model;
 

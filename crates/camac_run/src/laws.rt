@@ -1,5 +1,6 @@
-// The headline, as a law of every checked script.
+// Laws of every checked script: the headline, and what a runner holds and wants.
 
+ghost use Rattle.camac_run.specs.Holds.{GoingOnHolds, WantsAreWanted};
 ghost use Rattle.camac_run.specs.Headline.{RunsAlways, RunsByHeadline, LeavesFewEvents};
 ghost use Rattle.camac_run.specs.Requested.{RequestsAreSafe};
 
@@ -24,3 +25,10 @@ pub fn requests_are_safe(checked: &Checked)
 {
     checked.is_checked();
 }
+
+/// A runner holds after the answers that it used what is left of the run, from its start on, where there are none. So what it wants is what
+/// the run wants after them.
+pub fn runner_holds_the_rest()
+    ensures goes_on { GoingOnHolds }
+    ensures wanted { WantsAreWanted }
+{}

@@ -1,11 +1,17 @@
-//! A run over a whole list of answers, with all that it tells, and what is promised of it and of its event file.
+//! Runs an accepted script: the runner, an answer at a time in fixed memory; and a run over a whole list of answers, with all that it tells,
+//! and what is promised of it and of its event file.
 #![tactic(auto)]
 
 mod items;
 mod laws;
 mod log;
+mod progress;
+mod runner;
+mod service;
 
-pub use camac_run_runner::{End, FullRunner, Item, Progress, Runner, Wanted};
+pub use camac_run_machine::Item;
 pub use items::Items;
-pub use laws::{requests_are_safe, runs_by_headline};
+pub use laws::{requests_are_safe, runner_holds_the_rest, runs_by_headline};
 pub use log::{Log, run};
+pub use progress::{End, Progress, Wanted};
+pub use runner::{FullRunner, Runner};

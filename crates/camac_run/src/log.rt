@@ -3,19 +3,21 @@
 ghost use Rattle.std.specs.Prelude.{◌≡◌, ◌<◌, ◌≤◌, ◌++◌, length, true, IfOk, OnOk, IfSome, []};
 ghost use Rattle.camac_event.specs.Spelling.{spelling};
 ghost use Rattle.camac_event.specs.declared.event.Version.TheVariants.{Two};
-ghost use Rattle.camac_run_runner.specs.Ends.{stop_in};
+ghost use Rattle.camac_run.specs.Ends.{stop_in};
 ghost use Rattle.camac_run.specs.Headline.{Headline};
 ghost use Rattle.camac_run.specs.Log.{IsLogOf, left_entries, unlock_items};
 ghost use Rattle.camac_model.specs.Behaviour.{items, events, stop_of};
 ghost use Rattle.camac_model.specs.Run.{the_run};
-ghost use Rattle.camac_run_runner.specs.Runner.{rest};
+ghost use Rattle.camac_run.specs.Runner.{rest};
 
 use crate::items::Items;
 use crate::laws::runs_by_headline;
+use crate::progress::{End, Progress};
+use crate::runner::FullRunner;
 use camac_branch::Answer;
 use camac_check_result::Checked;
 use camac_event::{Events, Usage, Version};
-use camac_run_runner::{End, FullRunner, Item, Progress};
+use camac_run_machine::Item;
 use camac_word::{CrateNo, GlBit, Word24};
 use std::alloc::{AllocError, Global};
 

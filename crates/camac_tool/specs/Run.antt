@@ -6,7 +6,7 @@ use Rattle.camac_answer.specs.Answers.{left_in}
 use Rattle.camac_answer.specs.declared.answers.Stage.TheVariants.{Running}
 use Rattle.camac_report_text.specs.Refusal.{refusal_text}
 use Rattle.camac_report_text.specs.declared.refusal.Refusal.{Refusal}
-use Rattle.camac_run_runner.specs.declared.progress.End.TheVariants as end
+use Rattle.camac_run.specs.declared.progress.End.TheVariants as end
 use Rattle.camac_explain.specs.Finding.{refusal_of}
 use Rattle.camac_tool_check.specs.Engine.{is_write_fault}
 use Rattle.camac_tool_check.specs.Found.{HasJudged, IsTooLong}

@@ -11,7 +11,7 @@ ghost use Rattle.camac_tool_play.specs.Sent.{outputs};
 ghost use Rattle.camac_word.specs.Watched.{inner_of, has_failed};
 
 use camac_check::Checked;
-use camac_run_runner::End;
+use camac_run::End;
 use camac_tool_check::{Judged, Outcome, PlanSource, ToolFault, read_judged, refuse};
 use camac_tool_play::{Ending, PlayFault, Telling, play_as};
 use camac_word::Watched;

@@ -15,14 +15,14 @@ use Rattle.camac_answer.specs.declared.fault.AnswerFault.TheVariants.{OutOfMemor
 use Rattle.camac_answer.specs.declared.fault.AnswerRule.{AnswerRule}
 use Rattle.camac_run_machine.specs.MachineState.{piece_of, Left}
 use Rattle.camac_run_machine.specs.declared.item.Item.{Item}
-use Rattle.camac_run_runner.specs.Ends.{stop_in}
-use Rattle.camac_run_runner.specs.Holds.{after, HoldsAfter}
-use Rattle.camac_run_runner.specs.Operation.{operation_of, wanted_after, Begins, Waits, Wants}
-use Rattle.camac_run_runner.specs.Runner.{RunnerState, GoesOn, Stops, rest, last_words_in, state_in}
-use Rattle.camac_run_runner.specs.declared.progress.End.{End}
-use Rattle.camac_run_runner.specs.declared.progress.End.TheVariants as end
-use Rattle.camac_run_runner.specs.declared.progress.Wanted.{Wanted}
-use Rattle.camac_run_runner.proofs.Holds.{pieces-after, stop_of-after, later, going_on_holds, did_all, wants_are_wanted}
+use Rattle.camac_run.specs.Ends.{stop_in}
+use Rattle.camac_run.specs.Holds.{after, HoldsAfter}
+use Rattle.camac_run.specs.Operation.{operation_of, wanted_after, Begins, Waits, Wants}
+use Rattle.camac_run.specs.Runner.{RunnerState, GoesOn, Stops, rest, last_words_in, state_in}
+use Rattle.camac_run.specs.declared.progress.End.{End}
+use Rattle.camac_run.specs.declared.progress.End.TheVariants as end
+use Rattle.camac_run.specs.declared.progress.Wanted.{Wanted}
+use Rattle.camac_run.proofs.Holds.{pieces-after, stop_of-after, later, going_on_holds, did_all, wants_are_wanted}
 use Rattle.camac_tool_play.specs.Play.{HasGiven, HasRead, ReadsNoMore, FailsAtWrite, Feeds, with_taken, faulted, failed_by}
 use Rattle.camac_tool_play.specs.Sent.{Outputs, Sends, SendsPrefix, Sent, to_listing}
 use Rattle.camac_tool_play.specs.Told.{most_answers, asked_text, line_of, pieces_sent, open_text, called_for, ending_of}

@@ -8,7 +8,7 @@ use Rattle.camac_model.specs.Fine.{Bounds}
 use Rattle.camac_answer.specs.Reading.{Reading}
 use Rattle.camac_run.specs.Headline.{event_file, Headline}
 use Rattle.camac_run.specs.Requested.{IsSafeRequest}
-use Rattle.camac_run_runner.specs.Operation.{wanted_after}
+use Rattle.camac_run.specs.Operation.{wanted_after}
 use Rattle.camac_tool_play.specs.Play.{Gives, GivesFirst}
 use Rattle.camac_tool_play.specs.Sent.{events_of}
 use Rattle.camac_tool_play.specs.Told.{report, played, used_of}

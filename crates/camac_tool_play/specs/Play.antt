@@ -10,7 +10,7 @@ use Rattle.camac_answer.specs.Reading.{Reading, Answered}
 use Rattle.camac_answer.specs.declared.answers.Stage.TheVariants.{Running}
 use Rattle.camac_answer.specs.declared.fault.AnswerFault.{AnswerFault}
 use Rattle.camac_answer.specs.declared.fault.AnswerFault.TheVariants.{OutOfMemory, Read, Broken}
-use Rattle.camac_run_runner.specs.declared.progress.End.TheVariants as end
+use Rattle.camac_run.specs.declared.progress.End.TheVariants as end
 use Rattle.camac_tool_play.specs.Sent.{Outputs, Sends, SendsPrefix, SendsLastPart, Sent}
 use Rattle.camac_tool_play.specs.Told.{most_answers, called_for, ending, report, played}
 use Rattle.camac_tool_play.specs.declared.ending.Ending.{Ending}

@@ -18,11 +18,11 @@ use Rattle.camac_report.specs.Items.{item_text}
 use Rattle.camac_report.specs.Requests.{request_text, live_text}
 use Rattle.camac_run.specs.Headline.{entry_of}
 use Rattle.camac_run_machine.specs.MachineState.{Left}
-use Rattle.camac_run_runner.specs.Ends.{stop_in}
-use Rattle.camac_run_runner.specs.Operation.{Wants, wanted_after}
-use Rattle.camac_run_runner.specs.Runner.{RunnerState}
-use Rattle.camac_run_runner.specs.declared.progress.End.TheVariants as end
-use Rattle.camac_run_runner.specs.declared.progress.Wanted.{Wanted}
+use Rattle.camac_run.specs.Ends.{stop_in}
+use Rattle.camac_run.specs.Operation.{Wants, wanted_after}
+use Rattle.camac_run.specs.Runner.{RunnerState}
+use Rattle.camac_run.specs.declared.progress.End.TheVariants as end
+use Rattle.camac_run.specs.declared.progress.Wanted.{Wanted}
 use Rattle.camac_tool_play.specs.Sent.{Sent, to_listing, to_events}
 use Rattle.camac_tool_play.specs.declared.ending.Ending.{Ending}
 use Rattle.camac_tool_play.specs.declared.ending.Ending.TheVariants as how

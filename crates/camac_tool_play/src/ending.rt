@@ -1,7 +1,7 @@
 // How a run comes to its last line.
 
 use camac_answer::AnswerRule;
-use camac_run_runner::End;
+use camac_run::End;
 
 /// How a run comes to its last line (own).
 #[derive(Clone, Copy, Debug, PartialEq, Eq)]

@@ -4,8 +4,8 @@ ghost use Rattle.std.specs.Prelude.{◌≡◌, ◌<◌, ◌||◌, ◌^◌, false
 ghost use Rattle.camac_answer.specs.Answers.{left_of, limit_of, stage_of, given_by, text_of, reader_failed, is_memory_failure, is_read_failure};
 ghost use Rattle.camac_answer.specs.declared.answers.Stage.TheVariants.{Running};
 ghost use Rattle.camac_model.specs.Behaviour.{stop_of};
-ghost use Rattle.camac_run_runner.specs.Ends.{stop_in};
-ghost use Rattle.camac_run_runner.specs.Runner.{rest};
+ghost use Rattle.camac_run.specs.Ends.{stop_in};
+ghost use Rattle.camac_run.specs.Runner.{rest};
 ghost use Rattle.camac_tool_play.specs.Play.{Feeds, failed_by, faulted, is_read_fault, is_write_fault};
 ghost use Rattle.camac_tool_play.specs.Sent.{outputs};
 ghost use Rattle.camac_tool_play.specs.Told.{most_answers};
@@ -17,7 +17,7 @@ use crate::telling::{Telling, ask, count_after, tell, write_event};
 use camac_answer::{AnswerFault, Answers};
 use camac_check_result::Checked;
 use camac_report::Line;
-use camac_run_runner::{End, FullRunner, Progress};
+use camac_run::{End, FullRunner, Progress};
 use camac_word::Watched;
 use std::io::{Read, Write};
 

@@ -14,7 +14,7 @@ use camac_event::{Usage, write_record};
 use camac_report::{
     Line, Refusal, lay_out_items, write_end, write_refusal, write_request, write_unlocks,
 };
-use camac_run_runner::{FullRunner, Item};
+use camac_run::{FullRunner, Item};
 use camac_word::{CrateNo, GlBit, Watched, Word24, WriteFault};
 use std::io::Write;
 

@@ -1,8 +1,8 @@
 use Rattle.std.proofs.Common.{◌+◌, ◌∙◌, drop, ap, arith}
 use Rattle.camac_event.specs.Spelling.{Listing}
 use Rattle.camac_model.specs.Run.{the_run}
-use Rattle.camac_run_runner.specs.Runner.{rest}
-use Rattle.camac_run.proofs.Told.{goes_here, items_told, events_told, stop_told, few_left, stopped, used_up, is_log, by_log}
+use Rattle.camac_run.specs.Runner.{rest}
+use Rattle.camac_run.proofs.Logged.{goes_here, items_told, events_told, stop_told, few_left, stopped, used_up, is_log, by_log}
 use Rattle.camac_run.proofs.log.run.Goals as goal
 
 pub answers-preserved : goal.answers-preserved

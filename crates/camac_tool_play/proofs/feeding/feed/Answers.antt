@@ -3,7 +3,7 @@ use Rattle.std.proofs.lemmas.Result.{err_from_is_err_and}
 use Rattle.std.proofs.Math.Bool.{or-false}
 use Rattle.camac_answer.specs.Answers.{text_of}
 use Rattle.camac_word.specs.Watched.{has_failed}
-use Rattle.camac_run_runner.specs.Runner.{last_words_in}
+use Rattle.camac_run.specs.Runner.{last_words_in}
 use Rattle.camac_tool_play.specs.Told.{asked_text}
 use Rattle.camac_tool_play.proofs.Fed.{numbered, starts, stops_asking, ends_here, faults_here, overruns_here, goes_on, stops_here, same_number}
 use Rattle.camac_tool_play.proofs.Given.{left_is, open_is, one_more}

@@ -1,0 +1,128 @@
+-- What a machine wants its next answer for, whatever that is.
+use Rattle.std.proofs.Common.{◌≡◌, ℕ, zero, suc, ◌+◌, ◌<◌, List, [], ◌∷◌, Bool, true, false, Option, Some, None, refl, sym, subst, arith}
+use Rattle.std.proofs.lemmas.Bool.{false≢true}
+use Rattle.std.specs.Prelude.{IsSome, IfSome, is_some, unwrap_or}
+use Rattle.camac_lang.specs.View.{statements_of}
+use Rattle.camac_branch.specs.Branch.{Answer, Reply}
+use Rattle.camac_branch.specs.Crates.{is_permitted}
+use Rattle.camac_branch.specs.Plan.{Layout, crate_waits}
+use Rattle.camac_branch.specs.Allowed.{width}
+use Rattle.camac_branch.specs.declared.answer.Command.{Command}
+use Rattle.camac_branch.specs.declared.answer.Overrun.{Overrun}
+use Rattle.camac_crate.specs.Lock.{permitted}
+use Rattle.camac_esone.specs.Transfers.{tally}
+use Rattle.camac_model.specs.State.{State, stepped, with_variable}
+use Rattle.camac_model.specs.Behaviour.{Behaviour, does, ends, stops, Action, then_do, given}
+use Rattle.camac_model.specs.Cycle.{cycle, kept, take_lock, release}
+use Rattle.camac_model.specs.Fine.{most_turns}
+use Rattle.camac_model.specs.Meaning.{block_meaning}
+use Rattle.camac_model.specs.Transfer.{keep_word, transfer}
+use Rattle.camac_run_machine.specs.Course.{left_at, words_from, words_sent}
+use Rattle.camac_run_machine.specs.MachineState.{context_in, left_in, stands, state_of, pending_of, IsPending, bit_at}
+use Rattle.camac_run_machine.specs.Rest.{address_of, awaited, onward, served}
+use Rattle.camac_run.specs.Runner.{rest}
+use Rattle.camac_run.specs.Sound.{runner_state}
+use Rattle.camac_run.specs.Operation.{Begins, CanLock, IsWaiting, Waits, Wants, operation}
+use Rattle.camac_run.specs.declared.progress.Wanted.{Wanted}
+use Rattle.camac_run.specs.declared.progress.Wanted.TheVariants as wanted
+use Rattle.camac_run_machine.specs.declared.machine.Machine.{Machine}
+use Rattle.camac_run_machine.specs.declared.machine.Pending.{Pending}
+use Rattle.camac_run_machine.specs.declared.machine.Pending.TheVariants.{Cycle, Read, Lock, Transfer}
+use Rattle.camac_run.proofs.Told.{rest_short, rest_over}
+use Rattle.camac_run_machine.proofs.Takes.{cycle_goes, cycle_halts}
+use Rattle.camac_run_machine.proofs.Taken.{lock_goes, lock_halts}
+use Rattle.camac_run_machine.proofs.Transfers.{transfer_goes}
+
+-- no wait is always permitted
+some_wait : (l : Bool) (waits w : ℕ) → permitted l waits w ≡ false → 0 < w
+some_wait l waits zero h = absurd (false≢true (sym h))
+some_wait l waits (suc n) h = omega arith
+
+pub not_some : {A : Type 0} (o : Option A) → is_some o ≡ false → o ≡ None
+not_some None h = refl
+not_some (Some x) h = absurd (false≢true (sym h))
+
+begins_then : {A B : Type 0} (o : Wanted) (a : Answer) (b : Behaviour A) (go : A → Behaviour B) → Begins o a b → Begins o a (then_do b go)
+begins_then o a (does p b) go h = h
+begins_then o a (ends x) go h = absurd h
+begins_then o a (stops w s) go h = h
+
+module _ (plan : Layout) (k : Command) (go : Reply → Action) (s : State) (a : Answer) (answers : List Answer) (planned : IsSome (crate_waits plan k.c)) where
+  cycle_by : (p : Bool) → is_permitted plan s.branch k.c a.wait ≡ p → Begins (wanted.Cycle k) a (cycle plan (address_of k) k.f k.mv (a ∷ answers) go s)
+  cycle_by true p = subst (Begins (wanted.Cycle k) a) (sym (cycle_goes plan (address_of k) k.f k.mv go s a answers planned p)) refl
+  cycle_by false p =
+      subst (Begins (wanted.Cycle k) a) (sym (cycle_halts plan (address_of k) k.f k.mv go s a answers planned p))
+      (refl, refl, some_wait (s.branch k.c).locked (unwrap_or (crate_waits plan k.c) 0) a.wait p)
+
+  cycle_begins : Begins (wanted.Cycle k) a (cycle plan (address_of k) k.f k.mv (a ∷ answers) go s)
+  cycle_begins = cycle_by (is_permitted plan s.branch k.c a.wait) refl
+
+module _ (plan : Layout) (c : ℕ) (body : Action) (s : State) (a : Answer) (answers : List Answer) (here : s.answers ≡ a ∷ answers) (is_free : (s.branch c).locked ≡ false) (planned : IsSome (crate_waits plan c)) where
+  lock_by : (p : Bool) → is_permitted plan s.branch c a.wait ≡ p → Begins (wanted.Lock c) a (given (crate_waits plan c) (λ waits t. take_lock c waits (t.branch c).locked body t) s)
+  lock_by true p = subst (Begins (wanted.Lock c) a) (sym (lock_goes c body s a answers here is_free plan planned p)) refl
+  lock_by false p =
+      subst (Begins (wanted.Lock c) a) (sym (lock_halts c body s a answers here is_free plan planned p))
+      (refl, refl, some_wait (s.branch c).locked (unwrap_or (crate_waits plan c) 0) a.wait p)
+
+  lock_begins : Begins (wanted.Lock c) a (given (crate_waits plan c) (λ waits t. take_lock c waits (t.branch c).locked body t) s)
+  lock_begins = lock_by (is_permitted plan s.branch c a.wait) refl
+
+-- what is waited for, and is a lock, can be taken
+pub can_lock : {V D C : ℕ} (h : Machine V D C) (w : Pending) (pending : Option Pending) (fed n : ℕ) (has : Bool) (o : Option Overrun) → pending ≡ Some w → IfSome pending (IsPending h) → CanLock (runner_state h pending fed n has o) (Some (operation w))
+can_lock h (Cycle k) pending fed n has o e p = tt
+can_lock h (Read k x bits) pending fed n has o e p = tt
+can_lock h (Lock c body) pending fed n has o e p = let q : IsPending h (Lock c body) = rw e at p in (q.0, q.1.0)
+can_lock h (Transfer w) pending fed n has o e p = tt
+
+module _ {V D C : ℕ} (h : Machine V D C) (a : Answer) (answers : List Answer) where
+  first_begins : (w : Pending) → IsPending h w → Begins (operation w) a (awaited (context_in h.checked.now) (pending_of w) (state_of h (a ∷ answers)))
+  unfolding awaited
+  first_begins (Cycle k) p = cycle_begins h.checked.now.plan k (λ r. ends) (state_of h (a ∷ answers)) a answers p.0
+  first_begins (Read k x bits) p =
+      cycle_begins h.checked.now.plan k (λ r t. ends (with_variable x (kept bits r) t)) (state_of h (a ∷ answers)) a answers p.0
+  first_begins (Lock c body) p =
+      lock_begins h.checked.now.plan c (λ u. then_do (block_meaning (context_in h.checked.now) most_turns (statements_of body.now) u) (release c)) (state_of h (a ∷ answers)) a answers refl p.1.0 p.0
+  first_begins (Transfer w) p =
+      let n : ℕ = (left_at w.course).tally in
+      let plan : Layout = h.checked.now.plan in
+      let words : Option (List ℕ) = words_from n (words_sent w.table) in
+      let finish : List Bool → Action = λ rs u. ends (with_variable w.tally (n + tally rs) u) in
+      subst (Begins (wanted.Cycle w.command) a)
+      (sym (transfer_goes plan w.command.f words (left_at w.course).next_address finish [] (address_of w.command) w.command.mv p.1.1 p.1.2 a answers (state_of h (a ∷ answers))))
+      (cycle_begins plan w.command (λ r t'. transfer plan w.command.f words (left_at w.course).next_address finish (r.q ∷ []) answers (stepped (keep_word words (width plan (address_of w.command) w.command.f) r t'))) (state_of h (a ∷ answers)) a answers p.0)
+
+  rest_begins : (w : Pending) → IsPending h w → Begins (operation w) a (served (context_in h.checked.now) h.checked.now.script.services (bit_at h.checked.now h.service) (stands (Some w) h (a ∷ answers)))
+  unfolding served
+  rest_begins w p =
+      begins_then (operation w) a (stands (Some w) h (a ∷ answers)) _
+      (begins_then (operation w) a (awaited (context_in h.checked.now) (pending_of w) (state_of h (a ∷ answers))) (left_in h) (first_begins w p))
+
+  module _ (fed n : ℕ) (has : Bool) (o : Option Overrun) where
+    -- an answer that is wanted is used for what is wanted
+    pub wanted_begins : (pending : Option Pending) (w : Pending) → pending ≡ Some w → IfSome pending (IsPending h) → Begins (operation w) a (rest (runner_state h pending fed n has o) (a ∷ answers))
+    wanted_begins pending w e p = let q : IsPending h w = rw e at p in rw e (rest_begins w q)
+
+    -- and where no service is in progress, for a graded-L operation
+    pub idle_begins : (pending : Option Pending) → pending ≡ None → Begins wanted.Demand a (rest (runner_state h pending fed n has o) (a ∷ answers))
+    unfolding onward
+    idle_begins pending e = rw e refl
+
+-- a runner whose waits were all permitted wants an answer
+module _ {V D C : ℕ} (h : Machine V D C) (fed n : ℕ) (has : Bool) (o : Option Overrun) (first : o ≡ None) where
+  pub wants_some : (pending : Option Pending) (w : Pending) → pending ≡ Some w → IfSome pending (IsPending h) → Wants (runner_state h pending fed n has o) (Some (operation w))
+  wants_some pending w e p = (
+    first,
+    subst (λ (b : Behaviour (Unit {0})). Waits b) (sym (rest_short h pending w fed n has o e p)) tt,
+    λ a answers. wanted_begins h a answers fed n has o pending w e p,
+  )
+
+  pub wants_none : (pending : Option Pending) → pending ≡ None → Wants (runner_state h pending fed n has o) (Some wanted.Demand)
+  wants_none pending e = (
+    first,
+    subst (λ (b : Behaviour (Unit {0})). Waits b) (sym (rest_over h pending fed n has o e)) tt,
+    λ a answers. idle_begins h a answers fed n has o pending e,
+  )
+
+  pub is_waiting : (pending : Option Pending) → IfSome pending (IsPending h) → IsWaiting (runner_state h pending fed n has o)
+  is_waiting None p = (wanted.Demand, wants_none None refl)
+  is_waiting (Some w) p = (operation w, wants_some (Some w) w refl p)

@@ -1,0 +1,277 @@
+// A run that is fed an answer at a time, and takes no memory.
+
+ghost use Rattle.std.specs.Prelude.{◌≡◌, ◌+◌, ◌<◌, ◌≤◌, List, [], length, true, Some, None, false, IsSome, IfNone, OnSome, if◌then◌else◌};
+ghost use Rattle.camac_branch.specs.Branch.{Answer};
+ghost use Rattle.camac_run_machine.specs.MachineState.{bounds_at};
+ghost use Rattle.camac_lang.specs.Fits.{fits};
+ghost use Rattle.camac_model.specs.Behaviour.{stops, short, ends};
+ghost use Rattle.camac_model.specs.Run.{the_run};
+ghost use Rattle.camac_run.specs.Runner.{state_in, rest, last_words_in, event_in, Progresses, steps_of, words_of};
+ghost use Rattle.camac_run.specs.Holds.{HoldsAfter};
+ghost use Rattle.camac_run.specs.Operation.{CanLock, IsWaiting, Wants, operation};
+
+use crate::progress::{Progress, Wanted};
+use crate::service::service_for;
+use arrayvec::ArrayVec;
+use camac_branch::{Answer, Overrun, demand};
+use camac_check_result::Checked;
+use camac_event::Usage;
+use camac_lang::limits;
+use camac_run_machine::{Item, Machine, Pending};
+use camac_word::{GlBit, Word24};
+use std::marker::Model;
+
+/// A run of a script over the answers so far, with room for `V` variables, `V` registers, `DEPTH` open blocks and `CAP` words of an
+/// event. What it has answered so far is a prefix of the run on any longer list of answers.
+#[derive(Drop)]
+pub struct Runner<'a, const V: usize, const DEPTH: usize, const CAP: usize> {
+    machine: Machine<'a, V, DEPTH, CAP>,
+    // what the service in progress wants, where one is
+    pending: Option<Pending<'a>>,
+    fed: u32,
+    events: u32,
+    // whether the last answer left an event
+    has_event: bool,
+    // the wait that was not permitted
+    overrun: Option<Overrun>,
+}
+
+/// A runner with room for every script that is checked: the program's.
+pub type FullRunner<'a> = Runner<
+    'a,
+    { limits::VARIABLES },
+    { limits::DEPTH },
+    { limits::EVENT_WORDS },
+>;
+
+impl<'a, const V: usize, const DEPTH: usize, const CAP: usize> Model for Runner<'a, V, DEPTH, CAP> {
+    ghost use Rattle.std.specs.Coded.{codes};
+    ghost use Rattle.camac_check_result.specs.Checked.{checked_coded};
+    ghost use Rattle.camac_run_machine.specs.Codes.{want_coded, open_coded};
+    ghost use Rattle.camac_run.specs.Runner.{RunnerState};
+    ghost use Rattle.camac_run.specs.Sound.{runner_state, IsSound};
+
+    ghost Value = { RunnerState };
+
+    ghost coded = { Prim.hlevel (codes, checked_coded, want_coded, open_coded) };
+
+    ghost view = { λ r. runner_state r.machine r.pending r.fed r.events r.has_event r.overrun };
+
+    ghost invariant = { λ r. IsSound r.machine r.pending r.fed r.events };
+}
+
+impl<'a, const V: usize, const DEPTH: usize, const CAP: usize> Runner<'a, V, DEPTH, CAP> {
+    /// A run before its first graded-L operation. It takes no memory. The script has to fit the sizes.
+    pub fn start(checked: &'a Checked) -> Self
+        requires { fits checked.now.script V DEPTH CAP ≡ true }
+        ensures rest { (answers : List Answer) → rest result answers ≡ the_run checked.now.plan checked.now.script answers }
+        ensures holds { HoldsAfter checked.now.plan checked.now.script [] result }
+        ensures checked { result.checked ≡ checked.now }
+        ensures fed { result.fed ≡ 0 }
+        ensures events { result.events ≡ 0 }
+        ensures overrun { result.overrun ≡ None }
+        ensures quiet { last_words_in result ≡ [] }
+    {
+        checked.is_checked();
+        checked.script().well_formed();
+        Runner {
+            machine: Machine::start(checked),
+            pending: None,
+            fed: 0,
+            events: 0,
+            has_event: false,
+            overrun: None,
+        }
+    }
+
+    /// Takes an answer, the 4,294,967,295th at most, and returns what it was used for. It takes no memory. From the first wait on that is not permitted, it returns that
+    /// wait, and nothing else changes.
+    pub fn next(&mut self, answer: Answer) -> Progress
+        requires { self.old.fed < 4294967295 }
+        ensures { Progresses self.old answer result self.new }
+    {
+        if let Some(overrun) = self.overrun {
+            return Progress::Overrun(overrun);
+        }
+        match self.pending {
+            None => self.demand(answer),
+            Some(_) => self.resume(answer),
+        }
+    }
+
+    // A graded-L operation.
+    fn demand(&mut self, answer: Answer) -> Progress
+        requires fed { self.old.fed < 4294967295 }
+        requires first { self.old.overrun ≡ None }
+        requires idle { self.old.pending ≡ None }
+        ensures { Progresses self.old answer result self.new }
+    {
+        let checked = self.machine.checked;
+        let pattern = demand(&self.machine.branch, checked.plan(), answer);
+        self.fed += 1;
+        match service_for(checked, pattern) {
+            None => {
+                self.has_event = false;
+                Progress::Went {
+                    item: Item::Demand(pattern, None),
+                    unlocks: ArrayVec::new(),
+                    event: None,
+                }
+            }
+            Some(called) => {
+                self.machine.serve(called.number, &mut self.pending);
+                let unlocks = self.machine.unlocks.take();
+                let event = self.close();
+                Progress::Went {
+                    item: Item::Demand(pattern, Some(called.number)),
+                    unlocks,
+                    event,
+                }
+            }
+        }
+    }
+
+    // The answer that the service in progress wants.
+    fn resume(&mut self, answer: Answer) -> Progress
+        requires fed { self.old.fed < 4294967295 }
+        requires first { self.old.overrun ≡ None }
+        requires pending { IsSome self.old.pending }
+        ensures { Progresses self.old answer result self.new }
+    {
+        let taken = match &self.pending {
+            Some(pending) => self.machine.take(pending, answer),
+            None => unreachable!(),
+        };
+        match taken {
+            Ok(item) => {
+                self.machine.go_further(&mut self.pending);
+                self.fed += 1;
+                let unlocks = self.machine.unlocks.take();
+                let event = self.close();
+                Progress::Went {
+                    item,
+                    unlocks,
+                    event,
+                }
+            }
+            Err(overrun) => {
+                let progress = stopped(&overrun);
+                self.overrun = Some(overrun);
+                progress
+            }
+        }
+    }
+
+    // Counts the event of a service that is over, and tells it.
+    fn close(&mut self) -> Option<(u32, GlBit, Usage)>
+        requires service { self.old.service < length self.old.checked.script.services }
+        requires events { self.old.events < self.old.fed }
+        requires fed { self.old.fed ≤ 4294967295 }
+        ensures ended { IfNone self.old.pending ((result ≡ Some (event_in self.old (self.old.events + 1))) × (self.new ≡ record self.old { events = self.old.events + 1; has_event = true })) }
+        ensures goes_on { OnSome self.old.pending ((result ≡ None) × (self.new ≡ record self.old { has_event = false })) }
+    {
+        match self.pending {
+            None => {
+                self.events += 1;
+                self.has_event = true;
+                Some(self.machine.event(self.events))
+            }
+            Some(_) => {
+                self.has_event = false;
+                None
+            }
+        }
+    }
+
+    /// The operation that the next answer is for, whatever that answer is; without one the run does nothing more. None after a wait that was
+    /// not permitted. A lock that is wanted is of a crate of the plan which is not locked.
+    pub fn wants(&self) -> Option<Wanted>
+        ensures wants { Wants self.now result }
+        ensures lock { CanLock self.now result }
+    {
+        if self.overrun.is_some() {
+            return None;
+        }
+        match &self.pending {
+            Some(pending) => Some(operation(pending)),
+            None => Some(Wanted::Demand),
+        }
+    }
+
+    /// The law that a run whose waits were all permitted wants an answer.
+    pub fn is_waiting(&self)
+        requires { self.now.overrun ≡ None }
+        ensures { IsWaiting self.now }
+    {
+        let _ = &self.pending;
+    }
+
+    /// Whether a service is in progress.
+    pub fn in_service(&self) -> bool
+        ensures { rest self.now [] ≡ (if result then stops short (state_in self.now []) else ends tt) }
+    {
+        match self.pending {
+            Some(_) => true,
+            None => false,
+        }
+    }
+
+    /// How many answers were used.
+    pub fn fed(&self) -> u32
+        ensures { result ≡ self.now.fed }
+    {
+        self.fed
+    }
+
+    /// How many words the event of the service in progress has, 0 where none is.
+    pub fn event_words(&self) -> usize
+        ensures { result ≡ length (words_of (rest self.now [])) }
+    {
+        match self.pending {
+            Some(_) => self.machine.words().len(),
+            None => 0,
+        }
+    }
+
+    /// How many steps the service in progress has made, 0 where none is.
+    pub fn steps(&self) -> u32
+        ensures steps { result ≡ steps_of (rest self.now []) }
+        ensures within { result ≤ (bounds_at self.now.checked self.now.service).steps }
+    {
+        match self.pending {
+            Some(_) => self.machine.steps,
+            None => 0,
+        }
+    }
+
+    /// The words of the event that the last answer left, none where it left none.
+    pub fn last_words(&self) -> &[Word24]
+        ensures words { result.now ≡ last_words_in self.now }
+        ensures fits { length result.now ≤ CAP }
+    {
+        if self.has_event {
+            self.machine.words()
+        } else {
+            &[]
+        }
+    }
+}
+
+// The operation that is waited for.
+fn operation(pending: &Pending) -> Wanted
+    ensures { result ≡ operation pending.now }
+{
+    match pending {
+        Pending::Cycle(command) => Wanted::Cycle(*command),
+        Pending::Read { command, .. } => Wanted::Cycle(*command),
+        Pending::Lock { crate_no, .. } => Wanted::Lock(*crate_no),
+        Pending::Transfer(transfer) => Wanted::Cycle(transfer.command),
+    }
+}
+
+// A wait that is not permitted.
+fn stopped(overrun: &Overrun) -> Progress
+    ensures { result ≡ Progress.Overrun overrun.now }
+{
+    Progress::Overrun(*overrun)
+}

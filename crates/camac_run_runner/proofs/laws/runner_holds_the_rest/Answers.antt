@@ -1,5 +1,0 @@
-use Rattle.camac_run_runner.proofs.Holds.{going_on_holds, wants_are_wanted}
-use Rattle.camac_run_runner.proofs.laws.runner_holds_the_rest.Goals as goal
-
-pub returns : goal.returns
-returns c = record { goes_on = going_on_holds; wanted = wants_are_wanted }
