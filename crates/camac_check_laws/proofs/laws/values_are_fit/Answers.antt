@@ -1,5 +1,0 @@
-use Rattle.camac_check_laws.proofs.Regions as shown
-use Rattle.camac_check_laws.proofs.laws.values_are_fit.Goals as goal
-
-pub returns : goal.returns
-returns c = shown.values_are_fit

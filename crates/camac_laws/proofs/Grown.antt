@@ -1,0 +1,166 @@
+-- With lower numbers in the headings of its procedures each statement and block is judged the same, and costs no more.
+use Rattle.std.proofs.Common.{length, ◌≡◌, ℕ, zero, suc, List, [], ◌∷◌, map, Option, Some, None, Result, Ok, refl, ap, subst}
+use Rattle.std.specs.Prelude.{slice_get, take, unwrap_or}
+use Rattle.camac_lang.specs.declared.word.WordSize.{WordSize}
+use Rattle.camac_lang.specs.Headings.{annotate}
+use Rattle.camac_lang.specs.Tree.{Move, no_data, into, from, Statement, assign, set_register, single, address_scan, q_stop, q_repeat, put, crate_call, lam_call, choose, choose_else, for_, while_, locked, call, Block, done, next, Procedure, Script}
+use Rattle.camac_range.specs.Interval.{Interval}
+use Rattle.camac_branch.specs.Plan.{crate_waits}
+use Rattle.camac_model.specs.Fine.{annotated}
+use Rattle.camac_check_rules.specs.declared.rule.CheckRule.TheVariants.{KeepFailsAfterTurn, ArgumentOutOfRange}
+use Rattle.camac_check_rules.specs.Fault.{Fault}
+use Rattle.camac_check_rules.specs.declared.case.Case.TheVariants.{Malformed}
+use Rattle.camac_check_rules.specs.Refusal.{go_on, required, given, if_reached}
+use Rattle.camac_check_rules.specs.Known.{Facts}
+use Rattle.camac_check_rules.specs.Conditions.{split}
+use Rattle.camac_check_rules.specs.Costs.{no_costs, call_costs, Verdict, verdict, unreached}
+use Rattle.camac_check_rules.specs.Cycles.{Context, Around, with_locked, single_rule}
+use Rattle.camac_check_rules.specs.Loops.{with_fixed, for_limits, for_head, keeps_hold_after, turns_between, while_head, turn_bound}
+use Rattle.camac_check_rules.specs.Procedures.{ranges_of, arguments_fit, unfit}
+use Rattle.camac_check_rules.specs.Calls.{lock_rule}
+use Rattle.camac_check_rules.specs.Statements.{accept_statement, accept_block}
+use Rattle.camac_check_rules.specs.Accept.{bare}
+use Rattle.camac_laws.specs.Lower.{AtMost, ProcedureAtMost}
+use Rattle.camac_laws.specs.Grow.{CostsAtMost, CostsGrow}
+use Rattle.camac_laws.proofs.Costs.{itself, plus_grown, choice_grown, lock_grown, loop_grown, call_grown, go_same, go_grown, if_reached_grown, same_grown}
+
+-- the same procedure but for the numbers of its heading, which are at most those of the second
+pub record IsLower (p q : Procedure) : Type 0 where
+  pub same : annotate 0 0 0 p ≡ annotate 0 0 0 q
+  pub numbers : AtMost (annotated p) (annotated q)
+
+abbrev pub AreLower : List Procedure → List Procedure → Type 0
+AreLower [] [] = Unit {0}
+AreLower [] (q ∷ qs) = ⊥
+AreLower (p ∷ ps) [] = ⊥
+AreLower (p ∷ ps) (q ∷ qs) = IsLower p q × AreLower ps qs
+
+-- these procedures, and costs that are not cut
+abbrev pub calling : Context → List Procedure → Context
+calling c ps = record { plan = c.plan; tables = c.tables; lams = c.lams; procedures = ps; limit = λ k. k }
+
+-- both there or neither
+abbrev BothLower : Option Procedure → Option Procedure → Type 0
+BothLower None None = Unit {0}
+BothLower None (Some q) = ⊥
+BothLower (Some p) None = ⊥
+BothLower (Some p) (Some q) = IsLower p q
+
+got : (ps qs : List Procedure) → AreLower ps qs → (i : ℕ) → BothLower (slice_get ps i) (slice_get qs i)
+got [] [] h i = tt
+got [] (q ∷ qs) h i = absurd h
+got (p ∷ ps) [] h i = absurd h
+got (p ∷ ps) (q ∷ qs) (first, others) zero = first
+got (p ∷ ps) (q ∷ qs) (first, others) (suc i) = got ps qs others i
+
+-- there are as many
+pub as_many : (ps qs : List Procedure) → AreLower ps qs → length ps ≡ length qs
+as_many [] [] h = refl
+as_many [] (q ∷ qs) h = absurd h
+as_many (p ∷ ps) [] h = absurd h
+as_many (p ∷ ps) (q ∷ qs) (first, others) = ap suc (as_many ps qs others)
+
+-- the end of the rule of a call, by the heading that was found
+abbrev called : ℕ → ℕ → List Interval → Facts → Option Procedure → Result Verdict Fault
+called line number rs k o =
+    go_on (given o ArgumentOutOfRange line Malformed) (λ procedure.
+    go_on (required (arguments_fit rs procedure.parameters) ArgumentOutOfRange line (unfit number 0 rs procedure.parameters)) (λ _. Ok (verdict (Some k) (call_costs (annotated procedure)))))
+
+called_lower : (line number : ℕ) (rs : List Interval) (k : Facts) (o o' : Option Procedure) → BothLower o o' → CostsAtMost (called line number rs k o) (called line number rs k o')
+unfolding go_on given
+called_lower line number rs k None None h = refl
+called_lower line number rs k None (Some q) h = absurd h
+called_lower line number rs k (Some p) None h = absurd h
+called_lower line number rs k (Some p) (Some q) h =
+    let parameters : p.parameters ≡ q.parameters = ap (λ (x : Procedure). x.parameters) h.same in
+    subst
+    (λ xs. CostsAtMost (called line number rs k (Some p)) (go_on (required (arguments_fit rs xs) ArgumentOutOfRange line (unfit number 0 rs xs)) (λ _. Ok (verdict (Some k) (call_costs (annotated q))))))
+    parameters
+    (go_same (required (arguments_fit rs p.parameters) ArgumentOutOfRange line (unfit number 0 rs p.parameters)) (λ _. Ok (verdict (Some k) (call_costs (annotated p)))) (λ _. Ok (verdict (Some k) (call_costs (annotated q))))
+    (λ _. (refl, call_grown (annotated p) (annotated q) h.numbers)))
+
+single_lower : (c : Context) (ps qs : List Procedure) (around : Around) (line : ℕ) (size : WordSize) (f r : ℕ) (m : Move) (k : Facts) → CostsAtMost (single_rule (calling c ps) around line size f r m k) (single_rule (calling c qs) around line size f r m k)
+single_lower c ps qs around line size f r no_data k = same_grown (single_rule (calling c ps) around line size f r no_data k)
+single_lower c ps qs around line size f r (into x) k = same_grown (single_rule (calling c ps) around line size f r (into x) k)
+single_lower c ps qs around line size f r (from e) k = same_grown (single_rule (calling c ps) around line size f r (from e) k)
+
+mutual
+  statement_lower : (c : Context) (ps qs : List Procedure) → AreLower ps qs → (around : Around) (s : Statement) (k : Facts) → CostsAtMost (accept_statement (calling c ps) around s k) (accept_statement (calling c qs) around s k)
+  statement_lower c ps qs h around (assign line x e) k = same_grown (accept_statement (calling c ps) around (assign line x e) k)
+  statement_lower c ps qs h around (set_register line r e1 e2 e3) k = same_grown (accept_statement (calling c ps) around (set_register line r e1 e2 e3) k)
+  statement_lower c ps qs h around (single line size f r m) k = single_lower c ps qs around line size f r m k
+  statement_lower c ps qs h around (put line e) k = same_grown (accept_statement (calling c ps) around (put line e) k)
+  statement_lower c ps qs h around (crate_call line which e) k = same_grown (accept_statement (calling c ps) around (crate_call line which e) k)
+  statement_lower c ps qs h around (address_scan line f r1 r2 max x) k = same_grown (accept_statement (calling c ps) around (address_scan line f r1 r2 max x) k)
+  statement_lower c ps qs h around (q_stop line f r t max x) k = same_grown (accept_statement (calling c ps) around (q_stop line f r t max x) k)
+  statement_lower c ps qs h around (q_repeat line f r t max limit x) k = same_grown (accept_statement (calling c ps) around (q_repeat line f r t max limit x) k)
+  statement_lower c ps qs h around (lam_call line which l) k = same_grown (accept_statement (calling c ps) around (lam_call line which l) k)
+  statement_lower c ps qs h around (choose line test a) k =
+      go_same (split line test k) _ _ (λ ways.
+      go_grown (if_reached unreached ways.holds (accept_block (calling c ps) around a)) (if_reached unreached ways.holds (accept_block (calling c qs) around a)) _ _
+      (if_reached_grown ways.holds (accept_block (calling c ps) around a) (accept_block (calling c qs) around a) (λ q. block_lower c ps qs h around a q))
+      (λ after x y first. (refl, choice_grown x y no_costs no_costs first (itself no_costs))))
+  statement_lower c ps qs h around (choose_else line test a b) k =
+      go_same (split line test k) _ _ (λ ways.
+      go_grown (if_reached unreached ways.holds (accept_block (calling c ps) around a)) (if_reached unreached ways.holds (accept_block (calling c qs) around a)) _ _
+      (if_reached_grown ways.holds (accept_block (calling c ps) around a) (accept_block (calling c qs) around a) (λ q. block_lower c ps qs h around a q))
+      (λ after x y first.
+      go_grown (if_reached unreached ways.fails (accept_block (calling c ps) around b)) (if_reached unreached ways.fails (accept_block (calling c qs) around b)) _ _
+      (if_reached_grown ways.fails (accept_block (calling c ps) around b) (accept_block (calling c qs) around b) (λ q. block_lower c ps qs h around b q))
+      (λ after' x' y' second. (refl, choice_grown x y x' y' first second))))
+  statement_lower c ps qs h around (for_ line x e1 e2 keeps body) k =
+      go_same (for_limits around line x e1 e2 keeps k) _ _ (λ l.
+      go_grown (if_reached unreached (for_head x l keeps body k) (accept_block (calling c ps) (with_fixed x around) body)) (if_reached unreached (for_head x l keeps body k) (accept_block (calling c qs) (with_fixed x around) body)) _ _
+      (if_reached_grown (for_head x l keeps body k) (accept_block (calling c ps) (with_fixed x around) body) (accept_block (calling c qs) (with_fixed x around) body) (λ q. block_lower c ps qs h (with_fixed x around) body q))
+      (λ after a b turn. go_same (required (keeps_hold_after keeps after) KeepFailsAfterTurn line _) _ _ (λ _. (refl, loop_grown (turns_between l) a b turn))))
+  statement_lower c ps qs h around (while_ line test most m keeps body) k =
+      go_same (while_head around.body line most m keeps body k) _ _ (λ top.
+      go_same (split line test top) _ _ (λ arms.
+      go_grown (if_reached unreached arms.holds (accept_block (calling c ps) around body)) (if_reached unreached arms.holds (accept_block (calling c qs) around body)) _ _
+      (if_reached_grown arms.holds (accept_block (calling c ps) around body) (accept_block (calling c qs) around body) (λ q. block_lower c ps qs h around body q))
+      (λ after a b turn. go_same (required (keeps_hold_after keeps after) KeepFailsAfterTurn line _) _ _ (λ _. (refl, loop_grown (turn_bound arms.holds most) a b turn)))))
+  statement_lower c ps qs h around (locked line e body) k =
+      go_same (lock_rule (calling c ps) around line e k) _ _ (λ n.
+      go_grown (accept_block (calling c ps) (with_locked n around) body k) (accept_block (calling c qs) (with_locked n around) body k) _ _ (block_lower c ps qs h (with_locked n around) body k)
+      (λ after a b inner. (refl, lock_grown (unwrap_or (crate_waits c.plan n) 0) a b inner)))
+  statement_lower c ps qs h around (call line p es) k =
+      go_same (ranges_of line es k.ranges) _ _ (λ rs. called_lower line p rs k (slice_get ps p) (slice_get qs p) (got ps qs h p))
+
+  pub block_lower : (c : Context) (ps qs : List Procedure) → AreLower ps qs → (around : Around) (b : Block) (k : Facts) → CostsAtMost (accept_block (calling c ps) around b k) (accept_block (calling c qs) around b k)
+  block_lower c ps qs h around done k = (refl, itself no_costs)
+  block_lower c ps qs h around (next s rest) k =
+      go_grown (accept_statement (calling c ps) around s k) (accept_statement (calling c qs) around s k) _ _ (statement_lower c ps qs h around s k) (λ known a b first.
+      go_grown (if_reached unreached known (accept_block (calling c ps) around rest)) (if_reached unreached known (accept_block (calling c qs) around rest)) _ _
+      (if_reached_grown known (accept_block (calling c ps) around rest) (accept_block (calling c qs) around rest) (λ q. block_lower c ps qs h around rest q))
+      (λ after a' b' second. (refl, plus_grown a b a' b' first second)))
+
+-- ---- two scripts
+
+take_lower : (ps qs : List Procedure) → AreLower ps qs → (n : ℕ) → AreLower (take n ps) (take n qs)
+take_lower [] [] h zero = tt
+take_lower [] [] h (suc n) = tt
+take_lower [] (q ∷ qs) h n = absurd h
+take_lower (p ∷ ps) [] h n = absurd h
+take_lower (p ∷ ps) (q ∷ qs) h zero = tt
+take_lower (p ∷ ps) (q ∷ qs) (first, others) (suc n) = (first, take_lower ps qs others n)
+
+are_lower : (ps qs : List Procedure) → map (annotate 0 0 0) ps ≡ map (annotate 0 0 0) qs
+    → ((i : ℕ) (p q : Procedure) → slice_get ps i ≡ Some p → slice_get qs i ≡ Some q → ProcedureAtMost p q) → AreLower ps qs
+are_lower [] [] same most = tt
+are_lower [] (q ∷ qs) same most = absurd (cc)
+are_lower (p ∷ ps) [] same most = absurd (cc)
+are_lower (p ∷ ps) (q ∷ qs) same most =
+    let first : annotate 0 0 0 p ≡ annotate 0 0 0 q = cc in
+    let others : map (annotate 0 0 0) ps ≡ map (annotate 0 0 0) qs = cc in
+    let numbers = most 0 p q refl refl in (
+      record { same = first; numbers = record { cycles = numbers.cycles; words = numbers.words; steps = numbers.steps } },
+      are_lower ps qs others (λ i x y at at'. most (suc i) x y at at'),
+    )
+
+pub costs_grow : CostsGrow
+costs_grow plan s t h n around b k =
+    let lower = are_lower s.procedures t.procedures (ap (λ (x : Script). x.procedures) h.same) h.procedures in
+    subst
+    (λ (x : Script). CostsAtMost (accept_block (calling (bare (λ k. k) plan s) (take n s.procedures)) around b k) (accept_block (calling (bare (λ k. k) plan x) (take n t.procedures)) around b k))
+    h.same
+    (block_lower (bare (λ k. k) plan s) (take n s.procedures) (take n t.procedures) (take_lower s.procedures t.procedures lower n) around b k)

@@ -1,0 +1,26 @@
+pub mod Costs
+pub mod Grown
+pub mod Steps
+pub mod Emptied
+pub mod Least
+pub mod Guarded
+pub mod Guards
+pub mod Kept
+pub mod Calls
+mod CallRows
+mod Refused
+pub mod ShownHeadings
+pub mod ShownArguments
+pub mod ShownExpressions
+pub mod ShownTurns
+pub mod ShownAddresses
+pub mod ShownWindows
+pub mod Places
+pub mod Regions
+pub mod Judged
+pub mod Windows
+pub mod ScansJudged
+mod AddressRows
+pub mod Sums
+pub mod Shares
+pub mod Times

@@ -1,0 +1,297 @@
+-- The shares of a statement and of a block add up to what it can cost.
+use Rattle.std.proofs.Common.{◌≡◌, ℕ, ◌+◌, ◌-◌, ◌*◌, ◌^◌, ◌<◌, zero, suc, List, [], ◌∷◌, ◌++◌, map, Option, Some, None, Result, Ok, Err, refl, sym, ap, subst, ◌∙◌, arith}
+use Rattle.std.specs.Prelude.{option_map, option_to_list, slice_get, unwrap_or}
+use Rattle.camac_lang.specs.Tree.{Expression, Condition, Keep, Statement, assign, set_register, single, address_scan, q_stop, q_repeat, put, crate_call, lam_call, choose, choose_else, for_, while_, locked, call, Block, done, next, Item, next_table, next_lam, next_variables, next_procedure, next_service, Script}
+use Rattle.camac_branch.specs.Plan.{Layout, crate_waits}
+use Rattle.camac_model.specs.Fine.{Bounds}
+use Rattle.camac_check_rules.specs.Fault.{Fault}
+use Rattle.camac_check_rules.specs.Refusal.{go_on, required, if_reached}
+use Rattle.camac_check_rules.specs.Known.{Facts, Known}
+use Rattle.camac_check_rules.specs.Conditions.{Branches, branches, split}
+use Rattle.camac_check_rules.specs.Capped.{capped}
+use Rattle.camac_check_rules.specs.Costs.{costs, no_costs, plus, choice_costs, lock_costs, loop_costs, Verdict, unreached}
+use Rattle.camac_check_rules.specs.Cycles.{Context, Around, alone_in, with_locked}
+use Rattle.camac_check_rules.specs.Calls.{lock_rule}
+use Rattle.camac_check_rules.specs.Loops.{with_fixed, for_limits, for_head, keeps_hold_after, turns_between, while_head, turn_bound}
+use Rattle.camac_check_rules.specs.Statements.{accept_statement, accept_block}
+use Rattle.camac_costs.specs.declared.bodies.Owner.{Owner}
+use Rattle.camac_costs.specs.declared.bodies.Owner.TheVariants as owner
+use Rattle.camac_check_rules.specs.declared.case.Body.TheVariants as body
+use Rattle.camac_check_rules.specs.Accept.{at_start, own_body}
+use Rattle.camac_check_rules.specs.Procedures.{at_entry}
+use Rattle.camac_costs.specs.declared.row.Row.{Row}
+use Rattle.camac_costs.specs.declared.inside.Weight.{Weight}
+use Rattle.camac_costs.specs.Weights.{once, turning, first_arm, second_arm, weighed, inside_row}
+use Rattle.camac_costs.specs.Rows.{found, block_verdict, Turning, turning_from, loop_share, lock_share, lock_inside, lock_head, simple_row, else_row, inside, statement_rows, block_rows}
+use Rattle.camac_costs.specs.Body.{BodyRows}
+use Rattle.camac_costs.specs.Bodies.{rows_if, body_costs, procedure_costs, service_costs, context_after, procedure_at, service_at, bodies_from}
+use Rattle.camac_laws.specs.Shares.{total, IsBelow, AddUp, SharesAddUp}
+use Rattle.camac_laws.proofs.Sums.{same_costs, plus_none, none_plus, total_append, total_arms, total_inside, total_of_none, if_sum, if_below, choice_sum, choice_below, lock_sum, lock_below, loop_sum, no_turns, loop_weighed, turn_below, then_sum, then_below}
+
+-- these costs stay at the greatest number of 64 bits
+abbrev pub in_code : Context → Context
+in_code r = record r { limit = capped }
+
+pub go_ok : {A B : Type 0} (r : Result A Fault) (f : A → Result B Fault) (y : B) → go_on r f ≡ Ok y → (x : A) × (r ≡ Ok x) × (f x ≡ Ok y)
+unfolding go_on
+go_ok (Ok x) f y e = (x, refl, e)
+go_ok (Err g) f y e = absurd (cc)
+
+pub ok_same : {A : Type 0} (x y : A) → ◌≡◌ {A = Result A Fault} (Ok x) (Ok y) → x ≡ y
+ok_same x y e = cc
+
+-- the rows of a block, none of which has a share
+none_inside : (w : Weight) (rs : List Row) → total rs ≡ no_costs → total (map (inside_row capped w) rs) ≡ no_costs
+none_inside w rs e = total_inside w rs no_costs e (zero_below w.cycles, zero_below w.words, zero_below w.steps) ∙ zeros w
+  where
+    zero_below : (n : ℕ) → n * 0 < 2 ^ 64 - 1
+    zero_below n = omega arith
+
+    zeros : (w : Weight) → weighed w no_costs ≡ no_costs
+    zeros w = same_costs _ _ _ _ _ _ (omega arith) (omega arith) (omega arith)
+
+-- ---- what can't be reached has no share
+
+mutual
+  unfolding if_reached
+
+  statement_none : (r : Context) (around : Around) (s : Statement) → total (statement_rows (in_code r) around s None) ≡ no_costs
+  statement_none r around (assign line x e) = refl
+  statement_none r around (set_register line p e1 e2 e3) = refl
+  statement_none r around (single line size f p move) = refl
+  statement_none r around (address_scan line f r1 r2 max x) = refl
+  statement_none r around (q_stop line f p t max x) = refl
+  statement_none r around (q_repeat line f p t max limit x) = refl
+  statement_none r around (put line e) = refl
+  statement_none r around (crate_call line which e) = refl
+  statement_none r around (lam_call line which l) = refl
+  statement_none r around (call line p es) = refl
+  statement_none r around (choose line test a) =
+      none_plus _ ∙ none_inside once (block_rows (in_code r) around a None) (block_none r around a)
+  statement_none r around (choose_else line test a b) =
+      none_plus _
+      ∙ total_append (inside (in_code r) (first_arm no_costs no_costs) (block_rows (in_code r) around a None)) _
+      ∙ ap (λ t. plus t (plus no_costs (total (inside (in_code r) (second_arm no_costs no_costs) (block_rows (in_code r) around b None))))) (none_inside (first_arm no_costs no_costs) (block_rows (in_code r) around a None) (block_none r around a))
+      ∙ none_plus _ ∙ none_plus _
+      ∙ none_inside (second_arm no_costs no_costs) (block_rows (in_code r) around b None) (block_none r around b)
+  statement_none r around (for_ line x e1 e2 keeps body) =
+      none_plus _ ∙ none_inside (turning 0) (block_rows (in_code r) (with_fixed x around) body None) (block_none r (with_fixed x around) body)
+  statement_none r around (while_ line test most m keeps body) =
+      none_plus _ ∙ none_inside (turning 0) (block_rows (in_code r) around body None) (block_none r around body)
+  statement_none r around (locked line e body) =
+      none_plus _ ∙ none_inside once (block_rows (in_code r) around body None) (block_none r around body)
+
+  block_none : (r : Context) (around : Around) (b : Block) → total (block_rows (in_code r) around b None) ≡ no_costs
+  block_none r around done = refl
+  block_none r around (next s rest) =
+      total_append (statement_rows (in_code r) around s None) (block_rows (in_code r) around rest None)
+      ∙ ap (λ t. plus t (total (block_rows (in_code r) around rest None))) (statement_none r around s)
+      ∙ none_plus _ ∙ block_none r around rest
+
+-- ---- what is accepted
+
+-- a statement that holds no others
+simple_adds : (c : Context) (around : Around) (s : Statement) (k : Facts) (v : Verdict) → accept_statement c around s k ≡ Ok v → total (simple_row c around s (Some k) ∷ []) ≡ v.costs
+unfolding if_reached
+simple_adds c around s k v e = plus_none _ ∙ ap (λ q. (found unreached q).costs) e
+
+-- what a block adds up to
+abbrev BlockAdds : Context → Around → Block → Type 0
+BlockAdds r around b = (k : Known) (v : Verdict) → if_reached unreached k (accept_block (in_code r) around b) ≡ Ok v → IsBelow v.costs → total (block_rows (in_code r) around b k) ≡ v.costs
+
+if_adds : (r : Context) (around : Around) (line : ℕ) (test : Condition) (a : Block) (k : Facts) (v : Verdict)
+    → BlockAdds r around a → accept_statement (in_code r) around (choose line test a) k ≡ Ok v → IsBelow v.costs
+    → total (statement_rows (in_code r) around (choose line test a) (Some k)) ≡ v.costs
+unfolding go_on if_reached
+if_adds r around line test a k v adds e below =
+    let split' = go_ok (split line test k) _ v e in
+    let arms = split'.0 in
+    let first' = go_ok (if_reached unreached arms.holds (accept_block (in_code r) around a)) _ v split'.2 in
+    let first = first'.0 in
+    let same : capped (choice_costs first.costs no_costs) ≡ v.costs = ap (λ w. w.costs) (ok_same _ _ first'.2) in
+    let low = subst IsBelow (sym same) below in
+    let parts = if_below first.costs low in
+    let rows = adds arms.holds first first'.1 parts.0 in
+    subst (λ (w : Branches). plus (costs 0 0 1) (total (inside (in_code r) once (block_rows (in_code r) around a w.holds))) ≡ v.costs)
+    (sym (ap (λ q. found (branches None None) q) split'.1))
+    (ap (λ t. plus (costs 0 0 1) t) (total_inside once (block_rows (in_code r) around a arms.holds) first.costs rows parts.1) ∙ if_sum first.costs low ∙ same)
+
+choice_adds : (r : Context) (around : Around) (line : ℕ) (test : Condition) (a b : Block) (k : Facts) (v : Verdict)
+    → BlockAdds r around a → BlockAdds r around b → accept_statement (in_code r) around (choose_else line test a b) k ≡ Ok v → IsBelow v.costs
+    → total (statement_rows (in_code r) around (choose_else line test a b) (Some k)) ≡ v.costs
+unfolding go_on if_reached
+choice_adds r around line test a b k v adds others e below =
+    let c = in_code r in
+    let split' = go_ok (split line test k) _ v e in
+    let arms = split'.0 in
+    let first' = go_ok (if_reached unreached arms.holds (accept_block c around a)) _ v split'.2 in
+    let first = first'.0 in
+    let second' = go_ok (if_reached unreached arms.fails (accept_block c around b)) _ v first'.2 in
+    let second = second'.0 in
+    let same : capped (choice_costs first.costs second.costs) ≡ v.costs = ap (λ w. w.costs) (ok_same _ _ second'.2) in
+    let low = subst IsBelow (sym same) below in
+    let parts = choice_below first.costs second.costs low in
+    let first_rows = adds arms.holds first first'.1 parts.0.0 in
+    let second_rows = others arms.fails second second'.1 parts.0.1 in
+    let first_is : (block_verdict c around a arms.holds).costs ≡ first.costs = ap (λ q. (found unreached q).costs) first'.1 in
+    let second_is : (block_verdict c around b arms.fails).costs ≡ second.costs = ap (λ q. (found unreached q).costs) second'.1 in
+    let Adds : Branches → Bounds → Bounds → Type 0 = λ w x y.
+    plus (costs 0 0 1) (total (inside c (first_arm x y) (block_rows c around a w.holds)
+    ++ else_row c around line b w.fails ∷ inside c (second_arm x y) (block_rows c around b w.fails))) ≡ v.costs in
+    let one = total_inside (first_arm first.costs second.costs) (block_rows c around a arms.holds) first.costs first_rows parts.1.0 in
+    let two = total_inside (second_arm first.costs second.costs) (block_rows c around b arms.fails) second.costs second_rows parts.1.1 in
+    let main : Adds arms first.costs second.costs =
+    ap (λ t. plus (costs 0 0 1) t)
+    (total_arms (inside c (first_arm first.costs second.costs) (block_rows c around a arms.holds)) (inside c (second_arm first.costs second.costs) (block_rows c around b arms.fails))
+    (else_row c around line b arms.fails) (weighed (first_arm first.costs second.costs) first.costs) (weighed (second_arm first.costs second.costs) second.costs) one two refl)
+    ∙ choice_sum first.costs second.costs low ∙ same in
+    subst (λ w. Adds w (block_verdict c around a w.holds).costs (block_verdict c around b w.fails).costs)
+    (sym (ap (λ q. found (branches None None) q) split'.1))
+    (subst (λ x. Adds arms x (block_verdict c around b arms.fails).costs) (sym first_is) (subst (λ y. Adds arms first.costs y) (sym second_is) main))
+
+lock_adds : (r : Context) (around : Around) (line : ℕ) (e1 : Expression) (body : Block) (k : Facts) (v : Verdict)
+    → ((around' : Around) → BlockAdds r around' body) → accept_statement (in_code r) around (locked line e1 body) k ≡ Ok v → IsBelow v.costs
+    → total (statement_rows (in_code r) around (locked line e1 body) (Some k)) ≡ v.costs
+unfolding go_on if_reached
+lock_adds r around line e1 body k v adds e below =
+    let c = in_code r in
+    let crate' = go_ok (lock_rule c around line e1 k) _ v e in
+    let n = crate'.0 in
+    let inner' = go_ok (accept_block c (with_locked n around) body k) _ v crate'.2 in
+    let inner = inner'.0 in
+    let waits = unwrap_or (crate_waits r.plan n) 0 in
+    let same : capped (lock_costs waits inner.costs) ≡ v.costs = ap (λ w. w.costs) (ok_same _ _ inner'.2) in
+    let low = subst IsBelow (sym same) below in
+    let parts = lock_below waits inner.costs low in
+    let rows = adds (with_locked n around) (Some k) inner inner'.1 parts.0 in
+    subst (λ (o : Option ℕ). plus (lock_share c o) (total (inside c once (block_rows c (lock_inside o around) body (lock_head o (Some k))))) ≡ v.costs)
+    (sym (ap (λ q. found None (go_on q (λ m. Ok (Some m)))) crate'.1))
+    (ap (λ t. plus (costs waits 0 2) t) (total_inside once (block_rows c (with_locked n around) body (Some k)) inner.costs rows parts.1) ∙ lock_sum waits inner.costs low ∙ same)
+
+-- a loop of so many turns
+loop_adds : (r : Context) (around : Around) (body : Block) (head : Known) (turns : ℕ) (turn : Verdict)
+    → BlockAdds r around body → if_reached unreached head (accept_block (in_code r) around body) ≡ Ok turn → IsBelow (capped (loop_costs turns turn.costs))
+    → plus (costs 0 0 (turns + 1)) (total (inside (in_code r) (turning turns) (block_rows (in_code r) around body head))) ≡ capped (loop_costs turns turn.costs)
+loop_adds r around body head zero turn adds e low =
+    ap (λ t. plus (costs 0 0 (0 + 1)) t) (total_of_none (block_rows (in_code r) around body head)) ∙ no_turns turn.costs
+loop_adds r around body head (suc t) turn adds e low =
+    let all = loop_weighed (suc t) turn.costs low in
+    let rows = adds head turn e (turn_below t turn.costs all) in
+    ap (λ x. plus (costs 0 0 (suc t + 1)) x) (total_inside (turning (suc t)) (block_rows (in_code r) around body head) turn.costs rows all) ∙ loop_sum (suc t) turn.costs low
+
+for_adds : (r : Context) (around : Around) (line x : ℕ) (e1 e2 : Expression) (keeps : List Keep) (body : Block) (k : Facts) (v : Verdict)
+    → BlockAdds r (with_fixed x around) body → accept_statement (in_code r) around (for_ line x e1 e2 keeps body) k ≡ Ok v → IsBelow v.costs
+    → total (statement_rows (in_code r) around (for_ line x e1 e2 keeps body) (Some k)) ≡ v.costs
+unfolding go_on if_reached
+for_adds r around line x e1 e2 keeps body k v adds e below =
+    let c = in_code r in
+    let limits' = go_ok (for_limits around line x e1 e2 keeps k) _ v e in
+    let l = limits'.0 in
+    let turn' = go_ok (if_reached unreached (for_head x l keeps body k) (accept_block c (with_fixed x around) body)) _ v limits'.2 in
+    let turn = turn'.0 in
+    let keeps' = go_ok (required (keeps_hold_after keeps turn.after) _ line _) _ v turn'.2 in
+    let same : capped (loop_costs (turns_between l) turn.costs) ≡ v.costs = ap (λ w. w.costs) (ok_same _ _ keeps'.2) in
+    let low = subst IsBelow (sym same) below in
+    subst (λ (t : Turning). plus (loop_share (Some k) t.turns) (total (inside c (turning t.turns) (block_rows c (with_fixed x around) body t.head))) ≡ v.costs)
+    (sym (ap (λ q. found (turning_from 0 None) (go_on q (λ m. Ok (turning_from (turns_between m) (for_head x m keeps body k))))) limits'.1))
+    (loop_adds r (with_fixed x around) body (for_head x l keeps body k) (turns_between l) turn adds turn'.1 low ∙ same)
+
+while_adds : (r : Context) (around : Around) (line : ℕ) (test : Condition) (most m : ℕ) (keeps : List Keep) (body : Block) (k : Facts) (v : Verdict)
+    → BlockAdds r around body → accept_statement (in_code r) around (while_ line test most m keeps body) k ≡ Ok v → IsBelow v.costs
+    → total (statement_rows (in_code r) around (while_ line test most m keeps body) (Some k)) ≡ v.costs
+unfolding go_on if_reached
+while_adds r around line test most m keeps body k v adds e below =
+    let c = in_code r in
+    let top' = go_ok (while_head around.body line most m keeps body k) _ v e in
+    let top = top'.0 in
+    let split' = go_ok (split line test top) _ v top'.2 in
+    let arms = split'.0 in
+    let turn' = go_ok (if_reached unreached arms.holds (accept_block c around body)) _ v split'.2 in
+    let turn = turn'.0 in
+    let keeps' = go_ok (required (keeps_hold_after keeps turn.after) _ line _) _ v turn'.2 in
+    let same : capped (loop_costs (turn_bound arms.holds most) turn.costs) ≡ v.costs = ap (λ w. w.costs) (ok_same _ _ keeps'.2) in
+    let low = subst IsBelow (sym same) below in
+    subst (λ (t : Turning). plus (loop_share (Some k) t.turns) (total (inside c (turning t.turns) (block_rows c around body t.head))) ≡ v.costs)
+    (sym (
+    ap (λ q. found (turning_from 0 None) (go_on q (λ h. go_on (split line test h) (λ w. Ok (turning_from (turn_bound w.holds most) w.holds))))) top'.1
+    ∙ ap (λ q. found (turning_from 0 None) (go_on q (λ w. Ok (turning_from (turn_bound w.holds most) w.holds)))) split'.1
+    ))
+    (loop_adds r around body arms.holds (turn_bound arms.holds most) turn adds turn'.1 low ∙ same)
+
+mutual
+  unfolding go_on if_reached
+
+  statement_adds : (r : Context) (around : Around) (s : Statement) (k : Facts) (v : Verdict) → accept_statement (in_code r) around s k ≡ Ok v → IsBelow v.costs
+      → total (statement_rows (in_code r) around s (Some k)) ≡ v.costs
+  statement_adds r around (assign line x e1) k v e below = simple_adds (in_code r) around (assign line x e1) k v e
+  statement_adds r around (set_register line p e1 e2 e3) k v e below = simple_adds (in_code r) around (set_register line p e1 e2 e3) k v e
+  statement_adds r around (single line size f p move) k v e below = simple_adds (in_code r) around (single line size f p move) k v e
+  statement_adds r around (address_scan line f r1 r2 max x) k v e below = simple_adds (in_code r) around (address_scan line f r1 r2 max x) k v e
+  statement_adds r around (q_stop line f p t max x) k v e below = simple_adds (in_code r) around (q_stop line f p t max x) k v e
+  statement_adds r around (q_repeat line f p t max limit x) k v e below = simple_adds (in_code r) around (q_repeat line f p t max limit x) k v e
+  statement_adds r around (put line e1) k v e below = simple_adds (in_code r) around (put line e1) k v e
+  statement_adds r around (crate_call line which e1) k v e below = simple_adds (in_code r) around (crate_call line which e1) k v e
+  statement_adds r around (lam_call line which l) k v e below = simple_adds (in_code r) around (lam_call line which l) k v e
+  statement_adds r around (call line p es) k v e below = simple_adds (in_code r) around (call line p es) k v e
+  statement_adds r around (choose line test a) k v e below = if_adds r around line test a k v (block_adds r around a) e below
+  statement_adds r around (choose_else line test a b) k v e below = choice_adds r around line test a b k v (block_adds r around a) (block_adds r around b) e below
+  statement_adds r around (for_ line x e1 e2 keeps body) k v e below = for_adds r around line x e1 e2 keeps body k v (block_adds r (with_fixed x around) body) e below
+  statement_adds r around (while_ line test most m keeps body) k v e below = while_adds r around line test most m keeps body k v (block_adds r around body) e below
+  statement_adds r around (locked line e1 body) k v e below = lock_adds r around line e1 body k v (λ around'. block_adds r around' body) e below
+
+  pub block_adds : (r : Context) (around : Around) (b : Block) (k : Known) (v : Verdict) → if_reached unreached k (accept_block (in_code r) around b) ≡ Ok v → IsBelow v.costs
+      → total (block_rows (in_code r) around b k) ≡ v.costs
+  block_adds r around b None v e below = block_none r around b ∙ ap (λ w. w.costs) (ok_same unreached v e)
+  block_adds r around done (Some k) v e below = ap (λ w. w.costs) (ok_same _ v e)
+  block_adds r around (next s rest) (Some k) v e below =
+      let c = in_code r in
+      let first' = go_ok (accept_statement c around s k) _ v e in
+      let first = first'.0 in
+      let second' = go_ok (if_reached unreached first.after (accept_block c around rest)) _ v first'.2 in
+      let second = second'.0 in
+      let same : capped (plus first.costs second.costs) ≡ v.costs = ap (λ w. w.costs) (ok_same _ _ second'.2) in
+      let low = subst IsBelow (sym same) below in
+      let parts = then_below first.costs second.costs low in
+      let one = statement_adds r around s k first first'.1 parts.0 in
+      let two = block_adds r around rest first.after second second'.1 parts.1 in
+      subst (λ (w : Verdict). total (statement_rows c around s (Some k) ++ block_rows c around rest w.after) ≡ v.costs)
+      (sym (ap (λ q. found unreached q) first'.1))
+      (total_append (statement_rows c around s (Some k)) (block_rows c around rest first.after)
+      ∙ ap (λ t. plus t (total (block_rows c around rest first.after))) one ∙ ap (λ t. plus first.costs t) two
+      ∙ then_sum first.costs second.costs low ∙ same)
+
+-- ---- bodies
+
+body_adds : (r : Context) (whose : Owner) (around : Around) (b : Block) (k : Known) → IsBelow (body_costs (in_code r) whose around b k).costs
+    → total (body_costs (in_code r) whose around b k).rows ≡ (body_costs (in_code r) whose around b k).costs
+body_adds r whose around b k below = go (if_reached unreached k (accept_block (in_code r) around b)) refl below
+  where
+    go : (q : Result Verdict Fault) → if_reached unreached k (accept_block (in_code r) around b) ≡ q → IsBelow (found unreached q).costs
+        → total (rows_if q (block_rows (in_code r) around b k)) ≡ (found unreached q).costs
+    go (Ok v) e low = block_adds r around b k v e low
+    go (Err f) e low = refl
+
+all_add : (bs cs : List BodyRows) → AddUp bs → AddUp cs → AddUp (bs ++ cs)
+all_add [] cs h more = more
+all_add (b ∷ bs) cs (first, h) more = (first, all_add bs cs h more)
+
+there_adds : {A : Type 0} (body : A → BodyRows) (o : Option A) → ((x : A) → IsBelow (body x).costs → total (body x).rows ≡ (body x).costs) → AddUp (option_to_list (option_map body o))
+there_adds body None h = tt
+there_adds body (Some x) h = (h x, tt)
+
+bodies_add : (plan : Layout) (s : Script) (items : List Item) (done' served : ℕ) → AddUp (bodies_from capped plan s items done' served)
+bodies_add plan s [] done' served = tt
+bodies_add plan s (next_table ∷ rest) done' served = bodies_add plan s rest done' served
+bodies_add plan s (next_lam ∷ rest) done' served = bodies_add plan s rest done' served
+bodies_add plan s (next_variables line n ∷ rest) done' served = bodies_add plan s rest done' served
+bodies_add plan s (next_procedure ∷ rest) done' served =
+    all_add (procedure_at capped plan s done') (bodies_from capped plan s rest (done' + 1) served)
+    (there_adds (procedure_costs (context_after capped plan s done') done') (slice_get s.procedures done') (λ p. body_adds (context_after capped plan s done') (owner.Procedure done') (alone_in (own_body (context_after capped plan s done'))) p.body (at_entry p.parameters)))
+    (bodies_add plan s rest (done' + 1) served)
+bodies_add plan s (next_service ∷ rest) done' served =
+    all_add (service_at capped plan s done' served) (bodies_from capped plan s rest done' (served + 1))
+    (there_adds (service_costs (context_after capped plan s done') served) (slice_get s.services served) (λ v. body_adds (context_after capped plan s done') (owner.Service served) (alone_in (body.Service v.lam)) v.body (Some at_start)))
+    (bodies_add plan s rest done' (served + 1))
+
+pub shares_add_up : SharesAddUp
+shares_add_up plan script = bodies_add plan script script.order 0 0

@@ -1,0 +1,307 @@
+-- What the case of a refused scan shows of its window.
+use Rattle.std.proofs.Common.{◌≡◌, ℕ, ◌+◌, ◌-◌, ◌<◌, ◌≤◌, Bool, true, false, Option, Some, None, Result, Ok, Err, refl, sym, ap, ◌∙◌, subst, ◌⊎◌, inl, inr, ⊎_elim, arith}
+use Rattle.std.specs.Prelude.{◌&&◌, ◌||◌, not, max, min, nat_eq, nat_lt, is_some, if◌then◌else◌}
+use Rattle.std.proofs.lemmas.Bool.{and_parts, or_cases, or_parts, eqb-true, eqb-false, ltb-true, ltb-false, lt-ltb, le-ltb, cases_lt}
+use Rattle.camac_lang.specs.Tree.{Expression}
+use Rattle.camac_func.specs.Class.{class_of}
+use Rattle.camac_func.specs.declared.code.FunctionClass.TheVariants.{Read}
+use Rattle.camac_range.specs.Interval.{Interval, interval, IsWithin}
+use Rattle.camac_branch.specs.Plan.{Layout}
+use Rattle.camac_check_rules.specs.declared.case.Case.{Case}
+use Rattle.camac_check_rules.specs.declared.case.Case.TheVariants.{NoCrate, NoModule, NoCommand, Counted, Unset}
+use Rattle.camac_check_rules.specs.declared.rule.CheckRule.{CheckRule}
+use Rattle.camac_check_rules.specs.declared.rule.CheckRule.TheVariants.{StationNotInstalled, CommandNotDeclared, WrongDirection, RegisterUnset, ScanCratesDiffer, LoopVariableAssigned, ValueOutOfRange}
+use Rattle.camac_check_rules.specs.Cases.{crates_of, direction}
+use Rattle.camac_check_rules.specs.Fault.{Fault, broken}
+use Rattle.camac_check_rules.specs.Refusal.{go_on, required, given}
+use Rattle.camac_check_rules.specs.Known.{Region, region, Facts, region_at}
+use Rattle.camac_check_rules.specs.Walks.{first_outside}
+use Rattle.camac_check_rules.specs.Addresses.{crate_end, station_end, sub_address_end, in_plan, is_station, all_in, station_widths, has_command, not_installed, undeclared_at}
+use Rattle.camac_check_rules.specs.Cycles.{Context, Around, may_write, same_class}
+use Rattle.camac_check_rules.specs.Expressions.{range_of}
+use Rattle.camac_check_rules.specs.Windows.{Window, window_of, stations_of, sub_addresses_at, is_empty, holds_at, holds_over, first_over, is_installed_at, is_installed, missing_over, is_declared_at, is_declared, undeclared_over}
+use Rattle.camac_check_rules.specs.Transfers.{is_one_crate, has_sub_addresses, past_sub_addresses, undeclared_by, scan_verdict, scan_rule}
+use Rattle.camac_check_rules.proofs.Walks.{all_in_at}
+use Rattle.camac_laws.specs.ShownAddresses.{IsFirst, HasAddresses}
+use Rattle.camac_laws.specs.ShownWindows.{IsBefore, IsUpTo, IsInWindow, IsFirstMissing, MissingOverShown, MissingOverAreShown, IsFirstUndeclared, IsPast, UndeclaredOverShown, UndeclaredOverAreShown}
+use Rattle.camac_laws.proofs.Refused.{go_err}
+use Rattle.camac_laws.proofs.ShownAddresses.{first_is, rest_fails, station_same}
+use Rattle.camac_laws.proofs.ShownExpressions.{expressions_are_shown}
+
+-- ---- the addresses of a window at one of its stations
+
+from_low : (n m b a : ℕ) → (if nat_eq n m then b else 0) ≤ a → m ≤ n → IsUpTo m b n a
+from_low n m b a h le = go (nat_eq n m) refl h
+  where
+    go : (t : Bool) → nat_eq n m ≡ t → (if t then b else 0) ≤ a → IsUpTo m b n a
+    go true e l = inr (sym (eqb-true n m e), l)
+    go false e l = ⊎_elim (λ lt. inl lt) (λ ge. let same : n ≡ m = omega arith in absurd (eqb-false n m e same)) (cases_lt m n)
+
+from_high : (n m b a : ℕ) → a ≤ (if nat_eq n m then b else 15) → n ≤ m → IsUpTo n a m b
+from_high n m b a h le = go (nat_eq n m) refl h
+  where
+    go : (t : Bool) → nat_eq n m ≡ t → a ≤ (if t then b else 15) → IsUpTo n a m b
+    go true e l = inr (eqb-true n m e, l)
+    go false e l = ⊎_elim (λ lt. inl lt) (λ ge. let same : n ≡ m = omega arith in absurd (eqb-false n m e same)) (cases_lt n m)
+
+to_low : (n m b a : ℕ) → IsUpTo m b n a → (if nat_eq n m then b else 0) ≤ a
+to_low n m b a i = go (nat_eq n m) refl
+  where
+    go : (t : Bool) → nat_eq n m ≡ t → (if t then b else 0) ≤ a
+    go true e = let same : n ≡ m = eqb-true n m e in ⊎_elim (λ lt. absurd (omega arith)) (λ p. p.1) i
+    go false e = omega arith
+
+to_high : (n m b a : ℕ) → IsUpTo n a m b → a ≤ 15 → a ≤ (if nat_eq n m then b else 15)
+to_high n m b a i le = go (nat_eq n m) refl
+  where
+    go : (t : Bool) → nat_eq n m ≡ t → a ≤ (if t then b else 15)
+    go true e = let same : n ≡ m = eqb-true n m e in ⊎_elim (λ lt. absurd (omega arith)) (λ p. p.1) i
+    go false e = le
+
+most_15 : (t : Bool) (b : ℕ) → b ≤ 15 → (if t then b else 15) ≤ 15
+most_15 true b h = h
+most_15 false b h = omega arith
+
+no_earlier : (m b n a : ℕ) → IsUpTo m b n a → m ≤ n
+no_earlier m b n a i = ⊎_elim (λ lt. omega arith) (λ p. let e = p.0 in omega arith) i
+
+-- the sub-addresses at a station are those of the window there
+pub at_station : (w : Window) (n a : ℕ) → IsInWindow w n a → IsWithin (sub_addresses_at w n) a
+at_station w n a i = record {
+  low = to_low n w.first_station w.first_sub_address a i.from_first;
+  high = to_high n w.last_station w.last_sub_address a i.to_last (let s = i.sub_address in omega arith);
+}
+
+pub of_station : (w : Window) (n a : ℕ) → w.last_sub_address ≤ 15 → IsWithin (stations_of w) n → IsWithin (sub_addresses_at w n) a → IsInWindow w n a
+of_station w n a last s i =
+    let top = most_15 (nat_eq n w.last_station) w.last_sub_address last in
+    let high = i.high in
+    record {
+      from_first = from_low n w.first_station w.first_sub_address a i.low s.low;
+      to_last = from_high n w.last_station w.last_sub_address a i.high s.high;
+      sub_address = omega arith;
+    }
+
+pub stations_at : (w : Window) (n a : ℕ) → IsInWindow w n a → IsWithin (stations_of w) n
+stations_at w n a i = record {
+  low = no_earlier w.first_station w.first_sub_address n a i.from_first;
+  high = no_earlier n a w.last_station w.last_sub_address i.to_last;
+}
+
+-- ---- the first station of which a test does not hold
+
+pub over_is : (w : Window) (test : ℕ → Bool) → holds_over w test ≡ false → IsFirst station_end (stations_of w) (holds_at w test) (first_over w test)
+over_is w test e =
+    let p = or_parts (is_empty w) (all_in station_end (stations_of w) (holds_at w test)) e in
+    let q = or_parts (nat_lt w.last_station w.first_station) (nat_eq w.first_station w.last_station && nat_lt w.last_sub_address w.first_sub_address) p.0 in
+    first_is station_end (stations_of w) (holds_at w test) (ltb-false w.last_station w.first_station q.0) p.1
+
+-- where it fails, the window has an address
+pub record FailsAt (w : Window) (test : ℕ → Bool) (n : ℕ) : Type 0 where
+  pub some : (sub_addresses_at w n).lo ≤ (sub_addresses_at w n).hi
+  pub fails : test n ≡ false
+
+pub fails_at : (w : Window) (test : ℕ → Bool) (n : ℕ) → holds_at w test n ≡ false → FailsAt w test n
+fails_at w test n e =
+    let p = or_parts (nat_lt (sub_addresses_at w n).hi (sub_addresses_at w n).lo) (test n) e in
+    record { some = ltb-false (sub_addresses_at w n).hi (sub_addresses_at w n).lo p.0; fails = p.1 }
+
+pub holds_there : (w : Window) (test : ℕ → Bool) (n a : ℕ) → holds_at w test n ≡ true → IsInWindow w n a → test n ≡ true
+holds_there w test n a e i =
+    let span = at_station w n a i in
+    let low = span.low in
+    let high = span.high in
+    ⊎_elim
+    (λ t. let lt : (sub_addresses_at w n).hi < (sub_addresses_at w n).lo = ltb-true (sub_addresses_at w n).hi (sub_addresses_at w n).lo t in absurd (omega arith))
+    (λ t. t)
+    (or_cases (nat_lt (sub_addresses_at w n).hi (sub_addresses_at w n).lo) (test n) e)
+
+-- ---- stations
+
+missing_over_at : (plan : Layout) (w : Window) → w.last_sub_address ≤ 15 → is_installed plan w ≡ false → MissingOverShown plan w (missing_over plan w)
+missing_over_at plan w last e = go (nat_lt w.crate_no crate_end && in_plan plan w.crate_no) refl
+  where
+    n : ℕ
+    n = first_over w (is_installed_at plan w)
+
+    first : IsFirst station_end (stations_of w) (holds_at w (is_installed_at plan w)) n
+    first = over_is w (is_installed_at plan w) e
+
+    go : (t : Bool) → (nat_lt w.crate_no crate_end && in_plan plan w.crate_no) ≡ t → MissingOverShown plan w (if t then NoModule w.crate_no n else NoCrate w.crate_no)
+    go false t = (refl, λ below. rest_fails (nat_lt w.crate_no crate_end) (in_plan plan w.crate_no) (lt-ltb w.crate_no crate_end below) t)
+    go true t =
+        let p = and_parts (nat_lt w.crate_no crate_end) (in_plan plan w.crate_no) t in (
+          refl,
+          (
+            ltb-true w.crate_no crate_end p.0,
+            (
+              p.1,
+              record {
+                inside = first.inside;
+                address = λ below.
+                    let f = fails_at w (is_installed_at plan w) n (first.fails below) in
+                    ((sub_addresses_at w n).lo, of_station w n (sub_addresses_at w n).lo last first.inside (record { low = omega arith; high = f.some }));
+                missing = λ below.
+                    rest_fails (in_plan plan w.crate_no) (is_station plan w.crate_no n) p.1
+                    (rest_fails (nat_lt w.crate_no crate_end) (in_plan plan w.crate_no && is_station plan w.crate_no n) p.0
+                    (fails_at w (is_installed_at plan w) n (first.fails below)).fails);
+                earlier = λ m b i lt.
+                    let s = stations_at w m b i in
+                    let h = first.earlier m s.low lt in
+                    let there = holds_there w (is_installed_at plan w) m b h.1 i in
+                    let q = and_parts (nat_lt w.crate_no crate_end) (in_plan plan w.crate_no && is_station plan w.crate_no m) there in
+                    (h.0, (and_parts (in_plan plan w.crate_no) (is_station plan w.crate_no m) q.1).1);
+              },
+            ),
+          ),
+        )
+
+-- ---- commands
+
+comes_before : (m b n a : ℕ) → IsBefore m b n a → m ≤ n
+comes_before m b n a i = ⊎_elim (λ lt. omega arith) (λ p. let e = p.0 in omega arith) i
+
+module _ (plan : Layout) (f : ℕ) (w : Window) (last : w.last_sub_address ≤ 15) (there : is_installed plan w ≡ true) (none : is_declared plan f w ≡ false) where
+  abbrev n : ℕ
+  n = first_over w (is_declared_at plan f w)
+
+  first : IsFirst station_end (stations_of w) (holds_at w (is_declared_at plan f w)) n
+  first = over_is w (is_declared_at plan f w) none
+
+  below : n < station_end
+  below =
+      let e = or_parts (is_empty w) (all_in station_end (stations_of w) (holds_at w (is_declared_at plan f w))) none in
+      ⊎_elim (λ t. absurd (let bad = e.0 in cc))
+      (λ t. (all_in_at station_end (stations_of w) (holds_at w (is_installed_at plan w)) n t first.inside).0)
+      (or_cases (is_empty w) (all_in station_end (stations_of w) (holds_at w (is_installed_at plan w))) there)
+
+  -- declared at the sub-addresses of a station, one by one
+  each_is : (m : ℕ) → (sub_addresses_at w m).lo ≤ (sub_addresses_at w m).hi → is_declared_at plan f w m ≡ all_in sub_address_end (sub_addresses_at w m) (has_command plan f w.crate_no m)
+  each_is m some = station_same plan f (region (sub_addresses_at w m) (sub_addresses_at w m) (sub_addresses_at w m)) some w.crate_no m
+
+  at_first : IsFirst sub_address_end (sub_addresses_at w n) (has_command plan f w.crate_no n) (first_outside sub_address_end (sub_addresses_at w n) (has_command plan f w.crate_no n))
+  at_first =
+      let h = fails_at w (is_declared_at plan f w) n (first.fails below) in
+      first_is sub_address_end (sub_addresses_at w n) (has_command plan f w.crate_no n) h.some (sym (each_is n h.some) ∙ h.fails)
+
+  undeclared_over_at : IsFirstUndeclared plan f w n (first_outside sub_address_end (sub_addresses_at w n) (has_command plan f w.crate_no n))
+  undeclared_over_at =
+      let a : ℕ = first_outside sub_address_end (sub_addresses_at w n) (has_command plan f w.crate_no n) in
+      let i = of_station w n a last first.inside at_first.inside in
+      record {
+        inside = i;
+        undeclared = at_first.fails i.sub_address;
+        earlier = λ m b j before.
+            let span = at_station w m b j in
+            let low = span.low in
+            let high = span.high in
+            let some : (sub_addresses_at w m).lo ≤ (sub_addresses_at w m).hi = omega arith in
+            ⊎_elim
+            (λ lt. let s = stations_at w m b j in
+            let h = first.earlier m s.low lt in
+            let all = sym (each_is m some) ∙ holds_there w (is_declared_at plan f w) m b h.1 j in
+            (all_in_at sub_address_end (sub_addresses_at w m) (has_command plan f w.crate_no m) b all span).1)
+            (λ p. let here : IsWithin (sub_addresses_at w n) b = subst (λ x. IsWithin (sub_addresses_at w x) b) p.0 span in
+            let e = at_first.earlier b here.low p.1 in
+            subst (λ x. has_command plan f w.crate_no x b ≡ true) (sym p.0) e.1)
+            before;
+      }
+
+past_at : (f : ℕ) (g : Region) → HasAddresses g → has_sub_addresses g ≡ false → IsPast g g.crates.lo g.stations.lo (max g.sub_addresses.lo sub_address_end)
+past_at f g has e =
+    let over : sub_address_end ≤ g.sub_addresses.hi = ltb-false g.sub_addresses.hi sub_address_end e in
+    let some = has.sub_addresses in
+    record {
+      crate_no = refl;
+      station = refl;
+      sub_address = record {
+        inside = record { low = omega arith; high = omega arith };
+        fails = λ lt. absurd (omega arith);
+        earlier = λ j low lt. (omega arith, refl);
+      };
+    }
+
+undeclared_by_at : (plan : Layout) (f : ℕ) (g h : Region) → HasAddresses g → HasAddresses h → is_installed plan (window_of g h) ≡ true → (has_sub_addresses g && (has_sub_addresses h && is_declared plan f (window_of g h))) ≡ false → UndeclaredOverShown plan f g h (undeclared_by plan f g h)
+undeclared_by_at plan f g h has_g has_h there e = go (has_sub_addresses g) refl e
+  where
+    inner : (t : Bool) → has_sub_addresses h ≡ t → (t && is_declared plan f (window_of g h)) ≡ false → UndeclaredOverShown plan f g h (if t then undeclared_over plan f (window_of g h) else past_sub_addresses f h)
+    inner true s e2 = (refl, inr (inr (refl, undeclared_over_at plan f (window_of g h) (omega arith) there e2)))
+    inner false s e2 = (refl, inr (inl (past_at f h has_h s)))
+
+    go : (t : Bool) → has_sub_addresses g ≡ t → (t && (has_sub_addresses h && is_declared plan f (window_of g h))) ≡ false
+        → UndeclaredOverShown plan f g h (if t then (if has_sub_addresses h then undeclared_over plan f (window_of g h) else past_sub_addresses f h) else past_sub_addresses f g)
+    go true s e2 = inner (has_sub_addresses h) refl e2
+    go false s e2 = (refl, inl (past_at f g has_g s))
+
+-- ---- the lines of the rule
+
+-- a test that fails is the fault, or the lines after it are
+pub after_test : {B : Type 0} (b : Bool) (rule : CheckRule) (line : ℕ) (case : Case) (r : Result B Fault) (e : Fault) → go_on (required b rule line case) (λ u. r) ≡ Err e → ((b ≡ false) × (broken rule line case ≡ e)) ⊎ ((b ≡ true) × (r ≡ Err e))
+unfolding go_on required
+after_test true rule line case r e h = inr (refl, h)
+after_test false rule line case r e h = inl (refl, cc)
+
+-- what is there goes on
+pub after_given : {A B : Type 0} (o : Option A) (x : A) (rule : CheckRule) (line : ℕ) (case : Case) (f : A → Result B Fault) → o ≡ Some x → go_on (given o rule line case) f ≡ f x
+unfolding go_on given
+after_given o x rule line case f e = ap (λ p. go_on (given p rule line case) f) e
+
+-- after the first tests of a scan
+record ScanRefused (c : Context) (line f : ℕ) (g h : Region) (fault : Fault) : Type 0 where
+  tail : ((is_installed c.plan (window_of g h) ≡ false) × (broken StationNotInstalled line (missing_over c.plan (window_of g h)) ≡ fault))
+      ⊎ ((is_installed c.plan (window_of g h) ≡ true)
+      × (((has_sub_addresses g && (has_sub_addresses h && is_declared c.plan f (window_of g h))) ≡ false)
+      × (broken CommandNotDeclared line (undeclared_by c.plan f g h) ≡ fault)))
+
+-- the rules before and after those two
+abbrev IsOther : CheckRule → Type 0
+IsOther rule = ((rule ≡ ValueOutOfRange) ⊎ (rule ≡ LoopVariableAssigned)) ⊎ ((rule ≡ ScanCratesDiffer) ⊎ (rule ≡ WrongDirection))
+
+scan_refused : (c : Context) (around : Around) (line f r1 r2 : ℕ) (e : Expression) (x : ℕ) (k : Facts) (g h : Region) (rule : CheckRule) (at : ℕ) (case : Case)
+    → region_at k.registers r1 ≡ Some g → region_at k.registers r2 ≡ Some h
+    → scan_rule c around line f r1 r2 e x k ≡ Err (broken rule at case) → IsOther rule ⊎ ScanRefused c line f g h (broken rule at case)
+scan_refused c around line f r1 r2 e x k g h rule at case is_g is_h refused =
+    ⊎_elim (λ s. inl (inl (inl (expressions_are_shown line e k.ranges rule at case s).0)))
+    (λ most. ⊎_elim (λ s. let bad = s.1 in let one : rule ≡ LoopVariableAssigned = cc in inl (inl (inr one)))
+    (λ s. let t = sym (after_given (region_at k.registers r1) g RegisterUnset line (Unset around.body r1) _ is_g) ∙ s.1 in
+    let u = sym (after_given (region_at k.registers r2) h RegisterUnset line (Unset around.body r2) _ is_h) ∙ t in
+    ⊎_elim (λ v. let bad = v.1 in let one : rule ≡ ScanCratesDiffer = cc in inl (inr (inl one)))
+    (λ v. ⊎_elim (λ w. inr (record { tail = inl w }))
+    (λ w. ⊎_elim (λ y. inr (record { tail = inr (w.0, y) }))
+    (λ y. ⊎_elim (λ z. let bad = z.1 in let one : rule ≡ WrongDirection = cc in inl (inr (inr one)))
+    (λ z. absurd (let bad = z.1 in cc))
+    (after_test (same_class Read (class_of f)) WrongDirection line (direction f Read) _ (broken rule at case) y.1))
+    (after_test (has_sub_addresses g && (has_sub_addresses h && is_declared c.plan f (window_of g h))) CommandNotDeclared line (undeclared_by c.plan f g h) _ (broken rule at case) w.1))
+    (after_test (is_installed c.plan (window_of g h)) StationNotInstalled line (missing_over c.plan (window_of g h)) _ (broken rule at case) v.1))
+    (after_test (is_one_crate g h) ScanCratesDiffer line (crates_of g.crates h.crates) _ (broken rule at case) u))
+    (after_test (may_write around x) LoopVariableAssigned line (Counted around.body x) _ (broken rule at case) most.2))
+    (go_err (range_of line e k.ranges) _ (broken rule at case) refused)
+
+not_other : (rule : CheckRule) → (rule ≡ StationNotInstalled) ⊎ (rule ≡ CommandNotDeclared) → IsOther rule → ⊥
+not_other rule is o =
+    ⊎_elim
+    (λ i. ⊎_elim (λ p. ⊎_elim (λ q. absurd (cc)) (λ q. absurd (cc)) p) (λ p. ⊎_elim (λ q. absurd (cc)) (λ q. absurd (cc)) p) o)
+    (λ i. ⊎_elim (λ p. ⊎_elim (λ q. absurd (cc)) (λ q. absurd (cc)) p) (λ p. ⊎_elim (λ q. absurd (cc)) (λ q. absurd (cc)) p) o)
+    is
+
+pub missing_over_are_shown : MissingOverAreShown
+missing_over_are_shown c around line f r1 r2 max x k g h is_g is_h at case refused =
+    ⊎_elim (λ o. absurd (not_other StationNotInstalled (inl refl) o))
+    (λ s. ⊎_elim
+    (λ t. let one = t.1 in
+    let same : missing_over c.plan (window_of g h) ≡ case = cc in
+    subst (MissingOverShown c.plan (window_of g h)) same (missing_over_at c.plan (window_of g h) (omega arith) t.0))
+    (λ t. absurd (let bad = t.1.1 in cc))
+    s.tail)
+    (scan_refused c around line f r1 r2 max x k g h StationNotInstalled at case is_g is_h refused)
+
+pub undeclared_over_are_shown : UndeclaredOverAreShown
+undeclared_over_are_shown c around line f r1 r2 max x k g h is_g is_h has_g has_h at case refused =
+    ⊎_elim (λ o. absurd (not_other CommandNotDeclared (inr refl) o))
+    (λ s. ⊎_elim
+    (λ t. absurd (let bad = t.1 in cc))
+    (λ t. let one = t.1.1 in
+    let same : undeclared_by c.plan f g h ≡ case = cc in
+    subst (UndeclaredOverShown c.plan f g h) same (undeclared_by_at c.plan f g h has_g has_h t.0 t.1.0))
+    s.tail)
+    (scan_refused c around line f r1 r2 max x k g h CommandNotDeclared at case is_g is_h refused)

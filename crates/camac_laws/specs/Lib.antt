@@ -1,0 +1,15 @@
+pub mod Lower
+pub mod Grow
+pub mod Least
+pub mod Calls
+pub mod Shown
+pub mod ShownExpressions
+pub mod ShownAddresses
+pub mod ShownWindows
+pub mod Places
+pub mod Regions
+pub mod Windows
+pub mod Scans
+pub mod SampleText
+pub mod Shares
+pub mod Times

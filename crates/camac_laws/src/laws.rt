@@ -1,0 +1,185 @@
+// What holds of headings, of calls and of refusals, each law as the contract of a function that does nothing.
+
+ghost use Rattle.camac_laws.specs.Calls.{AcceptedCallsKeep, CallsKeepToRanges, GuardsOnlyStop, GuardsStop};
+ghost use Rattle.camac_laws.specs.Grow.{CostsGrow};
+ghost use Rattle.camac_laws.specs.Least.{CheckedHaveLeast, LeastAreLeast, RefusedHaveNone};
+ghost use Rattle.camac_laws.specs.Places.{RegistersHaveAddresses};
+ghost use Rattle.camac_laws.specs.Regions.{CommandsAreJudged, CostIsGreatest, ReadsAreAll, StationsAreAll, ValuesAreFit, WaitsMayCome, WidthsAreAll};
+ghost use Rattle.camac_laws.specs.Scans.{ScansAreJudged};
+ghost use Rattle.camac_laws.specs.Shown.{ArgumentsAreShown, ForTurnsAreShown, HeadingsAreShown, KeptAreShown, UnfitHaveOne, UnkeptHaveOne, WhileTurnsAreShown};
+ghost use Rattle.camac_laws.specs.ShownAddresses.{MissingAreShown, UndeclaredAreShown};
+ghost use Rattle.camac_laws.specs.ShownExpressions.{ConditionsAreShown, ExpressionsAreShown};
+ghost use Rattle.camac_laws.specs.ShownWindows.{MissingOverAreShown, UndeclaredOverAreShown};
+ghost use Rattle.camac_laws.specs.Windows.{WindowsAreCounted, WindowsAreDeclared, WindowsAreInstalled};
+
+use camac_check::Checked;
+
+/// With lower numbers in the headings of its procedures a block is judged the same, and costs no more.
+pub fn costs_grow()
+    ensures { CostsGrow }
+{}
+
+/// Whatever headings a linked script is accepted with, its least headings are there, and no number of them is greater.
+pub fn least_are_least()
+    ensures { LeastAreLeast }
+{}
+
+/// Where a script has no least headings, no numbers in its headings make it linked and accepted.
+pub fn refused_have_none()
+    ensures { RefusedHaveNone }
+{}
+
+/// Where `check` accepts a linked script, `least` answers Ok, with no number above those of its headings; or memory ran out.
+pub fn checked_have_least()
+    ensures { CheckedHaveLeast }
+{}
+
+/// A guarded call is wrong, where its arguments are not in the ranges of its procedure's parameters.
+pub fn guards_stop()
+    ensures { GuardsStop }
+{}
+
+/// Of any script: a guarded block does the same as the plain one, unless it stops as wrong.
+pub fn guards_only_stop()
+    ensures { GuardsOnlyStop }
+{}
+
+/// In every run of an accepted script each call of a procedure has its arguments in the ranges of the heading. With guards the script means
+/// the same as without them, and nothing is wrong.
+pub fn accepted_calls_keep()
+    ensures { AcceptedCallsKeep }
+{}
+
+/// The same of this checked script.
+pub fn calls_keep_to_ranges(checked: &Checked)
+    ensures { CallsKeepToRanges checked.now.plan checked.now.script }
+{
+    checked.is_checked();
+    checked.script().well_formed();
+    checked.plan().is_plan();
+}
+
+/// Where a cost is above the number of its heading (E11, E12, E18), the case shows both. A heading with any number that is at least the cost is
+/// not refused by that rule.
+pub fn headings_are_shown()
+    ensures { HeadingsAreShown }
+{}
+
+/// Where an argument is not in the range of its parameter (E21), the case shows the first such argument of the call and both ranges. With
+/// as many arguments as parameters there is always such a case.
+pub fn arguments_are_shown()
+    ensures first { ArgumentsAreShown }
+    ensures always { UnfitHaveOne }
+{}
+
+/// Where a kept range may fail (E8, E9), the case shows the first variable that is not in it, and both ranges. There
+/// is always such a case.
+pub fn kept_are_shown()
+    ensures first { KeptAreShown }
+    ensures always { UnkeptHaveOne }
+{}
+
+/// Where a `while` may have too many turns (E10), the case shows the turns that it needs, which are the greatest value of its measure divided by
+/// its step, and the number after `turns`. With a number that is enough it is not refused by that rule. Or that number is above the most
+/// that any loop may have, and the case shows both.
+pub fn while_turns_are_shown()
+    ensures { WhileTurnsAreShown }
+{}
+
+/// Where a `for` may have too many turns (E10), the case shows the turns from the least first value to the greatest last one, and the most
+/// that any loop may have.
+pub fn for_turns_are_shown()
+    ensures { ForTurnsAreShown }
+{}
+
+/// Where an expression may have no number as its value (E4), the case shows an operator in it, and the numbers of the parts on both sides, on
+/// which it has no result. Else the expression has a number above the greatest or a division by 0, which no text gives.
+pub fn expressions_are_shown()
+    ensures { ExpressionsAreShown }
+{}
+
+/// Where a condition is refused, one of its parts is, in the state in which all parts before it hold.
+pub fn conditions_are_shown()
+    ensures { ConditionsAreShown }
+{}
+
+/// Where a station may not be installed (E1), the case shows the first crate of the addresses not all of whose stations are there. Where that
+/// crate is in the plan, it shows its first station that is not installed.
+pub fn missing_are_shown()
+    ensures { MissingAreShown }
+{}
+
+/// Where a command may not be declared (E2), the case shows the function, the first crate that has not the command at all addresses, its first
+/// such station, and the first sub-address there that has not the command.
+pub fn undeclared_are_shown()
+    ensures { UndeclaredAreShown }
+{}
+
+/// The same of a scan, whose addresses are those of its window: from its first to its last, in the order of stations and then of
+/// sub-addresses. Where a station may not be installed (E1), the case shows the crate, which is not in the plan; or it is, and the station is
+/// the first of the window that is not installed.
+pub fn missing_over_are_shown()
+    ensures { MissingOverAreShown }
+{}
+
+/// Where a scan may come to an address that does not declare its command (E2), the case shows the function and the first such address of the
+/// window. Or one of its registers may hold a sub-address past the last, and the case shows the first of these.
+pub fn undeclared_over_are_shown()
+    ensures { UndeclaredOverAreShown }
+{}
+
+/// Each register that is set where the checker comes to a statement has an address: each of its three ranges has a number. So it is in
+/// the body of a service, and in that of a procedure.
+pub fn registers_have_addresses()
+    ensures { RegistersHaveAddresses }
+{}
+
+/// A command passes E1 exactly where each station that its register can hold is installed. Its crate is in the plan, and it has a module, or
+/// the controller answers for it.
+pub fn stations_are_all()
+    ensures { StationsAreAll }
+{}
+
+/// Where they are, the widths of a function are the least and the greatest that it has at an address of the register. There are none exactly
+/// where some address does not allow the function.
+pub fn widths_are_all()
+    ensures { WidthsAreAll }
+{}
+
+/// So a command is refused by E1 exactly where some station is not installed. It is refused by E2 exactly where all are, and some address
+/// does not allow its function.
+pub fn commands_are_judged()
+    ensures { CommandsAreJudged }
+{}
+
+/// A value passes E5 exactly where it fits at each address of the register, and a table exactly where each of its words does.
+pub fn values_are_fit()
+    ensures { ValuesAreFit }
+{}
+
+/// A variable that is read has the range of the words that have no more bits than the function has at some address of the register, and for
+/// `cssa` no more than 16.
+pub fn reads_are_all()
+    ensures { ReadsAreAll }
+{}
+
+/// The cost of a cycle is 1 plus the greatest number of waits that may come before it in some crate of the register. No crate has more, and
+/// one has so many. Those that may come are the ones up to the plan's number, and none in a locked crate.
+pub fn cost_is_greatest()
+    ensures cost { CostIsGreatest }
+    ensures waits { WaitsMayCome }
+{}
+
+/// The tests of a scan are of the addresses of its window, from its first to its last, in the order of stations and then of sub-addresses.
+/// The station of each is installed; each allows the function; and the window's size is how many there are.
+pub fn windows_are_between()
+    ensures installed { WindowsAreInstalled }
+    ensures declared { WindowsAreDeclared }
+    ensures counted { WindowsAreCounted }
+{}
+
+/// So a scan is refused by E1 exactly where the station of an address of its window is not installed. It is refused by E2 exactly where all
+/// are, and a register may hold a sub-address above 15, or an address of the window does not allow the function.
+pub fn scans_are_judged()
+    ensures { ScansAreJudged }
+{}
