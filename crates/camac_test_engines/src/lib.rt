@@ -10,6 +10,10 @@ mod event_file;
 #[cfg(test)]
 mod fits;
 #[cfg(test)]
+mod judged;
+#[cfg(test)]
+mod lines;
+#[cfg(test)]
 mod live;
 #[cfg(test)]
 mod log;

@@ -1,17 +1,24 @@
-//! Tests of single crates, of what no text of lines shows: builders, event lists, copies, readers that fail. Worked rows: tests/rows.
+//! Tests of single crates, of what no text of lines shows: builders, event lists, copies, readers that fail, and a happy path through each
+//! public call. Worked rows: tests/rows.
 #![tactic(auto)]
 
 #[cfg(test)]
 mod answers;
 #[cfg(test)]
+mod branch;
+#[cfg(test)]
 mod command_maps;
 #[cfg(test)]
 mod event_files;
+#[cfg(test)]
+mod numbers;
 #[cfg(test)]
 mod plan_builders;
 #[cfg(test)]
 mod plan_texts;
 #[cfg(test)]
 mod tokens;
+#[cfg(test)]
+mod transfers;
 #[cfg(test)]
 mod tree;

@@ -1,24 +1,17 @@
 // What a checked script says of itself, and a log of its run.
 
+use crate::run::straight_line;
 use camac_branch::Answer;
-use camac_check::{Checked, check, least};
+use camac_check::{Checked, least};
 use camac_lang::Script;
-use camac_names::resolve;
-use camac_run::{End, Item, Log, Runner, run};
+use camac_run::{Log, Runner, run};
 use camac_test_fixtures::scripts::STRAIGHT_LINE;
 use camac_text::parse;
-use camac_tool_check::sample_plan;
+use camac_tool::sample_plan;
 use camac_word::Word24;
 use std::alloc::Global;
 use std::process::Abort;
 use std::test::Fail;
-
-pub fn straight_line(alloc: Global) -> Result<Checked, Fail> {
-    let plan = sample_plan(alloc)?;
-    let script = parse(alloc, STRAIGHT_LINE)?;
-    let linked = resolve(alloc, script, &plan)?;
-    Ok(check(alloc, linked)?)
-}
 
 fn numbers_of_the_service(script: &Script) -> Option<(u32, u32)> {
     let service = script.services().first()?;
@@ -67,17 +60,5 @@ fn checked_script(rt: HostRuntime) -> Result<(), Fail> {
     let runner = Runner::<1, 1, 1>::start(&checked);
     assert!(rt; runner.fed() == 0);
     assert!(rt; runner.last_words().len() == 0);
-    Ok(())
-}
-
-#[test]
-fn log_of_a_run(rt: HostRuntime) -> Result<(), Fail> {
-    let checked = straight_line(rt.alloc())?;
-    let log = straight_line_log(rt.alloc(), &checked)?;
-    assert!(rt; log.end == End::Ended);
-    assert!(rt; log.events.len() == 1);
-    let items = log.items.as_slice();
-    assert!(rt; items.len() == 2);
-    assert!(rt; matches!(&items[0], Item::Demand(_, Some(0))));
     Ok(())
 }
