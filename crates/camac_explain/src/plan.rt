@@ -1,7 +1,7 @@
 // The sentences on the rules of plans, the tables of a plan, and what they are called.
 
 use camac_explain_text::{Quote, before_item, is_near};
-use camac_plan::{PlanCase, PlanKey, PlanTable, Wanted, keys_of};
+use camac_plan::{PlanCase, PlanKey, PlanTable, ValueKind, keys_of};
 use std::alloc::{AllocError, Global};
 use std::fmt;
 use toml::{Table, Value};
@@ -37,15 +37,15 @@ fn toml_sentence(alloc: Global, before: &[u8], message: &str) -> Result<String, 
 
 // What has to stand at a key.
 #[derive(Clone, Copy)]
-struct Needed(Wanted);
+struct Needed(ValueKind);
 
 impl fmt::Display for Needed {
     fn fmt<W: fmt::Write>(&self, f: &mut fmt::Formatter<W>) -> fmt::Result {
         match self.0 {
-            Wanted::Number { low, high } => write!(f, "a whole number from {low} to {high}"),
-            Wanted::Flag => write!(f, "`true` or `false`"),
-            Wanted::Text => write!(f, "a text in double quotes"),
-            Wanted::Tables => write!(f, "an array of tables"),
+            ValueKind::Number { low, high } => write!(f, "a whole number from {low} to {high}"),
+            ValueKind::Flag => write!(f, "`true` or `false`"),
+            ValueKind::Text => write!(f, "a text in double quotes"),
+            ValueKind::Tables => write!(f, "an array of tables"),
         }
     }
 }
@@ -79,11 +79,11 @@ fn told(
 ) -> Result<String, AllocError> {
     let shown = Shown(value);
     match case {
-        PlanCase::Missing { wanted, .. } => {
+        PlanCase::Missing { kind: wanted, .. } => {
             let needed = Needed(wanted);
             format!(in alloc; "the key is missing, and {needed} has to stand here.")
         }
-        PlanCase::Kind { key, wanted, .. } => {
+        PlanCase::Kind { key, kind: wanted, .. } => {
             let kind = value.map_or("?", |value| value.type_str());
             let needed = Needed(wanted);
             let more = match key {

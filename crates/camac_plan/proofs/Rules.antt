@@ -10,8 +10,8 @@ use Rattle.camac_plan.specs.declared.key.PlanKey.{PlanKey}
 use Rattle.camac_plan.specs.declared.key.PlanKey.TheVariants as key
 use Rattle.camac_plan.specs.declared.fault.PlanTable.{PlanTable}
 use Rattle.camac_plan.specs.declared.fault.PlanTable.TheVariants.{Top, ModuleType, Command, Crate, Station}
-use Rattle.camac_plan.specs.declared.fault.Wanted.{Wanted}
-use Rattle.camac_plan.specs.declared.fault.Wanted.TheVariants as wanted
+use Rattle.camac_plan.specs.declared.fault.ValueKind.{ValueKind}
+use Rattle.camac_plan.specs.declared.fault.ValueKind.TheVariants as kind
 use Rattle.camac_plan.specs.declared.fault.PlanCase.{PlanCase}
 use Rattle.camac_plan.specs.declared.fault.PlanCase.TheVariants.{Range}
 use Rattle.camac_plan.specs.declared.fault.BrokenRule.{BrokenRule}
@@ -59,9 +59,9 @@ has_only-tabular at ms = go (first_unknown (keys_of at) 0 ms)
     go None = ok-tabular {A = Unit {0}} tt
     go (Some n) = err-tabular _ rule.UnknownKey _ refl
 
-required-tabular : {A : Type 0} (at : PlanTable) (key : PlanKey) (wanted : Wanted) (o : Option A) → tabular (required at key wanted o) ≡ true
-required-tabular at key wanted None = err-tabular _ rule.MissingOrWrongKind _ refl
-required-tabular at key wanted (Some x) = ok-tabular x
+required-tabular : {A : Type 0} (at : PlanTable) (key : PlanKey) (kind : ValueKind) (o : Option A) → tabular (required at key kind o) ≡ true
+required-tabular at key kind None = err-tabular _ rule.MissingOrWrongKind _ refl
+required-tabular at key kind (Some x) = ok-tabular x
 
 optional-tabular : {A : Type 0} (read : Data → Result A BrokenRule) (o : Option Data) → ((d : Data) → tabular (read d) ≡ true) → tabular (optional read o) ≡ true
 optional-tabular read None h = ok-tabular None
@@ -82,7 +82,7 @@ number_at-tabular at key low high ms = optional-tabular (number_in at key low hi
 
 needed-tabular : (at : PlanTable) (key : PlanKey) (low high : ℕ) (ms : Members) → tabular (required_number_at at key low high ms) ≡ true
 needed-tabular at key low high ms =
-    next-tabular (number_at at key low high ms) (required at key (wanted.Number low high)) (number_at-tabular at key low high ms) (required-tabular at key (wanted.Number low high))
+    next-tabular (number_at at key low high ms) (required at key (kind.Number low high)) (number_at-tabular at key low high ms) (required-tabular at key (kind.Number low high))
 
 flag_in-tabular : (at : PlanTable) (key : PlanKey) (d : Data) → tabular (flag_in at key d) ≡ true
 flag_in-tabular at key (integer n) = err-tabular _ rule.MissingOrWrongKind _ refl
@@ -104,7 +104,7 @@ text_in-tabular at key (table ms) = err-tabular _ rule.MissingOrWrongKind _ refl
 
 text_at-tabular : (at : PlanTable) (key : PlanKey) (ms : Members) → tabular (text_at at key ms) ≡ true
 text_at-tabular at key ms =
-    next-tabular (required at key wanted.Text (value_at key ms)) (text_in at key) (required-tabular at key wanted.Text (value_at key ms)) (text_in-tabular at key)
+    next-tabular (required at key kind.Text (value_at key ms)) (text_in at key) (required-tabular at key kind.Text (value_at key ms)) (text_in-tabular at key)
 
 tables_in-tabular : (at : PlanTable) (key : PlanKey) (d : Data) → tabular (tables_in at key d) ≡ true
 tables_in-tabular at key (integer n) = err-tabular _ rule.MissingOrWrongKind _ refl
@@ -148,7 +148,7 @@ type_of-tabular : (at : PlanTable) (ms : Members) → tabular (type_of at ms) �
 type_of-tabular at ms =
     next-tabular _ _ (has_only-tabular at ms) (λ u.
     next-tabular _ _ (next-tabular _ _ (text_at-tabular at key.Name ms) (λ name. if-tabular _ _ _ (ok-tabular name) (err-tabular _ rule.OutOfRange _ refl))) (λ name.
-    next-tabular _ _ (next-tabular _ (tables_in at key.Commands) (required-tabular at key.Commands wanted.Tables (value_at key.Commands ms)) (tables_in-tabular at key.Commands)) (λ commands. ok-tabular _)))
+    next-tabular _ _ (next-tabular _ (tables_in at key.Commands) (required-tabular at key.Commands kind.Tables (value_at key.Commands ms)) (tables_in-tabular at key.Commands)) (λ commands. ok-tabular _)))
 
 with_type_line-tabular : (plan : Layout) (line : TypeLine) → tabular (with_type_line plan line) ≡ true
 with_type_line-tabular plan line =

@@ -9,8 +9,8 @@ use Rattle.toml.specs.View.{array_view}
 use Rattle.camac_branch.specs.Name.{same_text}
 use Rattle.camac_plan.specs.declared.key.PlanKey.{PlanKey}
 use Rattle.camac_plan.specs.declared.fault.PlanTable.{PlanTable}
-use Rattle.camac_plan.specs.declared.fault.Wanted.{Wanted}
-use Rattle.camac_plan.specs.declared.fault.Wanted.TheVariants.{Number, Flag, Text, Tables}
+use Rattle.camac_plan.specs.declared.fault.ValueKind.{ValueKind}
+use Rattle.camac_plan.specs.declared.fault.ValueKind.TheVariants.{Number, Flag, Text, Tables}
 use Rattle.camac_plan.specs.declared.fault.PlanCase.TheVariants.{Unknown, Missing, Kind, Range}
 use Rattle.camac_plan.specs.declared.fault.BrokenRule.{BrokenRule}
 use Rattle.camac_plan.specs.declared.fault.PlanRule.TheVariants.{UnknownKey, MissingOrWrongKind, OutOfRange}
@@ -56,9 +56,9 @@ optional read None = Ok None
 optional read (Some d) = next (read d) some
 
 -- a value that has to be there
-abbrev pub required : {A : Type 0} → PlanTable → PlanKey → Wanted → Option A → Result A BrokenRule
-required at key wanted None = Err (broken MissingOrWrongKind (Missing at key wanted))
-required at key wanted (Some x) = Ok x
+abbrev pub required : {A : Type 0} → PlanTable → PlanKey → ValueKind → Option A → Result A BrokenRule
+required at key kind None = Err (broken MissingOrWrongKind (Missing at key kind))
+required at key kind (Some x) = Ok x
 
 -- a number in a range
 abbrev pub number_in : PlanTable → PlanKey → ℕ → ℕ → Data → Result ℕ BrokenRule

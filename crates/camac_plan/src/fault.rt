@@ -40,9 +40,9 @@ pub enum PlanTable {
     Station { crate_place: usize, place: usize },
 }
 
-/// What may stand at a key.
+/// The kind of value that stands at a key, and of a number its range.
 #[derive(Clone, Copy, Debug, PartialEq, Eq)]
-pub enum Wanted {
+pub enum ValueKind {
     /// A whole number from `low` to `high`.
     Number { low: u32, high: u32 },
     Flag,
@@ -67,13 +67,13 @@ pub enum PlanCase {
     Missing {
         table: PlanTable,
         key: PlanKey,
-        wanted: Wanted,
+        kind: ValueKind,
     },
     /// P3: the key holds a value of another kind.
     Kind {
         table: PlanTable,
         key: PlanKey,
-        wanted: Wanted,
+        kind: ValueKind,
     },
     /// P4: the number at the key is below `low` or above `high`.
     Range {

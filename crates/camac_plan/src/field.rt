@@ -6,7 +6,7 @@ ghost use Rattle.toml.specs.View.{view, array_view, table_view};
 ghost use Rattle.camac_plan.specs.Field.{is_text, first_unknown, has_only, value_at, number_in, number_at, required_number_at, text_in, text_at, flag_in, flag_at, are_tables, no_tables, tables_in, tables_at, required_tables_at, has_number, first_with, Reads, text_view, items_of, items_or_none};
 ghost use Rattle.camac_plan.specs.Broken.{broken};
 
-use crate::fault::{BrokenRule, PlanCase, PlanRule, PlanTable, Wanted, broken};
+use crate::fault::{BrokenRule, PlanCase, PlanRule, PlanTable, ValueKind, broken};
 use crate::key::{PlanKey, keys_of};
 use toml::value::Array;
 use toml::{Table, Value};
@@ -54,28 +54,28 @@ pub(crate) fn value_at(table: &Table, key: PlanKey) -> Option<&Value>
     table.get(key.text())
 }
 
-fn missing(at: PlanTable, key: PlanKey, wanted: Wanted) -> BrokenRule
-    ensures { result ≡ broken PlanRule.MissingOrWrongKind (PlanCase.Missing at key wanted) }
+fn missing(at: PlanTable, key: PlanKey, kind: ValueKind) -> BrokenRule
+    ensures { result ≡ broken PlanRule.MissingOrWrongKind (PlanCase.Missing at key kind) }
 {
     broken(
         PlanRule::MissingOrWrongKind,
         PlanCase::Missing {
             table: at,
             key,
-            wanted,
+            kind,
         },
     )
 }
 
-fn wrong_kind(at: PlanTable, key: PlanKey, wanted: Wanted) -> BrokenRule
-    ensures { result ≡ broken PlanRule.MissingOrWrongKind (PlanCase.Kind at key wanted) }
+fn wrong_kind(at: PlanTable, key: PlanKey, kind: ValueKind) -> BrokenRule
+    ensures { result ≡ broken PlanRule.MissingOrWrongKind (PlanCase.Kind at key kind) }
 {
     broken(
         PlanRule::MissingOrWrongKind,
         PlanCase::Kind {
             table: at,
             key,
-            wanted,
+            kind,
         },
     )
 }
@@ -124,7 +124,7 @@ fn number_in(
             }
             Err(_) => Err(out_of_range(at, key, *x, low, high)),
         },
-        _ => Err(wrong_kind(at, key, Wanted::Number { low, high })),
+        _ => Err(wrong_kind(at, key, ValueKind::Number { low, high })),
     }
 }
 
@@ -158,7 +158,7 @@ pub(crate) fn required_number_at(
 {
     match number_at(at, table, key, low, high)? {
         Some(x) => Ok(x),
-        None => Err(missing(at, key, Wanted::Number { low, high })),
+        None => Err(missing(at, key, ValueKind::Number { low, high })),
     }
 }
 
@@ -167,7 +167,7 @@ fn text_in(at: PlanTable, key: PlanKey, value: &Value) -> Result<&str, BrokenRul
 {
     match value {
         Value::String(text) => Ok(text.as_str()),
-        _ => Err(wrong_kind(at, key, Wanted::Text)),
+        _ => Err(wrong_kind(at, key, ValueKind::Text)),
     }
 }
 
@@ -177,7 +177,7 @@ pub(crate) fn text_at(at: PlanTable, table: &Table, key: PlanKey) -> Result<&str
 {
     match value_at(table, key) {
         Some(value) => text_in(at, key, value),
-        None => Err(missing(at, key, Wanted::Text)),
+        None => Err(missing(at, key, ValueKind::Text)),
     }
 }
 
@@ -186,7 +186,7 @@ fn flag_in(at: PlanTable, key: PlanKey, value: &Value) -> Result<bool, BrokenRul
 {
     match value {
         Value::Boolean(flag) => Ok(*flag),
-        _ => Err(wrong_kind(at, key, Wanted::Flag)),
+        _ => Err(wrong_kind(at, key, ValueKind::Flag)),
     }
 }
 
@@ -221,7 +221,7 @@ fn are_tables(array: &Array) -> bool
 pub(crate) fn no_tables(at: PlanTable, key: PlanKey) -> BrokenRule
     ensures { result ≡ no_tables at key }
 {
-    wrong_kind(at, key, Wanted::Tables)
+    wrong_kind(at, key, ValueKind::Tables)
 }
 
 fn tables_in(at: PlanTable, key: PlanKey, value: &Value) -> Result<&Array, BrokenRule>
@@ -263,7 +263,7 @@ pub(crate) fn required_tables_at(
 {
     match value_at(table, key) {
         Some(value) => tables_in(at, key, value),
-        None => Err(missing(at, key, Wanted::Tables)),
+        None => Err(missing(at, key, ValueKind::Tables)),
     }
 }
 

@@ -11,5 +11,5 @@ mod module_type;
 mod station;
 
 pub use document::read;
-pub use fault::{PlanCase, PlanFault, PlanRule, PlanTable, Wanted};
+pub use fault::{PlanCase, PlanFault, PlanRule, PlanTable, ValueKind};
 pub use key::{PlanKey, keys_of};
