@@ -15,8 +15,8 @@ use camac_branch::{Answer, Command};
 use camac_check_result::Checked;
 use camac_event::Usage;
 use camac_func::DataMove;
-use camac_run_machine::Item;
 use camac_run::{FullRunner, Progress, Wanted};
+use camac_run_machine::Item;
 use camac_word::{CrateNo, GlBit, Word24};
 use std::alloc::Global;
 

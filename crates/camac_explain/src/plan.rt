@@ -83,7 +83,11 @@ fn told(
             let needed = Needed(wanted);
             format!(in alloc; "the key is missing, and {needed} has to stand here.")
         }
-        PlanCase::Kind { key, kind: wanted, .. } => {
+        PlanCase::Kind {
+            key,
+            kind: wanted,
+            ..
+        } => {
             let kind = value.map_or("?", |value| value.type_str());
             let needed = Needed(wanted);
             let more = match key {

@@ -11,6 +11,6 @@ mod transfer;
 mod value;
 
 pub use item::Item;
-pub use machine::{Frame, Machine, Owner, TransferCycle, Pending};
+pub use machine::{Frame, Machine, Owner, Pending, TransferCycle};
 pub use scope::{Places, Scope};
 pub use transfer::Course;

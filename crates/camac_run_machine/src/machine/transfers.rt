@@ -14,7 +14,7 @@ ghost use Rattle.camac_run_machine.specs.Within.{Refers};
 use crate::command::command;
 use crate::machine::actions::bits_kept;
 use crate::machine::answers::word_of;
-use crate::machine::{Machine, TransferCycle, Pending};
+use crate::machine::{Machine, Pending, TransferCycle};
 use crate::transfer::{Course, Transfer};
 use camac_branch::{Command, CycleDone};
 use camac_esone::{QRepeat, QStop, Scan};
