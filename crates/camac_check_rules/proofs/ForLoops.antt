@@ -95,7 +95,7 @@ module _ (plan : Layout) (around : Place) (x : ℕ) (body : Block) (qs : List Ke
           made = g.made + 1;
           turns = omega (arith, g.turns);
           is_next = omega (arith, g.is_next);
-          paid = paid_turn g.made turn.costs s t (for_state x next t) u g.paid (record { cycles = refl; words = refl; steps = refl; answers = refl }) e.paid;
+          paid = paid_turn g.made turn.costs s t (for_state x next t) u g.paid (record { cost = refl; words = refl; steps = refl; answers = refl }) e.paid;
           between = record {
             same = record {
               variables = λ y o. f.variables y (or_parts (nat_eq y x) (block_writes body y) o).1 ∙ wrote.variables y o;
@@ -129,7 +129,7 @@ module _ (plan : Layout) (around : Place) (x : ℕ) (body : Block) (qs : List Ke
         let fewer : g.made + 1 ≤ turns_between l = omega (arith, g.turns, first.within, last.within) in
         meets_more plan (StopsWell turn.costs t') (StopsWell Costs s)
         (λ y q. Ended (fixing x around) turn.after turn.costs t' q × Same (block_writes body) (block_sets body) t' q) (λ y. Turned left (next + 1)) (run t')
-        (λ o q e. stopped_turn g.made (turns_between l) turn.costs o s t t' q fewer g.paid (record { cycles = refl; words = refl; steps = refl; answers = refl }) e)
+        (λ o q e. stopped_turn g.made (turns_between l) turn.costs o s t t' q fewer g.paid (record { cost = refl; words = refl; steps = refl; answers = refl }) e)
         (λ q e. turn_left left next t q g e.0 e.1)
         (meets_both plan (StopsWell turn.costs t') (EndsWell (fixing x around) turn.after turn.costs t') (λ y q. Same (block_writes body) (block_sets body) t' q) (run t') (h.sound t' inside) (h.leaves t')))
         (λ u next t g.

@@ -81,7 +81,7 @@ paid_turns d e c s t le p =
 
 -- the state where a turn's body begins has made a step, and counts what the one before has
 pub record Begins (t b : State) : Type 0 where
-  pub cycles : b.cycles ≡ t.cycles
+  pub cost : b.cost ≡ t.cost
   pub words : b.words ≡ t.words
   pub steps : b.steps ≡ t.steps + 1
   pub answers : b.answers ≡ t.answers
@@ -89,7 +89,7 @@ pub record Begins (t b : State) : Type 0 where
 -- one turn more
 pub paid_turn : (d : ℕ) (c : Bounds) (s t b u : State) → Paid (loop_costs d c) s t → Begins t b → Paid c b u → Paid (loop_costs (d + 1) c) s u
 paid_turn d c s t b u p g q = record {
-  cycles = omega (arith, p.cycles, g.cycles, q.cycles);
+  cycles = omega (arith, p.cycles, g.cost, q.cycles);
   words = omega (arith, p.words, words, q.words);
   steps = omega (arith, p.steps, g.steps, q.steps);
   are_words = λ h. q.are_words (subst AreWords (sym g.words) (p.are_words h));

@@ -137,7 +137,7 @@ module _ (plan : Layout) (around : Place) (test : Condition) (most m fall : ℕ)
           left = left;
           turns = omega arith;
           allowed = omega arith;
-          paid = paid_turn made turn.costs s t (stepped t) u paid (record { cycles = refl; words = refl; steps = refl; answers = refl }) e.paid;
+          paid = paid_turn made turn.costs s t (stepped t) u paid (record { cost = refl; words = refl; steps = refl; answers = refl }) e.paid;
           between = record {
             same = record {
               variables = λ y o. f.variables y o ∙ old.same.variables y o;
@@ -166,7 +166,7 @@ module _ (plan : Layout) (around : Place) (test : Condition) (most m fall : ℕ)
         let fewer : g.made + 1 ≤ Turns = omega arith in
         meets_more plan (StopsWell turn.costs b) (StopsWell Costs s)
         (λ x q. (Ended around turn.after turn.costs b q × Same (block_writes body) (block_sets body) b q) × Fell m fall b x q) (λ x. Turned n) (run b)
-        (λ o q e. stopped_turn g.made Turns turn.costs o s t b q fewer g.paid (record { cycles = refl; words = refl; steps = refl; answers = refl }) e)
+        (λ o q e. stopped_turn g.made Turns turn.costs o s t b q fewer g.paid (record { cost = refl; words = refl; steps = refl; answers = refl }) e)
         (λ q e. turn_left n g.made left t q g turns' g.paid le lower e.0.0 e.0.1 e.1)
         (meets_both plan (StopsWell turn.costs b) (λ x q. Ended around turn.after turn.costs b q × Same (block_writes body) (block_sets body) b q) (Fell m fall b) (run b)
         (meets_both plan (StopsWell turn.costs b) (EndsWell around turn.after turn.costs b) (λ x q. Same (block_writes body) (block_sets body) b q) (run b) (h.sound b (reaches_stepped around arms.holds t r)) (h.leaves b))
