@@ -1,22 +1,23 @@
 // The rules of all statements, and of blocks of them.
 
-ghost use Rattle.std.specs.Prelude.{◌≡◌, IfOk, IsTrue, map};
-ghost use Rattle.camac_lang.specs.View.{keep_of, statement_of, statements_of};
+ghost use Rattle.std.specs.Prelude.{◌≡◌, IfOk, map};
+ghost use Rattle.camac_lang.specs.View.{expression_of, keep_of, statement_of, statements_of};
+ghost use Rattle.camac_check_rules.specs.Loops.{for_rule, with_fixed};
 ghost use Rattle.camac_check_rules.specs.Costs.{unreached};
 ghost use Rattle.camac_check_rules.specs.Refusal.{if_reached};
 ghost use Rattle.camac_check_rules.specs.Statements.{accept_statement, accept_block};
 ghost use Rattle.camac_check.specs.Ends.{loop_end};
 ghost use Rattle.camac_check_simple.specs.Gives.{Gives, by_code, verdict_of};
-ghost use Rattle.camac_lang.specs.Kinds.{is_choice, is_lock, is_for, is_while};
 
 use crate::procedure::call;
 use camac_check_known::{Around, CheckFault, Costs, Facts, join, split, waits_of};
 use camac_check_loops::{for_limits, keeps_after, turn_bound, while_head};
 use camac_check_rules::Body;
 use camac_check_simple::{
-    Context, Findings, cycle_statement, lock_crate, plain_statement, transfer_statement,
+    BlockTransfer, Context, Findings, Place, assign, crate_call, lam_call, lock_crate, put,
+    q_repeat, q_stop, scan, set_register, single,
 };
-use camac_lang::{Keep, Stmt};
+use camac_lang::{Expr, Keep, Stmt};
 use std::alloc::{AllocError, Global};
 
 /// Checks a block from what is known at its begin, if it can be reached.
@@ -86,8 +87,9 @@ fn accept_next(
     }
 }
 
-// Checks a statement that can be reached, by its kind.
+// Checks a statement that can be reached.
 #[cycle(statements)]
+#[tactic(auto, unfolding(camac_check_rules::specs::Refusal::go_on, camac_check_rules::specs::Refusal::if_reached))]
 fn accept_reached(
     alloc: Global,
     context: &Context,
@@ -97,44 +99,84 @@ fn accept_reached(
 ) -> Result<Findings, CheckFault>
     ensures { Gives verdict_of result (accept_statement (by_code context.now) around.now (statement_of statement.now) known) }
 {
+    let place = Place { context, around };
     match statement {
-        Stmt::Assign { .. } | Stmt::SetRegister { .. } | Stmt::Put { .. } => {
-            plain_statement(around, statement, known)
+        Stmt::Assign {
+            line,
+            variable,
+            value,
+        } => assign(around, *line, *variable, value, known),
+        Stmt::SetRegister {
+            line,
+            register,
+            crate_no,
+            station,
+            sub_address,
+        } => set_register(*line, *register, crate_no, station, sub_address, known),
+        Stmt::Put { line, value } => put(*line, value, known),
+        Stmt::Single {
+            line,
+            size,
+            function,
+            register,
+            data,
+        } => single(&place, *line, *size, *function, *register, data, known),
+        Stmt::CrateCall { line, crate_no, .. } => crate_call(&place, *line, crate_no, known),
+        Stmt::LamCall { line, call, lam } => lam_call(&place, *line, *call, *lam, known),
+        Stmt::Scan {
+            line,
+            function,
+            first,
+            last,
+            max,
+            tally,
+        } => scan(
+            &place,
+            *line,
+            *function,
+            (*first, *last),
+            max,
+            *tally,
+            known,
+        ),
+        Stmt::QStop {
+            line,
+            function,
+            register,
+            table,
+            max,
+            tally,
+        } => {
+            let transfer = BlockTransfer {
+                f: *function,
+                register: *register,
+                table: *table,
+                tally: *tally,
+            };
+            q_stop(&place, *line, transfer, max, known)
         }
-        Stmt::Single { .. } | Stmt::CrateCall { .. } | Stmt::LamCall { .. } => {
-            cycle_statement(context, around, statement, known)
-        }
-        Stmt::Scan { .. } | Stmt::QStop { .. } | Stmt::QRepeat { .. } => {
-            transfer_statement(context, around, statement, known)
+        Stmt::QRepeat {
+            line,
+            function,
+            register,
+            table,
+            max,
+            limit,
+            tally,
+        } => {
+            let transfer = BlockTransfer {
+                f: *function,
+                register: *register,
+                table: *table,
+                tally: *tally,
+            };
+            q_repeat(&place, *line, transfer, max, limit, known)
         }
         Stmt::Call {
             line,
             procedure,
             arguments,
         } => call(alloc, context, *line, *procedure, arguments, known),
-        Stmt::If { .. } | Stmt::IfElse { .. } => {
-            accept_choice(alloc, context, around, statement, known)
-        }
-        Stmt::Lock { .. } => accept_lock(alloc, context, around, statement, known),
-        Stmt::For { .. } => accept_for(alloc, context, around, statement, known),
-        Stmt::While { .. } => accept_while(alloc, context, around, statement, known),
-    }
-}
-
-// Checks an `if`, with or without `else`.
-#[cycle(statements)]
-#[tactic(auto, unfolding(camac_check_rules::specs::Refusal::go_on, camac_check_rules::specs::Refusal::if_reached))]
-fn accept_choice(
-    alloc: Global,
-    context: &Context,
-    around: &Around,
-    statement: &Stmt,
-    known: Facts,
-) -> Result<Findings, CheckFault>
-    requires { IsTrue (is_choice (statement_of statement.now)) }
-    ensures { Gives verdict_of result (accept_statement (by_code context.now) around.now (statement_of statement.now) known) }
-{
-    match statement {
         Stmt::If { line, test, then } => {
             let ways = split(alloc, *line, &test.parts, known)?;
             let first = accept_block(alloc, context, around, then, ways.holds)?;
@@ -157,38 +199,62 @@ fn accept_choice(
                 costs: first.costs.or(second.costs),
             })
         }
-        _ => unreachable!(),
+        Stmt::Lock {
+            line,
+            crate_no,
+            body,
+        } => {
+            let c = lock_crate(&place, *line, crate_no, &known)?;
+            let inside = around.with_locked(alloc, c)?;
+            let inner = accept_block(alloc, context, &inside, body, Some(known))?;
+            Ok(Findings {
+                known: inner.known,
+                costs: inner.costs.in_lock(waits_of(context.plan, c)),
+            })
+        }
+        Stmt::For {
+            line,
+            variable,
+            from,
+            to,
+            keeps,
+            body,
+        } => {
+            let counted = Counted {
+                line: *line,
+                variable: *variable,
+                from,
+                to,
+                keeps,
+            };
+            accept_for(alloc, &place, &counted, body, known)
+        }
+        Stmt::While {
+            line,
+            test,
+            turns,
+            measure,
+            keeps,
+            body,
+        } => {
+            let at = around.body();
+            let top = while_head(at, *line, *turns, *measure, keeps, body, known)?;
+            let ways = split(alloc, *line, &test.parts, top)?;
+            let most = turn_bound(&ways.holds, *turns);
+            let turn = accept_block(alloc, context, around, body, ways.holds)?;
+            end_loop(at, *line, keeps, ways.fails, u64::from(most), turn)
+        }
     }
 }
 
-// Checks a `lock` with its block.
-#[cycle(statements)]
-#[tactic(auto, unfolding(camac_check_rules::specs::Refusal::go_on, camac_check_rules::specs::Refusal::if_reached))]
-fn accept_lock(
-    alloc: Global,
-    context: &Context,
-    around: &Around,
-    statement: &Stmt,
-    known: Facts,
-) -> Result<Findings, CheckFault>
-    requires { IsTrue (is_lock (statement_of statement.now)) }
-    ensures { Gives verdict_of result (accept_statement (by_code context.now) around.now (statement_of statement.now) known) }
-{
-    let Stmt::Lock {
-        line,
-        crate_no,
-        body,
-    } = statement
-    else {
-        unreachable!()
-    };
-    let c = lock_crate(context, around, *line, crate_no, &known)?;
-    let inside = around.with_locked(alloc, c)?;
-    let inner = accept_block(alloc, context, &inside, body, Some(known))?;
-    Ok(Findings {
-        known: inner.known,
-        costs: inner.costs.in_lock(waits_of(context.plan, c)),
-    })
+// The head of a `for`: its line, its variable with the first and the last value, and what it keeps.
+#[derive(Clone, Copy)]
+struct Counted<'a> {
+    line: u32,
+    variable: usize,
+    from: &'a Expr,
+    to: &'a Expr,
+    keeps: &'a [Keep],
 }
 
 // Checks a `for`.
@@ -196,69 +262,34 @@ fn accept_lock(
 #[tactic(auto, unfolding(camac_check_rules::specs::Refusal::go_on, camac_check_rules::specs::Refusal::if_reached))]
 fn accept_for(
     alloc: Global,
-    context: &Context,
-    around: &Around,
-    statement: &Stmt,
+    place: &Place,
+    counted: &Counted,
+    body: &[Stmt],
     known: Facts,
 ) -> Result<Findings, CheckFault>
-    requires { IsTrue (is_for (statement_of statement.now)) }
-    ensures { Gives verdict_of result (accept_statement (by_code context.now) around.now (statement_of statement.now) known) }
+    ensures { Gives verdict_of result (for_rule (by_code place.now.context.now) place.now.around.now counted.now.line counted.now.variable (expression_of counted.now.from.now) (expression_of counted.now.to.now) (map keep_of counted.now.keeps.now) (statements_of body.now)
+        (accept_block (by_code place.now.context.now) (with_fixed counted.now.variable place.now.around.now) (statements_of body.now)) known) }
 {
-    let Stmt::For {
+    let Counted {
         line,
         variable,
         from,
         to,
         keeps,
-        body,
-    } = statement
-    else {
-        unreachable!()
-    };
-    let limits = for_limits(around, *line, *variable, from, to, keeps, &known)?;
-    let inside = around.with_fixed(alloc, *variable)?;
-    let facts = limits.facts(alloc, *variable, keeps, body, known)?;
-    let turn = accept_block(alloc, context, &inside, body, facts.head)?;
+    } = *counted;
+    let around = place.around;
+    let limits = for_limits(around, line, variable, from, to, keeps, &known)?;
+    let inside = around.with_fixed(alloc, variable)?;
+    let facts = limits.facts(alloc, variable, keeps, body, known)?;
+    let turn = accept_block(alloc, place.context, &inside, body, facts.head)?;
     end_loop(
         around.body(),
-        *line,
+        line,
         keeps,
         Some(facts.after),
         limits.turns(),
         turn,
     )
-}
-
-// Checks a `while`.
-#[cycle(statements)]
-#[tactic(auto, unfolding(camac_check_rules::specs::Refusal::go_on, camac_check_rules::specs::Refusal::if_reached))]
-fn accept_while(
-    alloc: Global,
-    context: &Context,
-    around: &Around,
-    statement: &Stmt,
-    known: Facts,
-) -> Result<Findings, CheckFault>
-    requires { IsTrue (is_while (statement_of statement.now)) }
-    ensures { Gives verdict_of result (accept_statement (by_code context.now) around.now (statement_of statement.now) known) }
-{
-    let Stmt::While {
-        line,
-        test,
-        turns,
-        measure,
-        keeps,
-        body,
-    } = statement
-    else {
-        unreachable!()
-    };
-    let place = around.body();
-    let top = while_head(place, *line, *turns, *measure, keeps, body, known)?;
-    let ways = split(alloc, *line, &test.parts, top)?;
-    let most = turn_bound(&ways.holds, *turns);
-    let turn = accept_block(alloc, context, around, body, ways.holds)?;
-    end_loop(place, *line, keeps, ways.fails, u64::from(most), turn)
 }
 
 // What a loop of at most so many turns leaves and costs, where this is known after it and this was found of a turn.

@@ -46,20 +46,19 @@ pub fn crate_call(
 /// The crate that a `lock` takes. E15 where it is not one crate of the plan, or locked around it.
 #[tactic(auto, unfolding(camac_check_rules::specs::Refusal::go_on))]
 pub fn lock_crate(
-    context: &Context,
-    around: &Around,
+    place: &Place,
     line: u32,
     crate_no: &Expr,
     known: &Facts,
 ) -> Result<u32, CheckFault>
-    ensures { Gives (λ c. c) result (lock_rule (by_code context.now) around.now line (expression_of crate_no.now) known.now) }
+    ensures { Gives (λ c. c) result (lock_rule (by_code place.now.context.now) place.now.around.now line (expression_of crate_no.now) known.now) }
 {
     let crates = range_of(line, crate_no, known.ranges())?;
     required(
-        is_free(context, around, crates),
+        is_free(place.context, place.around, crates),
         CheckRule::CrateUnfit,
         line,
-        lock_unfit(context, crates),
+        lock_unfit(place.context, crates),
     )?;
     Ok(crates.lo())
 }

@@ -10,6 +10,9 @@ mod table;
 mod transfer;
 mod window;
 
-pub use calls::lock_crate;
-pub use context::Context;
-pub use statement::{Findings, cycle_statement, plain_statement, transfer_statement};
+pub use calls::{crate_call, lam_call, lock_crate};
+pub use context::{Context, Place};
+pub use cycle::single;
+pub use plain::{assign, put, set_register};
+pub use statement::Findings;
+pub use transfer::{BlockTransfer, q_repeat, q_stop, scan};

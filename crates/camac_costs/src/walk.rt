@@ -20,7 +20,7 @@ use crate::unreached::unreached_rows;
 use camac_check::{CheckFault, Context, accept_statement};
 use camac_check_known::{Around, Costs, Facts, join, split, waits_of};
 use camac_check_loops::{for_limits, keeps_after, turn_bound, while_head};
-use camac_check_simple::lock_crate;
+use camac_check_simple::{Place, lock_crate};
 use camac_lang::Stmt;
 use std::alloc::{AllocError, Global};
 
@@ -257,7 +257,8 @@ fn walk_lock(
     else {
         unreachable!()
     };
-    let c = lock_crate(context, around, *line, crate_no, &known)?;
+    let place = Place { context, around };
+    let c = lock_crate(&place, *line, crate_no, &known)?;
     let inside = around.with_locked(alloc, c)?;
     let inner = walk_block(alloc, context, &inside, body, Some(known))?;
     let waits = waits_of(context.plan, c);

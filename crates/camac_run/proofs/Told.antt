@@ -83,7 +83,7 @@ module _ {V D C : ℕ} where
     checked = subst (λ (b : Bor CheckedScript). IsChecked b.now) (sym e) s.checked;
     formed = subst (λ (b : Bor CheckedScript). IsTrue (is_well_formed b.now.script)) (sym e) s.formed;
     fits = subst (λ (b : Bor CheckedScript). fits b.now.script V D C ≡ true) (sym e) s.fits;
-    pending = ready next' is_next;
+    awaits = ready next' is_next;
     idle = over;
     service = there next';
     fine = is_fine next' fine;

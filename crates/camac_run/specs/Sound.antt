@@ -39,7 +39,7 @@ module _ {V D C : ℕ} where
     pub checked : IsChecked h.checked.now
     pub formed : IsTrue (is_well_formed h.checked.now.script)
     pub fits : fits h.checked.now.script V D C ≡ true
-    pub pending : IfSome pending (IsPending h)
+    pub awaits : IfSome pending (IsPending h)
     pub idle : IfNone pending (h.frames.items ≡ [])
     pub service : IfSome pending (λ w. h.service < length h.checked.now.script.services)
     pub fine : IfSome pending (λ w. (answers : List Answer) → IsFineHere h (stands (Some w) h answers))

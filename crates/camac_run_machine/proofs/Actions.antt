@@ -123,16 +123,16 @@ module _ {V D C : ℕ} (h : Machine V D C) where
 
   pub control_wants : (size : WordSize) (f r : ℕ) (at : Address) (k : Command) → registers_here h r ≡ Some at → k ≡ command_at at f moved.None → CanCycle at f moved.None → Awaits h (λ c. effect c most_turns (single 0 size f r no_data)) (Cycle k)
   unfolding awaited
-  control_wants size f r at k is e can = rw e (record { pending = (can.0, tt); goes = λ answers. rw is refl })
+  control_wants size f r at k is e can = rw e (record { awaits = (can.0, tt); goes = λ answers. rw is refl })
 
   pub read_wants : (size : WordSize) (f r x : ℕ) (at : Address) (k : Command) (bits : ℕ) → registers_here h r ≡ Some at → k ≡ command_at at f moved.In → bits ≡ sized size (width h.checked.now.plan (address_of k) k.f) → x < (reach h).variables → bits ≤ 24 → CanCycle at f moved.In → Awaits h (λ c. effect c most_turns (single 0 size f r (into x))) (Read k x bits)
   unfolding awaited
   read_wants size f r x at k bits is e b below few can =
-      record { pending = (rw e can.0, (below, few)); goes = λ answers. rw (b, e, is) refl }
+      record { awaits = (rw e can.0, (below, few)); goes = λ answers. rw (b, e, is) refl }
 
   pub write_wants : (size : WordSize) (f r : ℕ) (e : Expression) (at : Address) (v : ℕ) (k : Command) → registers_here h r ≡ Some at → value e (variables_here h) ≡ Some v → k ≡ command_at at f (moved.Out v) → (fits_size size v ≡ true) × CanCycle at f (moved.Out v) → Awaits h (λ c. effect c most_turns (single 0 size f r (from e))) (Cycle k)
   unfolding awaited
-  write_wants size f r e at v k is val q can = rw q (record { pending = (can.1.0, tt); goes = λ answers. rw (is, val, can.0) refl })
+  write_wants size f r e at v k is val q can = rw q (record { awaits = (can.1.0, tt); goes = λ answers. rw (is, val, can.0) refl })
 
   -- a crate call
   pub crate_has : (which : CrateCall) (e : Expression) → Does (crate_call 0 which e) → IsSome (value e (variables_here h))
@@ -145,7 +145,7 @@ module _ {V D C : ℕ} (h : Machine V D C) where
 
   pub crate_wants : (which : CrateCall) (e : Expression) (v : ℕ) (k : Command) → value e (variables_here h) ≡ Some v → k ≡ command_at (crate_address which v) (crate_function which) moved.None → CanCycle (crate_address which v) (crate_function which) moved.None → Awaits h (λ c. effect c most_turns (crate_call 0 which e)) (Cycle k)
   unfolding awaited
-  crate_wants which e v k val q can = rw q (record { pending = (can.0, tt); goes = λ answers. rw val refl })
+  crate_wants which e v k val q can = rw q (record { awaits = (can.0, tt); goes = λ answers. rw val refl })
 
   -- a LAM call
   pub lam_can : (which : LamCall) (l : ℕ) (at : Address) → slice_get (context_in h.checked.now).lams l ≡ Some at → Does (lam_call 0 which l) → CanCycle at (lam_function which) moved.None
@@ -155,7 +155,7 @@ module _ {V D C : ℕ} (h : Machine V D C) where
 
   pub lam_wants : (which : LamCall) (l : ℕ) (at : Address) (k : Command) → slice_get (context_in h.checked.now).lams l ≡ Some at → k ≡ command_at at (lam_function which) moved.None → CanCycle at (lam_function which) moved.None → Awaits h (λ c. effect c most_turns (lam_call 0 which l)) (Cycle k)
   unfolding awaited
-  lam_wants which l at k is q can = rw q (record { pending = (can.0, tt); goes = λ answers. rw is refl })
+  lam_wants which l at k is q can = rw q (record { awaits = (can.0, tt); goes = λ answers. rw is refl })
 
   -- the crate of a crate call
   pub crate_of : (which : CrateCall) (v : ℕ) → (crate_address which v).crate_no ≡ v
@@ -237,7 +237,7 @@ module _ {V D C : ℕ} (h : Machine V D C) where
   pub lock_wants : (e : Expression) (body : Bor (List Stmt)) (k : ℕ) → value e (variables_here h) ≡ Some k → (1 ≤ k) × (k ≤ 7) → Opens (reach h) (free h) (statements_of body.now) → IsSome (crate_waits plan k) × ((branch_of h.branch k).locked ≡ false) → Awaits h (λ c. effect c most_turns (locked 0 e (statements_of body.now))) (Lock k body)
   unfolding awaited
   lock_wants e body k is range opens can =
-      record { pending = (can.0, (can.1, range.0, range.1, opens)); goes = λ answers. rw is refl }
+      record { awaits = (can.0, (can.1, range.0, range.1, opens)); goes = λ answers. rw is refl }
 
   count_steps : (j x v w : ℕ) (b : Block) (s : State) → IsFineHere h (then_do (for_from j most_turns x v w (block_meaning (context_in h.checked.now) most_turns b) s) (left_in h)) → IsWithin (bounds_of h) s
   count_steps zero x v w b s fine = keeps s fine

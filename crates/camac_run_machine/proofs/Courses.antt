@@ -97,7 +97,7 @@ module _ {V D C : ℕ} (h : Machine V D C) where
       record {
         room = r;
         same = refl;
-        pending = (can.2, (lt, e, d));
+        awaits = (can.2, (lt, e, d));
         goes = λ answers. ap (λ f. then_do (awaited (context_in h.checked.now) (transfers t.course f (words_sent t.table) t.tally) (state_of h answers)) (left_in h)) same;
       }
 
@@ -112,7 +112,7 @@ module _ {V D C : ℕ} (h : Machine V D C) where
       subst (λ m. Proceeds h (λ c. transferred c t) None m) (sym same) (record {
         room = room_written h x n r;
         same = refl;
-        pending = tt;
+        awaits = tt;
         goes = λ answers.
             ap (λ os. rest_in (context_in h.checked.now) os (state_of (with_value h x n) answers)) (sym (opens_written h x n r))
             ∙ ap (left_in h) (state_written h x n lt r answers)
@@ -136,7 +136,7 @@ module _ {V D C : ℕ} (h : Machine V D C) where
 
     pub begins_proceed : (next' : Option Pending) (new : Machine V D C) → Proceeds h (λ c. transferred c t) next' new → Proceeds h (λ c. effect c most_turns st) next' new
     begins_proceed next' new p =
-        record { room = p.room; same = p.same; pending = p.pending; goes = λ answers. p.goes answers ∙ ap (λ b. then_do b (left_in h)) (sym (begins answers)) }
+        record { room = p.room; same = p.same; awaits = p.awaits; goes = λ answers. p.goes answers ∙ ap (λ b. then_do b (left_in h)) (sym (begins answers)) }
 
   has_some : {A : Type 0} (o : Option A) (go : A → Action) → IsFineHere h (then_do (given o go (state_of h [])) (left_in h)) → IsSome o
   has_some o go fine = let g = fine_given plan (bounds_of h) o go (state_of h []) (left_in h) fine in some_is o g.0 g.1
@@ -271,7 +271,7 @@ module _ {V D C : ℕ} (h : Machine V D C) where
         room = p.room;
         checked = ap (λ (m : Machine V D C). m.checked) p.same;
         service = ap (λ (m : Machine V D C). m.service) p.same;
-        pending = p.pending;
+        awaits = p.awaits;
         pace = omega (arith, steps, frames);
         released = [];
         unlocks = ap (λ (m : Machine V D C). m.unlocks.items) p.same ∙ sym (append-nil h.unlocks.items);
@@ -298,7 +298,7 @@ module _ {V D C : ℕ} (h : Machine V D C) where
 
     pub further_proceeds : (next' : Option Pending) (new : Machine V D C) → Proceeds h (λ c. transferred c further) next' new → Proceeds h (λ c. after_pending c (Some (Transfer (cycle_at k t table x)))) next' new
     further_proceeds next' new p =
-        record { room = p.room; same = p.same; pending = p.pending; goes = λ answers. p.goes answers ∙ ap (λ b. then_do b (left_in h)) (sym (follows_on answers)) }
+        record { room = p.room; same = p.same; awaits = p.awaits; goes = λ answers. p.goes answers ∙ ap (λ b. then_do b (left_in h)) (sym (follows_on answers)) }
 
   -- what goes on at once, whatever it is
   module _ (go : Context → Action) (mid : Machine V D C) (quiet : h.unlocks.items ≡ []) where
@@ -312,7 +312,7 @@ module _ {V D C : ℕ} (h : Machine V D C) where
       room = p.room;
       checked = ap (λ (m : Machine V D C). m.checked) p.same;
       service = ap (λ (m : Machine V D C). m.service) p.same;
-      pending = p.pending;
+      awaits = p.awaits;
       over = tt;
       goes = λ answers. ap (λ us. says us (stands (Some w) mid answers)) (mid_quiet (Some w) p) ∙ p.goes answers;
     }
@@ -327,7 +327,7 @@ module _ {V D C : ℕ} (h : Machine V D C) where
       room = s.room;
       checked = s.checked ∙ ap (λ (m : Machine V D C). m.checked) p.same;
       service = s.service ∙ ap (λ (m : Machine V D C). m.service) p.same;
-      pending = s.pending;
+      awaits = s.awaits;
       over = s.over;
       goes = λ answers. s.goes answers ∙ p.goes answers;
     }
@@ -335,7 +335,7 @@ module _ {V D C : ℕ} (h : Machine V D C) where
   -- nothing of the statement is left
   module _ (w : Pending) (nothing : (answers : List Answer) → follows (context_in h.checked.now) (pending_of w) (state_of h answers) ≡ ends (state_of h answers)) where
     pub alone_proceeds : HasRoom h → Proceeds h (λ c. after_pending c (Some w)) None h
-    alone_proceeds r = record { room = r; same = refl; pending = tt; goes = λ answers. ap (λ b. then_do b (left_in h)) (sym (nothing answers)) }
+    alone_proceeds r = record { room = r; same = refl; awaits = tt; goes = λ answers. ap (λ b. then_do b (left_in h)) (sym (nothing answers)) }
 
   pub cycle_alone : (k : Command) (answers : List Answer) → follows (context_in h.checked.now) (pending_of (Cycle k)) (state_of h answers) ≡ ends (state_of h answers)
   unfolding follows

@@ -65,7 +65,7 @@ module _ (plan : Layout) (k : Bounds) where
   before : (s t : State) → HasGrown s t → IsWithin k t → IsWithin k s
   before s t g h =
       let steps = g.steps in
-      let cycles = g.cycles in
+      let cycles = g.cost in
       let few : length (s.words ++ g.words.0) ≤ k.words = subst (λ ws. length ws ≤ k.words) g.words.1 h.words in
       record {
         cycles = omega (arith, h.cycles, cycles);

@@ -136,7 +136,7 @@ module _ {V D C : ℕ} (h : Machine V D C) where
     room = room_stepped (h.steps + 1) r;
     checked = refl;
     service = refl;
-    pending = k.pending;
+    awaits = k.awaits;
     pace = omega arith;
     released = [];
     unlocks = sym (append-nil h.unlocks.items);
@@ -168,7 +168,7 @@ module _ {V D C : ℕ} (h : Machine V D C) where
     room = k.room;
     checked = k.checked;
     service = k.service;
-    pending = tt;
+    awaits = tt;
     pace = let n = k.blocks in let m = k.steps in omega (arith, n, m);
     released = [];
     unlocks = ap (λ (us : ArrayVec ℕ). us.items) k.unlocks ∙ sym (append-nil h.unlocks.items);
@@ -181,7 +181,7 @@ module _ {V D C : ℕ} (h : Machine V D C) where
     room = k.room;
     checked = k.checked;
     service = k.service;
-    pending = k.pending;
+    awaits = k.awaits;
     pace = let p = k.pace in omega arith;
     released = k.released;
     unlocks = k.unlocks;

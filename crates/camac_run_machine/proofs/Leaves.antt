@@ -47,7 +47,7 @@ module _ {V D C : ℕ} (h : Machine V D C) where
     room = room_with h h.frames (os ++ over nothing ∷ []) os (last nothing r).others (held_pop (branch_of h.branch) os (over nothing) (λ c. refl) r.locks) r;
     checked = refl;
     service = refl;
-    pending = tt;
+    awaits = tt;
     pace = omega arith;
     released = [];
     unlocks = sym (append-nil h.unlocks.items);
@@ -111,7 +111,7 @@ module _ {V D C : ℕ} (h : Machine V D C) where
         room = room_after;
         checked = refl;
         service = refl;
-        pending = tt;
+        awaits = tt;
         pace = omega arith;
         released = k ∷ [];
         unlocks = released;
@@ -149,7 +149,7 @@ module _ {V D C : ℕ} (h : Machine V D C) where
       room = room_returned r;
       checked = refl;
       service = refl;
-      pending = tt;
+      awaits = tt;
       pace = omega arith;
       released = [];
       unlocks = sym (append-nil h.unlocks.items);
@@ -184,7 +184,7 @@ module _ {V D C : ℕ} (h : Machine V D C) where
       room = room_written h x w r;
       checked = refl;
       service = refl;
-      pending = tt;
+      awaits = tt;
       pace = omega arith;
       released = [];
       unlocks = sym (append-nil h.unlocks.items);

@@ -42,7 +42,7 @@ module _ {V D C : ℕ} (h : Machine V D C) where
     room = k.room;
     checked = k.checked;
     service = k.service;
-    pending = k.pending;
+    awaits = k.awaits;
     pace = k.pace;
     released = k.released;
     unlocks = k.unlocks;
@@ -55,7 +55,7 @@ module _ {V D C : ℕ} (h : Machine V D C) where
     room = r;
     checked = refl;
     service = refl;
-    pending = tt;
+    awaits = tt;
     pace = omega arith;
     released = [];
     unlocks = sym (append-nil h.unlocks.items);
@@ -92,7 +92,7 @@ module _ {V D C : ℕ} (h : Machine V D C) where
         room = k;
         checked = refl;
         service = refl;
-        pending = tt;
+        awaits = tt;
         pace = omega (arith, long);
         released = [];
         unlocks = sym (append-nil h.unlocks.items);
@@ -171,7 +171,7 @@ module _ {V D C : ℕ} (h : Machine V D C) where
         room = k;
         checked = refl;
         service = refl;
-        pending = tt;
+        awaits = tt;
         pace = omega (arith, long);
         released = [];
         unlocks = sym (append-nil h.unlocks.items);

@@ -272,7 +272,7 @@ module _ {V D C : ℕ} where
     pub room : HasRoom new
     pub checked : new.checked ≡ old.checked
     pub service : new.service ≡ old.service
-    pub pending : IfSome pending (IsPending new)
+    pub awaits : IfSome pending (IsPending new)
     -- a block more costs a step
     pub pace : length new.frames.items + 2 * old.steps ≤ 2 * new.steps + length old.frames.items
     -- the locks that it releases
@@ -293,7 +293,7 @@ module _ {V D C : ℕ} where
   pub record Proceeds (old : Machine V D C) (go : Context → Action) (next : Option Pending) (new : Machine V D C) : Type 0 where
     pub room : HasRoom new
     pub same : new ≡ record old { variables = new.variables }
-    pub pending : IfSome next (IsPending new)
+    pub awaits : IfSome next (IsPending new)
     pub goes :
         (answers : List Answer)
         → stands next new answers ≡ then_do (go (context_in old.checked.now) (state_of old answers)) (left_in old)
@@ -312,7 +312,7 @@ module _ {V D C : ℕ} where
 
   -- this wants an answer first
   pub record Awaits (h : Machine V D C) (go : Context → Action) (pending : Pending) : Type 0 where
-    pub pending : IsPending h pending
+    pub awaits : IsPending h pending
     pub goes :
         (answers : List Answer)
         → awaited (context_in h.checked.now) (pending_of pending) (state_of h answers) ≡ go (context_in h.checked.now) (state_of h answers)
@@ -349,7 +349,7 @@ module _ {V D C : ℕ} where
     pub room : HasRoom new
     pub checked : new.checked ≡ old.checked
     pub service : new.service ≡ old.service
-    pub pending : IfSome pending (IsPending new)
+    pub awaits : IfSome pending (IsPending new)
     pub over : IfNone pending (new.frames.items ≡ [])
     pub goes :
         (answers : List Answer)
@@ -377,7 +377,7 @@ module _ {V D C : ℕ} where
     pub room : HasRoom new
     pub checked : new.checked ≡ old.checked
     pub service : new.service ≡ number
-    pub pending : IfSome pending (IsPending new)
+    pub awaits : IfSome pending (IsPending new)
     pub over : IfNone pending (new.frames.items ≡ [])
     pub goes :
         (answers : List Answer)

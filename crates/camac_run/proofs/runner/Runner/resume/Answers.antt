@@ -18,7 +18,7 @@ pub take-taken-requires : goal.take-taken-requires
 take-taken-requires g c =
     let pending : c.self.inside.pending ≡ Some c.in-Some.pending = c.in-Some.is in
     let inv = c.self.invariant in
-    (machine_fits _ c.requires-raw.1.1.1.0, (inv.room, (inv.quiet, (rw pending at inv.pending, rw pending at inv.fine))))
+    (machine_fits _ c.requires-raw.1.1.1.0, (inv.room, (inv.quiet, (rw pending at inv.awaits, rw pending at inv.fine))))
 
 pub go_further-requires : goal.go_further-requires
 go_further-requires g c =
@@ -46,7 +46,7 @@ invariant_of-self g c =
     let t = c.in-Ok.ensures.took in
     let s = rw pending at c.go_further.ensures in
     let fine = take_fine r.machine mid c.in-Some.pending c.args.answer c.in-Ok.item (rw pending at inv.fine) t in
-    sound_after r.machine new c.take-unlocks.new.self r.pending next' r.fed r.events r.machine.service c.take-unlocks.ensures.after inv s.room (s.checked ∙ t.checked) (s.service ∙ t.service) (rw pending at inv.service) s.pending s.over
+    sound_after r.machine new c.take-unlocks.new.self r.pending next' r.fed r.events r.machine.service c.take-unlocks.ensures.after inv s.room (s.checked ∙ t.checked) (s.service ∙ t.service) (rw pending at inv.service) s.awaits s.over
     (settle_fine mid new (λ z. follows z (pending_of c.in-Some.pending)) next' fine s)
 
 pub close-event-requires : goal.close-event-requires

@@ -6,12 +6,12 @@ use Rattle.camac_run.proofs.runner.Runner.steps.Goals as goal
 pub returns-in-Some-clause-steps : goal.returns-in-Some-clause-steps
 returns-in-Some-clause-steps g c =
     let r = c.self.inside in
-    rw (← c.self.view_is) (sym (ap steps_of (rest_short r.machine r.pending c.in-Some.field-0 r.fed r.events r.has_event r.overrun c.in-Some.is c.self.invariant.pending)))
+    rw (← c.self.view_is) (sym (ap steps_of (rest_short r.machine r.pending c.in-Some.field-0 r.fed r.events r.has_event r.overrun c.in-Some.is c.self.invariant.awaits)))
 
 pub returns-in-Some-clause-within : goal.returns-in-Some-clause-within
 returns-in-Some-clause-within g c =
     let r = c.self.inside in
-    rw (← c.self.view_is) (steps_within r.machine c.in-Some.field-0 (rw c.in-Some.is at c.self.invariant.pending) (rw c.in-Some.is at c.self.invariant.fine))
+    rw (← c.self.view_is) (steps_within r.machine c.in-Some.field-0 (rw c.in-Some.is at c.self.invariant.awaits) (rw c.in-Some.is at c.self.invariant.fine))
 
 pub returns-in-None-clause-steps : goal.returns-in-None-clause-steps
 returns-in-None-clause-steps g c =

@@ -42,7 +42,7 @@ returns g c =
       };
       checked = refl;
       service = refl;
-      pending = tt;
+      awaits = tt;
       pace = omega arith;
       released = [];
       unlocks = sym (append-nil h.unlocks.items);

@@ -111,7 +111,7 @@ returns g c = λ s at.
       room = c.settle.ensures.room;
       checked = c.settle.ensures.checked;
       service = c.settle.ensures.service;
-      pending = c.settle.ensures.pending;
+      awaits = c.settle.ensures.awaits;
       over = c.settle.ensures.over;
       goes = λ answers.
           c.settle.ensures.goes answers

@@ -45,7 +45,7 @@ returns-then-go_on g c =
       room = a.room;
       checked = a.checked ∙ v.checked;
       service = a.service ∙ v.service;
-      pending = a.pending;
+      awaits = a.awaits;
       over = none_if_some w _ (c.go_on.ensures.some c.if-go_on.true);
       goes = λ answers. goes_further h new e.last before e.was a.released a.unlocks w answers (a.goes answers) ∙ v.goes answers;
     }
@@ -82,4 +82,4 @@ pub returns : goal.returns
 returns g c =
     let h = c.loop-self.self in
     let v = c.loop-self.invariant in
-    record { room = v.room; checked = v.checked; service = v.service; pending = tt; over = none_of h.frames.items c.loop-self-test.ensures; goes = v.goes }
+    record { room = v.room; checked = v.checked; service = v.service; awaits = tt; over = none_of h.frames.items c.loop-self-test.ensures; goes = v.goes }
