@@ -11,7 +11,9 @@ mod joined;
 mod known;
 mod missing;
 
-pub use address::{command_widths, cycle_cost, is_crate, is_station, station_widths, waits_of};
+pub use address::{
+    STATION_END, command_widths, cycle_cost, is_crate, is_station, station_widths, waits_of,
+};
 pub use around::Around;
 pub use condition::{Branches, sole_variable, split};
 pub use cost::Costs;

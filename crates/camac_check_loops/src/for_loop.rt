@@ -9,7 +9,7 @@ ghost use Rattle.camac_check_rules.specs.Loops.{turns_between, values_between, f
 use crate::keeps::{head, keeps_at_entry};
 use camac_check_known::{Around, CheckFault, Facts, between, range_in, range_of, required};
 use camac_check_rules::{Case, CheckRule};
-use camac_lang::{Expr, Keep, Stmt};
+use camac_lang::{Expr, Keep, Stmt, limits};
 use camac_range::Range;
 use std::alloc::{AllocError, Global};
 use std::marker::Model;
@@ -104,12 +104,12 @@ pub fn for_limits(
     )?;
     let needed = limits.turns();
     required(
-        needed <= 65535,
+        needed <= u64::from(limits::TURNS),
         CheckRule::TooManyTurns,
         line,
         Case::Turns {
             needed,
-            allowed: 65535,
+            allowed: limits::TURNS,
         },
     )?;
     keeps_at_entry(around.body(), keeps, known, line)?;

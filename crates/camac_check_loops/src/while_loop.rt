@@ -12,7 +12,7 @@ use crate::keeps::{head, keeps_at_entry};
 use crate::written::fall_of;
 use camac_check_known::{CheckFault, Facts, between, range_in, required};
 use camac_check_rules::{Body, Case, CheckRule};
-use camac_lang::{Keep, Stmt};
+use camac_lang::{Keep, Stmt, limits};
 
 /// What is known at the head of a `while` of at most so many turns that may begin. E7, E10 and E8, in this order.
 #[tactic(auto, unfolding(camac_check_rules::specs::Refusal::go_on))]
@@ -31,7 +31,7 @@ pub fn while_head(
     let greatest = range_in(known.ranges(), measure).hi();
     let needed = greatest / fall;
     required(
-        most <= 65535 && needed <= most,
+        most <= limits::TURNS && needed <= most,
         CheckRule::TooManyTurns,
         line,
         turns_case(needed, most),
@@ -64,7 +64,7 @@ fn fall_at(place: Body, measure: usize, body: &[Stmt], line: u32) -> Result<u32,
 fn turns_case(needed: u32, most: u32) -> Case
     ensures { result ≡ turns_case needed most }
 {
-    if most <= 65535 {
+    if most <= limits::TURNS {
         Case::Turns {
             needed: u64::from(needed),
             allowed: most,
@@ -72,7 +72,7 @@ fn turns_case(needed: u32, most: u32) -> Case
     } else {
         Case::Annotation {
             turns: most,
-            allowed: 65535,
+            allowed: limits::TURNS,
         }
     }
 }

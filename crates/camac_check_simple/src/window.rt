@@ -8,13 +8,13 @@ ghost use Rattle.camac_check_rules.specs.Windows.{window_of, stations_of, sub_ad
 ghost use Rattle.camac_check_simple.specs.Stations.{has_station, installed_at, declared_at};
 
 use camac_branch::Plan;
-use camac_check_known::{Region, is_declared, is_station, not_installed, undeclared_at};
+use camac_check_known::{
+    Region, STATION_END, is_declared, is_station, not_installed, undeclared_at,
+};
 use camac_check_rules::Case;
 use camac_range::Range;
 use camac_word::{CrateNo, Function};
 use std::marker::Model;
-
-const STATION_END: u32 = 32;
 
 /// The stations and sub-addresses of one crate that a scan may reach.
 #[derive(Clone, Copy)]

@@ -7,12 +7,10 @@ ghost use Rattle.camac_explain.specs.Advice.{direction_mend, is_difference, oper
 
 use camac_check_rules::{Case, CheckRule, Operator};
 use camac_func::FunctionClass;
+use camac_lang::limits;
 use camac_names::LinkRule;
 use camac_plan::PlanRule;
 use camac_text::TextRule;
-
-/// The most turns of a loop.
-const MOST_TURNS: u64 = 65535;
 
 /// What is told of a rule.
 #[derive(Clone, Copy, Debug)]
@@ -279,7 +277,7 @@ fn turns_mend(case: Case) -> &'static str
     ensures { result.now ≡ turns_mend case }
 {
     match case {
-        Case::Turns { needed, .. } if needed <= MOST_TURNS => {
+        Case::Turns { needed, .. } if needed <= u64::from(limits::TURNS) => {
             "write a larger number after `turns`, or begin with a smaller value."
         }
         Case::Turns { .. } =>

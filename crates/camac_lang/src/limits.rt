@@ -39,5 +39,8 @@ pub const CONDITION_PARTS: usize = 16;
 /// The most brackets and braces that are open at once, calls counted.
 pub const DEPTH: usize = 16;
 
+/// The most turns of a loop.
+pub const TURNS: u32 = 65_535;
+
 /// The most words of an event, which is the largest buffer that a plan can have.
 pub const EVENT_WORDS: usize = 4_096;

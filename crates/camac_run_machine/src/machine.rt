@@ -32,11 +32,8 @@ use camac_branch::{Answer, Branch, Command};
 use camac_check_result::Checked;
 use camac_esone::{Address, QRepeat, QStop, Scan};
 use camac_event::{EventBuffer, Usage};
-use camac_lang::{CrateCall, Expr, LamCall, Part, Stmt};
+use camac_lang::{CrateCall, Expr, LamCall, Part, Stmt, limits};
 use camac_word::{CrateNo, GlBit, Word24};
-
-/// The most turns that a loop makes.
-const MOST_TURNS: u32 = 65_535;
 
 /// What goes on after a block.
 #[derive(Clone, Copy)]
@@ -348,7 +345,7 @@ impl<'a, const V: usize, const DEPTH: usize, const CAP: usize> Machine<'a, V, DE
                 false
             }
             Stmt::While { test, body, .. } => {
-                self.test_while(&test.parts, MOST_TURNS, body);
+                self.test_while(&test.parts, limits::TURNS, body);
                 false
             }
             Stmt::Call {

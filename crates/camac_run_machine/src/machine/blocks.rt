@@ -13,9 +13,9 @@ ghost use Rattle.camac_run_machine.specs.Within.{Refers, CallFits, PartsRefer, O
 
 use crate::arguments::{pass, wipe};
 use crate::condition::holds;
-use crate::machine::{Frame, MOST_TURNS, Machine, Owner, Pending};
+use crate::machine::{Frame, Machine, Owner, Pending};
 use camac_branch::{Answer, unlock};
-use camac_lang::{Expr, Part, Stmt};
+use camac_lang::{Expr, Part, Stmt, limits};
 use camac_word::CrateNo;
 
 impl<'a, const V: usize, const DEPTH: usize, const CAP: usize> Machine<'a, V, DEPTH, CAP> {
@@ -106,7 +106,7 @@ impl<'a, const V: usize, const DEPTH: usize, const CAP: usize> Machine<'a, V, DE
         let first = self.value_of(from);
         let last = self.value_of(to);
         if first <= last {
-            self.turn(variable, first, last, MOST_TURNS, body);
+            self.turn(variable, first, last, limits::TURNS, body);
         }
     }
 
