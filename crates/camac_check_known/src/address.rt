@@ -20,7 +20,9 @@ use camac_word::{CrateNo, Function, Station, SubAddress};
 
 /// One above the greatest number of a crate, of a station with those of the crate controller, and of a sub-address.
 pub(crate) const CRATE_END: u32 = 8;
+
 pub const STATION_END: u32 = 32;
+
 pub(crate) const SUB_ADDRESS_END: u32 = 16;
 
 /// The least and the greatest width of a command at the addresses of a region. E1 where one of them is not installed, and else E2 where one
