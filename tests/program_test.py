@@ -94,7 +94,7 @@ class WorkedRow(Case):
             self.assertEqual(self.call("plan", *words, given=given), (0, listed, b""), words)
 
     def test_sample_text(self):
-        written = (TOP / "crates/camac_plan_laws/specs/SampleText.antt").read_text()
+        written = (TOP / "crates/camac_laws/specs/SampleText.antt").read_text()
         said = "".join(json.loads(f'"{line}"') for line in re.findall(r'codes "((?:[^"\\]|\\.)*)"', written))
         self.assertEqual(said, (TOP / "examples/sample_plan.toml").read_text())
 

@@ -1,9 +1,9 @@
 -- The exit status, and the reason for it.
-use Rattle.std.specs.Prelude.{◌≡◌, ◌⊎◌, ℕ, List}
+use Rattle.std.specs.Prelude.{◌≡◌, ◌≤◌, ◌⊎◌, ℕ, List}
 use Rattle.clap.specs.Words.{Text, kind_of, subcommand_of}
 use Rattle.clap.specs.declared.error.kind.ErrorKind.{ErrorKind}
 use Rattle.clap.specs.declared.error.kind.ErrorKind.TheVariants as kind
-use Rattle.camac_tool_words.specs.Words.{IsFaultOf, IsJob, camac_app}
+use Rattle.camac_tool_words.specs.Words.{IsFaultOf, IsJob, camac_app, input_count_of}
 use Rattle.camac_tool_words.specs.declared.words.Job.{Job}
 use Rattle.camac_tool_words.specs.declared.words.JobFault.{JobFault}
 use Rattle.camac_tool_words.specs.declared.words.JobFault.TheVariants.{Usage, InTwice}
@@ -23,7 +23,8 @@ abbrev pub EndsFault : JobFault → ℕ → Type 0
 EndsFault InTwice s = s ≡ 2
 EndsFault (Usage e) s = EndsUsage (kind_of e) s
 
--- Of these words: of the job that they name, or of their fault; or there are no places for the standard streams.
+-- Of these words: of the job that they name, which takes standard input at most once, or of their fault; or there are no places for the
+-- standard streams.
 abbrev pub Ends : List Text → ℕ → Type 0
 Ends words s =
-    ((job : Job) × IsJob job (subcommand_of camac_app words) × EndsJob s) ⊎ (((fault : JobFault) × IsFaultOf words fault × EndsFault fault s) ⊎ (s ≡ 3))
+    ((job : Job) × IsJob job (subcommand_of camac_app words) × (input_count_of job ≤ 1) × EndsJob s) ⊎ (((fault : JobFault) × IsFaultOf words fault × EndsFault fault s) ⊎ (s ≡ 3))
