@@ -8,6 +8,7 @@ Each fenced block of a page is of one of these kinds, and is tried:
   ```console                  lines '$ COMMAND', each with the output that follows it; '> ' before a line goes on with the command
   ```camac VERDICT [FILE] [on PLAN]    a whole script, and the verdict on a plan (@sample, unless one is named): 'accepted', or a code and
                               line as 'E2 line 7'
+  ```toml CODE                a plan that is refused, and the code: 'P2'
   ```output                   right after a script: all that `check` prints
   ```python FILE, ```toml FILE, ```sh FILE, ```c FILE    a file that a later command of the page uses, or a part of an example of that name
 
@@ -45,7 +46,7 @@ BLOCK = re.compile(r"^```([^\n]*)\n(.*?)^```$", re.M | re.S)
 INDENTED = re.compile(r"^    .*$", re.M)
 COMMAND = re.compile(r"^\$ |(?:^|[|;&(] *)(?:\./)?camac\b(?! [a-z]+ [A-Z]+\b)(?= \S)")
 STATEMENT = re.compile(r"^(?:cdlam|cdreg|cfsa|cssa|service|proc) (?!.*\b[A-Z]{2,}\b).*\d")
-FILE = re.compile(r"(?:python|toml|sh|c|cpp|camac (?:accepted|\w+ line \d+)) (\S+)(?: on \S+)?")
+FILE = re.compile(r"(?:python|toml(?! P\d)|sh|c|cpp|camac (?:accepted|\w+ line \d+)) (\S+)(?: on \S+)?")
 # Pages whose files stand in a folder of examples, too, and where the page makes them.
 KEPT = {"TUTORIAL.md": ("tutorial", "."), "BENCHES.md": ("benches", "benches"), "LIVE.md": ("live", ".")}
 COMPILER = re.compile(r"\$ (?:cc|c\+\+) ")
@@ -117,6 +118,11 @@ def try_script(words, text, room):
     return printed
 
 
+def try_plan(code, text, room):
+    """Compares the refusal of a plan."""
+    compare(text, code, run("./camac plan @in", room, text.encode()).removeprefix("refused ").partition(":")[0])
+
+
 def refuse_untried(text):
     """Refuses a command or a statement that stands in an indented block."""
     for line in INDENTED.findall(BLOCK.sub("", text)):
@@ -175,6 +181,9 @@ def try_page(text, room):
             tried += try_console(body, room)
         elif kind == "camac":
             tried, printed = tried + 1, try_script(rest, body, room)
+        elif kind == "toml" and re.fullmatch(r"P\d", rest):
+            try_plan(rest, body, room)
+            tried += 1
         elif kind == "output" and before is not None:
             compare("the script before", body, before)
         elif kind in ("python", "toml", "sh", "c", "cpp") and rest:

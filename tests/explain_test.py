@@ -221,8 +221,8 @@ def part_of(rule):
 
 def told(rule):
     """The texts of a rule on the page: why it is there, and each mend."""
-    (why,) = re.findall(r"(?m)^\*\*Why:\*\* (.*)$", part_of(rule))
-    return why, re.findall(r"(?m)^\*\*Mend(?:, [^*]*)?:\*\* (.*)$", part_of(rule))
+    (why,) = re.findall(r"(?m)^- \*\*Why:\*\* (.*)$", part_of(rule))
+    return why, re.findall(r"(?m)^- \*\*Mend(?:, [^*]*)?:\*\* (.*)$", part_of(rule))
 
 
 class Chance(random.Random):
