@@ -1,4 +1,5 @@
 //! What the checker knows where a statement begins, and what follows for expressions, conditions and addresses. All rules are own.
+// A crate of its own, so that a change of a statement's rule does not prove ranges and conditions anew.
 #![tactic(auto)]
 
 mod address;

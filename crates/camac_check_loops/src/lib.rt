@@ -1,4 +1,5 @@
 //! The rules of loops: what the body writes and sets, what is known at the head, and the turns. All rules are own.
+// A crate of its own, so that it is proved beside the rules of simple statements.
 #![tactic(auto)]
 
 mod for_loop;

@@ -20,7 +20,7 @@ pub struct Numbers {
     pub high: u32,
 }
 
-/// The body that is judged. Its variables and registers are told by their numbers there.
+/// The body that is judged. Its variables and registers are told by their numbers there, and several bodies may stand on one line.
 #[derive(Clone, Copy, Debug, PartialEq, Eq)]
 pub enum Body {
     /// That of the procedure of this number, from 0.
@@ -29,7 +29,8 @@ pub enum Body {
     Service(usize),
 }
 
-/// The numbers of a broken rule, of which its sentence is made.
+/// The numbers of a broken rule, of which its sentence is made. The rule tells them in the line that refuses, so that no second walk has to find
+/// them. A cost past 64 bits is told as the greatest number of them.
 #[derive(Clone, Copy, Debug, PartialEq, Eq)]
 pub enum Case {
     /// A tree that no text gives: it names a LAM, a procedure or a table that is not there.

@@ -1,4 +1,5 @@
 //! The rules of simple statements, which hold no others: what each may do, what is known after it, and what it can cost. All rules are own.
+// A crate of its own, so that it is proved beside the rules of loops, and the walk over all statements without it.
 #![tactic(auto)]
 
 mod calls;

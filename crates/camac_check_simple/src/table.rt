@@ -8,7 +8,8 @@ ghost use Rattle.camac_check_rules.specs.Transfers.{greatest_of, has_words, word
 use camac_lang::Table;
 use camac_word::Word24;
 
-/// Whether a table has so many words; where none is written there is no need.
+/// Whether a table has so many words; where none is written there is no need. A table that is not there is wrong at the statement that names it, as
+/// a LAM or a procedure is.
 #[tactic(auto, using(crate::proofs::Tables::word_lists))]
 pub fn has_words(tables: &[Table], table: Option<usize>, n: u32) -> bool
     ensures { result ≡ has_words (map (λ t. t.words) (map table_of tables.now)) table n }

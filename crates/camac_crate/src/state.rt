@@ -44,6 +44,7 @@ impl Flags for BitSet {
 /// The state of a crate: the common control I, inhibit (EUR 4100, IEEE 583), and whether its demand output is enabled (own).
 #[derive(Clone, Copy, Debug, PartialEq, Eq)]
 pub struct CrateState {
+    // private, since a set can hold bits that are not known, which the invariant forbids
     bits: BitSet,
 }
 

@@ -1,4 +1,6 @@
 //! The transfers, named after ESONE's CFUBC, CFUBR and CFMAD; their rules are own. The commands of crate calls and LAM calls.
+// Each transfer in progress holds the numbers that are left, so what is left is a smaller transfer, and its steps need no second definition. The
+// table of the calls' commands stands here alone, by the names that the tree of camac_lang has for them; the meaning takes it from here.
 #![tactic(auto)]
 
 mod address;

@@ -5,7 +5,7 @@ ghost use Rattle.std.specs.Prelude.{◌≡◌, ◌≤◌, ◌<◌, [], ◌∷◌
 use camac_word::Word24;
 use std::marker::Model;
 
-/// At most `CAP` words, in the order in which they were put.
+/// At most `CAP` words, in the order in which they were put. It is cleared for each service, which an `ArrayVec` does by writing over its words.
 #[derive(Drop)]
 pub struct EventBuffer<const CAP: usize> {
     words: [Word24; CAP],

@@ -174,7 +174,8 @@ fn pass_words(count: usize, total: usize, bytes: &mut &[u8]) -> Result<(), Event
     Ok(())
 }
 
-// What is left after that many words, where each has the highest byte 0.
+// What is left after that many words, where each has the highest byte 0. The OR of these bytes judges a record at once, so that only one with a
+// fault is read word by word for its offset.
 fn after_words(count: usize, bytes: &[u8]) -> Option<&[u8]>
     ensures { IfSome result (λ rest. (total : ℕ) → words_at count total bytes.now ≡ Ok (words_in count bytes.now, rest.now)) }
 {

@@ -1,4 +1,5 @@
 //! What a refused script's text shows: the token at which its fault shows, what might stand there, and what may be meant.
+// A crate of its own, so that a change of its texts does not prove the explanations of rules anew.
 #![tactic(auto)]
 
 mod before;

@@ -70,7 +70,7 @@ pub enum Expr {
     Rem(Divisor, Box<Expr>),
 }
 
-/// What an operator stands between, in one piece of memory.
+/// What an operator stands between, in one piece of memory: with one for each operand a check of long statements took a seventh more instructions.
 #[derive(Drop)]
 #[cycle(expression)]
 pub struct Operands {

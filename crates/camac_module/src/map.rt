@@ -57,7 +57,7 @@ impl<const A: usize> Model for CommandMap<A> {
 }
 
 impl<const A: usize> CommandMap<A> {
-    /// A map in which nothing is declared.
+    /// A map in which nothing is declared. `A` may be any number: rows from sub-address 16 on stay empty.
     pub fn new(_alloc: Global) -> Self
         ensures { result ≡ none_declared A }
     {

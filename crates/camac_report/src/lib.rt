@@ -1,4 +1,5 @@
 //! The lines that the program prints: verdicts, headings, refusals, plans, event files, and the items and the end of a run.
+// What needs no runner stands in camac_report_text, so that it is proved beside the runner, whose proof is the longest, and not after it.
 #![tactic(auto)]
 
 mod cycle;

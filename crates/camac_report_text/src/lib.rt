@@ -1,4 +1,5 @@
 //! The lines of verdicts, headings, refusals, plans and event files.
+// A crate of its own beside the runner, whose proof is the longest, so that both are proved at once.
 #![tactic(auto)]
 
 mod bytes;

@@ -1,4 +1,5 @@
 //! The machine of a service in progress: its open blocks, its store, and what it wants an answer for, in fixed memory.
+// A crate of its own, since its proof is the longest of all: what runs it changes without that.
 #![tactic(auto)]
 
 mod arguments;

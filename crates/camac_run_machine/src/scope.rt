@@ -24,7 +24,8 @@ impl Places {
     }
 }
 
-/// What a body sees: its variables, its registers, and so many of the script's procedures.
+/// What a body sees: its variables, its registers, and so many of the script's procedures. Those of a procedure in progress lie right after its
+/// caller's, so a call saves and copies nothing. Procedures call earlier ones alone, so the places that the limits allow are enough.
 #[derive(Clone, Copy)]
 pub struct Scope {
     pub variables: Places,

@@ -12,7 +12,7 @@ use camac_esone::{Address, QRepeat, QStop, Scan};
 use camac_func::DataMove;
 use camac_word::{Function, Word24};
 
-/// How far a transfer is.
+/// How far a transfer is: the smaller one that is left, and no list of the Q that came before.
 #[derive(Clone, Copy)]
 pub enum Course {
     /// Q-stop.

@@ -10,6 +10,9 @@ use camac_text_cursor::Parser;
 use camac_text_tokens::{TextFault, TokensLeft};
 use std::alloc::Global;
 
+// A fault of a token comes before each fault of the grammar, wherever the two stand. So the tokens are cut twice, first for their faults alone, and
+// kept nowhere: a list of them took more memory than all else in a check.
+
 /// The script that a text spells.
 ///
 /// A text is refused by its first token fault (S1, S3, S6), else at its first token from left to right that the grammar or a

@@ -111,7 +111,7 @@ impl Parser<'_> {
     }
 
     /// Begins a procedure with this name, which is declared: it sees no variables but its parameters. Answers what the script has
-    /// again after it; S8 where memory is refused.
+    /// again after it; S8 where memory is refused. The script's variables are set aside, so that one look-up serves both kinds of bodies.
     pub fn open_procedure(&mut self, name: &Name) -> Result<Outside, TextFault>
         ensures { Gives outside_of result self.new (opened name.now (state self.old)) }
     {

@@ -1,4 +1,5 @@
 //! The state in which a script's tokens are read: what is left of them, and what is declared so far.
+// A crate of its own, so that a change of what the grammar reads does not prove anew what is declared so far.
 #![tactic(auto)]
 
 mod counting;

@@ -1,4 +1,5 @@
 //! Reads the expressions, the conditions and the kept ranges of a script.
+// A crate of its own, so that a change of statements does not prove expressions and conditions anew.
 #![tactic(auto)]
 
 mod calling;

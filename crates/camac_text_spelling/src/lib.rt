@@ -1,4 +1,5 @@
 //! Which tokens spell which tree of a script, by the cases of the grammar.
+// A crate of its own, on which none stands: its proof is the longest of the parser's.
 #![tactic(auto)]
 
 mod laws;

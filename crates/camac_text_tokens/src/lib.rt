@@ -1,4 +1,5 @@
 //! Cuts the text of a script into tokens.
+// A crate of its own, so that a change of the grammar does not prove the cutting of tokens anew.
 #![tactic(auto)]
 
 mod bytes;

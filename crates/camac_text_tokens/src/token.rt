@@ -124,7 +124,8 @@ impl TokenKind {
     }
 }
 
-/// A token, its line, from 1, and how many bytes of the text stand from its first byte on. A line past 4294967295 has that number.
+/// A token, its line, from 1, and how many bytes of the text stand from its first byte on. A line past 4294967295 has
+/// that number, so that no call needs a condition on the length of its text.
 #[derive(Drop)]
 pub struct Token {
     pub kind: TokenKind,

@@ -1,4 +1,5 @@
 //! The engines that tell of a plan, a script or an event file, and run nothing: `plan`, `check`, `explain`, `bounds`, `costs` and `events`.
+// A crate of its own beside the runner, whose proof is the longest, so that both are proved at once.
 #![tactic(auto)]
 
 mod costs;

@@ -1,4 +1,5 @@
 //! Plays a script against the text of its answers, or live, and writes what it tells and its event file while it runs.
+// A crate of its own, so that the program's command line changes without the proof of the loop that plays.
 #![tactic(auto)]
 
 mod ending;

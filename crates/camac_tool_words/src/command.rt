@@ -9,7 +9,7 @@ use crate::texts;
 use clap::{Arg, ArgAction, Command};
 use std::alloc::{AllocError, Global};
 
-/// The program's command line: the subcommands with their words, and what help says of each.
+/// The program's command line: the subcommands with their words, and what help says of each. `clap`'s own `help` stays beside `--help`.
 pub fn camac_command<'a>(alloc: Global) -> Result<Command<'a>, AllocError>
     ensures { IfOk result (λ c. app_of c ≡ camac_app) }
 {

@@ -1,4 +1,5 @@
 //! The words of the program's command line, and the job that they name.
+// A crate of its own, since it stands on `clap` alone and is proved beside all others.
 #![tactic(auto)]
 
 mod command;
