@@ -501,6 +501,21 @@ class Kept(Parts):
             with mock.patch.object(tested, "run", lambda said=said: said):
                 self.assertEqual(tested.refused(), refused)
 
+    def test_only_what_is_said_of_a_goal_refuses(self):
+        crate = repository.crates()["sample"]
+        body = next(it for it in bodies_of(crate, False) if it.name == "half_is_a_third")
+        tried = Round(crate, [body])
+        folder = crate.proof_of(body.functions[0])
+        for said, kind in (
+            ("fn sample::half: no proof: `search` did not prove `returns`\n", "refused"),
+            (f"proofs/{folder}/Answers.antt:3:1: error: `returns`: the two types differ\nfn sample::half: not proved\n", "refused"),
+            ("fn sample::half: no proof: the borrow checker does not cover this function yet\n", "not"),
+            ("fn sample::half: no proof: a bug in the prover leaves only a proof by hand\n", "not"),
+            ("fn sample::half: words of a later kit\n", "not"),
+        ):
+            with self.subTest(said=said):
+                self.assertEqual(tried.verdicts(f"only=1 holes=0\n{said}")[body][0], kind)
+
     def refusals(self):
         with mock.patch.dict(os.environ, XDG_CACHE_HOME=self.cache):
             return Refusals()

@@ -227,7 +227,8 @@ class Round:
         folder = self.crate.proof_of(function) or "no folder"
         faults = [it for it in lines if re.match(rf"(\./)?proofs/{re.escape(folder)}/\S+: error", it)]
         goals = [it for it in lines if self.is_goal_of(function, it)]
-        refuses = next((it for it in [*goals, *faults] if not CITES.search(it)), None)
+        answers = [it for it in faults if ": error: `" in it]
+        refuses = next((it for it in [*goals, *answers] if not CITES.search(it)), None)
         if refuses:
             return "refused", refuses
         called = [name for it in own for found in WAITS.finditer(it) for name in re.findall(r"`([^`]+)`", found[0])]
@@ -239,7 +240,7 @@ class Round:
         why = own[-1].partition(": ")[2]
         if called and not re.search(r"[a-z]", re.sub(r"^(no proof|not proved)|\band\b", "", WAITS.sub("", why))):
             return "not", f"COULD NOT RUN: it waits for what is taken as it stands: {why}"
-        return "refused", why
+        return "not", f"NOT TRIED: the prover says nothing of a goal: {why}"
 
     def judge_in_cycle(self, function, lines):
         """Returns the verdict on a body that shares a proof with others: refused by a goal of its own function, or to be tried alone."""
