@@ -244,6 +244,12 @@ class Documents(unittest.TestCase):
         page.write_text("# A page\n\n[a](#a-page) [b](page.md#a-page) [c](examples) [d](#b-page) [e](none.md) [f](page.md#none)\n")
         self.assertEqual(lost_links(page), ["#b-page", "none.md", "page.md#none"])
 
+    def test_files_of_live_runs(self):
+        """The page on live runs runs or explains each file of examples/live."""
+        page = (TOP / "docs/LIVE.md").read_text()
+        lost = [it.name for it in (TOP / "examples/live").iterdir() if it.is_file() and f"(../examples/live/{it.name})" not in page]
+        self.assertEqual(lost, [])
+
     def test_manual_page(self):
         shutil.copy(self.room / "examples/straight_line.script", self.room / "readout.script")
         examples = (TOP / "man/camac.1").read_text().partition(".Sh EXAMPLES\n")[2].partition("\n.Sh ")[0]
