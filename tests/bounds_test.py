@@ -1,5 +1,5 @@
 #!/usr/bin/env python3
-"""Tries that `camac bounds` prints the least headings: of the examples, of the scripts of docs/CHECKER.md, and of scripts made at random.
+"""Tries that `camac bounds` prints the least headings: of the examples, of the accepted scripts of the pages, and of scripts made at random.
 
 usage: tests/bounds_test.py [-v] [TEST ..]     from any folder; takes a few seconds
 
@@ -132,12 +132,13 @@ class Writer:
 
 
 def scripts():
-    """Each script with its plan: the examples, those of the page, and some at random."""
+    """Each script with its plan: the examples, those of the pages, and some at random."""
     for path in sorted((TOP / "examples").glob("*.script")):
         for plan in ["@sample", *map(str, sorted((TOP / "examples").glob("*.toml")))]:
             yield plan, path.read_text()
-    for script in BLOCK.findall((TOP / "docs/CHECKER.md").read_text()):
-        yield "@sample", script
+    for page in sorted((TOP / "docs").glob("*.md")):
+        for script in BLOCK.findall(page.read_text()):
+            yield "@sample", script
     dice = random.Random(4100)
     for _ in range(60):
         yield "@sample", Writer(dice).script()

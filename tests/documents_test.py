@@ -48,7 +48,7 @@ COMMAND = re.compile(r"^\$ |(?:^|[|;&(] *)(?:\./)?camac\b(?! [a-z]+ [A-Z]+\b)(?=
 STATEMENT = re.compile(r"^(?:cdlam|cdreg|cfsa|cssa|service|proc) (?!.*\b[A-Z]{2,}\b).*\d")
 FILE = re.compile(r"(?:python|toml(?! P\d)|sh|c|cpp|camac (?:accepted|\w+ line \d+)) (\S+)(?: on \S+)?")
 # Pages whose files stand in a folder of examples, too, and where the page makes them.
-KEPT = {"TUTORIAL.md": ("tutorial", "."), "BENCHES.md": ("benches", "benches"), "LIVE.md": ("live", ".")}
+KEPT = {"TUTORIAL.md": ("tutorial", "."), "BENCHES.md": ("benches", "benches")}
 COMPILER = re.compile(r"\$ (?:cc|c\+\+) ")
 LIBRARY = re.compile(r"pkg-config|in_this_process\.py")
 CELL = re.compile(r"^\|(?:[^|\n]*\|)*([^|\n]*)\|$")
@@ -252,6 +252,12 @@ class Documents(unittest.TestCase):
         page = self.room / "page.md"
         page.write_text("# A page\n\n[a](#a-page) [b](page.md#a-page) [c](examples) [d](#b-page) [e](none.md) [f](page.md#none)\n")
         self.assertEqual(lost_links(page), ["#b-page", "none.md", "page.md#none"])
+
+    def test_files_of_live_runs(self):
+        """The page on live runs runs or explains each file of examples/live."""
+        page = (TOP / "docs/LIVE.md").read_text()
+        lost = [it.name for it in (TOP / "examples/live").iterdir() if it.is_file() and f"(../examples/live/{it.name})" not in page]
+        self.assertEqual(lost, [])
 
     def test_manual_page(self):
         shutil.copy(self.room / "examples/straight_line.script", self.room / "readout.script")

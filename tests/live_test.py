@@ -356,11 +356,10 @@ class Driver(Case):
 
 
 class ShellDriver(Case):
-    """The driver in the shell of docs/LIVE.md, interrupted by a terminal at each request: it and the program get the signal."""
+    """The driver in the shell (examples/live/driver.sh), interrupted by a terminal at each request: it and the program get the signal."""
 
     def test_ctrl_c(self):
-        page = (TOP / "docs/LIVE.md").read_text()
-        driver = page.partition("```sh driver.sh\n")[2].partition("```")[0]
+        driver = (TOP / "examples/live/driver.sh").read_text()
         loop = "while read -r request; do\n"
         self.assertEqual(driver.count(loop), 1)
         self.write("script", LOCKOUT)

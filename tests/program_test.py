@@ -546,17 +546,29 @@ class RunningPage(Case):
     page = (TOP / "docs/RUNNING.md").read_text()
 
     def test_reader_of_event_files(self):
-        (self.room / "reader.py").write_text(re.search(r"```python events\.py\n(.*?)```", self.page, re.S)[1])
+        """The reader of the page, which is the Python package's, on files of both versions, and on one without events."""
+        (self.room / "reader.py").write_text(re.search(r"```python words\.py\n(.*?)```", self.page, re.S)[1])
         self.call("run", "@sample", "straight.script", "answers", "two.events")
         (self.room / "one.events").write_bytes(EVENT_FILE_ONE)
         (self.room / "none.events").write_bytes(b"CAMACEV2")
-        for name, wanted in (("two", "1 3 [3, 0] 000fff\n"), ("one", "1 3 [] 000fff\n"), ("none", "")):
-            ran = subprocess.run([sys.executable, "reader.py", f"{name}.events"], cwd=self.room, capture_output=True, text=True)
+        env = {**os.environ, "PYTHONPATH": str(TOP / "python"), "PYTHONDONTWRITEBYTECODE": "1"}
+        for name, wanted in (("two", "1 3 3 0 000fff\n"), ("one", "1 3 None None 000fff\n"), ("none", "")):
+            ran = subprocess.run([sys.executable, "reader.py", f"{name}.events"], cwd=self.room, env=env, capture_output=True, text=True)
             self.assertEqual((ran.returncode, ran.stdout), (0, wanted), ran.stderr)
+
+    def test_layout_of_event_files(self):
+        """An event of one word has the fields of the page's table, in their sizes."""
+        self.call("run", "@sample", "straight.script", "answers", "two.events")
+        header, _, table = self.page.partition("The header is the 8 bytes `")[2].partition("`. Each event is a record:\n\n")
+        sizes = [int(it) for it in re.findall(r"(?m)^\| (\d)", table.partition("\n\n")[0])]
+        data = self.file("two.events")
+        ends = [8 + sum(sizes[:count]) for count in range(len(sizes) + 1)]
+        fields = [data[at:end].hex() for at, end in zip(ends, ends[1:])]
+        self.assertEqual((data[:8].decode(), ends[-1]), (header, len(data)))
+        self.assertEqual(fields, ["ca4d", "0003", "00000001", "00000003", "0000", "0001", "00000fff"])
 
     def test_whole_events_of_a_cut_file(self):
         """A run into 64 KiB, and then the way of the page from what it left to the events that are whole."""
-        (self.room / "whole.py").write_text(re.search(r"```python whole\.py\n(.*?)```", self.page, re.S)[1])
         line = """trap '' XFSZ; ulimit -f 64; yes '1 1 000001 0 000004' | head -n 20000 | "$camac" run @sample straight.script @in run.events | tail -n 1
           exit "${PIPESTATUS[2]}" """
         status, out, err = self.shell(line)

@@ -1,3 +1,4 @@
+"""Takes the place of a branch driver's library: one crate with a converter, which calls twice."""
 demands = 2
 
 def branch_demand():

@@ -1,3 +1,4 @@
+"""A driver for real crates. The lines marked CALL stand for the calls of your branch driver's library; here it is named `hardware`."""
 import time
 import camac
 import hardware

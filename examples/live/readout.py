@@ -1,3 +1,6 @@
+"""A start and a readout by the driver of my_branch.py.
+
+usage: readout.py PLAN START_SCRIPT SERVICE SCRIPT EVENTS [PATIENCE]"""
 import sys
 import camac
 from my_branch import MyBranch
