@@ -41,6 +41,8 @@ import of_c
 
 TOP = pathlib.Path(__file__).resolve().parent.parent
 PROGRAM = os.path.abspath(os.environ.get("CAMAC_PROGRAM") or TOP / "crates/camac/out/camac")
+if "CAMAC_PROGRAM" in os.environ:
+    os.environ["CAMAC_PROGRAM"] = PROGRAM  # commands of pages run it from other folders, too
 PAGES = [TOP / "README.md", *sorted((TOP / "docs").glob("*.md"))]
 BLOCK = re.compile(r"^```([^\n]*)\n(.*?)^```$", re.M | re.S)
 INDENTED = re.compile(r"^    .*$", re.M)
