@@ -82,14 +82,14 @@ fn push_start(line: &mut Line, number: usize, gl: GlBit, usage: Option<Usage>, w
     ensures short { length line.new ≤ length line.old + 100 }
 {
     line.push_str("event ");
-    line.push_number(number);
+    line.push_count(number);
     line.push_str(" gl ");
     line.push_small(gl.get() as u8);
     if let Some(usage) = usage {
         push_usage(line, usage);
     }
     line.push_str(" words ");
-    line.push_number(words);
+    line.push_count(words);
 }
 
 fn push_usage(line: &mut Line, usage: Usage)
