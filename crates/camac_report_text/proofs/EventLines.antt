@@ -1,8 +1,9 @@
 -- The lines of events.
 use Rattle.std.proofs.Common.{◌≡◌, ℕ, ◌+◌, ◌≤◌, List, [], ◌∷◌, ◌++◌, length, drop, Some, ap, sym, ◌∙◌, zero, suc, refl, append_assoc, add-one, arith}
-use Rattle.std.specs.Prelude.{slice_get}
+use Rattle.std.specs.Prelude.{slice_get, codes}
+use Rattle.std.specs.List.{flat_map}
 use Rattle.camac_event.specs.Spelling.{Entry}
-use Rattle.camac_report_text.specs.Events.{event_line, event_lines}
+use Rattle.camac_report_text.specs.Events.{event_start, event_line, event_lines, word_text}
 
 -- the lines from an event on begin with that event's
 event_lines-drop : (es : List Entry) (number i : ℕ) (e : Entry) → slice_get es i ≡ Some e → event_lines number (drop i es) ≡ event_line number e ++ event_lines (number + 1) (drop (suc i) es)
@@ -44,3 +45,12 @@ event_lines-first es others read after number e last some same next =
     ∙ ap (λ (n : ℕ). (event_line n e ++ event_lines (n + 1) others) ++ last) here
     ∙ ap (λ (n : ℕ). (line ++ event_lines (n + 1) others) ++ last) same
     ∙ append_assoc line (event_lines (after + 1) others) last
+
+-- the line of an event whose begin is laid out
+pub event_line-laid : (number : ℕ) (e : Entry) (before laid : List ℕ) → laid ≡ before ++ event_start number e → laid ++ flat_map word_text e.words ++ codes "\n" ≡ before ++ event_line number e
+unfolding event_line
+event_line-laid number e before laid same =
+    let start : List ℕ = event_start number e in
+    let words : List ℕ = flat_map word_text e.words in
+    let end : List ℕ = codes "\n" in
+    ap (λ (l : List ℕ). l ++ words ++ end) same ∙ ap (λ (l : List ℕ). l ++ end) (append_assoc before start words) ∙ append_assoc before (start ++ words) end

@@ -2,6 +2,7 @@
 use Rattle.std.proofs.Common.{◌≡◌, ℕ, ◌+◌, ◌-◌, ◌<◌, ◌≤◌, List, [], ◌∷◌, ◌++◌, length, get_or, drop, refl, Option, ap, sym, ◌∙◌, zero, suc, append_assoc, append-nil, add-one, subst, arith}
 use Rattle.std.specs.Prelude.{Some, Result, Ok, Err, slice_get}
 use Rattle.std.proofs.lemmas.Option.{slice_get_within, get_or_from_slice_get}
+use Rattle.std.specs.Result.{IsErr}
 use Rattle.std.specs.List.{between, flat_map, range_with_len}
 use Rattle.std.proofs.lemmas.List.{take-append-drop, drop-drop}
 use Rattle.std.proofs.lemmas.List.Concat.{flat_map-append}
@@ -10,7 +11,8 @@ use Rattle.std.specs.Io.KnownBytes.{Appends}
 use Rattle.std.proofs.KnownBytes.{Appends-trans}
 use Rattle.camac_word.proofs.Prefixes.{IsUnderWay}
 use Rattle.camac_word.specs.Writing.{AppendsPrefix, Writes}
-use Rattle.camac_report_text.specs.Texts.{texts}
+use Rattle.camac_report_text.specs.Texts.{Puts, texts}
+use Rattle.camac_report_text.proofs.Lines.{under_way_next, under_way_stops}
 
 -- a prefix of the second text
 pub prefix_after : (x y : List ℕ) (a b c : Option (List ℕ)) → Appends a b x → AppendsPrefix b c y → AppendsPrefix a c (x ++ y)
@@ -115,3 +117,34 @@ pub under_way_laid : (f : ℕ → List ℕ) (xs : List ℕ) (i j : ℕ) (text ol
 under_way_laid f xs i j text old new end a b le laid so_far =
     let more : old ++ flat_map f (drop i xs) ++ end ≡ new ++ flat_map f (drop j xs) ++ end = ap (λ (l : List ℕ). l ++ end) (laid_between f xs i j old new le laid) in
     subst (λ (l : List ℕ). IsUnderWay text l a b) more so_far
+
+-- what is left of a text that is under way is left to be put
+pub under_way_left : (text rest left : List ℕ) (a b : Option (List ℕ)) → IsUnderWay text rest a b → rest ≡ left → (written : List ℕ) × (text ≡ written ++ left) × Appends a b written
+under_way_left text rest left a b so_far same = (so_far.prefix, so_far.parts ∙ ap (λ (l : List ℕ). so_far.prefix ++ l) same, so_far.written)
+
+-- of what was left more was put
+pub Puts-then : {T E : Type 0} (r : Result T E) (text left rest : List ℕ) (a b c : Option (List ℕ)) → ((written : List ℕ) × (text ≡ written ++ left) × Appends a b written) → Puts b c r left rest → Puts a c r text rest
+Puts-then (Ok v) text left rest a b c (x, some, p) (y, more, q) = (
+  x ++ y,
+  some ∙ ap (λ (l : List ℕ). x ++ l) more ∙ sym (append_assoc x y rest),
+  Appends-trans a b c x y p q,
+)
+Puts-then (Err e) text left rest a b c (x, some, p) q = subst (λ (t : List ℕ). AppendsPrefix a c t) (sym some) (prefix_after x left a b c p q)
+
+pub Puts-at_err : {T E : Type 0} (r : Result T E) (a c : Option (List ℕ)) (text left : List ℕ) → IsErr r → AppendsPrefix a c text → Puts a c r text left
+Puts-at_err (Ok x) a c text left is prefix = cc
+Puts-at_err (Err e) a c text left is prefix = prefix
+
+held_next : (held next after rest : List ℕ) → rest ≡ next ++ after → held ++ rest ≡ held ++ next ++ after
+held_next held next after rest parts = ap (λ (l : List ℕ). held ++ l) parts ∙ sym (append_assoc held next after)
+
+-- a text that is under way begins with what is held, and of this and the next line some is held still
+pub under_way_put : (text held next after left : List ℕ) (rest : List ℕ) (a b c : Option (List ℕ)) → IsUnderWay text (held ++ rest) a b → rest ≡ next ++ after
+    → ((written : List ℕ) × (held ++ next ≡ written ++ left) × Appends b c written) → IsUnderWay text (left ++ after) a c
+under_way_put text held next after left rest a b c so_far parts (x, some, p) =
+    under_way_next text (held ++ rest) x (left ++ after) a b c so_far (held_next held next after rest parts ∙ ap (λ (l : List ℕ). l ++ after) some ∙ append_assoc x left after) p
+
+-- a prefix of this was written
+pub under_way_put_stops : (text held next after : List ℕ) (rest : List ℕ) (a b c : Option (List ℕ)) → IsUnderWay text (held ++ rest) a b → rest ≡ next ++ after
+    → AppendsPrefix b c (held ++ next) → AppendsPrefix a c text
+under_way_put_stops text held next after rest a b c so_far parts p = under_way_stops text (held ++ rest) (held ++ next) after a b c so_far (held_next held next after rest parts) p

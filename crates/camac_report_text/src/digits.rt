@@ -1,8 +1,8 @@
-// Words of 24 bits in hexadecimal.
+// Words of 24 bits in hexadecimal, and two digits in decimal.
 
-ghost use Rattle.std.specs.Prelude.{◌≡◌, ◌/◌, ◌%◌, ◌++◌, ◌∷◌, [], codes, slice_index};
+ghost use Rattle.std.specs.Prelude.{◌≡◌, ◌<◌, ◌/◌, ◌%◌, ◌++◌, ◌∷◌, [], codes, slice_index};
 ghost use Rattle.hex.specs.Hex.{encode_lower, lower_digits};
-ghost use Rattle.camac_report_text.specs.Digits.{hex_word};
+ghost use Rattle.camac_report_text.specs.Digits.{hex_word, two_digits};
 
 use camac_word::Word24;
 
@@ -61,4 +61,18 @@ fn low_digit(byte: u8) -> u8
     ensures { result ≡ slice_index lower_digits (byte % 16) }
 {
     PAIRS[byte as usize * 2 + 1]
+}
+
+/// The two digits of each number below 100.
+static DECIMAL_PAIRS: [u8; 200] =
+    *b"00010203040506070809101112131415161718192021222324252627282930313233343536373839404142434445464748495051525354555657585960616263646566676869707172737475767778798081828384858687888990919293949596979899";
+
+/// The two digits of a number below 100.
+#[inline(always)]
+pub fn two_digits(number: usize) -> [u8; 2]
+    requires { number < 100 }
+    ensures { result ≡ two_digits number }
+{
+    let at = number * 2;
+    [DECIMAL_PAIRS[at], DECIMAL_PAIRS[at + 1]]
 }

@@ -1,10 +1,11 @@
 // The lines of an event file.
 
-ghost use Rattle.std.specs.Prelude.{◌≡◌, ◌≤◌, ◌<◌, ◌+◌, ◌||◌, ◌++◌, length, is_err, codes, Some};
+ghost use Rattle.std.specs.Prelude.{◌≡◌, ◌≤◌, ◌<◌, ◌+◌, ◌||◌, ◌++◌, length, is_err, codes, OnOk, Some};
 ghost use Rattle.std.specs.List.{flat_map};
 ghost use Rattle.camac_event.specs.Spelling.{entry_of};
 ghost use Rattle.camac_event.specs.Found.{entry_in};
 ghost use Rattle.camac_report_text.specs.Events.{usage_text, start_text, word_text, event_line, last_line, events_text};
+ghost use Rattle.camac_report_text.specs.Texts.{Puts};
 ghost use Rattle.camac_word.specs.Watched.{inner_of, has_failed};
 ghost use Rattle.camac_word.specs.Writing.{Writes};
 
@@ -37,9 +38,10 @@ pub fn write_event_file<W: Write>(
     let mut line = Line::new();
     let mut records = file.records();
     'records: while let Some(record) = records.next() {
-        write_record(out, &mut line, &record)?;
+        put_record(out, &mut line, &record)?;
     }
-    out.write_text(line_of_number(records.read()).as_bytes())
+    push_last(&mut line, records.read());
+    out.write_text(line.as_bytes())
 }
 
 fn write_event<W: Write>(
@@ -55,16 +57,17 @@ fn write_event<W: Write>(
     write_words(out, &mut line, &event.words)
 }
 
-// Writes the line of an event. What the line held before is forgotten.
-fn write_record<W: Write>(
+// Puts the line of an event after what is laid out and not written yet.
+fn put_record<W: Write>(
     out: &mut Watched<W>,
     line: &mut Line,
     record: &EventRecord<'_>,
 ) -> Result<(), WriteFault>
-    ensures text { Writes (W.contents (inner_of out.old)) (W.contents (inner_of out.new)) result (event_line record.now.number (entry_in record.now)) }
+    requires { length line.old ≤ FULL }
+    ensures text { Puts (W.contents (inner_of out.old)) (W.contents (inner_of out.new)) result (line.old ++ event_line record.now.number (entry_in record.now)) line.new }
+    ensures room { OnOk result (length line.new ≤ FULL) }
     ensures failed { has_failed out.new ≡ (has_failed out.old || is_err result) }
 {
-    line.clear();
     push_start(
         line,
         record.number,
@@ -72,28 +75,43 @@ fn write_record<W: Write>(
         record.usage,
         record.words.len(),
     );
-    write_file_words(out, line, &record.words)
+    put_file_words(out, line, &record.words)?;
+    make_room(out, line)
+}
+
+// Writes what is laid out where the line of another event may not fit after it.
+fn make_room<W: Write>(out: &mut Watched<W>, line: &mut Line) -> Result<(), WriteFault>
+    ensures text { Puts (W.contents (inner_of out.old)) (W.contents (inner_of out.new)) result line.old line.new }
+    ensures room { OnOk result (length line.new ≤ FULL) }
+    ensures failed { has_failed out.new ≡ (has_failed out.old || is_err result) }
+{
+    if line.len() <= FULL {
+        return Ok(());
+    }
+    out.write_text(line.as_bytes())?;
+    line.clear();
+    Ok(())
 }
 
 /// Puts the line up to the words, of which `words` is the number.
 fn push_start(line: &mut Line, number: usize, gl: GlBit, usage: Option<Usage>, words: usize)
-    requires { length line.old ≤ 40 }
+    requires { length line.old ≤ FULL }
     ensures text { line.new ≡ line.old ++ start_text number gl usage words }
     ensures short { length line.new ≤ length line.old + 100 }
 {
     line.push_str("event ");
-    line.push_number(number);
+    line.push_count(number);
     line.push_str(" gl ");
     line.push_small(gl.get() as u8);
     if let Some(usage) = usage {
         push_usage(line, usage);
     }
     line.push_str(" words ");
-    line.push_number(words);
+    line.push_count(words);
 }
 
 fn push_usage(line: &mut Line, usage: Usage)
-    requires { length line.old ≤ 100 }
+    requires { length line.old ≤ 200 }
     ensures bytes { line.new ≡ line.old ++ usage_text (Some usage) }
     ensures len { length line.new ≤ length line.old + 31 }
 {
@@ -124,14 +142,14 @@ fn write_words<W: Write>(
     out.write_text(line.as_bytes())
 }
 
-// The same of the words of a file.
-fn write_file_words<W: Write>(
+// Puts the words of a file and an LF after what is laid out. Where there is no more room, that is written.
+fn put_file_words<W: Write>(
     out: &mut Watched<W>,
     line: &mut Line,
     words: &EventWords<'_>,
 ) -> Result<(), WriteFault>
-    requires room { length line.old < LAST_WORD }
-    ensures text { Writes (W.contents (inner_of out.old)) (W.contents (inner_of out.new)) result (line.old ++ flat_map word_text words.now ++ codes "\n") }
+    requires { length line.old < LAST_WORD }
+    ensures text { Puts (W.contents (inner_of out.old)) (W.contents (inner_of out.new)) result (line.old ++ flat_map word_text words.now ++ codes "\n") line.new }
     ensures failed { has_failed out.new ≡ (has_failed out.old || is_err result) }
 {
     let mut first = 0;
@@ -146,18 +164,28 @@ fn write_file_words<W: Write>(
         }
     }
     line.push_str("\n");
-    out.write_text(line.as_bytes())
+    Ok(())
 }
 
 /// Where a line has no more room for a word and an LF.
 const LAST_WORD: usize = LONGEST_LINE - 7;
 
+/// The greatest length after which a line has room for the numbers of another event.
+const FULL: usize = LONGEST_LINE - 116;
+
 fn line_of_number(events: usize) -> Line
     ensures { result ≡ last_line events }
 {
     let mut line = Line::new();
-    line.push_str("events ");
-    line.push_number(events);
-    line.push_str("\n");
+    push_last(&mut line, events);
     line
+}
+
+fn push_last(line: &mut Line, events: usize)
+    requires { length line.old ≤ FULL }
+    ensures { line.new ≡ line.old ++ last_line events }
+{
+    line.push_str("events ");
+    line.push_count(events);
+    line.push_str("\n");
 }

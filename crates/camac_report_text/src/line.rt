@@ -7,7 +7,7 @@ ghost use Rattle.camac_report_text.specs.Cycles.{cycle_start, cycle_text};
 ghost use Rattle.camac_report_text.specs.Digits.{hex_word};
 ghost use Rattle.camac_report_text.specs.Events.{word_text};
 
-use crate::bytes::{bytes_in, number_in, small_in};
+use crate::bytes::{bytes_in, count_in, number_in, small_in};
 use crate::cycle::{command_in, cycle_in};
 use crate::digits::{hex_bytes, hex_word, spaced};
 use camac_branch::{Command, CycleDone};
@@ -98,6 +98,15 @@ impl Line {
         ensures len { length self.new ≤ length self.old + N.MAX_STR_LEN }
     {
         self.len = number_in(&mut self.bytes, self.len, number);
+    }
+
+    /// Puts the number at the end, in decimal. It is quick where the number has at most eight digits.
+    pub(crate) fn push_count(&mut self, number: usize)
+        requires room { length self.old + 20 ≤ LONGEST_LINE }
+        ensures bytes { self.new ≡ self.old ++ decimal number }
+        ensures len { length self.new ≤ length self.old + 20 }
+    {
+        self.len = count_in(&mut self.bytes, self.len, number);
     }
 
     /// Puts the number at the end, in decimal. It is quick where the number has one digit or two.

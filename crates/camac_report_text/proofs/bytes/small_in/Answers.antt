@@ -1,5 +1,6 @@
-use Rattle.std.proofs.Common.{◌≡◌, ℕ, ◌+◌, ◌/◌, ◌%◌, ◌++◌, [], ◌∷◌, List, take, ap, sym, ◌∙◌, refl, decimal, arith}
-use Rattle.std.proofs.lemmas.Fmt.{decimal_digit, decimal_step}
+use Rattle.std.proofs.Common.{◌++◌, List, ℕ, take, ap, sym, ◌∙◌, arith}
+use Rattle.std.proofs.lemmas.Fmt.{decimal_digit}
+use Rattle.itoa.proofs.Decimal.{decimal_two}
 use Rattle.camac_report_text.proofs.bytes.small_in.Goals as goal
 
 pub returns-then-number-lt10-clause-written : goal.returns-then-number-lt10-clause-written
@@ -8,6 +9,5 @@ returns-then-number-lt10-clause-written c =
 
 pub returns-then-number-lt100-clause-written : goal.returns-then-number-lt100-clause-written
 returns-then-number-lt100-clause-written c =
-    let number = c.args.number in
-    let two : decimal number ≡ (48 + number / 10) ∷ (48 + number % 10) ∷ [] = rw (decimal_step number (omega arith) (omega arith), decimal_digit (number / 10) (omega arith)) refl in
-    c.bytes_in-then-number-lt100.ensures.written ∙ ap (λ (l : List ℕ). take c.args.start c.args.bytes.now ++ l) (sym two)
+    c.bytes_in-then-number-lt100.ensures.written
+    ∙ ap (λ (l : List ℕ). take c.args.start c.args.bytes.now ++ l) (c.two_digits.ensures ∙ sym (decimal_two c.args.number (omega arith) (omega arith)))

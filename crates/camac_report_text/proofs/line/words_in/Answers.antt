@@ -1,4 +1,4 @@
-use Rattle.std.proofs.Common.{◌≡◌, ◌+◌, ◌++◌, ◌∙◌, ◌∷◌, [], List, ℕ, codes, get_or, length, take, sym, ap, refl, append-nil, append_assoc, arith}
+use Rattle.std.proofs.Common.{◌≡◌, ◌++◌, ◌∙◌, ◌∷◌, [], List, ℕ, codes, get_or, length, take, sym, ap, refl, append-nil, append_assoc, arith}
 use Rattle.std.specs.List.{between, flat_map}
 use Rattle.std.proofs.lemmas.List.Edits.{between_none}
 use Rattle.hex.specs.Hex.{encode_with, encode_lower}

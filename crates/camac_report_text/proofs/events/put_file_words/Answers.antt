@@ -1,10 +1,10 @@
-use Rattle.std.proofs.Common.{◌≡◌, ◌∙◌, ◌++◌, ◌+◌, ◌≤◌, [], List, ℕ, ap, codes, sym, refl, drop, length, append_assoc, arith}
+use Rattle.std.proofs.Common.{◌∙◌, ◌++◌, ◌+◌, ◌≤◌, List, ℕ, ap, codes, sym, refl, drop, length, append_assoc, arith}
 use Rattle.std.proofs.Math.Bool.{or-false}
 use Rattle.std.specs.List.{flat_map}
 use Rattle.camac_report_text.specs.Events.{word_text}
-use Rattle.camac_report_text.proofs.Lines.{under_way_next, under_way_stops, Writes-at_err}
-use Rattle.camac_report_text.proofs.Texts.{under_way_as, under_way_laid, under_way_last, laid_all}
-use Rattle.camac_report_text.proofs.events.write_file_words.Goals as goal
+use Rattle.camac_report_text.proofs.Lines.{under_way_next, under_way_stops}
+use Rattle.camac_report_text.proofs.Texts.{under_way_as, under_way_laid, under_way_left, laid_all, Puts-at_err}
+use Rattle.camac_report_text.proofs.events.put_file_words.Goals as goal
 
 pub returns-in_err-write_text-clause-text : goal.returns-in_err-write_text-clause-text
 returns-in_err-write_text-clause-text g c =
@@ -14,7 +14,7 @@ returns-in_err-write_text-clause-text g c =
     let line = c.push_words.new.self in
     let rest : List ℕ = flat_map word_text (drop last c.args.words.now) in
     let pushed = under_way_laid word_text c.args.words.now first last _ c.pieces.line line end _ _ (omega arith) c.push_words.ensures.text c.pieces.invariant.0 in
-    Writes-at_err c.from_residual.result _ _ _ c.from_residual.ensures.0
+    Puts-at_err c.from_residual.result _ _ _ _ c.from_residual.ensures.0
     (under_way_stops _ _ line (rest ++ end) _ _ _ pushed (append_assoc line rest end) (rw c.as_bytes.ensures at c.in_err-write_text.ensures.text))
 
 pub pieces-preserved-then-len-ge-LAST_WORD : goal.pieces-preserved-then-len-ge-LAST_WORD
@@ -43,4 +43,4 @@ returns-clause-text g c =
     let words = c.args.words.now in
     let past : length words ≤ c.pieces.first = omega arith in
     let all = ap (λ (l : List ℕ). l ++ codes "\n") (laid_all word_text words c.pieces.first c.pieces.line past) in
-    under_way_last c.write_text-2.result _ _ (c.pieces.line ++ codes "\n") _ _ _ c.pieces.invariant.0 all (rw (c.as_bytes-2.ensures ∙ c.push_str.ensures.bytes) at c.write_text-2.ensures.text)
+    under_way_left _ _ _ _ _ c.pieces.invariant.0 (all ∙ sym c.push_str.ensures.bytes)

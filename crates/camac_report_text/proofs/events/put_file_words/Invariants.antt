@@ -3,7 +3,7 @@ use Rattle.std.specs.List.{flat_map}
 use Rattle.camac_word.specs.Watched.{inner_of, has_failed}
 use Rattle.camac_word.proofs.Prefixes.{IsUnderWay}
 use Rattle.camac_report_text.specs.Events.{word_text}
-use Rattle.camac_report_text.proofs.events.write_file_words.Given as goal
+use Rattle.camac_report_text.proofs.events.put_file_words.Given as goal
 
 abbrev pub invariant-pieces : goal.invariant-pieces
 invariant-pieces g l =
