@@ -257,7 +257,10 @@ fn walk_lock(
     else {
         unreachable!()
     };
-    let place = Place { context, around };
+    let place = Place {
+        context: &*context,
+        around: &*around,
+    };
     let c = lock_crate(&place, *line, crate_no, &known)?;
     let inside = around.with_locked(alloc, c)?;
     let inner = walk_block(alloc, context, &inside, body, Some(known))?;
