@@ -1,19 +1,24 @@
 #!/usr/bin/env python3
 """Measures the processor time and the peak memory of the built program on large inputs, beside `cat` of the same bytes.
 
-usage: bench/speed.py [--best N] [--growth] [--only WORD] [PROGRAM ..]
+usage: bench/speed.py [--best N] [--growth | --instructions] [--only WORD] [PROGRAM ..]
 
 PROGRAM is crates/camac/out/camac unless given (built by: cd crates/camac && rt run). Several programs are measured in turn, so that versions
 can be compared. Processor time is user and system time together, in milliseconds, the least of N calls (5). Peak memory is in KiB, by GNU
 time where that is there. Inputs are files, and output goes to /dev/null, unless the case says file or pipe.
 
 The first table has one line for each case. --growth prints the second: inputs of a hundredth, a tenth and the whole of the greatest size.
+--instructions prints a third, of millions of instructions by valgrind, which are the same on every computer. A run has a tenth of its answers
+there, and its instructions for each answer stand beside.
 --only takes the cases whose names have this word in them.
 """
 import argparse
 import os
+import re
+import shutil
 import statistics
 import struct
+import subprocess
 import sys
 import tempfile
 
@@ -98,6 +103,14 @@ class Case:
     def __init__(self, name, words, text, script="", to="/dev/null"):
         self.name, self.words, self.script, self.to = name, words, script, to
         self.text = text if isinstance(text, bytes) else text.encode()
+
+    def answers(self):
+        return len(self.text) // len(QUIET) if self.words[0] == "run" else 0
+
+    def tenth(self):
+        """The same run on a tenth of its answers; any other case as it is."""
+        text = self.text[: self.answers() // 10 * len(QUIET)] if self.answers() else self.text
+        return Case(self.name, self.words, text, self.script)
 
     def put(self, room):
         """Writes the inputs, and returns the words of the call and the output."""
@@ -226,10 +239,29 @@ def measured(case, programs, best):
         return [len(case.text)] + [number for call, taken in zip(calls, times) for number in (min(taken), peak(call, room), statistics.median(taken))]
 
 
+def instructions(words):
+    """How many instructions one call takes."""
+    said = subprocess.run(["valgrind", "--tool=callgrind", "--callgrind-out-file=/dev/null", *words], stdout=subprocess.DEVNULL, stderr=subprocess.PIPE, text=True)
+    return int(re.search(r"Collected : (\d+)", said.stderr)[1])
+
+
+def print_instructions(chosen, programs):
+    print("| case |" + "".join(f" {os.path.basename(it)}: million instructions | for an answer |" for it in programs))
+    print("|---|" + "---|---|" * len(programs))
+    for case in (it.tenth() for it in chosen if it.to == "/dev/null"):
+        with tempfile.TemporaryDirectory(prefix="camac-speed-") as room:
+            words, _ = case.put(room)
+            counts = [instructions([program, *words]) for program in programs]
+        cells = [(f"{count / 1e6:.2f}", f"{count / case.answers():.0f}" if case.answers() else "") for count in counts]
+        print(f"| {case.name} |" + "".join(f" {count} | {each} |" for count, each in cells), flush=True)
+
+
 def main():
     words = argparse.ArgumentParser(description="Processor time and peak memory on large inputs.")
     words.add_argument("--best", type=int, default=5, help="how often each call is made")
-    words.add_argument("--growth", action="store_true", help="the table of growing inputs")
+    tables = words.add_mutually_exclusive_group()
+    tables.add_argument("--growth", action="store_true", help="the table of growing inputs")
+    tables.add_argument("--instructions", action="store_true", help="the table of instructions, by valgrind")
     words.add_argument("--only", default="", help="the cases whose names have this word in them")
     words.add_argument("programs", nargs="*", metavar="PROGRAM")
     given = words.parse_args()
@@ -238,13 +270,17 @@ def main():
     for program in programs:
         if not os.access(program, os.X_OK):
             sys.exit(f"{program} is not there: build it by 'cd crates/camac && rt run'")
+    chosen = [it for it in (growing() if given.growth else cases()) if given.only in it.name]
+    if given.instructions:
+        if not shutil.which("valgrind"):
+            sys.exit("instructions are counted by valgrind, which is not there")
+        return print_instructions(chosen, programs)
     heads = ["cat"] + [os.path.basename(it) for it in programs]
     print("| case | bytes |" + "".join(f" {it}: ms | KiB |" for it in heads))
     print("|---|---|" + "---|---|" * len(heads))
-    for case in growing() if given.growth else cases():
-        if given.only in case.name:
-            size, *numbers = measured(case, programs, given.best)
-            print(f"| {case.name} | {size} |" + "".join(f" {numbers[at]:.1f} | {numbers[at + 1]} |" for at in range(0, len(numbers), 3)), flush=True)
+    for case in chosen:
+        size, *numbers = measured(case, programs, given.best)
+        print(f"| {case.name} | {size} |" + "".join(f" {numbers[at]:.1f} | {numbers[at + 1]} |" for at in range(0, len(numbers), 3)), flush=True)
 
 
 if __name__ == "__main__":
