@@ -1,5 +1,6 @@
 #!/usr/bin/env python3
-"""Runs what README.md, docs/*.md and the examples of man/camac.1 show, and compares it with what they say comes of it; follows their links.
+"""Runs what README.md, docs/*.md and the examples of man/camac.1 show, and compares it with what they say comes of it; follows their links. Checks
+that docs/first_task.diff applies.
 
 usage: tests/documents_test.py [-v] [TEST ..]     from any folder; takes a few seconds
 
@@ -62,6 +63,7 @@ service adc within 15 cycles event 1 words {
   cdreg r 1 1 5 0
   cfsa 0 r -> a  cfsa 0 r -> b  cfsa 0 r -> c  cfsa 0 r -> k  cfsa 0 r -> v
 """
+FIRST_TASK = TOP / "docs/first_task.diff"
 WAIT = 60
 SCRIPT = "cdlam adc 1 1 5 12\nservice adc within 3 cycles event 0 words { }\n"
 
@@ -312,6 +314,26 @@ class Documents(unittest.TestCase):
     def test_commands_of_more_lines(self):
         self.assertEqual(try_page("```console\n$ ./camac plan @sample |\n>   grep buffer\nbuffer 4096\n$ true\n```\n", self.room), 2)
         self.refuse("```console\n$ ./camac plan @sample |\n>   grep buffer\nbuffer 4095\n```\n")
+
+
+class FirstTask(unittest.TestCase):
+    """The diff of the first task, which docs/CHANGING.md tells step by step."""
+
+    def check(self, *words):
+        """Whether git would apply the diff to these sources."""
+        return subprocess.run(["git", "apply", "--check", *words, FIRST_TASK], cwd=TOP, capture_output=True, timeout=WAIT).returncode == 0
+
+    def test_diff_applies(self):
+        """The diff fits the sources, which do not have its rule."""
+        mend = "apply it by `git apply --3way`, mend and prove it as the page says, and keep `git diff -U1 HEAD`"
+        self.assertTrue(self.check(), mend)
+        self.assertFalse(self.check("--reverse"))
+
+    def test_steps_name_its_files(self):
+        section = (TOP / "docs/CHANGING.md").read_text().partition("## A first task")[2].partition("\n## ")[0]
+        files = re.findall(r"^\+\+\+ b/(?:crates/)?(.*)$", FIRST_TASK.read_text(), re.M)
+        self.assertGreater(len(files), 10)
+        self.assertEqual([it for it in files if f"`{it}`" not in section], [])
 
 
 def keep():
