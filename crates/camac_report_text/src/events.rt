@@ -153,19 +153,21 @@ fn put_file_words<W: Write>(
     ensures failed { has_failed out.new ≡ (has_failed out.old || is_err result) }
 {
     let mut first = 0;
-    'pieces: while first < words.len() {
-        let room = (LONGEST_LINE - 1 - line.len()) / 7;
-        let last = first + room.min(words.len() - first);
-        line.push_words(words, first, last);
-        first = last;
-        if line.len() >= LAST_WORD {
-            out.write_text(line.as_bytes())?;
-            line.clear();
-        }
+    let mut room = (LONGEST_LINE - 1 - line.len()) / 7;
+    'pieces: while words.len() - first > room {
+        line.push_words(words, first, first + room);
+        out.write_text(line.as_bytes())?;
+        line.clear();
+        first += room;
+        room = MOST_WORDS;
     }
+    line.push_words(words, first, words.len());
     line.push_str("\n");
     Ok(())
 }
+
+/// How many words a line has room for beside an LF.
+const MOST_WORDS: usize = (LONGEST_LINE - 1) / 7;
 
 /// Where a line has no more room for a word and an LF.
 const LAST_WORD: usize = LONGEST_LINE - 7;
