@@ -1,7 +1,7 @@
 // What is known where a condition holds, and where it does not.
 
 ghost use Rattle.std.specs.Prelude.{◌≡◌, IfOk, map};
-ghost use Rattle.camac_lang.specs.View.{expression_of, test_of, part_of};
+ghost use Rattle.camac_lang.specs.View.{expression_of, term_of, test_of, part_of};
 ghost use Rattle.camac_check_rules.specs.Conditions.{branches, sole_variable, refine, assume, split_test, split_part, split};
 ghost use Rattle.camac_check_rules.specs.Refusal.{if_reached};
 ghost use Rattle.camac_check_known.specs.Gives.{Gives, branches_of};
@@ -10,7 +10,7 @@ use crate::expression::range_of;
 use crate::fault::CheckFault;
 use crate::joined::join;
 use crate::known::{Facts, range_in};
-use camac_lang::{Expr, Part, Test};
+use camac_lang::{Expr, Form, Part, Term, Test};
 use camac_range::{Cmp, Range, narrow};
 use std::alloc::{AllocError, Global};
 
@@ -121,9 +121,9 @@ fn assume(
     let Some(right) = narrow(comparison.turned(), s, r) else {
         return Ok(None);
     };
-    match refine(sole_variable(a), left, known)? {
+    match refine(sole_variable(a.term()), left, known)? {
         None => Ok(None),
-        Some(refined) => refine(sole_variable(b), right, refined),
+        Some(refined) => refine(sole_variable(b.term()), right, refined),
     }
 }
 
@@ -141,17 +141,13 @@ fn refine(variable: Option<usize>, range: Range, known: Facts) -> Result<Option<
 }
 
 /// The variable that an expression is, brackets aside.
-pub fn sole_variable(e: &Expr) -> Option<usize>
-    ensures { result ≡ sole_variable (expression_of e.now) }
+pub fn sole_variable(e: Term<'_>) -> Option<usize>
+    ensures { result ≡ sole_variable (term_of e.entry) }
 {
-    match e {
-        Expr::Var(x) => Some(*x),
-        Expr::Group(e) => sole_variable(e),
-        Expr::Num(_) => None,
-        Expr::Add(_) => None,
-        Expr::Sub(_) => None,
-        Expr::Mul(_) => None,
-        Expr::Div(_, _) => None,
-        Expr::Rem(_, _) => None,
+    match e.form() {
+        Form::Variable(x) => Some(x),
+        Form::Group(e) => sole_variable(e),
+        Form::Number(_) | Form::Add(_, _) | Form::Subtract(_, _) => None,
+        Form::Multiply(_, _) | Form::Divide(_, _) | Form::Remainder(_, _) => None,
     }
 }

@@ -1,7 +1,7 @@
 // The numbers that an expression can take.
 
 ghost use Rattle.std.specs.Prelude.{◌≡◌, ℕ, Some};
-ghost use Rattle.camac_lang.specs.View.{expression_of};
+ghost use Rattle.camac_lang.specs.View.{expression_of, term_of};
 ghost use Rattle.camac_range.specs.Operators.{div, rem};
 ghost use Rattle.camac_check_rules.specs.Cases.{operation};
 ghost use Rattle.camac_check_rules.specs.Expressions.{range_of};
@@ -9,12 +9,12 @@ ghost use Rattle.camac_check_rules.specs.Refusal.{given};
 ghost use Rattle.camac_check_rules.specs.declared.rule.CheckRule.TheVariants.{ValueOutOfRange};
 ghost use Rattle.camac_check_known.specs.declared.fault.CheckFault.TheVariants.{Broken};
 ghost use Rattle.camac_check_known.specs.Gives.{Gives};
-ghost use Rattle.camac_check_known.specs.Told.{told};
+ghost use Rattle.camac_check_known.specs.Told.{Tells};
 
 use crate::fault::{CheckFault, numbers_of};
 use crate::known::range_in;
 use camac_check_rules::{Case, CheckRule, Operator};
-use camac_lang::{Divisor, Expr};
+use camac_lang::{Divisor, Expr, Form, Term};
 use camac_range::Range;
 
 /// An operator that may have no number as its result, and the ranges on both sides of it. It is small, so that it is handed on quickly.
@@ -46,43 +46,61 @@ impl Beyond {
 pub fn range_of(line: u32, e: &Expr, ranges: &[Range]) -> Result<Range, CheckFault>
     ensures { Gives (λ r. r) result (range_of line (expression_of e.now) ranges.now) }
 {
-    match reach(e, ranges) {
-        Ok(range) => Ok(range),
-        Err(beyond) => Err(beyond.fault(line)),
+    let mut beyond = None;
+    match reach(e.term(), ranges, &mut beyond) {
+        Some(range) => Ok(range),
+        None => match beyond {
+            Some(beyond) => Err(beyond.fault(line)),
+            None => unreachable!(),
+        },
     }
 }
 
-// The same for every line.
-#[tactic(auto, using(crate::proofs::Steps::steps), unfolding(camac_check_rules::specs::Refusal::go_on, camac_check_rules::specs::Refusal::given, camac_check_rules::specs::Refusal::required))]
-fn reach(e: &Expr, ranges: &[Range]) -> Result<Range, Beyond>
-    ensures { (line : ℕ) → range_of line (expression_of e.now) ranges.now ≡ told line result }
+// The same for every line. Where there is no range, the operator is written down: ranges are handed back quickly, since they are small.
+#[cycle(reach)]
+#[tactic(auto, unfolding(camac_check_rules::specs::Refusal::go_on, camac_check_rules::specs::Refusal::required))]
+#[inline(always)]
+fn reach(e: Term<'_>, ranges: &[Range], beyond: &mut Option<Beyond>) -> Option<Range>
+    ensures { (line : ℕ) → Tells line result beyond.new (range_of line (term_of e.entry) ranges.now) }
 {
-    match e {
-        Expr::Num(n) => Ok(Range::only(*n)),
-        Expr::Var(x) => Ok(range_in(ranges, *x)),
-        Expr::Group(e) => reach(e, ranges),
-        Expr::Add(operands) => {
-            let r = reach(&operands.left, ranges)?;
-            let s = reach(&operands.right, ranges)?;
-            number_or(r.add(s), Operator::Add, r, s)
+    match e.form() {
+        Form::Number(n) => Some(Range::only(n)),
+        Form::Variable(x) => Some(range_in(ranges, x)),
+        _ => reach_operator(e, ranges, beyond),
+    }
+}
+
+#[cycle(reach)]
+#[tactic(auto, using(crate::proofs::Steps::steps), unfolding(camac_check_rules::specs::Refusal::go_on, camac_check_rules::specs::Refusal::given, camac_check_rules::specs::Refusal::required))]
+fn reach_operator(e: Term<'_>, ranges: &[Range], beyond: &mut Option<Beyond>) -> Option<Range>
+    ensures { (line : ℕ) → Tells line result beyond.new (range_of line (term_of e.entry) ranges.now) }
+{
+    match e.form() {
+        Form::Number(n) => Some(Range::only(n)),
+        Form::Variable(x) => Some(range_in(ranges, x)),
+        Form::Group(e) => reach(e, ranges, beyond),
+        Form::Add(left, right) => {
+            let r = reach(left, ranges, beyond)?;
+            let s = reach(right, ranges, beyond)?;
+            number_or(r.add(s), Operator::Add, r, s, beyond)
         }
-        Expr::Sub(operands) => {
-            let r = reach(&operands.left, ranges)?;
-            let s = reach(&operands.right, ranges)?;
-            number_or(r.sub(s), Operator::Sub, r, s)
+        Form::Subtract(left, right) => {
+            let r = reach(left, ranges, beyond)?;
+            let s = reach(right, ranges, beyond)?;
+            number_or(r.sub(s), Operator::Sub, r, s, beyond)
         }
-        Expr::Mul(operands) => {
-            let r = reach(&operands.left, ranges)?;
-            let s = reach(&operands.right, ranges)?;
-            number_or(r.mul(s), Operator::Mul, r, s)
+        Form::Multiply(left, right) => {
+            let r = reach(left, ranges, beyond)?;
+            let s = reach(right, ranges, beyond)?;
+            number_or(r.mul(s), Operator::Mul, r, s, beyond)
         }
-        Expr::Div(d, a) => {
-            let r = reach(a, ranges)?;
-            Ok(quotient(r, *d))
+        Form::Divide(e, divisor) => {
+            let r = reach(e, ranges, beyond)?;
+            Some(quotient(r, divisor))
         }
-        Expr::Rem(d, a) => {
-            let r = reach(a, ranges)?;
-            Ok(remainder(r, *d))
+        Form::Remainder(e, divisor) => {
+            let r = reach(e, ranges, beyond)?;
+            Some(remainder(r, divisor))
         }
     }
 }
@@ -93,14 +111,18 @@ fn number_or(
     operator: Operator,
     left: Range,
     right: Range,
-) -> Result<Range, Beyond>
-    ensures { (line : ℕ) → given found ValueOutOfRange line (operation operator left right) ≡ told line result }
+    beyond: &mut Option<Beyond>,
+) -> Option<Range>
+    ensures { (line : ℕ) → Tells line result beyond.new (given found ValueOutOfRange line (operation operator left right)) }
 {
-    found.ok_or(Beyond {
-        operator,
-        left,
-        right,
-    })
+    if found.is_none() {
+        *beyond = Some(Beyond {
+            operator,
+            left,
+            right,
+        });
+    }
+    found
 }
 
 fn quotient(range: Range, divisor: Divisor) -> Range

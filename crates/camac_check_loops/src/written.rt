@@ -1,12 +1,12 @@
 // What a body writes, and by how much a turn lowers a measure. All is read from the text.
 
 ghost use Rattle.std.specs.Prelude.{◌≡◌, ◌≤◌, IfSome};
-ghost use Rattle.camac_lang.specs.View.{expression_of, move_of, statement_of, statements_of};
+ghost use Rattle.camac_lang.specs.View.{term_of, move_of, statement_of, statements_of};
 ghost use Rattle.camac_check_rules.specs.Conditions.{sole_variable};
 ghost use Rattle.camac_check_rules.specs.Writes.{reads_into, writes, block_writes, positive, is_variable, fall_by, fall_in, fall_of};
 
 use camac_check_known::sole_variable;
-use camac_lang::{Expr, Move, Stmt};
+use camac_lang::{Form, Move, Stmt, Term};
 
 /// How much a turn takes from a measure: that of the one statement of the body itself that does so, where nothing else in it writes the
 /// measure.
@@ -90,7 +90,7 @@ fn fall_in(measure: usize, statement: &Stmt) -> Option<u32>
             ..
         } => {
             if *variable == measure {
-                fall_by(measure, value)
+                fall_by(measure, value.term())
             } else {
                 None
             }
@@ -104,26 +104,26 @@ fn fall_in(measure: usize, statement: &Stmt) -> Option<u32>
 }
 
 // The number that stands after the measure and a minus, brackets aside.
-fn fall_by(measure: usize, value: &Expr) -> Option<u32>
-    ensures value { result ≡ fall_by measure (expression_of value.now) }
+fn fall_by(measure: usize, value: Term<'_>) -> Option<u32>
+    ensures value { result ≡ fall_by measure (term_of value.entry) }
     ensures positive { IfSome result (λ k. 1 ≤ k) }
 {
-    match value {
-        Expr::Sub(operands) => {
-            if is_variable(measure, &operands.left) {
-                positive(&operands.right)
+    match value.form() {
+        Form::Subtract(left, right) => {
+            if is_variable(measure, left) {
+                positive(right)
             } else {
                 None
             }
         }
-        Expr::Group(e) => fall_by(measure, e),
-        Expr::Num(_) | Expr::Var(_) | Expr::Add(_) => None,
-        Expr::Mul(_) | Expr::Div(_, _) | Expr::Rem(_, _) => None,
+        Form::Group(e) => fall_by(measure, e),
+        Form::Number(_) | Form::Variable(_) | Form::Add(_, _) => None,
+        Form::Multiply(_, _) | Form::Divide(_, _) | Form::Remainder(_, _) => None,
     }
 }
 
-fn is_variable(measure: usize, e: &Expr) -> bool
-    ensures { result ≡ is_variable measure (sole_variable (expression_of e.now)) }
+fn is_variable(measure: usize, e: Term<'_>) -> bool
+    ensures { result ≡ is_variable measure (sole_variable (term_of e.entry)) }
 {
     match sole_variable(e) {
         Some(variable) => variable == measure,
@@ -132,14 +132,14 @@ fn is_variable(measure: usize, e: &Expr) -> bool
 }
 
 // A literal from 1, brackets aside.
-fn positive(e: &Expr) -> Option<u32>
-    ensures value { result ≡ positive (expression_of e.now) }
+fn positive(e: Term<'_>) -> Option<u32>
+    ensures value { result ≡ positive (term_of e.entry) }
     ensures positive { IfSome result (λ k. 1 ≤ k) }
 {
-    match e {
-        Expr::Num(n) => { if *n == 0 { None } else { Some(*n) } }
-        Expr::Group(e) => positive(e),
-        Expr::Var(_) | Expr::Add(_) | Expr::Sub(_) => None,
-        Expr::Mul(_) | Expr::Div(_, _) | Expr::Rem(_, _) => None,
+    match e.form() {
+        Form::Number(n) => { if n == 0 { None } else { Some(n) } }
+        Form::Group(e) => positive(e),
+        Form::Variable(_) | Form::Add(_, _) | Form::Subtract(_, _) => None,
+        Form::Multiply(_, _) | Form::Divide(_, _) | Form::Remainder(_, _) => None,
     }
 }

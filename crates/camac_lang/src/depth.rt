@@ -3,11 +3,12 @@
 ghost use Rattle.std.specs.Prelude.{◌≡◌, ◌≤◌, suc, [], length, map, slice_get};
 ghost use Rattle.camac_lang.specs.Depth.{expression_depth, test_depth, part_depth, move_depth, depth_of, statement_depth, inner_depth, callable, callables_after, script_depth};
 ghost use Rattle.camac_lang.specs.Tests.{most};
-ghost use Rattle.camac_lang.specs.View.{expression_of, test_of, part_of, move_of, statement_of, statements_of, procedure_of, service_of, callable_of};
+ghost use Rattle.camac_lang.specs.View.{expression_of, term_of, test_of, part_of, move_of, statement_of, statements_of, procedure_of, service_of, callable_of};
 
+use crate::expression::{Expr, Form, Term};
 use crate::limits::PROCEDURES;
 use crate::script::{Procedure, Script, Service};
-use crate::tree::{Expr, Move, Part, Stmt, Test};
+use crate::tree::{Move, Part, Stmt, Test};
 use arrayvec::ArrayVec;
 
 /// A procedure as its callers see it: how many arguments a call gives, and how many brackets and braces are open at most from its own
@@ -203,12 +204,19 @@ fn expression_depth(e: &Expr) -> u32
     requires { expression_depth (expression_of e.now) ≤ 16 }
     ensures { result ≡ expression_depth (expression_of e.now) }
 {
-    match e {
-        Expr::Num(_) | Expr::Var(_) => 0,
-        Expr::Group(e) => 1 + expression_depth(e),
-        Expr::Add(operands) | Expr::Sub(operands) | Expr::Mul(operands) => {
-            expression_depth(&operands.left).max(expression_depth(&operands.right))
+    term_depth(e.term())
+}
+
+fn term_depth(e: Term<'_>) -> u32
+    requires { expression_depth (term_of e) ≤ 16 }
+    ensures { result ≡ expression_depth (term_of e.entry) }
+{
+    match e.form() {
+        Form::Number(_) | Form::Variable(_) => 0,
+        Form::Group(e) => 1 + term_depth(e),
+        Form::Add(a, b) | Form::Subtract(a, b) | Form::Multiply(a, b) => {
+            term_depth(a).max(term_depth(b))
         }
-        Expr::Div(_, e) | Expr::Rem(_, e) => expression_depth(e),
+        Form::Divide(e, _) | Form::Remainder(e, _) => term_depth(e),
     }
 }

@@ -3,6 +3,7 @@
 
 mod copy;
 mod depth;
+mod expression;
 mod headings;
 mod laws;
 pub mod limits;
@@ -13,9 +14,10 @@ mod tree;
 mod word;
 
 pub use depth::Callable;
+pub use expression::{Expr, Form, Node, Term};
 pub use laws::{limits_hold, procedures_stand, registers_grow, services_stand};
 pub use name::Name;
 pub use room::fits;
 pub use script::{Item, Lam, Parameter, Procedure, Script, Service, Table};
-pub use tree::{Cond, Divisor, Expr, Keep, Move, Operands, Part, Stmt, Test};
+pub use tree::{Cond, Divisor, Keep, Move, Part, Stmt, Test};
 pub use word::{CrateCall, LamCall, WordSize};

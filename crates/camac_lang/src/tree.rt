@@ -1,8 +1,9 @@
-// Expressions, conditions and statements: a variant for each form of the grammar, with the line of each statement's first token.
+// Conditions and statements: a variant for each form of the grammar, with the line of each statement's first token.
 // A variable, register, table, LAM or procedure is its number: see `script.rt`.
 
 ghost use Rattle.std.specs.Prelude.{◌≡◌, ◌≤◌, ◌↔◌, IfSome, IsSome};
 
+use crate::expression::Expr;
 use crate::word::{CrateCall, LamCall, WordSize};
 use camac_range::Cmp;
 use camac_word::Function;
@@ -46,36 +47,6 @@ impl Divisor {
     {
         self.value
     }
-}
-
-/// An expression over numbers from 0 to 4,294,967,295 (own). Operators group to the left, products before sums, and brackets are kept.
-#[derive(Drop)]
-#[cycle(expression)]
-pub enum Expr {
-    /// A literal.
-    Num(u32),
-    /// A variable or parameter.
-    Var(usize),
-    /// In brackets.
-    Group(Box<Expr>),
-    /// `+`
-    Add(Box<Operands>),
-    /// `-`
-    Sub(Box<Operands>),
-    /// `*`
-    Mul(Box<Operands>),
-    /// `/` by a literal, rounded down.
-    Div(Divisor, Box<Expr>),
-    /// `%` by a literal.
-    Rem(Divisor, Box<Expr>),
-}
-
-/// What an operator stands between, in one piece of memory: with one for each operand a check of long statements took a seventh more instructions.
-#[derive(Drop)]
-#[cycle(expression)]
-pub struct Operands {
-    pub left: Expr,
-    pub right: Expr,
 }
 
 /// What one part of a condition tests.

@@ -2,7 +2,7 @@
 use Rattle.std.proofs.Common.{◌≡◌, ℕ, Option, Vec, map, sym, ap, ◌∙◌}
 use Rattle.std.specs.declared.alloc.Global.{Global}
 use Rattle.camac_lang.specs.declared.tree.Cond.{Cond}
-use Rattle.camac_lang.specs.declared.tree.Expr.{Expr}
+use Rattle.camac_lang.specs.declared.expression.Expr.{Expr}
 use Rattle.camac_lang.specs.declared.tree.Keep.{Keep}
 use Rattle.camac_lang.specs.declared.tree.Move.{Move}
 use Rattle.camac_lang.specs.declared.tree.Stmt.{Stmt}

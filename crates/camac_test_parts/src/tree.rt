@@ -4,7 +4,7 @@ ghost use Rattle.std.specs.Prelude.{◌≡◌, ◌≤◌, length, IfOk};
 ghost use Rattle.camac_lang.specs.Example.{adc, first_statement, second_statement, third_statement, adc_service, straight_line};
 ghost use Rattle.camac_lang.specs.View.{lam_of, service_of, statement_of};
 
-use camac_lang::{Expr, Item, Lam, Move, Name, Script, Service, Stmt, WordSize};
+use camac_lang::{Expr, Form, Item, Lam, Move, Name, Script, Service, Stmt, WordSize};
 use camac_word::{Function, SubAddress};
 use std::alloc::{AllocError, Global};
 use std::test::Fail;
@@ -16,9 +16,9 @@ fn set_register() -> Stmt
     Stmt::SetRegister {
         line: 4,
         register: 0,
-        crate_no: Expr::Num(1),
-        station: Expr::Num(5),
-        sub_address: Expr::Num(0),
+        crate_no: Expr::of_number(1),
+        station: Expr::of_number(5),
+        sub_address: Expr::of_number(0),
     }
 }
 
@@ -34,13 +34,13 @@ fn read() -> Stmt
     }
 }
 
-fn put() -> Stmt
-    ensures { statement_of result ≡ third_statement }
+fn put() -> Result<Stmt, AllocError>
+    ensures { IfOk result (λ s. statement_of s ≡ third_statement) }
 {
-    Stmt::Put {
+    Ok(Stmt::Put {
         line: 6,
-        value: Expr::Var(0),
-    }
+        value: Expr::of_variable(0)?,
+    })
 }
 
 /// Its LAM.
@@ -61,7 +61,7 @@ fn service(alloc: Global) -> Result<Service, AllocError>
     ensures { IfOk result (λ v. service_of v ≡ adc_service) }
 {
     let registers = vec![in alloc; Name::new(b"r").unwrap()]?;
-    let body = vec![in alloc; set_register(), read(), put()]?;
+    let body = vec![in alloc; set_register(), read(), put()?]?;
     Ok(Service {
         line: 3,
         lam: 0,
@@ -107,13 +107,11 @@ fn tree_copy(rt: HostRuntime) -> Result<(), Fail> {
             data: Move::Into(0),
             ..
         },
-        Stmt::Put {
-            line: 6,
-            value: Expr::Var(0),
-        },
+        Stmt::Put { line: 6, value },
     ] = copy.services()[0].body.as_slice()
     else {
         panic!(rt; "other statements");
     };
+    assert!(rt; matches!(value.term().form(), Form::Variable(0)));
     Ok(())
 }

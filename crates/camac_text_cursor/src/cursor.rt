@@ -1,15 +1,16 @@
 // The parser's state, and its steps over single tokens.
 
-ghost use Rattle.std.specs.Prelude.{◌≡◌, option_copied};
+ghost use Rattle.std.specs.Prelude.{◌≡◌, [], option_copied};
 ghost use Rattle.camac_text_tokens.specs.Fault.{Fails};
 ghost use Rattle.camac_text_cursor.specs.Reading.{line_of, left_of, kind_of, after_first};
 ghost use Rattle.camac_text_cursor.specs.Readers.{begin, is_keyword, is_sign, is_name, expect, expect_sign, name_here, number_here, any_number, branch_number, function_number, sub_address_number};
 ghost use Rattle.camac_text_cursor.specs.Parser.{state, unread, Gives};
 
-use camac_lang::{Callable, Item, Lam, Name, Procedure, Service, Table, limits};
+use camac_lang::{Callable, Item, Lam, Name, Node, Procedure, Service, Table, limits};
 use camac_text_tokens::{Keyword, Sign, TextFault, TextRule, TokenKind, TokensLeft};
 use camac_word::{Function, SubAddress};
 use std::alloc::Global;
+use std::mem::replace;
 
 /// What is left of the tokens, and what is declared so far.
 #[derive(Drop)]
@@ -37,6 +38,8 @@ pub struct Parser<'a> {
     pub(crate) registers: Vec<Name>,
     // The statements of all bodies.
     statements: u32,
+    // Room for the nodes of the next expression.
+    nodes: Vec<Node>,
 }
 
 impl<'a> Parser<'a> {
@@ -60,7 +63,25 @@ impl<'a> Parser<'a> {
             declared: Vec::new(alloc),
             registers: Vec::new(alloc),
             statements: 0,
+            nodes: Vec::new(alloc),
         }
+    }
+
+    /// An empty list, to gather the nodes of an expression in. A list that was given back is given once more.
+    pub fn take_nodes(&mut self) -> Vec<Node>
+        ensures empty { result.items ≡ [] }
+        ensures same { state self.new ≡ state self.old }
+    {
+        let mut nodes = replace(&mut self.nodes, Vec::new(self.alloc));
+        nodes.truncate(0);
+        nodes
+    }
+
+    /// Takes a list back, for its memory.
+    pub fn give_back_nodes(&mut self, nodes: Vec<Node>)
+        ensures { state self.new ≡ state self.old }
+    {
+        self.nodes = nodes;
     }
 
     /// Where all that is read is allocated.

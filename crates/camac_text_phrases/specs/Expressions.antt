@@ -33,6 +33,14 @@ divisor = do
 
 -- ---- factors, terms and sums, where this is read at a bracket
 
+abbrev pub bracket_by : (ℕ → Reader Counted) → ℕ → Option TokenKind → Reader Counted
+bracket_by bracketed so_far (Some (kind.Sign sign.LeftBracket)) = bracketed so_far
+bracket_by bracketed so_far _ = fail UnexpectedToken
+
+-- brackets, which have to be next
+unfoldable pub brackets_with : (ℕ → Reader Counted) → ℕ → Reader Counted
+brackets_with bracketed so_far = peek >>= bracket_by bracketed so_far
+
 -- a number, a variable, or what stands in brackets
 abbrev pub factor_by : (ℕ → Reader Counted) → ℕ → Option TokenKind → Reader Counted
 factor_by bracketed so_far (Some (kind.Number n)) = do
@@ -41,8 +49,7 @@ factor_by bracketed so_far (Some (kind.Number n)) = do
 factor_by bracketed so_far (Some (kind.Name x)) = do
   place ← used_variable
   give (counted (variable place) so_far)
-factor_by bracketed so_far (Some (kind.Sign sign.LeftBracket)) = bracketed so_far
-factor_by bracketed so_far _ = fail UnexpectedToken
+factor_by bracketed so_far k = bracket_by bracketed so_far k
 
 unfoldable pub factor_with : (ℕ → Reader Counted) → ℕ → Reader Counted
 factor_with bracketed so_far = peek >>= factor_by bracketed so_far

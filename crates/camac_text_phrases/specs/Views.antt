@@ -1,7 +1,28 @@
--- An expression so far and its operators, as the program holds them.
-use Rattle.camac_lang.specs.View.{expression_of}
-use Rattle.camac_text_phrases.specs.declared.expressions.Counted as rust_counted
-use Rattle.camac_text_phrases.specs.Expressions.{Counted, counted}
+-- What the functions return that read an expression.
+use Rattle.std.specs.Prelude.{◌≡◌, ℕ, List, [], ◌∷◌, ◌++◌, Option, Some, None, Result, Ok, Err}
+use Rattle.camac_lang.specs.Tree.{Expression}
+use Rattle.camac_lang.specs.Nodes.{AreWhole, expression_in, nodes_of}
+use Rattle.camac_lang.specs.declared.expression.Node.{Node}
+use Rattle.camac_text_tokens.specs.Fault.{Fault, Fails}
+use Rattle.camac_text_tokens.specs.declared.fault.TextFault.{TextFault}
+use Rattle.camac_text_cursor.specs.Reading.{State}
+use Rattle.camac_text_cursor.specs.Parser.{state}
+use Rattle.camac_text_cursor.specs.declared.cursor.Parser.{Parser}
+use Rattle.camac_text_phrases.specs.Expressions.{Counted, counted, bracketed, brackets_with, factor_with}
 
-abbrev pub counted_of : rust_counted.Counted → Counted
-counted_of c = counted (expression_of c.value) c.operators
+-- The nodes of what is read come behind those before it, and its operators are returned, unless memory was refused.
+abbrev pub Puts : List Node → List Node → Result ℕ TextFault → Parser → Result (Counted × State) Fault → Type 0
+Puts before nodes (Ok operators) after read = (e : Expression) × (nodes ≡ before ++ nodes_of e) × (read ≡ Ok (counted e operators, state after))
+Puts before nodes (Err fault) after read = Fails fault read
+
+-- The same of what goes on with an expression. Where its nodes are the last ones, those of the whole come in their place.
+abbrev pub Continues : Expression → List Node → List Node → Result ℕ TextFault → Parser → Result (Counted × State) Fault → Type 0
+Continues left old new (Ok operators) after read =
+    (e : Expression) × ((before : List Node) → old ≡ before ++ nodes_of left → new ≡ before ++ nodes_of e) × (read ≡ Ok (counted e operators, state after))
+Continues left old new (Err fault) after read = Fails fault read
+
+-- A number or a variable is read where one is next, and else nothing is taken.
+abbrev pub Leaf : (room so_far : ℕ) → State → Result (Option Node) TextFault → Parser → Type 0
+Leaf room so_far before (Ok (Some n)) after = AreWhole (n ∷ []) × (factor_with (bracketed room) so_far before ≡ Ok (counted (expression_in (n ∷ [])) so_far, state after))
+Leaf room so_far before (Ok None) after = (state after ≡ before) × (factor_with (bracketed room) so_far before ≡ brackets_with (bracketed room) so_far before)
+Leaf room so_far before (Err fault) after = Fails fault (factor_with (bracketed room) so_far before)

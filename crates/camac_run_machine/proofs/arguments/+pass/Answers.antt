@@ -1,7 +1,7 @@
 use Rattle.std.proofs.Common.{◌≡◌, ◌+◌, ◌-◌, List, length, map, take, drop, Some, sym, subst, ◌∙◌, arith}
 use Rattle.std.proofs.lemmas.List.{length-set}
 use Rattle.std.specs.Prelude.{slice_range}
-use Rattle.camac_lang.specs.declared.tree.Expr.{Expr}
+use Rattle.camac_lang.specs.declared.expression.Expr.{Expr}
 use Rattle.camac_lang.specs.View.{expression_of}
 use Rattle.camac_model.specs.Value.{values}
 use Rattle.camac_run_machine.specs.Store.{variables_in, held_at}
