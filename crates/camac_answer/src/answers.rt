@@ -38,6 +38,7 @@ pub struct Answers<'a, R> {
 }
 
 // The result of the first line of these bytes, after so many answers of those that may come.
+#[inline(always)]
 fn judge(given: u32, limit: u32, bytes: &[u8]) -> Result<Option<Answer>, AnswerFault>
     ensures value { result ≡ next_answer limit given bytes.now }
     ensures no_read { is_read_failure result ≡ false }

@@ -27,7 +27,7 @@ pub(crate) fn fill<R: Read>(reader: &mut Watched<R>, line: &mut [u8]) -> Result<
     ensures failed { has_failed reader.new ≡ (has_failed reader.old || is_err result) }
 {
     let mut len = 0;
-    'pieces: while len < line.len() && line_length(&line[..len]) >= len {
+    'pieces: while len < line.len() && (len == 0 || line_length(&line[..len]) >= len) {
         let Ok(taken) = reader.read(&mut line[len..]) else {
             return Err(ReadFailed);
         };

@@ -9,6 +9,7 @@ use camac_branch::Answer;
 use camac_word::Word24;
 
 // How many bytes come before the first LF.
+#[inline(never)]
 pub(crate) fn line_length(bytes: &[u8]) -> usize
     ensures { result ≡ length (first_line bytes.now) }
 {
@@ -97,6 +98,7 @@ fn wait_of(digit: u8) -> Result<u8, AnswerRule>
 }
 
 // Whether a line has the length and the spaces of an answer.
+#[inline(always)]
 fn has_shape(line: &[u8]) -> bool
     ensures { result ≡ is_shaped line.now }
 {
@@ -104,6 +106,7 @@ fn has_shape(line: &[u8]) -> bool
 }
 
 #[tactic(auto, unfolding(crate::specs::Lines::fields_answer))]
+#[inline(always)]
 fn fields_of(line: &[u8]) -> Result<Answer, AnswerRule>
     requires { length line.now ≡ 19 }
     ensures { result ≡ fields_answer line.now }
@@ -120,6 +123,7 @@ fn fields_of(line: &[u8]) -> Result<Answer, AnswerRule>
 }
 
 /// The answer of the first line of these bytes.
+#[inline(always)]
 pub(crate) fn first_answer(bytes: &[u8]) -> Result<Answer, AnswerRule>
     ensures { result ≡ line_answer (first_line bytes.now) }
 {
@@ -138,6 +142,7 @@ pub(crate) fn first_answer(bytes: &[u8]) -> Result<Answer, AnswerRule>
 
 // How many bytes are judged as the first line. Of a whole line it is all but its LF: what spells an answer has no LF in it, so an earlier one
 // is looked for only where these bytes spell none.
+#[inline(always)]
 fn judged_length(bytes: &[u8]) -> usize
     ensures { IsJudged bytes.now result }
 {
@@ -149,6 +154,7 @@ fn judged_length(bytes: &[u8]) -> usize
 }
 
 // The answer of a line without its LF.
+#[inline(always)]
 fn answer_of(line: &[u8]) -> Result<Answer, AnswerRule>
     ensures { result ≡ line_answer line.now }
 {

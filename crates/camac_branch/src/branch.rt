@@ -45,6 +45,7 @@ impl Branch {
 
 /// Makes a cycle with this answer (own): the reply of the crate's controller to its commands, else that of the module, which is the
 /// answer's. Refused is a wait that is not permitted in the crate; the branch stays then.
+#[inline(always)]
 pub fn cycle(
     branch: &mut Branch,
     plan: &Plan,
@@ -77,6 +78,7 @@ pub fn cycle(
 }
 
 // Whether the wait of an answer is permitted in a crate.
+#[inline(always)]
 fn wait_in(branch: &Branch, plan: &Plan, c: CrateNo, answer: Answer) -> Result<u8, Overrun>
     ensures permitted { is_ok result ≡ is_permitted plan.now (branch_of branch.now) c answer.wait }
     ensures wait { IfOk result (λ w. (w ≡ answer.wait) × (w ≤ 15)) }
@@ -92,6 +94,7 @@ fn wait_in(branch: &Branch, plan: &Plan, c: CrateNo, answer: Answer) -> Result<u
 }
 
 // The bits that both words have.
+#[inline(always)]
 fn common_bits(one: Word24, other: Word24) -> Word24
     ensures { result ≡ bit_and one other }
 {
@@ -102,6 +105,7 @@ fn common_bits(one: Word24, other: Word24) -> Word24
 }
 
 // Does a controller command in a crate, and replies to it.
+#[inline(never)]
 fn controlled(
     branch: &mut Branch,
     plan: &Plan,
@@ -153,6 +157,7 @@ pub fn locked(branch: &Branch, c: CrateNo) -> bool
 
 /// The pattern of a graded-L operation (IEEE 596) with this answer, whose pattern alone counts: the bits of the stations in crates
 /// whose demand output is enabled (own).
+#[inline(always)]
 pub fn demand(branch: &Branch, plan: &Plan, answer: Answer) -> Word24
     ensures { result ≡ pattern_of plan.now (branch_of branch.now) answer.gl }
 {
@@ -160,6 +165,7 @@ pub fn demand(branch: &Branch, plan: &Plan, answer: Answer) -> Word24
 }
 
 // The bits of the stations in crates whose demand output is enabled.
+#[inline(always)]
 fn enabled_bits(branch: &Branch, plan: &Plan) -> Word24
     ensures { result ≡ enabled_bits (branch_of branch.now) 1 plan.now.crates }
 {

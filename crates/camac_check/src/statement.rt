@@ -1,7 +1,8 @@
 // The rules of all statements, and of blocks of them.
 
 ghost use Rattle.std.specs.Prelude.{◌≡◌, IfOk, map};
-ghost use Rattle.camac_lang.specs.View.{expression_of, keep_of, statement_of, statements_of};
+ghost use Rattle.camac_lang.specs.Tree.{choose, locked, while_};
+ghost use Rattle.camac_lang.specs.View.{expression_of, keep_of, part_of, statement_of, statements_of};
 ghost use Rattle.camac_check_rules.specs.Loops.{for_rule, with_fixed};
 ghost use Rattle.camac_check_rules.specs.Costs.{unreached};
 ghost use Rattle.camac_check_rules.specs.Refusal.{if_reached};
@@ -17,7 +18,7 @@ use camac_check_simple::{
     BlockTransfer, Context, Findings, Place, assign, crate_call, lam_call, lock_crate, put,
     q_repeat, q_stop, scan, set_register, single,
 };
-use camac_lang::{Expr, Keep, Stmt};
+use camac_lang::{Expr, Keep, Part, Stmt};
 use std::alloc::{AllocError, Global};
 
 /// Checks a block from what is known at its begin, if it can be reached.
@@ -177,14 +178,7 @@ fn accept_reached(
             procedure,
             arguments,
         } => call(alloc, context, *line, *procedure, arguments, known),
-        Stmt::If { line, test, then } => {
-            let ways = split(alloc, *line, &test.parts, known)?;
-            let first = accept_block(alloc, context, around, then, ways.holds)?;
-            Ok(Findings {
-                known: join(alloc, first.known, ways.fails)?,
-                costs: first.costs.or(Costs::new(0, 0, 0)),
-            })
-        }
+        Stmt::If { line, test, then } => accept_if(alloc, &place, *line, &test.parts, then, known),
         Stmt::IfElse {
             line,
             test,
@@ -203,15 +197,7 @@ fn accept_reached(
             line,
             crate_no,
             body,
-        } => {
-            let c = lock_crate(&place, *line, crate_no, &known)?;
-            let inside = around.with_locked(alloc, c)?;
-            let inner = accept_block(alloc, context, &inside, body, Some(known))?;
-            Ok(Findings {
-                known: inner.known,
-                costs: inner.costs.in_lock(waits_of(context.plan, c)),
-            })
-        }
+        } => accept_lock(alloc, &place, *line, crate_no, body, known),
         Stmt::For {
             line,
             variable,
@@ -237,14 +223,106 @@ fn accept_reached(
             keeps,
             body,
         } => {
-            let at = around.body();
-            let top = while_head(at, *line, *turns, *measure, keeps, body, known)?;
-            let ways = split(alloc, *line, &test.parts, top)?;
-            let most = turn_bound(&ways.holds, *turns);
-            let turn = accept_block(alloc, context, around, body, ways.holds)?;
-            end_loop(at, *line, keeps, ways.fails, u64::from(most), turn)
+            let limited = Limited {
+                line: *line,
+                test: &test.parts,
+                turns: *turns,
+                measure: *measure,
+                keeps,
+            };
+            accept_while(alloc, &place, &limited, body, known)
         }
     }
+}
+
+// Checks an `if`. It stands apart, as those below do, so that no other statement makes room for its variables.
+#[inline(never)]
+#[cycle(statements)]
+#[tactic(auto, unfolding(camac_check_rules::specs::Refusal::go_on, camac_check_rules::specs::Refusal::if_reached))]
+fn accept_if(
+    alloc: Global,
+    place: &Place,
+    line: u32,
+    test: &[Part],
+    then: &[Stmt],
+    known: Facts,
+) -> Result<Findings, CheckFault>
+    ensures { Gives verdict_of result (accept_statement (by_code place.now.context.now) place.now.around.now (choose line (map part_of test.now) (statements_of then.now)) known) }
+{
+    let ways = split(alloc, line, test, known)?;
+    let first = accept_block(alloc, place.context, place.around, then, ways.holds)?;
+    Ok(Findings {
+        known: join(alloc, first.known, ways.fails)?,
+        costs: first.costs.or(Costs::new(0, 0, 0)),
+    })
+}
+
+// Checks a `locked`.
+#[inline(never)]
+#[cycle(statements)]
+#[tactic(auto, unfolding(camac_check_rules::specs::Refusal::go_on, camac_check_rules::specs::Refusal::if_reached))]
+fn accept_lock(
+    alloc: Global,
+    place: &Place,
+    line: u32,
+    crate_no: &Expr,
+    body: &[Stmt],
+    known: Facts,
+) -> Result<Findings, CheckFault>
+    ensures { Gives verdict_of result (accept_statement (by_code place.now.context.now) place.now.around.now (locked line (expression_of crate_no.now) (statements_of body.now)) known) }
+{
+    let c = lock_crate(place, line, crate_no, &known)?;
+    let inside = place.around.with_locked(alloc, c)?;
+    let inner = accept_block(alloc, place.context, &inside, body, Some(known))?;
+    Ok(Findings {
+        known: inner.known,
+        costs: inner.costs.in_lock(waits_of(place.context.plan, c)),
+    })
+}
+
+// The head of a `while`: its line, its test, the most turns, its measure, and what it keeps.
+#[derive(Clone, Copy)]
+struct Limited<'a> {
+    line: u32,
+    test: &'a [Part],
+    turns: u32,
+    measure: usize,
+    keeps: &'a [Keep],
+}
+
+// Checks a `while`.
+#[inline(never)]
+#[cycle(statements)]
+#[tactic(auto, unfolding(camac_check_rules::specs::Refusal::go_on, camac_check_rules::specs::Refusal::if_reached))]
+fn accept_while(
+    alloc: Global,
+    place: &Place,
+    limited: &Limited,
+    body: &[Stmt],
+    known: Facts,
+) -> Result<Findings, CheckFault>
+    ensures { Gives verdict_of result (accept_statement (by_code place.now.context.now) place.now.around.now (while_ limited.now.line (map part_of limited.now.test.now) limited.now.turns limited.now.measure (map keep_of limited.now.keeps.now) (statements_of body.now)) known) }
+{
+    let Limited {
+        line,
+        test,
+        turns,
+        measure,
+        keeps,
+    } = *limited;
+    let around = place.around;
+    let top = while_head(around.body(), line, turns, measure, keeps, body, known)?;
+    let ways = split(alloc, line, test, top)?;
+    let most = turn_bound(&ways.holds, turns);
+    let turn = accept_block(alloc, place.context, around, body, ways.holds)?;
+    end_loop(
+        around.body(),
+        line,
+        keeps,
+        ways.fails,
+        u64::from(most),
+        turn,
+    )
 }
 
 // The head of a `for`: its line, its variable with the first and the last value, and what it keeps.
@@ -258,6 +336,7 @@ struct Counted<'a> {
 }
 
 // Checks a `for`.
+#[inline(never)]
 #[cycle(statements)]
 #[tactic(auto, unfolding(camac_check_rules::specs::Refusal::go_on, camac_check_rules::specs::Refusal::if_reached))]
 fn accept_for(

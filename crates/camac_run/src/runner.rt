@@ -86,6 +86,7 @@ impl<'a, const V: usize, const DEPTH: usize, const CAP: usize> Runner<'a, V, DEP
 
     /// Takes an answer, the 4,294,967,295th at most, and returns what it was used for. It takes no memory. From the first wait on that is not permitted, it returns that
     /// wait, and nothing else changes.
+    #[inline(always)]
     pub fn next(&mut self, answer: Answer) -> Progress
         requires { self.old.fed < 4294967295 }
         ensures { Progresses self.old answer result self.new }
@@ -100,6 +101,7 @@ impl<'a, const V: usize, const DEPTH: usize, const CAP: usize> Runner<'a, V, DEP
     }
 
     // A graded-L operation.
+    #[inline(always)]
     fn demand(&mut self, answer: Answer) -> Progress
         requires fed { self.old.fed < 4294967295 }
         requires first { self.old.overrun ≡ None }
@@ -132,6 +134,7 @@ impl<'a, const V: usize, const DEPTH: usize, const CAP: usize> Runner<'a, V, DEP
     }
 
     // The answer that the service in progress wants.
+    #[inline(always)]
     fn resume(&mut self, answer: Answer) -> Progress
         requires fed { self.old.fed < 4294967295 }
         requires first { self.old.overrun ≡ None }
@@ -163,6 +166,7 @@ impl<'a, const V: usize, const DEPTH: usize, const CAP: usize> Runner<'a, V, DEP
     }
 
     // Counts the event of a service that is over, and tells it.
+    #[inline(always)]
     fn close(&mut self) -> Option<(u32, GlBit, Usage)>
         requires service { self.old.service < length self.old.checked.script.services }
         requires events { self.old.events < self.old.fed }

@@ -1,6 +1,6 @@
 // The service that a graded-L operation calls (own; IEEE 596 has the operation alone).
 
-ghost use Rattle.std.specs.Prelude.{◌≡◌, ◌≤◌, ◌<◌, ◌-◌, ◌/◌, ◌^◌, nat_eq, length, drop, Some, IfSome, option_and_then};
+ghost use Rattle.std.specs.Prelude.{◌≡◌, ◌≤◌, ◌<◌, ◌-◌, ◌/◌, ◌^◌, nat_eq, length, Some, IfSome, option_and_then};
 ghost use Rattle.camac_check_result.specs.Checked.{linked_of};
 ghost use Rattle.camac_model.specs.Meaning.{context};
 ghost use Rattle.camac_model.specs.Run.{is_bit_set, with_bit, first_service, service_for};
@@ -29,24 +29,23 @@ pub fn service_for(checked: &Checked, pattern: Word24) -> Option<Called>
 }
 
 // The same among the bits from this one on.
-fn first_service(checked: &Checked, pattern: Word24, bit: u32) -> Option<Called>
-    requires { bit ≤ 25 }
-    ensures chosen { first_service (context checked.now.plan checked.now.script) (25 - bit) bit pattern checked.now.script.services ≡ option_and_then (chosen_of checked.now.script.services) result }
+fn first_service(checked: &Checked, pattern: Word24, first: u32) -> Option<Called>
+    requires { first ≤ 25 }
+    ensures chosen { first_service (context checked.now.plan checked.now.script) (25 - first) first pattern checked.now.script.services ≡ option_and_then (chosen_of checked.now.script.services) result }
     ensures known { IfSome result (λ k. k.number < length checked.now.script.services) }
     ensures bit { IfSome result (λ k. bit_of_service (linked_of checked.now) k.number ≡ Some k.gl) }
 {
-    if bit >= BIT_END {
-        return None;
-    }
-    if ends_before(pattern, bit) {
-        return None;
-    }
-    if is_bit_set(pattern, bit) {
-        if let Some(called) = with_bit(checked, bit, 0) {
-            return Some(called);
+    'bits: for bit in first..BIT_END {
+        if ends_before(pattern, bit) {
+            return None;
+        }
+        if is_bit_set(pattern, bit) {
+            if let Some(called) = with_bit(checked, bit) {
+                return Some(called);
+            }
         }
     }
-    first_service(checked, pattern, bit + 1)
+    None
 }
 
 // Whether a pattern has no bit from this one on.
@@ -65,18 +64,17 @@ fn is_bit_set(pattern: Word24, bit: u32) -> bool
     (pattern.get() >> bit.saturating_sub(1)) % 2 == 1
 }
 
-// The first service with a bit, from this number on.
-fn with_bit(checked: &Checked, bit: u32, number: usize) -> Option<Called>
-    ensures chosen { with_bit (context checked.now.plan checked.now.script) bit number (drop number checked.now.script.services) ≡ option_and_then (chosen_of checked.now.script.services) result }
+// The first service with a bit.
+fn with_bit(checked: &Checked, bit: u32) -> Option<Called>
+    ensures chosen { with_bit (context checked.now.plan checked.now.script) bit 0 checked.now.script.services ≡ option_and_then (chosen_of checked.now.script.services) result }
     ensures known { IfSome result (λ k. k.number < length checked.now.script.services) }
     ensures bit { IfSome result (λ k. bit_of_service (linked_of checked.now) k.number ≡ Some k.gl) }
 {
-    if number >= checked.services() {
-        return None;
+    'services: for number in 0..checked.services() {
+        let gl = checked.gl(number);
+        if gl.get() == bit {
+            return Some(Called { number, gl });
+        }
     }
-    let gl = checked.gl(number);
-    if gl.get() == bit {
-        return Some(Called { number, gl });
-    }
-    with_bit(checked, bit, number + 1)
+    None
 }

@@ -2,7 +2,7 @@
 use Rattle.std.proofs.Common.{◌≡◌, ℕ, ◌+◌, ◌-◌, ◌*◌, ◌<◌, ◌≤◌, List, [], ◌∷◌, ◌++◌, length, length-append, map, refl, sym, ap, subst, ◌∙◌, arith}
 use Rattle.std.proofs.lemmas.List.{append-nil, map-append, length-map}
 use Rattle.std.proofs.Math.Path.{fun_ext}
-use Rattle.std.specs.Prelude.{Option, Some, None}
+use Rattle.std.specs.Prelude.{Option, Some, None, IsSomeAnd}
 use Rattle.std.specs.Borrow.{Bor}
 use Rattle.camac_check_result.specs.Checked.{CheckedScript}
 use Rattle.arrayvec.specs.ArrayVec.{ArrayVec}
@@ -131,8 +131,8 @@ module _ {V D C : ℕ} (h : Machine V D C) where
         ap (λ (gs : List Frame). rest_in (context_in h.checked.now) (map (open_in h) gs) s) e ∙ left_pushed (context_in h.checked.now) (open_in h) fs.items f s
 
   -- a statement that wants an answer
-  pub wants_advance : (st : Statement) (w : Pending) → HasRoom h → Awaits (record h { steps = h.steps + 1 }) (λ c. effect c most_turns st) w → Advances h (λ c s. effect c most_turns st (stepped s)) (Some w) (record h { steps = h.steps + 1 })
-  wants_advance st w r k = record {
+  pub wants_advance : (st : Statement) (o : Option Pending) → HasRoom h → IsSomeAnd o (Awaits (record h { steps = h.steps + 1 }) (λ c. effect c most_turns st)) → Advances h (λ c s. effect c most_turns st (stepped s)) o (record h { steps = h.steps + 1 })
+  wants_advance st (Some w) r k = record {
     room = room_stepped (h.steps + 1) r;
     checked = refl;
     service = refl;
@@ -142,6 +142,7 @@ module _ {V D C : ℕ} (h : Machine V D C) where
     unlocks = sym (append-nil h.unlocks.items);
     goes = λ answers. ap (λ b. then_do b (left_in h)) (k.goes answers);
   }
+  wants_advance st None r k = absurd k
 
   pub block_length : (body : Bor (List Stmt)) (new : Machine V D C) → new.frames.items ≡ h.frames.items ++ record { rest = body; owner = Plain } ∷ [] → length new.frames.items ≡ length h.frames.items + 1
   block_length body new pushed = ap length pushed ∙ length-append h.frames.items (record { rest = body; owner = Plain } ∷ [])

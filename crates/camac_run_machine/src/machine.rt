@@ -21,6 +21,7 @@ mod answers;
 mod blocks;
 mod transfers;
 
+use self::transfers::Most;
 use crate::arguments::wipe;
 use crate::command::command;
 use crate::condition::holds;
@@ -142,6 +143,14 @@ fn address_in(registers: &[Option<Address>], register: usize) -> Address
         Some(at) => at,
         None => unreachable!(),
     }
+}
+
+// Says that nothing is wanted. It is no part of `settle`, which would lay out the room of what is wanted once more at each call.
+#[inline(never)]
+fn wait_for_none(pending: &mut Option<Pending<'_>>)
+    ensures { pending.new ≡ None }
+{
+    *pending = None;
 }
 
 impl<'a, const V: usize, const DEPTH: usize, const CAP: usize> Machine<'a, V, DEPTH, CAP> {
@@ -272,15 +281,15 @@ impl<'a, const V: usize, const DEPTH: usize, const CAP: usize> Machine<'a, V, DE
                 data,
                 ..
             } => {
-                *pending = Some(self.single(*size, *function, *register, data));
+                self.single(*size, *function, *register, data, pending);
                 true
             }
             Stmt::CrateCall { call, crate_no, .. } => {
-                *pending = Some(self.call_crate(*call, crate_no));
+                self.call_crate(*call, crate_no, pending);
                 true
             }
             Stmt::LamCall { call, lam, .. } => {
-                *pending = Some(self.call_lam(*call, *lam));
+                self.call_lam(*call, *lam, pending);
                 true
             }
             Stmt::Scan {
@@ -290,10 +299,7 @@ impl<'a, const V: usize, const DEPTH: usize, const CAP: usize> Machine<'a, V, DE
                 max,
                 tally,
                 ..
-            } => {
-                *pending = self.scan(*function, *first, *last, max, *tally);
-                pending.is_some()
-            }
+            } => self.scan(*function, *first, *last, max, *tally, pending),
             Stmt::QStop {
                 function,
                 register,
@@ -301,10 +307,7 @@ impl<'a, const V: usize, const DEPTH: usize, const CAP: usize> Machine<'a, V, DE
                 max,
                 tally,
                 ..
-            } => {
-                *pending = self.q_stop(*function, *register, *table, max, *tally);
-                pending.is_some()
-            }
+            } => self.q_stop(*function, *register, *table, max, *tally, pending),
             Stmt::QRepeat {
                 function,
                 register,
@@ -314,8 +317,11 @@ impl<'a, const V: usize, const DEPTH: usize, const CAP: usize> Machine<'a, V, DE
                 tally,
                 ..
             } => {
-                *pending = self.q_repeat(*function, *register, *table, max, limit, *tally);
-                pending.is_some()
+                let most = Most {
+                    words: max,
+                    cycles: limit,
+                };
+                self.q_repeat(*function, *register, *table, most, *tally, pending)
             }
             Stmt::If { test, then, .. } => {
                 self.choose(&test.parts, then, &[]);
@@ -331,7 +337,7 @@ impl<'a, const V: usize, const DEPTH: usize, const CAP: usize> Machine<'a, V, DE
                 false
             }
             Stmt::Lock { crate_no, body, .. } => {
-                *pending = Some(self.want_lock(crate_no, body));
+                self.want_lock(crate_no, body, pending);
                 true
             }
             Stmt::For {
@@ -371,7 +377,7 @@ impl<'a, const V: usize, const DEPTH: usize, const CAP: usize> Machine<'a, V, DE
                 return;
             }
         }
-        *pending = None;
+        wait_for_none(pending);
     }
 
     /// Begins the service of this number, and goes on until it wants an answer, or is over: then nothing is wanted.

@@ -128,6 +128,14 @@ space_is_past line (a ∷ b ∷ bs) some is above =
     let skips = spaces_skip 0 line (a ∷ b ∷ bs) one in
     record { same = skips.same; lines = skips.lines; shorter = omega (arith, skips.shorter); begins = above_hash b above; feeds = skips.feeds }
 
+-- the same of one line feed
+pub line_feed_is_past : (line : ℕ) (text : List ℕ) → 2 ≤ length text → slice_index text 0 ≡ 10 → 35 < slice_index text 1 → IsPastGaps line text (line + 1) (drop 1 text)
+line_feed_is_past line [] some is above = absurd (omega arith)
+line_feed_is_past line (a ∷ []) some is above = absurd (omega arith)
+line_feed_is_past line (a ∷ b ∷ bs) some is above = rw is (
+    let skips = blank_skips line (10 ∷ b ∷ bs) (omega arith) refl in
+    record { same = skips.same; lines = skips.lines; shorter = omega (arith, skips.shorter); begins = above_hash b above; feeds = skips.feeds })
+
 abbrev NoGap : Start → Type 0
 NoGap (start.Gap n) = ⊥
 NoGap (start.Found k n) = Unit {0}

@@ -122,6 +122,7 @@ fn end_line(text: &[u8]) -> Result<u32, TextFault>
 }
 
 // The bytes after blanks and comments, and their line. Before most tokens stands one space, or nothing.
+#[inline(always)]
 fn past_gaps(text: &[u8], line: usize) -> (&[u8], usize)
     requires { line + length text.now ≤ 9223372036854775808 }
     ensures { IsPastGaps line text.now result.1 result.0.now }
@@ -132,11 +133,16 @@ fn past_gaps(text: &[u8], line: usize) -> (&[u8], usize)
             (after, line)
         }
         [first, ..] if *first > b'#' => (text, line),
+        [first, second, ..] if *first == b'\n' && *second > b'#' => {
+            let (_, after) = text.split_at(1);
+            (after, line + 1)
+        }
         _ => past_long_gaps(text, line),
     }
 }
 
 // The same for gaps of all kinds.
+#[inline(never)]
 fn past_long_gaps(text: &[u8], line: usize) -> (&[u8], usize)
     requires { line + length text.now ≤ 9223372036854775808 }
     ensures { IsPastGaps line text.now result.1 result.0.now }

@@ -92,7 +92,7 @@ fn short_name_len(text: &[u8]) -> usize
 fn are_name_bytes(first: u8, second: u8, third: u8, fourth: u8) -> bool
     ensures { result ≡ (is_name_byte first && is_name_byte second && is_name_byte third && is_name_byte fourth) }
 {
-    is_name_byte(first) && is_name_byte(second) && is_name_byte(third) && is_name_byte(fourth)
+    is_name_byte(first) & is_name_byte(second) & is_name_byte(third) & is_name_byte(fourth)
 }
 
 fn digits_len(text: &[u8]) -> usize
@@ -192,6 +192,7 @@ pub fn pair_at(text: &[u8]) -> Option<Sign>
     }
 }
 
+#[inline(always)]
 pub fn single_at(text: &[u8]) -> Option<Sign>
     ensures { result ≡ single_at text.now }
 {

@@ -76,6 +76,7 @@ pub fn pair_sign(first: u8, second: u8) -> Option<Sign>
 }
 
 /// The sign of this one byte.
+#[inline(always)]
 pub fn single_sign(byte: u8) -> Option<Sign>
     ensures { result ≡ spelled_in single_signs (byte ∷ []) }
 {

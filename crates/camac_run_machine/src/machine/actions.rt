@@ -1,6 +1,6 @@
 // Statements that set or write something, and those that make one cycle.
 
-ghost use Rattle.std.specs.Prelude.{◌≡◌, ◌+◌, ◌*◌, ◌-◌, ◌<◌, ◌≤◌, length, None, Some, slice_set};
+ghost use Rattle.std.specs.Prelude.{◌≡◌, ◌+◌, ◌*◌, ◌-◌, ◌<◌, ◌≤◌, length, None, Some, slice_set, IsSomeAnd};
 ghost use Rattle.camac_branch.specs.Address.{Address};
 ghost use Rattle.camac_branch.specs.Allowed.{width};
 ghost use Rattle.camac_lang.specs.View.{expression_of, move_of};
@@ -45,6 +45,7 @@ fn set_in(registers: &mut [Option<Address>], register: usize, at: Address)
 
 impl<'a, const V: usize, const DEPTH: usize, const CAP: usize> Machine<'a, V, DEPTH, CAP> {
     // `cdreg`.
+    #[inline(never)]
     pub(crate) fn set_register(
         &mut self,
         register: usize,
@@ -103,61 +104,67 @@ impl<'a, const V: usize, const DEPTH: usize, const CAP: usize> Machine<'a, V, DE
         self.variables[place] = value;
     }
 
-    // `cfsa`, `cssa`.
+    // `cfsa`, `cssa`. What is wanted is written in its place, here and below: it is larger than a result that is handed back quickly.
     pub(crate) fn single(
         &self,
         size: WordSize,
         f: Function,
         register: usize,
         moved: &Move,
-    ) -> Pending<'a>
+        pending: &mut Option<Pending<'a>>,
+    )
         requires room { HasRoom self.now }
         requires register { register < (reach self.now).registers }
         requires moved { MoveFits (reach self.now).variables (move_of moved.now) }
         requires fine { FineThen self.now (λ c. effect c most_turns (single 0 size f register (move_of moved.now))) }
-        ensures { Awaits self.now (λ c. effect c most_turns (single 0 size f register (move_of moved.now))) result }
+        ensures { IsSomeAnd pending.new (Awaits self.now (λ c. effect c most_turns (single 0 size f register (move_of moved.now)))) }
     {
         let at = self.address_in(register);
         let plan = self.checked.plan();
         plan.allows_commands();
         match moved {
-            Move::NoData => Pending::Cycle(command(at, f, DataMove::None)),
+            Move::NoData => *pending = Some(Pending::Cycle(command(at, f, DataMove::None))),
             Move::Into(variable) => {
                 let command = command(at, f, DataMove::In);
                 let bits = bits_kept(plan, &command, size);
-                Pending::Read {
+                *pending = Some(Pending::Read {
                     command,
                     variable: *variable,
                     bits,
-                }
+                });
             }
             Move::From(value) => match Word24::new(self.value_of(value)) {
-                Some(word) => Pending::Cycle(command(at, f, DataMove::Out(word))),
+                Some(word) => *pending = Some(Pending::Cycle(command(at, f, DataMove::Out(word)))),
                 None => unreachable!(),
             },
         }
     }
 
     // A call of a crate's controller.
-    pub(crate) fn call_crate(&self, call: CrateCall, crate_no: &Expr) -> Pending<'a>
+    pub(crate) fn call_crate(
+        &self,
+        call: CrateCall,
+        crate_no: &Expr,
+        pending: &mut Option<Pending<'a>>,
+    )
         requires room { HasRoom self.now }
         requires declared { Refers (reach self.now).variables (expression_of crate_no.now) }
         requires fine { FineThen self.now (λ c. effect c most_turns (crate_call 0 call (expression_of crate_no.now))) }
-        ensures { Awaits self.now (λ c. effect c most_turns (crate_call 0 call (expression_of crate_no.now))) result }
+        ensures { IsSomeAnd pending.new (Awaits self.now (λ c. effect c most_turns (crate_call 0 call (expression_of crate_no.now)))) }
     {
         let plan = self.checked.plan();
         plan.allows_commands();
         match CrateNo::new(self.value_of(crate_no)) {
-            Some(c) => Pending::Cycle(crate_call(call, c)),
+            Some(c) => *pending = Some(Pending::Cycle(crate_call(call, c))),
             None => unreachable!(),
         }
     }
 
     // A call at a LAM's address.
-    pub(crate) fn call_lam(&self, call: LamCall, lam: usize) -> Pending<'a>
+    pub(crate) fn call_lam(&self, call: LamCall, lam: usize, pending: &mut Option<Pending<'a>>)
         requires lam { lam < length self.now.checked.now.script.lams }
         requires fine { FineThen self.now (λ c. effect c most_turns (lam_call 0 call lam)) }
-        ensures { Awaits self.now (λ c. effect c most_turns (lam_call 0 call lam)) result }
+        ensures { IsSomeAnd pending.new (Awaits self.now (λ c. effect c most_turns (lam_call 0 call lam))) }
     {
         let plan = self.checked.plan();
         plan.allows_commands();
@@ -167,6 +174,6 @@ impl<'a, const V: usize, const DEPTH: usize, const CAP: usize> Machine<'a, V, DE
             n: lam.station,
             a: lam.sub_address.get(),
         };
-        Pending::Cycle(lam_call(call, at))
+        *pending = Some(Pending::Cycle(lam_call(call, at)));
     }
 }

@@ -40,6 +40,7 @@ pub fn word_of(done: &CycleDone) -> Word24
 
 impl<'a, const V: usize, const DEPTH: usize, const CAP: usize> Machine<'a, V, DEPTH, CAP> {
     // Makes a cycle with this answer, and sets the flags and the counts.
+    #[inline(always)]
     pub(crate) fn make(&mut self, command: Command, answer: Answer) -> Result<CycleDone, Overrun>
         requires room { HasRoom self.old }
         requires in_plan { IsSome (crate_waits self.old.checked.now.plan command.c) }
@@ -71,6 +72,7 @@ impl<'a, const V: usize, const DEPTH: usize, const CAP: usize> Machine<'a, V, DE
     }
 
     // Makes a cycle that keeps no word.
+    #[inline(always)]
     pub(crate) fn take_cycle(&mut self, command: Command, answer: Answer) -> Result<Item, Overrun>
         requires room { HasRoom self.old }
         requires pending { IsPending self.old (Pending.Cycle command) }
@@ -84,6 +86,7 @@ impl<'a, const V: usize, const DEPTH: usize, const CAP: usize> Machine<'a, V, DE
     }
 
     // Makes a cycle of which a variable keeps so many bits of the word.
+    #[inline(always)]
     pub(crate) fn take_read(
         &mut self,
         command: Command,
@@ -105,6 +108,7 @@ impl<'a, const V: usize, const DEPTH: usize, const CAP: usize> Machine<'a, V, DE
     }
 
     // Takes the lock of a crate, and opens its block.
+    #[inline(never)]
     pub(crate) fn take_lock(
         &mut self,
         crate_no: CrateNo,
@@ -129,6 +133,7 @@ impl<'a, const V: usize, const DEPTH: usize, const CAP: usize> Machine<'a, V, DE
 
     /// Takes the answer that is wanted, and returns the item that it was used for. Where its wait is not permitted, it returns that wait, and
     /// nothing changes.
+    #[inline(always)]
     pub fn take(&mut self, pending: &Pending<'a>, answer: Answer) -> Result<Item, Overrun>
         requires room { HasRoom self.old }
         requires quiet { self.old.unlocks.items ≡ [] }
@@ -157,6 +162,7 @@ impl<'a, const V: usize, const DEPTH: usize, const CAP: usize> Machine<'a, V, DE
 
     /// Goes on after the answer that was wanted, until the next one is wanted, or the service is over: with the transfer that it was wanted for, or
     /// else with the open blocks.
+    #[inline(always)]
     pub fn go_further(&mut self, pending: &mut Option<Pending<'a>>)
         requires room { HasRoom self.old }
         requires quiet { self.old.unlocks.items ≡ [] }
@@ -171,6 +177,7 @@ impl<'a, const V: usize, const DEPTH: usize, const CAP: usize> Machine<'a, V, DE
 
     // Goes on with the transfer that an answer was wanted for, if one was: to its next cycle, or else to its tally. Answers whether a cycle
     // is wanted next.
+    #[inline(always)]
     fn follow_transfer(&mut self, pending: &mut Option<Pending<'a>>) -> bool
         requires room { HasRoom self.old }
         requires follows { IfSome pending.old (CanFollow (reach self.old).variables) }

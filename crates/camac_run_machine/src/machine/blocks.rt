@@ -1,6 +1,6 @@
 // Blocks: how one is opened, what goes on after it, and calls of procedures.
 
-ghost use Rattle.std.specs.Prelude.{◌≡◌, ℕ, suc, ◌+◌, ◌*◌, ◌-◌, ◌<◌, ◌≤◌, length, ◌∷◌, ◌++◌, [], List, map, true, None, Some, IsSome, IfSome, IfNone};
+ghost use Rattle.std.specs.Prelude.{◌≡◌, ℕ, suc, ◌+◌, ◌*◌, ◌-◌, ◌<◌, ◌≤◌, length, ◌∷◌, ◌++◌, [], List, map, true, None, Some, IsSome, IfSome, IfNone, IsSomeAnd};
 ghost use Rattle.camac_branch.specs.Branch.{Answer};
 ghost use Rattle.camac_lang.specs.View.{expression_of, part_of, statements_of};
 ghost use Rattle.camac_lang.specs.Tree.{done, choose_else, for_, locked, call};
@@ -94,6 +94,7 @@ impl<'a, const V: usize, const DEPTH: usize, const CAP: usize> Machine<'a, V, DE
     }
 
     // `for`.
+    #[inline(never)]
     pub(crate) fn begin_for(&mut self, variable: usize, from: &Expr, to: &Expr, body: &'a [Stmt])
         requires room { HasRoom self.old }
         requires variable { variable < (reach self.old).variables }
@@ -111,6 +112,7 @@ impl<'a, const V: usize, const DEPTH: usize, const CAP: usize> Machine<'a, V, DE
     }
 
     // Tests a `while`, and begins a turn where it holds.
+    #[inline(never)]
     pub(crate) fn test_while(&mut self, test: &'a [Part], turns: u32, body: &'a [Stmt])
         requires room { HasRoom self.old }
         requires declared { PartsRefer (reach self.old).variables (map part_of test.now) }
@@ -132,22 +134,28 @@ impl<'a, const V: usize, const DEPTH: usize, const CAP: usize> Machine<'a, V, DE
     }
 
     // `lock`.
-    pub(crate) fn want_lock(&self, crate_no: &Expr, body: &'a [Stmt]) -> Pending<'a>
+    pub(crate) fn want_lock(
+        &self,
+        crate_no: &Expr,
+        body: &'a [Stmt],
+        pending: &mut Option<Pending<'a>>,
+    )
         requires room { HasRoom self.now }
         requires declared { Refers (reach self.now).variables (expression_of crate_no.now) }
         requires body { Opens (reach self.now) (free self.now) (statements_of body.now) }
         requires fine { FineThen self.now (λ c. effect c most_turns (locked 0 (expression_of crate_no.now) (statements_of body.now))) }
-        ensures { Awaits self.now (λ c. effect c most_turns (locked 0 (expression_of crate_no.now) (statements_of body.now))) result }
+        ensures { IsSomeAnd pending.new (Awaits self.now (λ c. effect c most_turns (locked 0 (expression_of crate_no.now) (statements_of body.now)))) }
     {
         let plan = self.checked.plan();
         plan.is_plan();
         match CrateNo::new(self.value_of(crate_no)) {
-            Some(crate_no) => Pending::Lock { crate_no, body },
+            Some(crate_no) => *pending = Some(Pending::Lock { crate_no, body }),
             None => unreachable!(),
         }
     }
 
     // `call`: evaluates the arguments in the caller's store, and opens the body with no register set.
+    #[inline(never)]
     pub(crate) fn call(&mut self, procedure: usize, arguments: &[Expr])
         requires room { HasRoom self.old }
         requires fits { CallFits (reach self.old) (free self.old) procedure (map expression_of arguments.now) }
@@ -190,6 +198,7 @@ impl<'a, const V: usize, const DEPTH: usize, const CAP: usize> Machine<'a, V, DE
     }
 
     // Goes on after a block that is over.
+    #[inline(never)]
     pub(crate) fn leave(&mut self, owner: &Owner<'a>)
         requires room { HasRoomFor self.old (opens_in self.old ++ record { block = done; owner = owner_in self.old owner.now } ∷ []) }
         requires fine { FineThen self.old (λ c. owed c (owner_in self.old owner.now)) }

@@ -1,6 +1,6 @@
 // Block transfers, cycle by cycle.
 
-ghost use Rattle.std.specs.Prelude.{◌≡◌, ◌*◌, ◌-◌, ◌<◌, ◌≤◌, length, None, Some, IsSome, option_map, ◌^◌, ◌%◌};
+ghost use Rattle.std.specs.Prelude.{◌≡◌, ◌*◌, ◌-◌, ◌<◌, ◌≤◌, length, None, Some, IsSome, is_some, option_map, ◌^◌, ◌%◌};
 ghost use Rattle.camac_branch.specs.Allowed.{width};
 ghost use Rattle.camac_lang.specs.View.{expression_of};
 ghost use Rattle.camac_lang.specs.Tree.{done, address_scan, q_stop, q_repeat};
@@ -39,6 +39,13 @@ fn cut(word: Word24, bits: u32) -> Word24
     }
 }
 
+/// What a Q-repeat makes at most: so many words, in so many cycles.
+#[derive(Clone, Copy)]
+pub struct Most<'e> {
+    pub words: &'e Expr,
+    pub cycles: &'e Expr,
+}
+
 impl<'a, const V: usize, const DEPTH: usize, const CAP: usize> Machine<'a, V, DEPTH, CAP> {
     // The words of the table that a transfer sends, where it sends any.
     pub(crate) fn sent(&self, table: Option<usize>) -> Option<&'a [Word24]>
@@ -53,6 +60,7 @@ impl<'a, const V: usize, const DEPTH: usize, const CAP: usize> Machine<'a, V, DE
     }
 
     // `cfmad`.
+    #[inline(never)]
     pub(crate) fn scan(
         &mut self,
         function: Function,
@@ -60,27 +68,31 @@ impl<'a, const V: usize, const DEPTH: usize, const CAP: usize> Machine<'a, V, DE
         last: usize,
         max: &Expr,
         tally: usize,
-    ) -> Option<Pending<'a>>
+        pending: &mut Option<Pending<'a>>,
+    ) -> bool
         requires room { HasRoom self.old }
         requires first { first < (reach self.old).registers }
         requires last { last < (reach self.old).registers }
         requires max { Refers (reach self.old).variables (expression_of max.now) }
         requires tally { tally < (reach self.old).variables }
         requires fine { FineThen self.old (λ c. effect c most_turns (address_scan 0 function first last (expression_of max.now) tally)) }
-        ensures { Proceeds self.old (λ c. effect c most_turns (address_scan 0 function first last (expression_of max.now) tally)) result self.new }
+        ensures goes { Proceeds self.old (λ c. effect c most_turns (address_scan 0 function first last (expression_of max.now) tally)) pending.new self.new }
+        ensures some { result ≡ is_some pending.new }
     {
         let first = self.address_in(first);
         let last = self.address_in(last);
         let max = self.value_of(max);
-        self.proceed(&Transfer {
+        let transfer = Transfer {
             course: Course::Scan(Scan::new(first, last, max)),
             function,
             table: None,
             tally,
-        })
+        };
+        self.proceed(&transfer, pending)
     }
 
     // `cfubc`.
+    #[inline(never)]
     pub(crate) fn q_stop(
         &mut self,
         function: Function,
@@ -88,61 +100,68 @@ impl<'a, const V: usize, const DEPTH: usize, const CAP: usize> Machine<'a, V, DE
         table: Option<usize>,
         max: &Expr,
         tally: usize,
-    ) -> Option<Pending<'a>>
+        pending: &mut Option<Pending<'a>>,
+    ) -> bool
         requires room { HasRoom self.old }
         requires register { register < (reach self.old).registers }
         requires max { Refers (reach self.old).variables (expression_of max.now) }
         requires tally { tally < (reach self.old).variables }
         requires fine { FineThen self.old (λ c. effect c most_turns (q_stop 0 function register table (expression_of max.now) tally)) }
-        ensures { Proceeds self.old (λ c. effect c most_turns (q_stop 0 function register table (expression_of max.now) tally)) result self.new }
+        ensures goes { Proceeds self.old (λ c. effect c most_turns (q_stop 0 function register table (expression_of max.now) tally)) pending.new self.new }
+        ensures some { result ≡ is_some pending.new }
     {
         let words = self.sent(table);
         let at = self.address_in(register);
         let max = self.value_of(max);
-        self.proceed(&Transfer {
+        let transfer = Transfer {
             course: Course::Stop(QStop::new(at, max)),
             function,
             table: words,
             tally,
-        })
+        };
+        self.proceed(&transfer, pending)
     }
 
     // `cfubr`.
+    #[inline(never)]
     pub(crate) fn q_repeat(
         &mut self,
         function: Function,
         register: usize,
         table: Option<usize>,
-        max: &Expr,
-        limit: &Expr,
+        most: Most<'_>,
         tally: usize,
-    ) -> Option<Pending<'a>>
+        pending: &mut Option<Pending<'a>>,
+    ) -> bool
         requires room { HasRoom self.old }
         requires register { register < (reach self.old).registers }
-        requires max { Refers (reach self.old).variables (expression_of max.now) }
-        requires limit { Refers (reach self.old).variables (expression_of limit.now) }
+        requires words { Refers (reach self.old).variables (expression_of most.words.now) }
+        requires cycles { Refers (reach self.old).variables (expression_of most.cycles.now) }
         requires tally { tally < (reach self.old).variables }
-        requires fine { FineThen self.old (λ c. effect c most_turns (q_repeat 0 function register table (expression_of max.now) (expression_of limit.now) tally)) }
-        ensures { Proceeds self.old (λ c. effect c most_turns (q_repeat 0 function register table (expression_of max.now) (expression_of limit.now) tally)) result self.new }
+        requires fine { FineThen self.old (λ c. effect c most_turns (q_repeat 0 function register table (expression_of most.words.now) (expression_of most.cycles.now) tally)) }
+        ensures goes { Proceeds self.old (λ c. effect c most_turns (q_repeat 0 function register table (expression_of most.entry.words.now) (expression_of most.entry.cycles.now) tally)) pending.new self.new }
+        ensures some { result ≡ is_some pending.new }
     {
         let words = self.sent(table);
         let at = self.address_in(register);
-        let max = self.value_of(max);
-        let limit = self.value_of(limit);
-        self.proceed(&Transfer {
+        let max = self.value_of(most.words);
+        let limit = self.value_of(most.cycles);
+        let transfer = Transfer {
             course: Course::Repeat(QRepeat::new(at, max, limit)),
             function,
             table: words,
             tally,
-        })
+        };
+        self.proceed(&transfer, pending)
     }
 
-    // Goes on with a transfer: to its next cycle, or else to its tally.
-    pub(crate) fn proceed(&mut self, transfer: &Transfer<'a>) -> Option<Pending<'a>>
+    // Goes on with a transfer: to its next cycle, or else to its tally. Answers whether a cycle is wanted next.
+    fn proceed(&mut self, transfer: &Transfer<'a>, pending: &mut Option<Pending<'a>>) -> bool
         requires room { HasRoom self.old }
         requires tally { transfer.now.tally < (reach self.old).variables }
         requires fine { FineThen self.old (λ c. transferred c transfer.now) }
-        ensures { Proceeds self.old (λ c. transferred c transfer.now) result self.new }
+        ensures goes { Proceeds self.old (λ c. transferred c transfer.now) pending.new self.new }
+        ensures some { result ≡ is_some pending.new }
     {
         match self.next_cycle(
             &transfer.course,
@@ -150,17 +169,24 @@ impl<'a, const V: usize, const DEPTH: usize, const CAP: usize> Machine<'a, V, DE
             transfer.table,
             transfer.tally,
         ) {
-            Some(command) => Some(Pending::Transfer(TransferCycle {
-                command,
-                course: transfer.course,
-                table: transfer.table,
-                tally: transfer.tally,
-            })),
-            None => None,
+            Some(command) => {
+                *pending = Some(Pending::Transfer(TransferCycle {
+                    command,
+                    course: transfer.course,
+                    table: transfer.table,
+                    tally: transfer.tally,
+                }));
+                true
+            }
+            None => {
+                *pending = None;
+                false
+            }
         }
     }
 
     // The command of a transfer's next cycle, or none at the end, where the tally is set.
+    #[inline(never)]
     pub(crate) fn next_cycle(
         &mut self,
         course: &Course,

@@ -78,7 +78,7 @@ pub returns-in-Single-clause-advances : goal.returns-in-Single-clause-advances
 returns-in-Single-clause-advances g c =
     let w = c.in-Single in
     rw (w.is, single_is w.line w.size w.function w.register w.data)
-    (wants_advance c.args.self.now (single 0 w.size w.function w.register (move_of w.data)) c.single.result c.requires.room c.single.ensures)
+    (wants_advance c.args.self.now (single 0 w.size w.function w.register (move_of w.data)) c.single.new.pending c.requires.room c.single.ensures)
 
 pub call_crate-requires : goal.call_crate-requires
 call_crate-requires g c =
@@ -91,7 +91,7 @@ pub returns-in-CrateCall-clause-advances : goal.returns-in-CrateCall-clause-adva
 returns-in-CrateCall-clause-advances g c =
     let w = c.in-CrateCall in
     rw (w.is, crate_is w.line w.call w.crate_no)
-    (wants_advance c.args.self.now (crate_call 0 w.call (expression_of w.crate_no)) c.call_crate.result c.requires.room c.call_crate.ensures)
+    (wants_advance c.args.self.now (crate_call 0 w.call (expression_of w.crate_no)) c.call_crate.new.pending c.requires.room c.call_crate.ensures)
 
 pub call_lam-requires : goal.call_lam-requires
 call_lam-requires g c =
@@ -102,7 +102,7 @@ call_lam-requires g c =
 pub returns-in-LamCall-clause-advances : goal.returns-in-LamCall-clause-advances
 returns-in-LamCall-clause-advances g c =
     let w = c.in-LamCall in
-    rw (w.is, lam_is w.line w.call w.lam) (wants_advance c.args.self.now (lam_call 0 w.call w.lam) c.call_lam.result c.requires.room c.call_lam.ensures)
+    rw (w.is, lam_is w.line w.call w.lam) (wants_advance c.args.self.now (lam_call 0 w.call w.lam) c.call_lam.new.pending c.requires.room c.call_lam.ensures)
 
 -- transfers
 pub scan-requires : goal.scan-requires
@@ -116,13 +116,13 @@ scan-requires g c =
 pub returns-in-Scan-clause-advances : goal.returns-in-Scan-clause-advances
 returns-in-Scan-clause-advances g c =
     let w = c.in-Scan in
-    rw (w.is, scan_is w.line w.function w.first w.last w.max w.tally, wanted_same c.scan.result c.is_some.result c.is_some.ensures)
-    (proceeds_advance c.args.self.now (address_scan 0 w.function w.first w.last (expression_of w.max) w.tally) c.scan.result c.scan.new.self c.scan.ensures)
+    rw (w.is, scan_is w.line w.function w.first w.last w.max w.tally, wanted_same c.scan.new.pending c.scan.result c.scan.ensures.some)
+    (proceeds_advance c.args.self.now (address_scan 0 w.function w.first w.last (expression_of w.max) w.tally) c.scan.new.pending c.scan.new.self c.scan.ensures.goes)
 
 pub returns-in-Scan-clause-pace : goal.returns-in-Scan-clause-pace
 returns-in-Scan-clause-pace g c =
     let w = c.in-Scan in
-    proceeds_pace c.args.self.now (address_scan 0 w.function w.first w.last (expression_of w.max) w.tally) c.scan.result c.scan.new.self c.scan.ensures
+    proceeds_pace c.args.self.now (address_scan 0 w.function w.first w.last (expression_of w.max) w.tally) c.scan.new.pending c.scan.new.self c.scan.ensures.goes
 
 pub q_stop-requires : goal.q_stop-requires
 q_stop-requires g c =
@@ -135,13 +135,13 @@ q_stop-requires g c =
 pub returns-in-QStop-clause-advances : goal.returns-in-QStop-clause-advances
 returns-in-QStop-clause-advances g c =
     let w = c.in-QStop in
-    rw (w.is, q_stop_is w.line w.function w.register w.table w.max w.tally, wanted_same c.q_stop.result c.is_some-in-QStop.result c.is_some-in-QStop.ensures)
-    (proceeds_advance c.args.self.now (q_stop 0 w.function w.register w.table (expression_of w.max) w.tally) c.q_stop.result c.q_stop.new.self c.q_stop.ensures)
+    rw (w.is, q_stop_is w.line w.function w.register w.table w.max w.tally, wanted_same c.q_stop.new.pending c.q_stop.result c.q_stop.ensures.some)
+    (proceeds_advance c.args.self.now (q_stop 0 w.function w.register w.table (expression_of w.max) w.tally) c.q_stop.new.pending c.q_stop.new.self c.q_stop.ensures.goes)
 
 pub returns-in-QStop-clause-pace : goal.returns-in-QStop-clause-pace
 returns-in-QStop-clause-pace g c =
     let w = c.in-QStop in
-    proceeds_pace c.args.self.now (q_stop 0 w.function w.register w.table (expression_of w.max) w.tally) c.q_stop.result c.q_stop.new.self c.q_stop.ensures
+    proceeds_pace c.args.self.now (q_stop 0 w.function w.register w.table (expression_of w.max) w.tally) c.q_stop.new.pending c.q_stop.new.self c.q_stop.ensures.goes
 
 pub q_repeat-requires : goal.q_repeat-requires
 q_repeat-requires g c =
@@ -154,13 +154,13 @@ q_repeat-requires g c =
 pub returns-in-QRepeat-clause-advances : goal.returns-in-QRepeat-clause-advances
 returns-in-QRepeat-clause-advances g c =
     let w = c.in-QRepeat in
-    rw (w.is, q_repeat_is w.line w.function w.register w.table w.max w.limit w.tally, wanted_same c.q_repeat.result c.is_some-in-QRepeat.result c.is_some-in-QRepeat.ensures)
-    (proceeds_advance c.args.self.now (q_repeat 0 w.function w.register w.table (expression_of w.max) (expression_of w.limit) w.tally) c.q_repeat.result c.q_repeat.new.self c.q_repeat.ensures)
+    rw (w.is, q_repeat_is w.line w.function w.register w.table w.max w.limit w.tally, wanted_same c.q_repeat.new.pending c.q_repeat.result c.q_repeat.ensures.some)
+    (proceeds_advance c.args.self.now (q_repeat 0 w.function w.register w.table (expression_of w.max) (expression_of w.limit) w.tally) c.q_repeat.new.pending c.q_repeat.new.self c.q_repeat.ensures.goes)
 
 pub returns-in-QRepeat-clause-pace : goal.returns-in-QRepeat-clause-pace
 returns-in-QRepeat-clause-pace g c =
     let w = c.in-QRepeat in
-    proceeds_pace c.args.self.now (q_repeat 0 w.function w.register w.table (expression_of w.max) (expression_of w.limit) w.tally) c.q_repeat.result c.q_repeat.new.self c.q_repeat.ensures
+    proceeds_pace c.args.self.now (q_repeat 0 w.function w.register w.table (expression_of w.max) (expression_of w.limit) w.tally) c.q_repeat.new.pending c.q_repeat.new.self c.q_repeat.ensures.goes
 
 -- statements with blocks
 pub choose-requires : goal.choose-requires
@@ -226,16 +226,14 @@ pub returns-in-Lock-clause-advances : goal.returns-in-Lock-clause-advances
 returns-in-Lock-clause-advances g c =
     let w = c.in-Lock in
     rw (w.is, lock_is w.line w.crate_no w.body, ← c.deref-in-Lock.ensures.value)
-    (wants_advance c.args.self.now (locked 0 (expression_of w.crate_no) (statements_of c.deref-in-Lock.result.now)) c.want_lock.result c.requires.room c.want_lock.ensures)
+    (wants_advance c.args.self.now (locked 0 (expression_of w.crate_no) (statements_of c.deref-in-Lock.result.now)) c.want_lock.new.pending c.requires.room c.want_lock.ensures)
 
 pub begin_for-requires : goal.begin_for-requires
 begin_for-requires g c =
-    let h = c.args.self.now in
-    let w = c.in-For in
-    let e = for_is w.line w.variable w.from w.to w.keeps w.body in
-    let fits = rw (w.is, e) at c.requires.fits in
-    let fine = rw (w.is, e) at c.requires.fine in
-    (search, (room_stepped h (h.steps + 1) c.requires.room, (fits.0, (fits.1, (fits.2, (rw c.deref-in-For.ensures.value (fits.3, fits.4), rw c.deref-in-For.ensures.value fine))))))
+    let e = for_is c.in-For.line c.in-For.variable c.in-For.from c.in-For.to c.in-For.keeps c.in-For.body in
+    let fits = rw (c.in-For.is, e) at c.requires.fits in
+    let fine = rw (c.in-For.is, e) at c.requires.fine in
+    (search, (room_stepped c.args.self.now (c.args.self.now.steps + 1) c.requires.room, (fits.0, (fits.1, (fits.2, (rw c.deref-in-For.ensures.value (fits.3, fits.4), rw c.deref-in-For.ensures.value fine))))))
 
 pub returns-in-For-clause-advances : goal.returns-in-For-clause-advances
 returns-in-For-clause-advances g c =

@@ -35,12 +35,12 @@ proceed-requires g c =
       ),
     )
 
-pub returns : goal.returns
-returns g c =
+pub returns-clause-goes : goal.returns-clause-goes
+returns-clause-goes g c =
     let h = c.args.self.now in
     let e = expression_of c.args.max.now in
     let table = words_sent c.sent-words.result in
     let at = c.address_in-at.result in
     let m = c.value_of-max.result in
     begins_proceed h (q_stop 0 c.args.function c.args.register c.args.table e c.args.tally) _ table (q_stop_next at m) refl (ap q_stop_left c.new.ensures.held)
-    (stop_goes h c.args.function c.args.register c.args.table e c.args.tally c.requires.fine table c.sent-words.ensures at c.address_in-at.ensures m c.value_of-max.ensures) c.proceed.result c.proceed.new.self c.proceed.ensures
+    (stop_goes h c.args.function c.args.register c.args.table e c.args.tally c.requires.fine table c.sent-words.ensures at c.address_in-at.ensures m c.value_of-max.ensures) c.proceed.new.pending c.proceed.new.self c.proceed.ensures.goes

@@ -40,12 +40,12 @@ proceed-requires g c =
       ),
     )
 
-pub returns : goal.returns
-returns g c =
+pub returns-clause-goes : goal.returns-clause-goes
+returns-clause-goes g c =
     let h = c.args.self.now in
     let e = expression_of c.args.max.now in
     let first = c.address_in-first.result in
     let last = c.address_in-last.result in
     let m = c.value_of-max.result in
     begins_proceed h (address_scan 0 c.args.function c.args.first c.args.last e c.args.tally) (record { course = Scan c.new.result; function = c.args.function; table = None; tally = c.args.tally }) None (scan_next first last m) refl (ap scan_left c.new.ensures.held)
-    (scan_goes h c.args.function c.args.first c.args.last e c.args.tally c.requires.fine first c.address_in-first.ensures last c.address_in-last.ensures m c.value_of-max.ensures) c.proceed.result c.proceed.new.self c.proceed.ensures
+    (scan_goes h c.args.function c.args.first c.args.last e c.args.tally c.requires.fine first c.address_in-first.ensures last c.address_in-last.ensures m c.value_of-max.ensures) c.proceed.new.pending c.proceed.new.self c.proceed.ensures.goes

@@ -82,4 +82,4 @@ pub returns : goal.returns
 returns g c =
     let h = c.loop-self.self in
     let v = c.loop-self.invariant in
-    record { room = v.room; checked = v.checked; service = v.service; awaits = tt; over = none_of h.frames.items c.loop-self-test.ensures; goes = v.goes }
+    rw c.wait_for_none.ensures (record { room = v.room; checked = v.checked; service = v.service; awaits = tt; over = none_of h.frames.items c.loop-self-test.ensures; goes = v.goes })
