@@ -18,7 +18,7 @@ use Rattle.camac_c.specs.declared.session.Session.{Session}
 abbrev pub Spells : (plan script : List ℕ) → CheckedScript → Type 0
 Spells plan script c = (reading plan ≡ Ok c.plan) × (accepted c.plan script ≡ Some (Ok c.script))
 
--- a session at the begin of the run of the script that the two texts spell
+-- a session at the beginning of the run of the script that the two texts spell
 abbrev pub IsOpened : (plan script : List ℕ) → Option Session → Type 0
 IsOpened plan script v = Holds v (λ s. (c : CheckedScript) × Spells plan script c × IsChecked c × StartsOn c s)
 

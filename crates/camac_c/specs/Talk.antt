@@ -19,7 +19,7 @@ use Rattle.camac_c.specs.declared.plain.CamacWant.{CamacWant}
 use Rattle.camac_c.specs.declared.plain.Told.{Told}
 use Rattle.camac_c.specs.declared.session.Session.{Session}
 
--- at the begin of the run of this script: no answer was used, and no event left
+-- at the beginning of the run of this script: no answer was used, and no event left
 pub record StartsOn (c : CheckedScript) (s : Session) : Type 0 where
   pub runs : (answers : List Answer) → rest s.runner answers ≡ the_run c.plan c.script answers
   pub holds : HoldsAfter c.plan c.script [] s.runner

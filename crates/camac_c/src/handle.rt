@@ -44,7 +44,7 @@ impl Handle {
         }
     }
 
-    /// A session at the begin of the run of a script, or the script back where there is no memory.
+    /// A session at the beginning of the run of a script, or the script back where there is no memory.
     pub fn begin(script: Loose<Checked, Global>) -> Result<Handle, Loose<Checked, Global>>
         ensures ok { IfOk result (λ h. Holds h.value (StartsOn script.value)) }
         ensures err { IfErr result (λ l. l.value ≡ script.value) }

@@ -31,8 +31,8 @@ pub extern "C" fn camac_raw_version() -> u32
     VERSION
 }
 
-/// Checks a script against a plan, and opens a session at the begin of its run. The text is that of `camac_raw_check`. A session that is
-/// open stays, and the answer is `MISUSE`.
+/// Checks a script against a plan, and opens a session at the beginning of its run. The text is that of `camac_raw_check`. A session that
+/// is open stays, and the answer is `MISUSE`.
 #[unsafe(no_mangle)]
 pub extern "C" fn camac_raw_open(
     alloc: Global,

@@ -42,7 +42,7 @@ rest_rule context around a b = go_on (if_reached unreached a.after (accept_block
 verdict_ok : (known : Option Facts) (a b : Bounds) → a ≡ b → ◌≡◌ {A = Result Verdict Fault} (Ok (verdict known a)) (Ok (verdict known b))
 verdict_ok known a b e = ap (λ c. Ok (verdict known c)) e
 
--- at the begin nothing was found
+-- at the beginning nothing was found
 block_begins : (context : code.Context) (around : Around) (b : Block) (k : Facts) → rest_rule context around (verdict (Some k) no_costs) b ≡ accept_block (by_code context) around b k
 unfolding go_on if_reached
 block_begins context around done k = refl

@@ -208,7 +208,7 @@ unfolding go_on required
 guard_same b true rule line d e r q is same h = ap (λ x. go_on (required x rule line d) (λ _. r)) is ∙ h refl
 guard_same b false rule line d e r q is same h = ap (λ x. go_on (required x rule line d) (λ _. r)) is ∙ ap (λ c. Err (broken rule line c)) same
 
--- a cost that is cut is told as the cost
+-- a cost that is cut is the cost
 told_cut : (place : Body) (n allowed : ℕ) → budget place (min n (2 ^ 64 - 1)) allowed ≡ budget place n allowed
 told_cut place n allowed =
     let k : ℕ = 2 ^ 64 - 1 in

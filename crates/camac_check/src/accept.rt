@@ -111,13 +111,13 @@ pub fn procedure_within(
 ) -> Result<Bounds, CheckFault>
     ensures { Gives (λ b. b) result (accept_procedure (by_rules context.now) (annotate cycles words steps (procedure_of procedure.now))) }
 {
-    procedure_capped(alloc, context, procedure, cycles, words, steps)
+    procedure_in_64_bits(alloc, context, procedure, cycles, words, steps)
 }
 
 // The same by the costs of the code, which are 64 bits wide and stay at their greatest number. The rules count without bounds. That
 // both give one result is proved in the function above, from this clause.
 #[tactic(auto, unfolding(camac_check_rules::specs::Refusal::go_on, camac_check_rules::specs::Refusal::if_reached))]
-fn procedure_capped(
+fn procedure_in_64_bits(
     alloc: Global,
     context: &Context,
     procedure: &Procedure,
@@ -143,12 +143,12 @@ fn procedure_capped(
 fn accept_service(alloc: Global, context: &Context, service: &Service) -> Result<Bounds, CheckFault>
     ensures { Gives (λ b. b) result (accept_service (by_rules context.now) (service_of service.now)) }
 {
-    accept_capped(alloc, context, service, service.cycles, service.words)
+    accept_in_64_bits(alloc, context, service, service.cycles, service.words)
 }
 
 // The same with costs in 64 bits, as above.
 #[tactic(auto, unfolding(camac_check_rules::specs::Refusal::go_on, camac_check_rules::specs::Refusal::if_reached))]
-fn accept_capped(
+fn accept_in_64_bits(
     alloc: Global,
     context: &Context,
     service: &Service,
@@ -179,12 +179,16 @@ pub fn service_needs(
 ) -> Result<Bounds, LeastFault>
     ensures { Finds (λ b. b) result (service_needs (by_rules context.now) (service_of service.now)) }
 {
-    needs_capped(alloc, context, service)
+    needs_in_64_bits(alloc, context, service)
 }
 
 // The same with costs in 64 bits, as above.
 #[tactic(auto, unfolding(camac_check_rules::specs::Refusal::go_on, camac_check_rules::specs::Refusal::if_reached, crate::specs::Least::and_then))]
-fn needs_capped(alloc: Global, context: &Context, service: &Service) -> Result<Bounds, LeastFault>
+fn needs_in_64_bits(
+    alloc: Global,
+    context: &Context,
+    service: &Service,
+) -> Result<Bounds, LeastFault>
     ensures { Finds (λ b. b) result (service_needs (by_code context.now) (service_of service.now)) }
 {
     let body = Body::Service(service.lam);

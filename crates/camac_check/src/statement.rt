@@ -21,7 +21,7 @@ use camac_check_simple::{
 use camac_lang::{Expr, Keep, Part, Stmt};
 use std::alloc::{AllocError, Global};
 
-/// Checks a block from what is known at its begin, if it can be reached.
+/// Checks a block from what is known at its beginning, if it can be reached.
 #[cycle(statements)]
 pub fn accept_block(
     alloc: Global,

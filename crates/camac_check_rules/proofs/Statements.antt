@@ -154,7 +154,7 @@ mutual
       required_allowed _ line _ (λ keep. allows (while_sound c around line test most m keeps body k top arms turn begins d h keep)))))
   statement_sound c narrow serves around (call line p es) may k = call_sound c serves around line p es k
 
-  -- a block, from what is known at its begin, if that can be reached
+  -- a block, from what is known at its beginning, if that can be reached
   pub block_sound : (c : Setting) → HasWidths c.plan → Serves c → (around : Place) (b : Block) → MayLock around (block_has_lock b) → (k : Facts) → Allows (accept_block (seen c) (around_of around) b k) (SoundFor c.plan around (Some k) (λ n. block_meaning (of c) n b))
   block_sound c narrow serves around done may k =
       allows (record { each = λ n le s i. record { reaches = i; paid = paid_nothing s; untouched = λ y among. refl } })

@@ -32,6 +32,6 @@ crates_of r s = Crates (numbers_of r) (numbers_of s)
 abbrev pub crate_of : Interval → Case
 crate_of r = Crate (numbers_of r)
 
--- a cost and what is allowed; a cost past 64 bits is told as their greatest number
+-- a cost and what is allowed; a cost past 64 bits is given as their greatest number
 abbrev pub budget : Body → ℕ → ℕ → Case
 budget body needed allowed = Budget body (min needed (2 ^ 64 - 1)) allowed

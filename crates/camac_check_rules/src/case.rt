@@ -30,7 +30,7 @@ pub enum Body {
 }
 
 /// The numbers of a broken rule, of which its sentence is made. The rule tells them in the line that refuses, so that no second walk has to find
-/// them. A cost past 64 bits is told as the greatest number of them.
+/// them. A cost past 64 bits is given as the greatest number of them.
 #[derive(Clone, Copy, Debug, PartialEq, Eq)]
 pub enum Case {
     /// A tree that no text gives: it names a LAM, a procedure or a table that is not there.

@@ -32,7 +32,7 @@ pub struct Walked {
     pub rows: Vec<Row>,
 }
 
-/// Judges a block from what is known at its begin, if it can be reached, with the rows of its statements.
+/// Judges a block from what is known at its beginning, if it can be reached, with the rows of its statements.
 #[cycle(walk)]
 pub fn walk_block(
     alloc: Global,

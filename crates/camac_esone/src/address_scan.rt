@@ -40,7 +40,7 @@ impl Scan {
     /// The scan before its first cycle; with a `max` of 0, or a first address past the final one, there is none.
     pub fn new(first: Address, last: Address, max: u32) -> Self
         requires one_crate { first.crate_no ≡ last.crate_no }
-        ensures held { result ≡ record { at = first; last = last; words = max; tally = 0 } }
+        ensures state { result ≡ record { at = first; last = last; words = max; tally = 0 } }
         ensures stands { StandsAt (scan_next first last max) (scan_left result) [] }
     {
         Scan {
@@ -98,7 +98,7 @@ impl Scan {
 
     /// How many cycles had Q=1.
     pub fn tally(&self) -> u32
-        ensures held { result ≡ self.now.tally }
+        ensures tally { result ≡ self.now.tally }
         ensures replies { IsTally (scan_left self.now) result }
     {
         self.tally
@@ -106,7 +106,7 @@ impl Scan {
 
     /// How many words the scan gave, the number of the next one, from 0.
     pub fn index(&self) -> usize
-        ensures held { result ≡ self.now.tally }
+        ensures tally { result ≡ self.now.tally }
         ensures replies { IsTally (scan_left self.now) result }
     {
         self.tally as usize

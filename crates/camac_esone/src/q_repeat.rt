@@ -36,7 +36,7 @@ impl Model for QRepeat {
 impl QRepeat {
     /// The transfer before its first cycle; with a `max` or `limit` of 0 there is none.
     pub fn new(address: Address, max: u32, limit: u32) -> Self
-        ensures held { result ≡ record { at = address; words = max; cycles = limit; tally = 0 } }
+        ensures state { result ≡ record { at = address; words = max; cycles = limit; tally = 0 } }
         ensures stands { StandsAt (q_repeat_next address max limit) (q_repeat_left result) [] }
     {
         QRepeat {
@@ -74,7 +74,7 @@ impl QRepeat {
 
     /// How many cycles had Q=1.
     pub fn tally(&self) -> u32
-        ensures held { result ≡ self.now.tally }
+        ensures tally { result ≡ self.now.tally }
         ensures replies { IsTally (q_repeat_left self.now) result }
     {
         self.tally
@@ -82,7 +82,7 @@ impl QRepeat {
 
     /// The number of the table word that the next cycle sends, from 0: after Q=0 the same again.
     pub fn index(&self) -> usize
-        ensures held { result ≡ self.now.tally }
+        ensures tally { result ≡ self.now.tally }
         ensures replies { IsTally (q_repeat_left self.now) result }
     {
         self.tally as usize

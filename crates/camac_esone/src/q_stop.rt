@@ -33,7 +33,7 @@ impl Model for QStop {
 impl QStop {
     /// The transfer before its first cycle; with a `max` of 0 there is none.
     pub fn new(address: Address, max: u32) -> Self
-        ensures held { result ≡ record { at = address; cycles = max; tally = 0 } }
+        ensures state { result ≡ record { at = address; cycles = max; tally = 0 } }
         ensures stands { StandsAt (q_stop_next address max) (q_stop_left result) [] }
     {
         QStop {
@@ -71,7 +71,7 @@ impl QStop {
 
     /// How many cycles had Q=1.
     pub fn tally(&self) -> u32
-        ensures held { result ≡ self.now.tally }
+        ensures tally { result ≡ self.now.tally }
         ensures replies { IsTally (q_stop_left self.now) result }
     {
         self.tally
@@ -79,7 +79,7 @@ impl QStop {
 
     /// The number of the table word that the next cycle sends, from 0.
     pub fn index(&self) -> usize
-        ensures held { result ≡ self.now.tally }
+        ensures tally { result ≡ self.now.tally }
         ensures replies { IsTally (q_stop_left self.now) result }
     {
         self.tally as usize

@@ -1,8 +1,8 @@
 // What stands before a place of a script.
 
 use crate::trial::{Beginnings, is_operator};
-use crate::word::is_near;
 use camac_lang::Name;
+use camac_report_text::is_near;
 use camac_text_tokens::{Keyword, Sign, TokenKind, TokensLeft};
 use std::alloc::{AllocError, Global};
 
@@ -228,7 +228,7 @@ impl Before {
         }
     }
 
-    // An `=` in a body makes the name before it the begin of a statement, but in `for i =`.
+    // An `=` in a body makes the name before it the beginning of a statement, but in `for i =`.
     fn begin_assignment(&mut self) -> Result<(), AllocError> {
         let is_of_for = self.phrase.len() == 2 && self.first_word() == Some(Keyword::For);
         if self.in_body() && !is_of_for {

@@ -120,7 +120,7 @@ abbrev mutual
   block_meaning c n done s = ends s
   block_meaning c n (next st rest) s = then_do (effect c n st (stepped s)) (block_meaning c n rest)
 
--- a statement from its begin on
+-- a statement from its beginning on
 abbrev pub meaning : Context → ℕ → Statement → Action
 meaning c n st s = effect c n st (stepped s)
 

@@ -25,7 +25,7 @@ pub fn cycle_in(bytes: &mut [u8], start: usize, cycle: &CycleDone) -> usize
     text_in(bytes, end, "\n")
 }
 
-/// Lays out the line's begin, the command alone, and returns the place after it.
+/// Lays out the line's beginning, the command alone, and returns the place after it.
 #[inline(always)]
 pub fn command_in(bytes: &mut [u8], start: usize, command: &Command) -> usize
     requires { start + 22 ≤ length bytes.old }

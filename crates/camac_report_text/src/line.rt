@@ -147,7 +147,7 @@ impl Line {
         self.len = cycle_in(&mut self.bytes, self.len, cycle);
     }
 
-    /// Puts the begin of that line at the end, the command alone.
+    /// Puts the beginning of that line at the end, the command alone.
     pub fn push_command(&mut self, command: &Command)
         requires room { length self.old + 22 ≤ LONGEST_LINE }
         ensures text { self.new ≡ self.old ++ cycle_start (address command.now.c command.now.n command.now.a) command.now.f }

@@ -6,5 +6,5 @@ use Rattle.camac_check.proofs.accept.accept_service.Goals as goal
 
 pub returns : goal.returns
 returns c =
-    subst (λ r. Gives (λ b. b) c.accept_capped.result r)
-    (service_cut c.args.context.now (service_of c.args.service.now) (omega arith) (omega arith)) c.accept_capped.ensures
+    subst (λ r. Gives (λ b. b) c.accept_in_64_bits.result r)
+    (service_cut c.args.context.now (service_of c.args.service.now) (omega arith) (omega arith)) c.accept_in_64_bits.ensures

@@ -10,5 +10,5 @@ returns c =
     let low : c.args.cycles < 2 ^ 64 - 1 = omega arith in
     let few : c.args.words < 2 ^ 64 - 1 = omega arith in
     let short : c.args.steps < 2 ^ 64 - 1 = omega arith in
-    subst (λ r. Gives (λ b. b) c.procedure_capped.result r)
-    (procedure_cut c.args.context.now (annotate c.args.cycles c.args.words c.args.steps (procedure_of c.args.procedure.now)) low few short) c.procedure_capped.ensures
+    subst (λ r. Gives (λ b. b) c.procedure_in_64_bits.result r)
+    (procedure_cut c.args.context.now (annotate c.args.cycles c.args.words c.args.steps (procedure_of c.args.procedure.now)) low few short) c.procedure_in_64_bits.ensures

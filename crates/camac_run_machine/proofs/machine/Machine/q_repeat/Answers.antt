@@ -36,7 +36,7 @@ proceed-requires g c =
         c.requires.room,
         (
           c.requires.tally,
-          begins_fine h (q_repeat 0 c.args.function c.args.register c.args.table e l c.args.tally) _ table (q_repeat_next at m n) refl (ap q_repeat_left c.new.ensures.held)
+          begins_fine h (q_repeat 0 c.args.function c.args.register c.args.table e l c.args.tally) _ table (q_repeat_next at m n) refl (ap q_repeat_left c.new.ensures.state)
               (repeat_goes h c.args.function c.args.register c.args.table e l c.args.tally c.requires.fine table c.sent-words.ensures at c.address_in-at.ensures m c.value_of-max.ensures n c.value_of-limit.ensures) c.requires.fine,
         ),
       ),
@@ -51,5 +51,5 @@ returns-clause-goes g c =
     let at = c.address_in-at.result in
     let m = c.value_of-max.result in
     let n = c.value_of-limit.result in
-    begins_proceed h (q_repeat 0 c.args.function c.args.register c.args.table e l c.args.tally) _ table (q_repeat_next at m n) refl (ap q_repeat_left c.new.ensures.held)
+    begins_proceed h (q_repeat 0 c.args.function c.args.register c.args.table e l c.args.tally) _ table (q_repeat_next at m n) refl (ap q_repeat_left c.new.ensures.state)
     (repeat_goes h c.args.function c.args.register c.args.table e l c.args.tally c.requires.fine table c.sent-words.ensures at c.address_in-at.ensures m c.value_of-max.ensures n c.value_of-limit.ensures) c.proceed.new.pending c.proceed.new.self c.proceed.ensures.goes

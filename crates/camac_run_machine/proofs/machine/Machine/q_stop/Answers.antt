@@ -29,7 +29,7 @@ proceed-requires g c =
         c.requires.room,
         (
           c.requires.tally,
-          begins_fine h (q_stop 0 c.args.function c.args.register c.args.table e c.args.tally) _ table (q_stop_next at m) refl (ap q_stop_left c.new.ensures.held)
+          begins_fine h (q_stop 0 c.args.function c.args.register c.args.table e c.args.tally) _ table (q_stop_next at m) refl (ap q_stop_left c.new.ensures.state)
               (stop_goes h c.args.function c.args.register c.args.table e c.args.tally c.requires.fine table c.sent-words.ensures at c.address_in-at.ensures m c.value_of-max.ensures) c.requires.fine,
         ),
       ),
@@ -42,5 +42,5 @@ returns-clause-goes g c =
     let table = words_sent c.sent-words.result in
     let at = c.address_in-at.result in
     let m = c.value_of-max.result in
-    begins_proceed h (q_stop 0 c.args.function c.args.register c.args.table e c.args.tally) _ table (q_stop_next at m) refl (ap q_stop_left c.new.ensures.held)
+    begins_proceed h (q_stop 0 c.args.function c.args.register c.args.table e c.args.tally) _ table (q_stop_next at m) refl (ap q_stop_left c.new.ensures.state)
     (stop_goes h c.args.function c.args.register c.args.table e c.args.tally c.requires.fine table c.sent-words.ensures at c.address_in-at.ensures m c.value_of-max.ensures) c.proceed.new.pending c.proceed.new.self c.proceed.ensures.goes

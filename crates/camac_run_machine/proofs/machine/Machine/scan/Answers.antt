@@ -34,7 +34,7 @@ proceed-requires g c =
         c.requires.room,
         (
           c.requires.tally,
-          begins_fine h (address_scan 0 c.args.function c.args.first c.args.last e c.args.tally) (record { course = Scan c.new.result; function = c.args.function; table = None; tally = c.args.tally }) None (scan_next first last m) refl (ap scan_left c.new.ensures.held)
+          begins_fine h (address_scan 0 c.args.function c.args.first c.args.last e c.args.tally) (record { course = Scan c.new.result; function = c.args.function; table = None; tally = c.args.tally }) None (scan_next first last m) refl (ap scan_left c.new.ensures.state)
               (scan_goes h c.args.function c.args.first c.args.last e c.args.tally c.requires.fine first c.address_in-first.ensures last c.address_in-last.ensures m c.value_of-max.ensures) c.requires.fine,
         ),
       ),
@@ -47,5 +47,5 @@ returns-clause-goes g c =
     let first = c.address_in-first.result in
     let last = c.address_in-last.result in
     let m = c.value_of-max.result in
-    begins_proceed h (address_scan 0 c.args.function c.args.first c.args.last e c.args.tally) (record { course = Scan c.new.result; function = c.args.function; table = None; tally = c.args.tally }) None (scan_next first last m) refl (ap scan_left c.new.ensures.held)
+    begins_proceed h (address_scan 0 c.args.function c.args.first c.args.last e c.args.tally) (record { course = Scan c.new.result; function = c.args.function; table = None; tally = c.args.tally }) None (scan_next first last m) refl (ap scan_left c.new.ensures.state)
     (scan_goes h c.args.function c.args.first c.args.last e c.args.tally c.requires.fine first c.address_in-first.ensures last c.address_in-last.ensures m c.value_of-max.ensures) c.proceed.new.pending c.proceed.new.self c.proceed.ensures.goes
