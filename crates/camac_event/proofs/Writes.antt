@@ -2,6 +2,8 @@
 use Rattle.std.proofs.Common.{◌≡◌, ℕ, zero, suc, ◌+◌, ◌<◌, ◌≤◌, List, [], ◌∷◌, ◌++◌, length, get_or, slice_get, take, All, Bor, Option, None, Some, IfSome, refl, subst, sym, ap, ◌∙◌, append_assoc, append-nil, add-zero, length-take, arith}
 use Rattle.std.specs.List.{AllByRecursion}
 use Rattle.std.specs.Slice.{IsItemAt}
+use Rattle.std.specs.Io.KnownBytes.{Appends}
+use Rattle.std.proofs.KnownBytes.{Appends-trans}
 use Rattle.std.proofs.lemmas.Option.{slice_get_read}
 use Rattle.std.proofs.lemmas.List.{take_more, map_push, length-map}
 use Rattle.std.proofs.lemmas.List.Elements.{All-from_recursion}
@@ -17,15 +19,16 @@ records_from-push number (x ∷ xs) e =
     ∙ sym (append_assoc (record_of number x) (records_from (number + 1) xs) (record_of (number + length (x ∷ xs)) e))
 
 -- the next record was written
-pub records_more : (es : List Event) (i : ℕ) (e : Event) (number : ℕ) (old mid new : List ℕ) → i < length es → e ≡ get_or es i e → number ≡ i
-    → mid ≡ old ++ records_from 1 (entries_of (take i es)) → new ≡ mid ++ record_of (number + 1) (entry_of e) → new ≡ old ++ records_from 1 (entries_of (take (i + 1) es))
+pub records_more : (es : List Event) (i : ℕ) (e : Event) (number : ℕ) (old mid new : Option (List ℕ)) → i < length es → e ≡ get_or es i e → number ≡ i
+    → Appends old mid (records_from 1 (entries_of (take i es))) → Appends mid new (record_of (number + 1) (entry_of e)) → Appends old new (records_from 1 (entries_of (take (i + 1) es)))
 records_more es i e number old mid new lt is number_is before after =
     let prefix = entries_of (take i es) in
     let longer : entries_of (take (i + 1) es) ≡ prefix ++ entry_of e ∷ [] =
     ap entries_of (take_more es i e lt ∙ ap (λ (x : Event). take i es ++ x ∷ []) (sym is)) ∙ map_push entry_of (take i es) e in
     let count : number + 1 ≡ 1 + length prefix = rw length-map (omega (arith, length-take i es)) in
-    after ∙ ap (λ (t : List ℕ). t ++ record_of (number + 1) (entry_of e)) before ∙ append_assoc old (records_from 1 prefix) (record_of (number + 1) (entry_of e))
-    ∙ ap (λ (t : List ℕ). old ++ t) (ap (λ (n : ℕ). records_from 1 prefix ++ record_of n (entry_of e)) count ∙ sym (records_from-push 1 prefix (entry_of e)) ∙ ap (records_from 1) (sym longer))
+    let same : records_from 1 prefix ++ record_of (number + 1) (entry_of e) ≡ records_from 1 (entries_of (take (i + 1) es)) =
+    ap (λ (n : ℕ). records_from 1 prefix ++ record_of n (entry_of e)) count ∙ sym (records_from-push 1 prefix (entry_of e)) ∙ ap (records_from 1) (sym longer) in
+    subst (Appends old new) same (Appends-trans old mid new (records_from 1 prefix) (record_of (number + 1) (entry_of e)) before after)
 
 words_short : (version : Version) (es : List Event) → AllByRecursion (IsEvent version) (entries_of es) → AllByRecursion (λ e. length e.words.items ≤ 4096) es
 words_short version [] fits = tt

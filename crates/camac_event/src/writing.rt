@@ -2,9 +2,10 @@
 
 ghost use Rattle.std.specs.Prelude.{◌≡◌, ◌≤◌, ◌<◌, ◌+◌, ◌*◌, ◌^◌, ◌++◌, ◌||◌, length, OnOk, IfOk, Some, is_err, All};
 ghost use Rattle.std.specs.List.{flat_map};
+ghost use Rattle.std.specs.Io.KnownBytes.{Appends};
 ghost use Rattle.arrayvec.specs.ArrayVec.{array_vec_len};
 ghost use Rattle.byteorder.specs.Endian.{big_bytes};
-ghost use Rattle.camac_event.specs.Spelling.{entry_of, entries_of, records_from, header, usage_fields, head_of, record_of, spelling};
+ghost use Rattle.camac_event.specs.Spelling.{entries_of, records_from, header, usage_fields, head_of, record_of, spelling};
 ghost use Rattle.camac_event.specs.declared.event.Version.TheVariants.{Two};
 ghost use Rattle.camac_word.specs.Watched.{inner_of, has_failed};
 ghost use Rattle.camac_word.specs.Writing.{Writes};
@@ -20,10 +21,12 @@ use std::io::Write;
 pub fn encode(alloc: Global, events: &Events) -> Result<Vec<u8>, AllocError>
     ensures { IfOk result (λ v. v.items ≡ spelling events.now.version events.now.events) }
 {
-    let mut out = Vec::new(alloc);
-    out.extend_from_slice(header_text(events.version))?;
-    put_records(&mut out, &events.items)?;
-    Ok(out)
+    let mut out = Watched::new(Vec::new(alloc));
+    // A write to a vector fails only where memory runs out.
+    out.write_text(header_text(events.version))
+        .map_err(|_| AllocError)?;
+    write_records(&mut out, &events.items).map_err(|_| AllocError)?;
+    Ok(out.into_inner())
 }
 
 /// Writes the header of a file of version Two. After a fault a prefix of it was written.
@@ -48,8 +51,39 @@ pub fn write_record<W: Write>(
         (record_of number (record { gl = gl; usage = Some usage; words = words.now })) }
     ensures failed { has_failed out.new ≡ (has_failed out.old || is_err result) }
 {
+    write_entry(out, number, gl, Some(usage), words)
+}
+
+// Writes the records of the events, numbered one after the other.
+fn write_records<W: Write>(out: &mut Watched<W>, events: &[Event]) -> Result<(), WriteFault>
+    requires few { length events.now < 2 ^ 32 }
+    requires short { All (λ e. length e.words.items ≤ 4096) events.now }
+    ensures { OnOk result (Appends (W.contents (inner_of out.old)) (W.contents (inner_of out.new))
+        (records_from 1 (entries_of events.now))) }
+{
+    let mut number = 0;
+    for event in events {
+        number += 1;
+        write_entry(out, number, event.gl, event.usage, &event.words)?;
+    }
+    Ok(())
+}
+
+// Writes the record of an event of either version.
+fn write_entry<W: Write>(
+    out: &mut Watched<W>,
+    number: u32,
+    gl: GlBit,
+    usage: Option<Usage>,
+    words: &[Word24],
+) -> Result<(), WriteFault>
+    requires { length words.now ≤ 4096 }
+    ensures text { Writes (W.contents (inner_of out.old)) (W.contents (inner_of out.new)) result
+        (record_of number (record { gl = gl; usage = usage; words = words.now })) }
+    ensures failed { has_failed out.new ≡ (has_failed out.old || is_err result) }
+{
     let mut layout = PieceBytes::new();
-    lay_head(&mut layout, number, gl, Some(usage), words.len());
+    lay_head(&mut layout, number, gl, usage, words.len());
     write_words(out, &mut layout, words)
 }
 
@@ -71,46 +105,6 @@ fn write_words<W: Write>(
         lay_u32(layout, word.get());
     }
     out.write_text(layout)
-}
-
-fn put_u32(out: &mut Vec<u8>, n: u32) -> Result<(), AllocError>
-    ensures { OnOk result (out.new.items ≡ out.old.items ++ big_bytes 4 n) }
-{
-    let mut field = [0; 4];
-    BigEndian::write_u32(&mut field, n);
-    out.extend_from_slice(&field)
-}
-
-fn put_words(out: &mut Vec<u8>, words: &[Word24]) -> Result<(), AllocError>
-    ensures { OnOk result (out.new.items ≡ out.old.items ++ flat_map (big_bytes 4) words.now) }
-{
-    for word in words {
-        put_u32(out, word.get())?;
-    }
-    Ok(())
-}
-
-fn put_record(out: &mut Vec<u8>, number: u32, event: &Event) -> Result<(), AllocError>
-    requires { length event.now.words.items ≤ 4096 }
-    ensures { OnOk result (out.new.items ≡ out.old.items ++ record_of number (entry_of event.now)) }
-{
-    let mut head = PieceBytes::new();
-    lay_head(&mut head, number, event.gl, event.usage, event.words.len());
-    out.extend_from_slice(&head)?;
-    put_words(out, &event.words)
-}
-
-fn put_records(out: &mut Vec<u8>, events: &[Event]) -> Result<(), AllocError>
-    requires few { length events.now < 2 ^ 32 }
-    requires short { All (λ e. length e.words.items ≤ 4096) events.now }
-    ensures { OnOk result (out.new.items ≡ out.old.items ++ records_from 1 (entries_of events.now)) }
-{
-    let mut number = 0;
-    for event in events {
-        number += 1;
-        put_record(out, number, event)?;
-    }
-    Ok(())
 }
 
 fn header_text(version: Version) -> &'static [u8; 8]
