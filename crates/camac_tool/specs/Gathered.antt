@@ -10,7 +10,7 @@ device_of g = inner_of g.inner
 
 -- the bytes that it was given and has not handed on
 abbrev pub held_in : {W : Type 0} → Gathered W → List ℕ
-held_in g = g.held.items
+held_in g = g.room
 
 -- a call of the writer behind it has failed
 abbrev pub has_stopped : {W : Type 0} → Gathered W → Bool

@@ -1,9 +1,9 @@
 // A writer that gathers what it is given.
 
-ghost use Rattle.std.specs.Prelude.{◌<◌, vec_capacity};
-
 pub mod handing;
+mod room;
 
+use self::room::Room;
 use camac_word::Watched;
 
 /// A writer that holds what it is given until it is flushed or its room is full, and then hands it on. So what was handed on is always a
@@ -12,6 +12,5 @@ use camac_word::Watched;
 #[derive(Drop)]
 pub struct Gathered<W: Drop> {
     inner: Watched<W>,
-    held: Vec<u8>,
-    ghost room: { 0 < vec_capacity held },
+    room: Room,
 }

@@ -1,19 +1,17 @@
 // How a gathering writer takes bytes and hands them on.
 
-ghost use Rattle.std.specs.Prelude.{◌≡◌, ◌≤◌, ◌<◌, ◌+◌, ◌-◌, ◌||◌, true, false, [], ◌++◌, length, take, drop, IfOk, OnOk, is_err, vec_len, vec_capacity};
+ghost use Rattle.std.specs.Prelude.{◌≡◌, ◌≤◌, ◌<◌, ◌||◌, true, false, [], length, take, IfOk, OnOk, is_err};
 ghost use Rattle.std.specs.Io.{WritesAtMost};
 ghost use Rattle.std.specs.Io.KnownBytes.{Keeps, Appends, WriteAppends};
 ghost use Rattle.camac_tool.specs.Gathered.{device_of, given_to, has_stopped, held_in};
 ghost use Rattle.camac_word.specs.Watched.{inner_of, has_failed};
 
 use super::Gathered;
-use camac_word::Watched;
+use super::room::Room;
+use camac_word::{Watched, WriteFault};
 use std::alloc::{AllocError, Global};
 use std::io;
 use std::io::{Error, ErrorKind, Write};
-
-/// How many bytes are gathered before they are handed on unasked.
-const ROOM: usize = 65_536;
 
 impl<W: Drop> Gathered<W> {
     pub fn new(alloc: Global, inner: W) -> Result<Gathered<W>, AllocError>
@@ -21,10 +19,9 @@ impl<W: Drop> Gathered<W> {
         ensures empty { IfOk result (λ g. held_in g ≡ []) }
         ensures works { IfOk result (λ g. has_stopped g ≡ false) }
     {
-        let held = Vec::with_capacity(alloc, ROOM)?;
         Ok(Gathered {
             inner: Watched::new(inner),
-            held,
+            room: Room::new(alloc)?,
         })
     }
 
@@ -45,16 +42,17 @@ impl<W: Drop> Gathered<W> {
 }
 
 impl<W: Write + Drop> Gathered<W> {
-    // Hands on all that is held. What a failed call leaves stays held.
-    fn write_held(&mut self) -> io::Result<()>
+    // Hands on all that is held. What a failed call leaves stays held. The fault is small: an error of `std::io` would be laid out and
+    // dropped at each write that this function is not called for.
+    #[inline(never)]
+    fn write_held(&mut self) -> Result<(), WriteFault>
         requires works { has_stopped self.old ≡ false }
         ensures empty { OnOk result (held_in self.new ≡ []) }
-        ensures room { OnOk result (vec_len self.new.held ≡ 0) }
         ensures bytes { Keeps (given_to W.contents self.old) (given_to W.contents self.new) }
         ensures failed { has_stopped self.new ≡ is_err result }
     {
-        let (written, result) = write_out(self.held.as_slice(), &mut self.inner);
-        remove_prefix(&mut self.held, written);
+        let (written, result) = write_out(self.room.as_slice(), &mut self.inner);
+        self.room.remove_prefix(written);
         result
     }
 }
@@ -62,6 +60,7 @@ impl<W: Write + Drop> Gathered<W> {
 impl<W: Write + Drop> Write for Gathered<W> {
     ghost contents = { given_to W.contents };
 
+    #[inline(always)]
     fn write(&mut self, buf: &[u8]) -> io::Result<usize>
         ensures bound { WritesAtMost result buf.now }
         ensures bytes { WriteAppends (given_to W.contents self.old) (given_to W.contents self.new) result buf.now }
@@ -72,13 +71,12 @@ impl<W: Write + Drop> Write for Gathered<W> {
         if self.failed() {
             return Err(stopped());
         }
-        if self.held.len() == self.held.capacity() {
-            self.write_held()?;
+        if self.room.is_full() {
+            if self.write_held().is_err() {
+                return Err(stopped());
+            }
         }
-        let room = self.held.capacity() - self.held.len();
-        let taken = room.min(buf.len());
-        append(&mut self.held, &buf[..taken]);
-        Ok(taken)
+        Ok(self.room.put(buf))
     }
 
     fn flush(&mut self) -> io::Result<()>
@@ -90,7 +88,9 @@ impl<W: Write + Drop> Write for Gathered<W> {
         if self.failed() {
             return Err(stopped());
         }
-        self.write_held()?;
+        if self.write_held().is_err() {
+            return Err(stopped());
+        }
         self.inner.flush()
     }
 }
@@ -101,7 +101,7 @@ pub fn stopped() -> Error {
 }
 
 // Writes until all is written or a write fails, and returns how many bytes were written.
-fn write_out<W: Write>(bytes: &[u8], to: &mut Watched<W>) -> (usize, io::Result<()>)
+fn write_out<W: Write>(bytes: &[u8], to: &mut Watched<W>) -> (usize, Result<(), WriteFault>)
     ensures bound { result.0 ≤ length bytes.now }
     ensures all { OnOk result.1 (result.0 ≡ length bytes.now) }
     ensures bytes { Appends (W.contents (inner_of to.old)) (W.contents (inner_of to.new)) (take result.0 bytes.now) }
@@ -110,32 +110,10 @@ fn write_out<W: Write>(bytes: &[u8], to: &mut Watched<W>) -> (usize, io::Result<
     let mut written = 0;
     while written < bytes.len() {
         match to.write(&bytes[written..]) {
-            Ok(0) => return (written, Err(stopped())),
+            Ok(0) => return (written, Err(WriteFault)),
             Ok(n) => written += n,
-            Err(_) => return (written, Err(stopped())),
+            Err(_) => return (written, Err(WriteFault)),
         }
     }
     (written, Ok(()))
-}
-
-fn remove_prefix(held: &mut Vec<u8>, n: usize)
-    requires { n ≤ vec_len held.old }
-    ensures items { held.new.items ≡ drop n held.old.items }
-    ensures len { vec_len held.new ≡ vec_len held.old - n }
-    ensures capacity { vec_capacity held.new ≡ vec_capacity held.old }
-{
-    let len = held.len();
-    held.as_mut_slice().copy_within(n..len, 0);
-    held.truncate(len - n);
-}
-
-#[inline(always)]
-fn append(held: &mut Vec<u8>, bytes: &[u8])
-    requires { vec_len held.old + length bytes.now ≤ vec_capacity held.old }
-    ensures items { held.new.items ≡ held.old.items ++ bytes.now }
-    ensures capacity { vec_capacity held.old ≤ vec_capacity held.new }
-{
-    let Ok(()) = held.extend_from_slice(bytes) else {
-        unreachable!()
-    };
 }

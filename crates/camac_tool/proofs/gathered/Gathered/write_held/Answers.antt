@@ -10,12 +10,12 @@ none_left (Err e) xs left n is all = tt
 pub returns-clause-empty : goal.returns-clause-empty
 returns-clause-empty g c =
     let n = c.write_out-written.result.0 in
-    let rest = ◌∙◌ {A = List ℕ} c.remove_prefix.ensures.items (ap (drop n) (sym c.as_slice.ensures.value)) in
+    let rest = ◌∙◌ {A = List ℕ} c.remove_prefix.ensures (ap (drop n) (sym c.as_slice.ensures)) in
     none_left c.write_out-written.result.1 c.as_slice.result.now _ n rest c.write_out-written.ensures.all
 
 pub returns-clause-bytes : goal.returns-clause-bytes
 returns-clause-bytes g c =
     let n = c.write_out-written.result.0 in
     let held = c.as_slice.result.now in
-    let rest = ◌∙◌ {A = List ℕ} c.remove_prefix.ensures.items (ap (drop n) (sym c.as_slice.ensures.value)) in
-    append_known-moved _ _ _ _ _ c.write_out-written.ensures.bytes (sym c.as_slice.ensures.value ∙ sym (take-append-drop n held) ∙ ap (λ l. take n held ++ l) (sym rest))
+    let rest = ◌∙◌ {A = List ℕ} c.remove_prefix.ensures (ap (drop n) (sym c.as_slice.ensures)) in
+    append_known-moved _ _ _ _ _ c.write_out-written.ensures.bytes (sym c.as_slice.ensures ∙ sym (take-append-drop n held) ∙ ap (λ l. take n held ++ l) (sym rest))

@@ -1,0 +1,84 @@
+// Room for the bytes that a writer gathers. It is laid out once, so that nothing is looked up in memory where bytes are put into it.
+
+ghost use Rattle.std.specs.Prelude.{◌≡◌, ◌<◌, ◌≤◌, ◌-◌, ◌++◌, [], false, length, take, drop, min, IfOk};
+
+use std::alloc::{AllocError, Global};
+use std::marker::Model;
+
+/// How many bytes there is room for.
+pub const ROOM: usize = 65_536;
+
+/// The bytes that were put into it, in their order.
+#[derive(Drop)]
+pub struct Room {
+    bytes: Vec<u8>,
+    // how many of them were put there
+    len: usize,
+}
+
+impl Model for Room {
+    ghost use Rattle.std.specs.Prelude.{◌≡◌, List, ℕ, ◌≤◌, length, take};
+
+    ghost Value = { List ℕ };
+
+    ghost view = { λ r. take r.len r.bytes.items };
+
+    ghost invariant = { λ r. (length r.bytes.items ≡ 65536) × (r.len ≤ 65536) };
+}
+
+impl Room {
+    /// An `Err` is out of memory.
+    pub fn new(alloc: Global) -> Result<Room, AllocError>
+        ensures { IfOk result (λ r. r ≡ []) }
+    {
+        Ok(Room {
+            bytes: vec![in alloc; 0; ROOM]?,
+            len: 0,
+        })
+    }
+
+    /// Whether there is room for no byte more.
+    #[inline(always)]
+    pub fn is_full(&self) -> bool
+        ensures { result ≡ false → length self.now < ROOM }
+    {
+        self.len == self.bytes.len()
+    }
+
+    /// Puts as many of the bytes there as there is room for, and tells how many.
+    #[inline(always)]
+    pub fn put(&mut self, bytes: &[u8]) -> usize
+        ensures count { result ≡ min (ROOM - length self.old) (length bytes.now) }
+        ensures bytes { self.new ≡ self.old ++ take result bytes.now }
+    {
+        let count = (self.bytes.len() - self.len).min(bytes.len());
+        let end = self.len + count;
+        self.bytes[self.len..end].copy_from_slice(&bytes[..count]);
+        self.len = end;
+        count
+    }
+
+    pub fn as_slice(&self) -> &[u8]
+        ensures { result.now ≡ self.now }
+    {
+        &self.bytes[..self.len]
+    }
+
+    /// Takes the first bytes away.
+    pub fn remove_prefix(&mut self, count: usize)
+        requires { count ≤ length self.old }
+        ensures { self.new ≡ drop count self.old }
+    {
+        move_down(&mut self.bytes, count, self.len);
+        self.len -= count;
+    }
+}
+
+// Puts the bytes between two places at the front.
+fn move_down(bytes: &mut [u8], from: usize, end: usize)
+    requires { (from ≤ end) × (end ≤ length bytes.old) }
+    ensures moved { take (end - from) bytes.new ≡ drop from (take end bytes.old) }
+    ensures len { length bytes.new ≡ length bytes.old }
+{
+    bytes.copy_within(from..end, 0);
+}
