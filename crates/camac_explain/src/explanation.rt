@@ -13,7 +13,6 @@ use crate::finding::Finding;
 use crate::plan::plan_sentence;
 use crate::sentence::{Names, check_sentence, link_sentence};
 use crate::source::{push_shown, push_source};
-use camac_explain_text::text_sentence;
 use camac_plan::{PlanCase, PlanRule};
 use camac_report_text::Refusal;
 use std::alloc::{AllocError, Global};
@@ -35,13 +34,19 @@ pub fn explain_plan(
     Ok(lines)
 }
 
-/// Why a script's text is refused: the lines that follow the refusal. Of a plan's refusal its rule's texts alone.
-pub fn explain_script(alloc: Global, text: &[u8], finding: Finding) -> Result<Vec<u8>, AllocError>
+/// Why a script's text is refused: the lines that follow the refusal, with this sentence where the text itself breaks a rule. Of a plan's
+/// refusal its rule's texts alone.
+pub fn explain_script(
+    alloc: Global,
+    text: &[u8],
+    finding: Finding,
+    of_text: Option<String>,
+) -> Result<Vec<u8>, AllocError>
     ensures { IfOk result (λ v. IsExplanation (source_of text.now finding) (told_of finding) (code_of (refusal_of finding)).0 v.items) }
 {
     let mut lines = Vec::new(alloc);
     push_source(&mut lines, text, finding)?;
-    let sentence = sentence(alloc, text, finding)?;
+    let sentence = sentence(alloc, text, finding, of_text)?;
     let code = finding.refusal().code();
     push_sentence(&mut lines, sentence)?;
     push_advice(&mut lines, code.name, advice_of(finding))?;
@@ -49,10 +54,15 @@ pub fn explain_script(alloc: Global, text: &[u8], finding: Finding) -> Result<Ve
 }
 
 // What the rule knew, in words.
-fn sentence(alloc: Global, text: &[u8], finding: Finding) -> Result<Option<String>, AllocError> {
+fn sentence(
+    alloc: Global,
+    text: &[u8],
+    finding: Finding,
+    of_text: Option<String>,
+) -> Result<Option<String>, AllocError> {
     match finding {
         Finding::Plan(_) => Ok(None),
-        Finding::Text { rule, left, .. } => text_sentence(alloc, text, rule, left),
+        Finding::Text { .. } => Ok(of_text),
         Finding::Link { rule, case, .. } => match Names::new(alloc, text)? {
             Some(names) => link_sentence(alloc, &names, rule, case),
             None => Ok(None),

@@ -4,7 +4,7 @@ use crate::before::word_of;
 use crate::found::Found;
 use crate::mistake::usual_mistake;
 use crate::trial::Expected;
-use crate::word::{Quote, is_near};
+use camac_report_text::{Quote, is_near};
 use camac_text::TokenKind;
 use camac_text_tokens::{KEYWORDS, Keyword, Sign};
 use std::alloc::AllocError;

@@ -1,5 +1,5 @@
 //! What a refused script's text shows: the token at which its fault shows, what might stand there, and what may be meant.
-// A crate of its own, so that a change of its texts does not prove the explanations of rules anew.
+// A crate of its own beside the explanations of rules, so that both are proved at once, and a change of one leaves the other.
 #![tactic(auto)]
 
 mod before;
@@ -9,7 +9,5 @@ mod limit;
 mod mistake;
 mod sentence;
 mod trial;
-mod word;
 
 pub use sentence::text_sentence;
-pub use word::{Quote, before_item, is_near};

@@ -2,8 +2,8 @@
 
 use crate::before::{Before, word_of};
 use crate::found::Found;
-use crate::word::Quote;
 use camac_lang::limits;
+use camac_report_text::Quote;
 use camac_text_tokens::{Keyword, Sign, TokenKind};
 use std::alloc::{AllocError, Global};
 

@@ -6,7 +6,7 @@ use crate::hint::{Hint, name_hint, near_word, unexpected_hint, word_before};
 use crate::limit::limit_told;
 use crate::mistake::{outside_of_bodies, told_of_byte};
 use crate::trial::expected_after;
-use crate::word::{Quote, before_item};
+use camac_report_text::{Quote, before_item};
 use camac_text::TextRule;
 use std::alloc::{AllocError, Global};
 

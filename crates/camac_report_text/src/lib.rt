@@ -13,6 +13,7 @@ mod line;
 mod plan;
 mod refusal;
 mod verdict;
+mod word;
 
 pub use code::Code;
 pub use events::{write_event_file, write_events};
@@ -21,3 +22,4 @@ pub use line::{LONGEST_LINE, Line};
 pub use plan::{write_plan, write_plan_with_commands};
 pub use refusal::{Refusal, write_refusal};
 pub use verdict::{lam_name, write_verdict};
+pub use word::{Quote, before_item, is_near};

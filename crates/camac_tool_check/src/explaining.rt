@@ -16,10 +16,11 @@ use crate::outcome::Outcome;
 use crate::plan::{PlanRead, PlanRefusal, PlanSource, read_plan_text};
 use crate::reading::{TEXT_LIMIT, read_whole};
 use camac_branch::Plan;
-use camac_explain::{explain_plan, explain_script};
+use camac_explain::{Finding, explain_plan, explain_script};
+use camac_explain_text::text_sentence;
 use camac_report_text::{Refusal, write_plan, write_refusal, write_verdict};
 use camac_word::{Watched, WriteFault};
-use std::alloc::Global;
+use std::alloc::{AllocError, Global};
 use std::io::{Read, Write};
 
 /// Checks a script against a plan, and explains a refusal: what `engine_check` writes is written to `out`, and after the line of a refusal
@@ -109,9 +110,22 @@ fn explain_judged<W: Write>(
             Ok(Outcome::Good)
         }
         Judged::Refused(finding) => {
-            let more = explain_script(alloc, text, *finding)?;
+            let sentence = sentence_of_text(alloc, text, *finding)?;
+            let more = explain_script(alloc, text, *finding, sentence)?;
             refuse_and(out, finding.refusal(), &more)
         }
+    }
+}
+
+// What a rule that the text itself breaks knows, in words.
+fn sentence_of_text(
+    alloc: Global,
+    text: &[u8],
+    finding: Finding,
+) -> Result<Option<String>, AllocError> {
+    match finding {
+        Finding::Text { rule, left, .. } => text_sentence(alloc, text, rule, left),
+        Finding::Plan(_) | Finding::Link { .. } | Finding::Check { .. } => Ok(None),
     }
 }
 
