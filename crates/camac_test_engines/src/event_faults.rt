@@ -1,7 +1,7 @@
 // Reads and writes of `camac events` that fail, each in turn.
 
-use crate::event_file::{FILE_ONE, FILE_TWO, LISTING_ONE, LISTING_TWO};
 use crate::narrow::narrow;
+use camac_test_fixtures::event_files::{FILE_ONE, FILE_TWO, LISTING_ONE, LISTING_TWO};
 use camac_test_fixtures::fakes::{Broken, WhenFull};
 use camac_tool::{Outcome, ToolFault, engine_events};
 use camac_word::Watched;

@@ -1,10 +1,9 @@
 // What `camac drive @sample` asks for, and what it leaves where a reader or writer fails.
 
-use crate::event_file::FILE_TWO;
 use crate::narrow::narrow;
-use crate::run::{ANSWERS, NO_EVENTS};
+use camac_test_fixtures::event_files::FILE_TWO;
 use camac_test_fixtures::fakes::{Broken, WhenFull};
-use camac_test_fixtures::scripts::STRAIGHT_LINE;
+use camac_test_fixtures::scripts::{ANSWERS, NO_EVENTS, STRAIGHT_LINE};
 use camac_tool::{Outcome, PlanSource, ToolFault, engine_drive};
 use camac_word::Watched;
 use std::alloc::Global;

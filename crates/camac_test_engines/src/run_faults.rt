@@ -1,11 +1,11 @@
 // A run's reads and writes that fail.
 
-use crate::event_file::FILE_TWO;
 use crate::narrow::narrow;
-use crate::run::{ANSWERS, LISTING};
+use camac_test_fixtures::event_files::FILE_TWO;
 use camac_test_fixtures::fakes::{Broken, WhenFull};
-use camac_test_fixtures::scripts::STRAIGHT_LINE;
+use camac_test_fixtures::scripts::{ANSWERS, LISTING, STRAIGHT_LINE};
 use camac_tool::{Outcome, PlanSource, ToolFault, engine_run};
+use camac_tool_play::event_file_is_sent;
 use camac_word::Watched;
 use std::alloc::Global;
 use std::process::Abort;
@@ -118,5 +118,11 @@ fn writers_take_a_byte_at_a_time(rt: HostRuntime) -> Result<(), Fail> {
     assert!(rt; answer == Ok(Outcome::Good));
     assert!(rt; out.as_slice() == LISTING);
     assert!(rt; file.as_slice() == FILE_TWO);
+    Ok(())
+}
+
+#[test]
+fn law_can_be_called(rt: HostRuntime) -> Result<(), Fail> {
+    event_file_is_sent();
     Ok(())
 }

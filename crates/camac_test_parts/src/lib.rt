@@ -1,5 +1,5 @@
-//! Tests of single crates, of what no text of lines shows: builders, event lists, copies, readers that fail, and a happy path through each
-//! public call. Worked rows: tests/rows.
+//! Tests of single crates, of what no text of lines shows: builders, event lists, copies, readers that fail, the runner, its lines,
+//! and a happy path through each public call. Worked rows: tests/rows.
 #![tactic(auto)]
 
 #[cfg(test)]
@@ -7,15 +7,27 @@ mod answers;
 #[cfg(test)]
 mod branch;
 #[cfg(test)]
+mod checked;
+#[cfg(test)]
 mod command_maps;
 #[cfg(test)]
 mod event_files;
+#[cfg(test)]
+mod fits;
+#[cfg(test)]
+mod judged;
+#[cfg(test)]
+mod lines;
+#[cfg(test)]
+mod log;
 #[cfg(test)]
 mod numbers;
 #[cfg(test)]
 mod plan_builders;
 #[cfg(test)]
 mod plan_texts;
+#[cfg(test)]
+mod runner;
 #[cfg(test)]
 mod tokens;
 #[cfg(test)]

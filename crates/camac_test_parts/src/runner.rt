@@ -1,6 +1,6 @@
 // A run that is fed its answers one by one.
 
-use crate::run::straight_line;
+use crate::checked::straight_line;
 use camac_branch::Answer;
 use camac_check::Checked;
 use camac_func::DataMove;

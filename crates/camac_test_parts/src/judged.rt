@@ -1,13 +1,14 @@
 // What a checked script says of itself, and a log of its run.
 
-use crate::run::straight_line;
+use crate::checked::straight_line;
 use camac_branch::Answer;
 use camac_check::{Checked, least};
 use camac_lang::Script;
+use camac_plan::read;
 use camac_run::{Log, Runner, run};
+use camac_test_fixtures::plans::SAMPLE;
 use camac_test_fixtures::scripts::STRAIGHT_LINE;
 use camac_text::parse;
-use camac_tool::sample_plan;
 use camac_word::Word24;
 use std::alloc::Global;
 use std::process::Abort;
@@ -20,7 +21,7 @@ fn numbers_of_the_service(script: &Script) -> Option<(u32, u32)> {
 
 #[test]
 fn least_headings(rt: HostRuntime) -> Result<(), Fail> {
-    let plan = sample_plan(rt.alloc())?;
+    let plan = read(rt.alloc(), SAMPLE)?;
     let mut script = parse(rt.alloc(), STRAIGHT_LINE)?;
     assert!(rt; script.services().len() == 1);
     script.annotate_service(0, 9, 8);

@@ -1,8 +1,8 @@
 // Each line of the program, as the library writes it. What writes takes no more than references, so that few values are to be dropped
 // where a write fails: each of them is a goal for the prover.
 
+use crate::checked::straight_line;
 use crate::judged::straight_line_log;
-use crate::run::straight_line;
 use camac_branch::{CycleDone, Plan};
 use camac_check::Checked;
 use camac_event::{EventFile, Events};

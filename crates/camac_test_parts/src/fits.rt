@@ -1,6 +1,6 @@
 // Whether the standard script fits a store of fixed size.
 
-use crate::run::straight_line;
+use crate::checked::straight_line;
 use std::test::Fail;
 
 #[test]

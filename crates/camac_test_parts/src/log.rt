@@ -1,11 +1,10 @@
 // The log of a run over a list of answers, and its event file.
 
-use crate::event_file::FILE_TWO;
-use crate::run::straight_line;
+use crate::checked::straight_line;
 use camac_branch::Answer;
 use camac_event::{decode, encode};
 use camac_run::{End, Item, run, runs_by_headline};
-use camac_tool_play::event_file_is_sent;
+use camac_test_fixtures::event_files::FILE_TWO;
 use camac_word::Word24;
 use std::test::Fail;
 
@@ -52,9 +51,8 @@ fn short_and_overrun_logs(rt: HostRuntime) -> Result<(), Fail> {
 }
 
 #[test]
-fn laws_can_be_called(rt: HostRuntime) -> Result<(), Fail> {
+fn law_can_be_called(rt: HostRuntime) -> Result<(), Fail> {
     let checked = straight_line(rt.alloc())?;
     runs_by_headline(&checked);
-    event_file_is_sent();
     Ok(())
 }
