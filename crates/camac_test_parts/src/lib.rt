@@ -5,8 +5,6 @@
 #[cfg(test)]
 mod answers;
 #[cfg(test)]
-mod branch;
-#[cfg(test)]
 mod checked;
 #[cfg(test)]
 mod command_maps;
@@ -21,8 +19,6 @@ mod lines;
 #[cfg(test)]
 mod log;
 #[cfg(test)]
-mod numbers;
-#[cfg(test)]
 mod plan_builders;
 #[cfg(test)]
 mod plan_texts;
@@ -30,7 +26,5 @@ mod plan_texts;
 mod runner;
 #[cfg(test)]
 mod tokens;
-#[cfg(test)]
-mod transfers;
 #[cfg(test)]
 mod tree;

@@ -3,7 +3,7 @@
 use crate::checked::straight_line;
 use camac_branch::Answer;
 use camac_event::{decode, encode};
-use camac_run::{End, Item, run, runs_by_headline};
+use camac_run::{End, Item, requests_are_safe, run, runs_by_headline};
 use camac_test_fixtures::event_files::FILE_TWO;
 use camac_word::Word24;
 use std::test::Fail;
@@ -51,8 +51,9 @@ fn short_and_overrun_logs(rt: HostRuntime) -> Result<(), Fail> {
 }
 
 #[test]
-fn law_can_be_called(rt: HostRuntime) -> Result<(), Fail> {
+fn laws_can_be_called(rt: HostRuntime) -> Result<(), Fail> {
     let checked = straight_line(rt.alloc())?;
     runs_by_headline(&checked);
+    requests_are_safe(&checked);
     Ok(())
 }
