@@ -12,6 +12,8 @@ from rounds.bodies import packed
 from rounds.prover import CounterTest, Proofs, Round
 from rounds.repository import Stop, build_below, read
 
+# The priority of what runs beside `rt ci`.
+LEAST = 19
 # The dearest check of a round holds 2.7 gigabytes.
 MEMORY_A_CHECK = 3_000_000_000
 
@@ -131,10 +133,13 @@ class Beside:
         """Whether all that the crate stands on is proved."""
         return self.is_ended or all(it.name in self.proved for it in crate.below())
 
-    def has_room(self):
-        """Whether memory is there for one more prover, for one more of `rt ci`, and for those that were started just now and still grow."""
+    def has_room(self, count):
+        """Whether a processor is idle beside `rt ci` and so many provers, and memory is there for one more, for one more of `rt ci`, and for those
+        that were started just now and still grow."""
+        if self.is_ended:
+            return True
         growing = [it for it in self.started if time.monotonic() - it < self.GROWS]
-        return self.is_ended or free_memory() >= (2 + len(growing)) * MEMORY_A_CHECK
+        return others() + count < processors() and free_memory() >= (2 + len(growing)) * MEMORY_A_CHECK
 
 
 def try_all(trials, most, report, beside=None):
@@ -142,7 +147,7 @@ def try_all(trials, most, report, beside=None):
     with concurrent.futures.ThreadPoolExecutor(most) as pool:
         while True:
             for trial in sorted(trials, key=lambda it: -it.work()):
-                while len(running) < most and (not beside or beside.has_below(trial.crate) and beside.has_room()):
+                while len(running) < most and (not beside or beside.has_below(trial.crate) and beside.has_room(len(running))):
                     current = trial.next_round()
                     if not current:
                         break
@@ -186,9 +191,20 @@ def free_memory():
     return 1024 * int(found[1]) if found else MEMORY_A_CHECK
 
 
+def processors():
+    return len(os.sched_getaffinity(0))
+
+
 def lanes():
     """Returns how many provers to run side by side: one a processor, as many as memory holds."""
-    return max(1, min(len(os.sched_getaffinity(0)), free_memory() // MEMORY_A_CHECK))
+    return max(1, min(processors(), free_memory() // MEMORY_A_CHECK))
+
+
+def others():
+    """Returns how many provers run that have not the least priority."""
+    stats = (it for it in os.listdir("/proc") if it.isdigit())
+    found = (re.match(r"\d+ \(rattle\) (.*)", read(f"/proc/{it}/stat")) for it in stats)
+    return sum(1 for it in found if it and int(it[1].split()[16]) < LEAST)
 
 
 def trials_of(found, refusals, report, is_anew):
