@@ -7,7 +7,7 @@ ghost use Rattle.camac_word.specs.Watched.{inner_of, has_failed};
 ghost use Rattle.camac_word.specs.Writing.{Writes};
 
 use camac_branch::CycleDone;
-use camac_report_text::Line;
+use camac_report_text::{LONGEST_LINE, cycle_in};
 use camac_word::{Watched, WriteFault};
 use std::io::Write;
 
@@ -18,7 +18,7 @@ pub fn write_cycle<W: Write>(out: &mut Watched<W>, cycle: &CycleDone) -> Result<
         (cycle_text (address cycle.now.command.c cycle.now.command.n cycle.now.command.a) cycle.now.command.f cycle.now.command.mv cycle.now.reply cycle.now.wait) }
     ensures failed { has_failed out.new ≡ (has_failed out.old || is_err result) }
 {
-    let mut line = Line::new();
-    line.push_cycle(cycle);
-    out.write_text(line.as_bytes())
+    let mut line = [0; LONGEST_LINE];
+    let end = cycle_in(&mut line, 0, cycle);
+    out.write_text(&line[..end])
 }

@@ -3,21 +3,20 @@
 ghost use Rattle.std.specs.Prelude.{◌≡◌, ◌≤◌, ◌+◌, ◌||◌, ◌++◌, length, is_err, codes, decimal};
 ghost use Rattle.camac_report.specs.Ends.{end_text};
 ghost use Rattle.camac_run.specs.Ends.{stop_in};
-ghost use Rattle.camac_word.specs.Watched.{inner_of, has_failed};
 ghost use Rattle.camac_word.specs.Writing.{Writes};
 
+use crate::writer::RunWriter;
 use camac_branch::Overrun;
 use camac_report_text::Line;
 use camac_run::End;
-use camac_word::{Watched, WriteFault};
-use std::io::Write;
+use camac_word::WriteFault;
 
 /// Writes the last line of a run: how it ended, and how many events it left. After a write fault a prefix of it was written.
-pub fn write_end<W: Write>(out: &mut Watched<W>, end: End, events: u32) -> Result<(), WriteFault>
-    ensures text { Writes (W.contents (inner_of out.old)) (W.contents (inner_of out.new)) result (end_text (stop_in end) events) }
-    ensures failed { has_failed out.new ≡ (has_failed out.old || is_err result) }
+pub fn write_end<L: RunWriter>(out: &mut L, end: End, events: u32) -> Result<(), WriteFault>
+    ensures text { Writes (L.contents out.old) (L.contents out.new) result (end_text (stop_in end) events) }
+    ensures failed { L.failed out.new ≡ (L.failed out.old || is_err result) }
 {
-    out.write_text(end_line(end, events).as_bytes())
+    out.write_line(&end_line(end, events))
 }
 
 fn end_line(end: End, events: u32) -> Line

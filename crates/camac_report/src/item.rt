@@ -1,6 +1,6 @@
 // The lines of the items of a run.
 
-ghost use Rattle.std.specs.Prelude.{◌≡◌, ◌≤◌, ◌+◌, ◌||◌, ◌++◌, length, is_err};
+ghost use Rattle.std.specs.Prelude.{◌≡◌, ◌≤◌, ◌+◌, ◌*◌, ◌||◌, ◌++◌, length, take, is_err};
 ghost use Rattle.camac_report.specs.Items.{service_name, called_text, demand_text, lock_text, unlock_text, unlock_texts, item_text};
 ghost use Rattle.camac_run_machine.specs.MachineState.{piece_of};
 ghost use Rattle.camac_word.specs.Watched.{inner_of, has_failed};
@@ -8,7 +8,7 @@ ghost use Rattle.camac_word.specs.Writing.{Writes};
 
 use camac_check_result::Checked;
 use camac_lang::Script;
-use camac_report_text::{Line, lam_name};
+use camac_report_text::{LONGEST_LINE, bytes_in, cycle_in, hex_word, lam_name, small_in, text_in};
 use camac_run::Item;
 use camac_word::{CrateNo, Watched, Word24, WriteFault};
 use std::io::Write;
@@ -23,9 +23,9 @@ pub fn write_item<W: Write>(
     ensures text { Writes (W.contents (inner_of out.old)) (W.contents (inner_of out.new)) result (item_text checked.now.script (piece_of item.now)) }
     ensures failed { has_failed out.new ≡ (has_failed out.old || is_err result) }
 {
-    let mut line = Line::new();
-    push_item(&mut line, checked, item);
-    out.write_text(line.as_bytes())
+    let mut line = [0; LONGEST_LINE];
+    let end = item_in(&mut line, 0, checked, item);
+    out.write_text(&line[..end])
 }
 
 /// Writes the line of an item, and in the same write a line for each crate, at most seven, whose lockout was released after it. After a
@@ -40,45 +40,63 @@ pub fn write_items<W: Write>(
     ensures text { Writes (W.contents (inner_of out.old)) (W.contents (inner_of out.new)) result (item_text checked.now.script (piece_of item.now) ++ unlock_texts unlocks.now) }
     ensures failed { has_failed out.new ≡ (has_failed out.old || is_err result) }
 {
-    let mut lines = Line::new();
-    lay_out_items(&mut lines, checked, item, unlocks);
-    out.write_text(lines.as_bytes())
+    let mut lines = [0; LONGEST_LINE];
+    let end = items_in(&mut lines, 0, checked, item, unlocks);
+    out.write_text(&lines[..end])
 }
 
-/// Puts the line of an item and a line for each crate, at most seven, whose lockout was released after it, in the place of what `lines`
-/// holds.
-pub fn lay_out_items(lines: &mut Line, checked: &Checked, item: &Item, unlocks: &[CrateNo])
-    requires { length unlocks.now ≤ 7 }
-    ensures { lines.new ≡ item_text checked.now.script (piece_of item.now) ++ unlock_texts unlocks.now }
+/// Lays out the line of an item, and a line for each crate, at most seven, whose lockout was released after it, over the bytes from a place
+/// on. Returns the place after them.
+pub fn items_in(
+    bytes: &mut [u8],
+    start: usize,
+    checked: &Checked,
+    item: &Item,
+    unlocks: &[CrateNo],
+) -> usize
+    requires few { length unlocks.now ≤ 7 }
+    requires room { start + LONGEST_LINE ≤ length bytes.old }
+    ensures written { take result bytes.new ≡ take start bytes.old ++ (item_text checked.now.script (piece_of item.now) ++ unlock_texts unlocks.now) }
+    ensures end { result ≤ start + LONGEST_LINE }
+    ensures len { length bytes.new ≡ length bytes.old }
 {
-    lines.clear();
-    push_item(lines, checked, item);
-    push_unlocks(lines, unlocks);
+    let end = item_in(bytes, start, checked, item);
+    unlocks_in(bytes, end, unlocks)
 }
 
-fn push_item(line: &mut Line, checked: &Checked, item: &Item)
-    requires { length line.old ≤ 40 }
-    ensures text { line.new ≡ line.old ++ item_text checked.now.script (piece_of item.now) }
-    ensures short { length line.new ≤ length line.old + 80 }
+fn item_in(bytes: &mut [u8], start: usize, checked: &Checked, item: &Item) -> usize
+    requires { start + 80 ≤ length bytes.old }
+    ensures written { take result bytes.new ≡ take start bytes.old ++ item_text checked.now.script (piece_of item.now) }
+    ensures end { result ≤ start + 80 }
+    ensures len { length bytes.new ≡ length bytes.old }
 {
     match item {
-        Item::Cycle(done) => line.push_cycle(done),
-        Item::Lock(c, wait) => push_lock(line, *c, *wait),
-        Item::Unlock(c) => push_unlock(line, *c),
-        Item::Demand(pattern, service) => push_demand(line, checked.script(), *pattern, *service),
+        Item::Cycle(done) => cycle_in(bytes, start, done),
+        Item::Lock(c, wait) => lock_in(bytes, start, *c, *wait),
+        Item::Unlock(c) => unlock_in(bytes, start, *c),
+        Item::Demand(pattern, service) => {
+            demand_in(bytes, start, checked.script(), *pattern, *service)
+        }
     }
 }
 
-fn push_demand(line: &mut Line, script: &Script, pattern: Word24, service: Option<usize>)
-    requires { length line.old ≤ 40 }
-    ensures text { line.new ≡ line.old ++ demand_text script.now pattern service }
-    ensures short { length line.new ≤ length line.old + 80 }
+fn demand_in(
+    bytes: &mut [u8],
+    start: usize,
+    script: &Script,
+    pattern: Word24,
+    service: Option<usize>,
+) -> usize
+    requires { start + 80 ≤ length bytes.old }
+    ensures written { take result bytes.new ≡ take start bytes.old ++ demand_text script.now pattern service }
+    ensures end { result ≤ start + 80 }
+    ensures len { length bytes.new ≡ length bytes.old }
 {
-    line.push_str("demand ");
-    line.push_word(pattern);
-    line.push_str(" ");
-    line.push_bytes(called_name(script, service));
-    line.push_str("\n");
+    let word = text_in(bytes, start, "demand ");
+    let space = bytes_in(bytes, word, &hex_word(pattern));
+    let name = text_in(bytes, space, " ");
+    let end = bytes_in(bytes, name, called_name(script, service));
+    text_in(bytes, end, "\n")
 }
 
 // The name of the service that is called.
@@ -103,34 +121,40 @@ fn service_name(script: &Script, i: usize) -> &[u8]
     }
 }
 
-fn push_lock(line: &mut Line, c: CrateNo, wait: u8)
-    requires { length line.old ≤ 40 }
-    ensures text { line.new ≡ line.old ++ lock_text c wait }
-    ensures short { length line.new ≤ length line.old + 80 }
+fn lock_in(bytes: &mut [u8], start: usize, c: CrateNo, wait: u8) -> usize
+    requires { start + 80 ≤ length bytes.old }
+    ensures written { take result bytes.new ≡ take start bytes.old ++ lock_text c wait }
+    ensures end { result ≤ start + 80 }
+    ensures len { length bytes.new ≡ length bytes.old }
 {
-    line.push_str("lock ");
-    line.push_small(c.get() as u8);
-    line.push_str(" wait ");
-    line.push_small(wait);
-    line.push_str("\n");
+    let number = text_in(bytes, start, "lock ");
+    let word = small_in(bytes, number, c.get() as u8);
+    let waited = text_in(bytes, word, " wait ");
+    let end = small_in(bytes, waited, wait);
+    text_in(bytes, end, "\n")
 }
 
-fn push_unlock(line: &mut Line, c: CrateNo)
-    requires { length line.old ≤ 200 }
-    ensures text { line.new ≡ line.old ++ unlock_text c }
-    ensures short { length line.new ≤ length line.old + 18 }
+fn unlock_in(bytes: &mut [u8], start: usize, c: CrateNo) -> usize
+    requires { start + 18 ≤ length bytes.old }
+    ensures written { take result bytes.new ≡ take start bytes.old ++ unlock_text c }
+    ensures end { result ≤ start + 18 }
+    ensures len { length bytes.new ≡ length bytes.old }
 {
-    line.push_str("unlock ");
-    line.push_small(c.get() as u8);
-    line.push_str("\n");
+    let number = text_in(bytes, start, "unlock ");
+    let end = small_in(bytes, number, c.get() as u8);
+    text_in(bytes, end, "\n")
 }
 
-pub fn push_unlocks(lines: &mut Line, unlocks: &[CrateNo])
-    requires few { length unlocks.now ≤ 7 }
-    requires room { length lines.old ≤ 80 }
-    ensures { lines.new ≡ lines.old ++ unlock_texts unlocks.now }
+/// Lays out a line for each crate whose lockout was released, and returns the place after them.
+pub fn unlocks_in(bytes: &mut [u8], start: usize, unlocks: &[CrateNo]) -> usize
+    requires { start + 18 * length unlocks.now ≤ length bytes.old }
+    ensures written { take result bytes.new ≡ take start bytes.old ++ unlock_texts unlocks.now }
+    ensures end { result ≤ start + 18 * length unlocks.now }
+    ensures len { length bytes.new ≡ length bytes.old }
 {
+    let mut end = start;
     'unlocks: for c in unlocks {
-        push_unlock(lines, *c);
+        end = unlock_in(bytes, end, *c);
     }
+    end
 }

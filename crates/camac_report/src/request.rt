@@ -4,38 +4,39 @@ ghost use Rattle.std.specs.Prelude.{◌≡◌, ◌≤◌, ◌+◌, ◌||◌, ◌
 ghost use Rattle.camac_branch.specs.Address.{address};
 ghost use Rattle.camac_report.specs.Items.{unlock_texts};
 ghost use Rattle.camac_report.specs.Requests.{asked_text, request_text};
-ghost use Rattle.camac_word.specs.Watched.{inner_of, has_failed};
 ghost use Rattle.camac_word.specs.Writing.{Writes};
 
-use crate::item::push_unlocks;
+use crate::item::unlocks_in;
+use crate::writer::RunWriter;
 use camac_branch::Command;
 use camac_func::DataMove;
-use camac_report_text::Line;
+use camac_report_text::{LONGEST_LINE, Line};
 use camac_run::Wanted;
-use camac_word::{CrateNo, Watched, WriteFault};
-use std::io::Write;
+use camac_word::{CrateNo, WriteFault};
 
 /// Writes the request for an operation in one write: `demand`, `cycle` with its command and what it moves, or `lock` with its crate. After
 /// a write fault a prefix of it was written.
-pub fn write_request<W: Write>(out: &mut Watched<W>, wanted: Wanted) -> Result<(), WriteFault>
-    ensures text { Writes (W.contents (inner_of out.old)) (W.contents (inner_of out.new)) result (request_text wanted) }
-    ensures failed { has_failed out.new ≡ (has_failed out.old || is_err result) }
+pub fn write_request<L: RunWriter>(out: &mut L, wanted: Wanted) -> Result<(), WriteFault>
+    ensures text { Writes (L.contents out.old) (L.contents out.new) result (request_text wanted) }
+    ensures failed { L.failed out.new ≡ (L.failed out.old || is_err result) }
 {
     let mut line = Line::new();
     push_request(&mut line, wanted);
-    out.write_text(line.as_bytes())
+    out.write_line(&line)
 }
 
 /// Writes a line `unlock` for each crate, at most seven, whose lockout is released, all in one write. After a write fault a prefix of
 /// them was written.
-pub fn write_unlocks<W: Write>(out: &mut Watched<W>, unlocks: &[CrateNo]) -> Result<(), WriteFault>
+pub fn write_unlocks<L: RunWriter>(out: &mut L, unlocks: &[CrateNo]) -> Result<(), WriteFault>
     requires { length unlocks.now ≤ 7 }
-    ensures text { Writes (W.contents (inner_of out.old)) (W.contents (inner_of out.new)) result (unlock_texts unlocks.now) }
-    ensures failed { has_failed out.new ≡ (has_failed out.old || is_err result) }
+    ensures text { Writes (L.contents out.old) (L.contents out.new) result (unlock_texts unlocks.now) }
+    ensures failed { L.failed out.new ≡ (L.failed out.old || is_err result) }
 {
+    let mut bytes = [0; LONGEST_LINE];
+    let end = unlocks_in(&mut bytes, 0, unlocks);
     let mut lines = Line::new();
-    push_unlocks(&mut lines, unlocks);
-    out.write_text(lines.as_bytes())
+    lines.push_bytes(&bytes[..end]);
+    out.write_line(&lines)
 }
 
 fn push_request(line: &mut Line, wanted: Wanted)

@@ -6,6 +6,7 @@ ghost use Rattle.camac_report_text.specs.Digits.{two_digits};
 use crate::digits::two_digits;
 use itoa::{Buffer, Integer};
 
+/// Bytes as they are.
 #[inline(always)]
 pub fn bytes_in(bytes: &mut [u8], start: usize, source: &[u8]) -> usize
     requires { start + length source.now ≤ length bytes.old }
@@ -18,6 +19,7 @@ pub fn bytes_in(bytes: &mut [u8], start: usize, source: &[u8]) -> usize
     end
 }
 
+/// A text as it is.
 #[inline(always)]
 pub fn text_in(bytes: &mut [u8], start: usize, text: &str) -> usize
     requires { start + length text.now ≤ length bytes.old }

@@ -15,11 +15,14 @@ mod refusal;
 mod verdict;
 mod word;
 
+pub use bytes::{bytes_in, small_in, text_in};
 pub use code::Code;
+pub use cycle::cycle_in;
+pub use digits::hex_word;
 pub use events::{write_event_file, write_events};
 pub use headings::write_headings;
 pub use line::{LONGEST_LINE, Line};
 pub use plan::{write_plan, write_plan_with_commands};
-pub use refusal::{Refusal, write_refusal};
+pub use refusal::{Refusal, refusal_line, write_refusal};
 pub use verdict::{lam_name, write_verdict};
 pub use word::{Quote, before_item, is_near};

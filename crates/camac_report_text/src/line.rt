@@ -3,14 +3,14 @@
 ghost use Rattle.std.specs.Prelude.{◌≡◌, ◌≤◌, ◌+◌, ◌-◌, ◌*◌, ◌++◌, [], length, take, decimal};
 ghost use Rattle.std.specs.List.{between, flat_map};
 ghost use Rattle.camac_branch.specs.Address.{address};
-ghost use Rattle.camac_report_text.specs.Cycles.{cycle_start, cycle_text};
+ghost use Rattle.camac_report_text.specs.Cycles.{cycle_start};
 ghost use Rattle.camac_report_text.specs.Digits.{hex_word};
 ghost use Rattle.camac_report_text.specs.Events.{word_text};
 
 use crate::bytes::{bytes_in, count_in, number_in, small_in};
-use crate::cycle::{command_in, cycle_in};
+use crate::cycle::command_in;
 use crate::digits::{hex_bytes, hex_word, spaced};
-use camac_branch::{Command, CycleDone};
+use camac_branch::Command;
 use camac_event::EventWords;
 use camac_word::Word24;
 use itoa::Integer;
@@ -138,16 +138,7 @@ impl Line {
         self.len = words_in(&mut self.bytes, self.len, words, first, last);
     }
 
-    /// Puts the line of a dataway cycle at the end.
-    pub fn push_cycle(&mut self, cycle: &CycleDone)
-        requires room { length self.old + 48 ≤ LONGEST_LINE }
-        ensures text { self.new ≡ self.old ++ cycle_text (address cycle.now.command.c cycle.now.command.n cycle.now.command.a) cycle.now.command.f cycle.now.command.mv cycle.now.reply cycle.now.wait }
-        ensures len { length self.new ≤ length self.old + 48 }
-    {
-        self.len = cycle_in(&mut self.bytes, self.len, cycle);
-    }
-
-    /// Puts the beginning of that line at the end, the command alone.
+    /// Puts the beginning of a cycle's line at the end, the command alone.
     pub fn push_command(&mut self, command: &Command)
         requires room { length self.old + 22 ≤ LONGEST_LINE }
         ensures text { self.new ≡ self.old ++ cycle_start (address command.now.c command.now.n command.now.a) command.now.f }

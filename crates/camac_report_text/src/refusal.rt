@@ -61,7 +61,8 @@ pub fn write_refusal<W: Write>(out: &mut Watched<W>, refusal: Refusal) -> Result
     out.write_text(refusal_line(refusal).as_bytes())
 }
 
-fn refusal_line(refusal: Refusal) -> Line
+/// The line of a refusal.
+pub fn refusal_line(refusal: Refusal) -> Line
     ensures { result ≡ refusal_text refusal }
 {
     let code = refusal.code();

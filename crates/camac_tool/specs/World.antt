@@ -19,9 +19,9 @@ pub record World (P : Type 0) : Type 0 where
   pub answers_failed : Bool
   pub writers_failed : Bool
 
-abbrev pub world : {P S A W E : Type 0} → (P → Option (List ℕ)) → (S → Option (List ℕ)) → (A → Option (List ℕ)) → (W → Option (List ℕ)) → (E → Option (List ℕ))
-    → PlanSource P → Watched S → Watched A → Watched W → Watched E → World P
-world planned scripted answered listed recorded plan script answers out events = record {
+abbrev pub world : {P S A L E : Type 0} → (P → Option (List ℕ)) → (S → Option (List ℕ)) → (A → Option (List ℕ)) → (L → Option (List ℕ)) → (L → Bool) → (E → Option (List ℕ))
+    → PlanSource P → Watched S → Watched A → L → Watched E → World P
+world planned scripted answered listed failed recorded plan script answers out events = record {
   plan = plan;
   left = planned;
   script = scripted (inner_of script);
@@ -29,5 +29,5 @@ world planned scripted answered listed recorded plan script answers out events =
   outputs = outputs listed recorded out events;
   texts_failed = plan_failed plan || has_failed script;
   answers_failed = has_failed answers;
-  writers_failed = has_failed out || has_failed events;
+  writers_failed = failed out || has_failed events;
 }

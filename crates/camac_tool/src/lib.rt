@@ -1,6 +1,7 @@
 //! The engines of the program: from its inputs to its output, and its command line.
 #![tactic(auto)]
 
+mod ahead;
 mod gathered;
 mod input;
 mod launch;

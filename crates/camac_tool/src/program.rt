@@ -9,6 +9,7 @@ ghost use Rattle.camac_tool.specs.Status.{Ends, EndsJob, EndsUsage};
 ghost use Rattle.camac_tool.specs.declared.launch.ArgumentsFault.TheVariants.{Memory, NotText};
 ghost use Rattle.camac_tool.specs.Gathered.{has_stopped, held_in};
 
+use crate::ahead::Ahead;
 use crate::gathered::Gathered;
 use crate::input::{Input, open};
 use crate::launch::ArgumentsFault;
@@ -29,7 +30,7 @@ use std::alloc::Global;
 use std::cell::RefCell;
 use std::fs::Files;
 use std::io;
-use std::io::{BufReader, Input as StandardInput, Read, Write};
+use std::io::{Input as StandardInput, Read, Write};
 use std::rt::Runtime;
 
 /// The status of a usage fault.
@@ -179,7 +180,7 @@ fn run_on_streams<I: Read + Drop, W: Write + Drop, E: Write + Drop>(
     script: I,
     streams: &RefCell<Streams<I, W, E>>,
 ) -> Result<Outcome, ToolFault> {
-    let Ok(ahead) = BufReader::with_capacity(alloc, AHEAD, FromAnswers::of(streams)) else {
+    let Ok(ahead) = Ahead::with_capacity(alloc, AHEAD, FromAnswers::of(streams)) else {
         return Err(ToolFault::Memory);
     };
     engine_run(
@@ -187,7 +188,7 @@ fn run_on_streams<I: Read + Drop, W: Write + Drop, E: Write + Drop>(
         &mut source_of(plan),
         &mut Watched::new(script),
         &mut Watched::new(ahead),
-        &mut Watched::new(ToListing::of(streams)),
+        &mut ToListing::of(streams),
         &mut Watched::new(ToRecords::of(streams)),
     )
 }

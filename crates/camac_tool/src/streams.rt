@@ -1,15 +1,21 @@
 // The streams of a run: its answers, its listing and its event file.
 
-ghost use Rattle.std.specs.Prelude.{◌≡◌, ◌<◌, ◌||◌, true, false, length, IfOk, OnOk, is_err};
+ghost use Rattle.std.specs.Prelude.{◌≡◌, ◌<◌, ◌≤◌, ◌||◌, ◌++◌, true, false, length, IfOk, OnOk, is_err};
 ghost use Rattle.std.specs.Io.{ReadsAtMost, WritesAtMost};
 ghost use Rattle.std.specs.Io.KnownBytes.{Keeps, ReadConsumes, WriteAppends};
+ghost use Rattle.camac_report.specs.Items.{item_text, unlock_texts};
+ghost use Rattle.camac_run_machine.specs.MachineState.{piece_of};
 ghost use Rattle.camac_tool.specs.Gathered.{device_of, given_to, has_stopped};
 ghost use Rattle.camac_tool.specs.Streams.{answers_of, listing_of, records_of, have_stopped, HoldNothing};
 ghost use Rattle.camac_word.specs.Watched.{inner_of, has_failed};
+ghost use Rattle.camac_word.specs.Writing.{Writes};
 
 use crate::gathered::Gathered;
 use crate::gathered::handing::stopped;
-use camac_word::Watched;
+use camac_check::Checked;
+use camac_report::Line;
+use camac_run::Item;
+use camac_word::{CrateNo, Watched, WriteFault};
 use std::alloc::{AllocError, Global};
 use std::io;
 use std::io::{Read, Write};
@@ -53,20 +59,39 @@ impl<R: Drop, W: Drop, E: Drop> Streams<R, W, E> {
 }
 
 impl<R: Drop, W: Write + Drop, E: Write + Drop> Streams<R, W, E> {
-    /// Gives bytes to the listing, and returns how many it took: at least one, where there is one.
-    pub fn list(&mut self, bytes: &[u8]) -> io::Result<usize>
-        ensures bound { WritesAtMost result bytes.now }
-        ensures bytes { WriteAppends (given_to W.contents (listing_of self.old)) (given_to W.contents (listing_of self.new)) result bytes.now }
-        ensures some { IfOk result (λ taken. 0 < length bytes.now → 0 < taken) }
+    /// Gives what a line holds to the listing.
+    pub fn list_line(&mut self, line: &Line) -> Result<(), WriteFault>
+        requires { 0 < length line.now }
+        ensures text { Writes (given_to W.contents (listing_of self.old)) (given_to W.contents (listing_of self.new)) result line.now }
         ensures answers { answers_of self.new ≡ answers_of self.old }
         ensures records { records_of self.new ≡ records_of self.old }
         ensures failed { have_stopped self.new ≡ (have_stopped self.old || is_err result) }
         ensures stopped { have_stopped self.old ≡ true → (is_err result ≡ true) × (self.new ≡ self.old) }
     {
         if self.failed() {
-            return Err(stopped());
+            return Err(WriteFault);
         }
-        self.listing.write(bytes)
+        self.listing.put_line(line)
+    }
+
+    /// Gives the listing the line of an item, and a line for each crate, at most seven, whose lockout was released after it.
+    pub fn list_items(
+        &mut self,
+        checked: &Checked,
+        item: &Item,
+        unlocks: &[CrateNo],
+    ) -> Result<(), WriteFault>
+        requires { length unlocks.now ≤ 7 }
+        ensures text { Writes (given_to W.contents (listing_of self.old)) (given_to W.contents (listing_of self.new)) result (item_text checked.now.script (piece_of item.now) ++ unlock_texts unlocks.now) }
+        ensures answers { answers_of self.new ≡ answers_of self.old }
+        ensures records { records_of self.new ≡ records_of self.old }
+        ensures failed { have_stopped self.new ≡ (have_stopped self.old || is_err result) }
+        ensures stopped { have_stopped self.old ≡ true → (is_err result ≡ true) × (self.new ≡ self.old) }
+    {
+        if self.failed() {
+            return Err(WriteFault);
+        }
+        self.listing.put_items(checked, item, unlocks)
     }
 
     /// Gives bytes to the event file, and returns how many it took: at least one, where there is one.

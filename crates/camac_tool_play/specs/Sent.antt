@@ -36,8 +36,8 @@ pub record Outputs : Type 0 where
   pub listing : Option (List ℕ)
   pub events : Option (List ℕ)
 
-abbrev pub outputs : {W E : Type 0} → (W → Option (List ℕ)) → (E → Option (List ℕ)) → Watched W → Watched E → Outputs
-outputs of_listing of_events out events = record { listing = of_listing (inner_of out); events = of_events (inner_of events) }
+abbrev pub outputs : {L E : Type 0} → (L → Option (List ℕ)) → (E → Option (List ℕ)) → L → Watched E → Outputs
+outputs of_listing of_events out events = record { listing = of_listing out; events = of_events (inner_of events) }
 
 -- each writer has got its part
 pub record Sends (old new : Outputs) (sent : List Sent) : Type 0 where

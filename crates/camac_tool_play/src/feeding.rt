@@ -16,32 +16,31 @@ use crate::fault::PlayFault;
 use crate::telling::{Telling, ask, count_after, tell, write_event};
 use camac_answer::{AnswerFault, Answers};
 use camac_check_result::Checked;
-use camac_report::Line;
+use camac_report::RunWriter;
 use camac_run::{End, FullRunner, Progress};
 use camac_word::Watched;
 use std::io::{Read, Write};
 
 /// Gives the run all answers that it takes. What it wants is asked for before an answer is read, and what an answer did is written before the
 /// next one. Returns how the run ends, and how many events it left.
-pub fn feed<R: Read, W: Write, E: Write>(
+pub fn feed<R: Read, L: RunWriter, E: Write>(
     telling: Telling,
     checked: &Checked,
     answers: &mut Answers<'_, R>,
-    out: &mut Watched<W>,
+    out: &mut L,
     events: &mut Watched<E>,
 ) -> Result<(Ending, u32), PlayFault>
     requires running { stage_of answers.old ≡ Running }
     requires limit { limit_of answers.old ≡ most_answers telling }
     requires given { given_by answers.old ≡ 0 }
     ensures feeds { Feeds telling checked.now.plan checked.now.script (left_of R.remaining answers.old) (text_of R.remaining answers.new)
-        (outputs W.contents E.contents out.old events.old) (outputs W.contents E.contents out.new events.new) result }
-    ensures out_failed { (has_failed out.new || has_failed events.new) ≡ ((has_failed out.old || has_failed events.old) || is_write_fault result) }
+        (outputs L.contents E.contents out.old events.old) (outputs L.contents E.contents out.new events.new) result }
+    ensures out_failed { (L.failed out.new || has_failed events.new) ≡ ((L.failed out.old || has_failed events.old) || is_write_fault result) }
     ensures in_failed { reader_failed answers.new ≡ (reader_failed answers.old || is_read_fault result) }
     ensures same_reader { answers.new.reader.ghost_name ≡ answers.old.reader.ghost_name }
 {
     checked.fits_greatest();
     let mut runner = FullRunner::start(checked);
-    let mut lines = Line::new();
     let mut count = 0;
     'answers: loop {
         ask(telling, &runner, out)?;
@@ -56,7 +55,7 @@ pub fn feed<R: Read, W: Write, E: Write>(
                 unlocks,
                 event,
             } => {
-                tell(telling, checked, &item, &unlocks, &mut lines, out)?;
+                tell(telling, checked, &item, &unlocks, out)?;
                 write_event(events, &event, runner.last_words())?;
                 count = count_after(&event, count);
             }

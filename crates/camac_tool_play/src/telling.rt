@@ -11,9 +11,7 @@ use crate::ending::Ending;
 use camac_answer::{FILE_ANSWERS, LIVE_ANSWERS};
 use camac_check_result::Checked;
 use camac_event::{Usage, write_record};
-use camac_report::{
-    Line, Refusal, lay_out_items, write_end, write_refusal, write_request, write_unlocks,
-};
+use camac_report::{Refusal, RunWriter, refusal_line, write_end, write_request, write_unlocks};
 use camac_run::{FullRunner, Item};
 use camac_word::{CrateNo, GlBit, Watched, Word24, WriteFault};
 use std::io::Write;
@@ -43,14 +41,14 @@ impl Telling {
 pub type Left = (u32, GlBit, Usage);
 
 /// Asks for the operation that a run wants. A listing asks for nothing.
-pub fn ask<W: Write>(
+pub fn ask<L: RunWriter>(
     telling: Telling,
     runner: &FullRunner<'_>,
-    out: &mut Watched<W>,
+    out: &mut L,
 ) -> Result<(), WriteFault>
     requires first { runner.now.overrun ≡ None }
-    ensures asks { Asks telling runner.now (W.contents (inner_of out.old)) (W.contents (inner_of out.new)) result }
-    ensures failed { has_failed out.new ≡ (has_failed out.old || is_err result) }
+    ensures asks { Asks telling runner.now (L.contents out.old) (L.contents out.new) result }
+    ensures failed { L.failed out.new ≡ (L.failed out.old || is_err result) }
 {
     match telling {
         Telling::Listing => {
@@ -64,25 +62,21 @@ pub fn ask<W: Write>(
     }
 }
 
-/// Writes what an answer did, by way of `lines`: in a listing what it was used for, and a line for each lock that was released.
-pub fn tell<W: Write>(
+/// Writes what an answer did: in a listing what it was used for, and a line for each lock that was released.
+pub fn tell<L: RunWriter>(
     telling: Telling,
     checked: &Checked,
     item: &Item,
     unlocks: &[CrateNo],
-    lines: &mut Line,
-    out: &mut Watched<W>,
+    out: &mut L,
 ) -> Result<(), WriteFault>
     requires few { length unlocks.now ≤ 7 }
-    ensures text { Writes (W.contents (inner_of out.old)) (W.contents (inner_of out.new)) result
+    ensures text { Writes (L.contents out.old) (L.contents out.new) result
         (item_line telling checked.now.script (piece_of item.now) ++ unlock_texts unlocks.now) }
-    ensures failed { has_failed out.new ≡ (has_failed out.old || is_err result) }
+    ensures failed { L.failed out.new ≡ (L.failed out.old || is_err result) }
 {
     match telling {
-        Telling::Listing => {
-            lay_out_items(lines, checked, item, unlocks);
-            out.write_text(lines.as_bytes())
-        }
+        Telling::Listing => out.write_items(checked, item, unlocks),
         Telling::Requests => write_unlocks(out, unlocks),
     }
 }
@@ -116,18 +110,15 @@ pub fn count_after(event: &Option<Left>, count: u32) -> u32
 }
 
 /// Writes the last line, after so many events.
-pub fn close<W: Write>(out: &mut Watched<W>, ending: &Ending, events: u32) -> Result<(), WriteFault>
-    ensures text { Writes (W.contents (inner_of out.old)) (W.contents (inner_of out.new)) result (ending_text ending.now events) }
-    ensures failed { has_failed out.new ≡ (has_failed out.old || is_err result) }
+pub fn close<L: RunWriter>(out: &mut L, ending: &Ending, events: u32) -> Result<(), WriteFault>
+    ensures text { Writes (L.contents out.old) (L.contents out.new) result (ending_text ending.now events) }
+    ensures failed { L.failed out.new ≡ (L.failed out.old || is_err result) }
 {
     match ending {
         Ending::End(end) => write_end(out, *end, events),
-        Ending::Refused { rule, line } => write_refusal(
-            out,
-            Refusal::Answer {
-                rule: *rule,
-                line: *line,
-            },
-        ),
+        Ending::Refused { rule, line } => out.write_line(&refusal_line(Refusal::Answer {
+            rule: *rule,
+            line: *line,
+        })),
     }
 }

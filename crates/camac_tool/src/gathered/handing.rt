@@ -1,14 +1,20 @@
 // How a gathering writer takes bytes and hands them on.
 
-ghost use Rattle.std.specs.Prelude.{◌≡◌, ◌≤◌, ◌<◌, ◌||◌, true, false, [], length, take, IfOk, OnOk, is_err};
+ghost use Rattle.std.specs.Prelude.{◌≡◌, ◌≤◌, ◌<◌, ◌+◌, ◌||◌, ◌++◌, true, false, [], length, take, IfOk, OnOk, is_err};
 ghost use Rattle.std.specs.Io.{WritesAtMost};
 ghost use Rattle.std.specs.Io.KnownBytes.{Keeps, Appends, WriteAppends};
+ghost use Rattle.camac_report.specs.Items.{item_text, unlock_texts};
+ghost use Rattle.camac_run_machine.specs.MachineState.{piece_of};
 ghost use Rattle.camac_tool.specs.Gathered.{device_of, given_to, has_stopped, held_in};
 ghost use Rattle.camac_word.specs.Watched.{inner_of, has_failed};
+ghost use Rattle.camac_word.specs.Writing.{Writes};
 
 use super::Gathered;
-use super::room::Room;
-use camac_word::{Watched, WriteFault};
+use super::room::{ROOM, Room};
+use camac_check::Checked;
+use camac_report::{LONGEST_LINE, Line};
+use camac_run::Item;
+use camac_word::{CrateNo, Watched, WriteFault};
 use std::alloc::{AllocError, Global};
 use std::io;
 use std::io::{Error, ErrorKind, Write};
@@ -57,6 +63,57 @@ impl<W: Write + Drop> Gathered<W> {
     }
 }
 
+impl<W: Write + Drop> Gathered<W> {
+    // Hands on all that is held where there is no room for so many bytes more.
+    #[inline(always)]
+    fn make_room(&mut self, count: usize) -> Result<(), WriteFault>
+        requires { count ≤ ROOM }
+        ensures room { OnOk result (length (held_in self.new) + count ≤ ROOM) }
+        ensures bytes { Keeps (given_to W.contents self.old) (given_to W.contents self.new) }
+        ensures failed { has_stopped self.new ≡ (has_stopped self.old || is_err result) }
+        ensures stopped { has_stopped self.old ≡ true → (is_err result ≡ true) × (self.new ≡ self.old) }
+    {
+        if self.failed() {
+            return Err(WriteFault);
+        }
+        if self.room.has_room(count) {
+            return Ok(());
+        }
+        self.write_held()
+    }
+
+    /// Takes the line of an item, and a line for each crate, at most seven, whose lockout was released after it: they are laid out where
+    /// they are held.
+    #[inline(always)]
+    pub fn put_items(
+        &mut self,
+        checked: &Checked,
+        item: &Item,
+        unlocks: &[CrateNo],
+    ) -> Result<(), WriteFault>
+        requires { length unlocks.now ≤ 7 }
+        ensures text { Writes (given_to W.contents self.old) (given_to W.contents self.new) result (item_text checked.now.script (piece_of item.now) ++ unlock_texts unlocks.now) }
+        ensures failed { has_stopped self.new ≡ (has_stopped self.old || is_err result) }
+        ensures stopped { has_stopped self.old ≡ true → (is_err result ≡ true) × (self.new ≡ self.old) }
+    {
+        self.make_room(LONGEST_LINE)?;
+        self.room.put_items(checked, item, unlocks);
+        Ok(())
+    }
+
+    /// Takes what a line holds.
+    pub fn put_line(&mut self, line: &Line) -> Result<(), WriteFault>
+        requires { 0 < length line.now }
+        ensures text { Writes (given_to W.contents self.old) (given_to W.contents self.new) result line.now }
+        ensures failed { has_stopped self.new ≡ (has_stopped self.old || is_err result) }
+        ensures stopped { has_stopped self.old ≡ true → (is_err result ≡ true) × (self.new ≡ self.old) }
+    {
+        self.make_room(line.len())?;
+        self.room.put(line.as_bytes());
+        Ok(())
+    }
+}
+
 impl<W: Write + Drop> Write for Gathered<W> {
     ghost contents = { given_to W.contents };
 
@@ -68,13 +125,8 @@ impl<W: Write + Drop> Write for Gathered<W> {
         ensures failed { has_stopped self.new ≡ (has_stopped self.old || is_err result) }
         ensures stopped { has_stopped self.old ≡ true → (is_err result ≡ true) × (self.new ≡ self.old) }
     {
-        if self.failed() {
+        if self.make_room(1).is_err() {
             return Err(stopped());
-        }
-        if self.room.is_full() {
-            if self.write_held().is_err() {
-                return Err(stopped());
-            }
         }
         Ok(self.room.put(buf))
     }

@@ -1,7 +1,13 @@
 // Room for the bytes that a writer gathers. It is laid out once, so that nothing is looked up in memory where bytes are put into it.
 
-ghost use Rattle.std.specs.Prelude.{◌≡◌, ◌<◌, ◌≤◌, ◌-◌, ◌++◌, [], false, length, take, drop, min, IfOk};
+ghost use Rattle.std.specs.Prelude.{◌≡◌, ◌≤◌, ◌+◌, ◌-◌, ◌++◌, [], true, length, take, drop, min, IfOk};
+ghost use Rattle.camac_report.specs.Items.{item_text, unlock_texts};
+ghost use Rattle.camac_run_machine.specs.MachineState.{piece_of};
 
+use camac_check::Checked;
+use camac_report::{LONGEST_LINE, items_in};
+use camac_run::Item;
+use camac_word::CrateNo;
 use std::alloc::{AllocError, Global};
 use std::marker::Model;
 
@@ -37,12 +43,12 @@ impl Room {
         })
     }
 
-    /// Whether there is room for no byte more.
+    /// Whether there is room for so many bytes more.
     #[inline(always)]
-    pub fn is_full(&self) -> bool
-        ensures { result ≡ false → length self.now < ROOM }
+    pub fn has_room(&self, count: usize) -> bool
+        ensures { result ≡ true → length self.now + count ≤ ROOM }
     {
-        self.len == self.bytes.len()
+        count <= ROOM - self.len
     }
 
     /// Puts as many of the bytes there as there is room for, and tells how many.
@@ -56,6 +62,16 @@ impl Room {
         self.bytes[self.len..end].copy_from_slice(&bytes[..count]);
         self.len = end;
         count
+    }
+
+    /// Lays out the line of an item, and a line for each crate, at most seven, whose lockout was released after it.
+    #[inline(always)]
+    pub fn put_items(&mut self, checked: &Checked, item: &Item, unlocks: &[CrateNo])
+        requires few { length unlocks.now ≤ 7 }
+        requires room { length self.old + LONGEST_LINE ≤ ROOM }
+        ensures { self.new ≡ self.old ++ (item_text checked.now.script (piece_of item.now) ++ unlock_texts unlocks.now) }
+    {
+        self.len = items_in(&mut self.bytes, self.len, checked, item, unlocks);
     }
 
     pub fn as_slice(&self) -> &[u8]

@@ -8,7 +8,7 @@ returns-in-Accepted-clause-runs g c = rw c.in-Accepted.is c.run_checked.ensures.
 
 pub returns-in-Refused-clause-runs : goal.returns-in-Refused-clause-runs
 returns-in-Refused-clause-runs g c = rw (c.in-Refused.is, ← c.refusal.ensures)
-    (refl, refuses c.refuse.result _ (g.W.Write.contents (inner_of c.args.out.now)) (g.W.Write.contents (inner_of c.refuse.new.out)) (g.E.Write.contents (inner_of c.args.events.now)) c.refuse.ensures.shows)
+    (refl, refuses c.refuse.result _ (g.L.RunWriter.contents c.args.out.now) (g.L.RunWriter.contents c.refuse.new.out) (g.E.Write.contents (inner_of c.args.events.now)) c.refuse.ensures.shows)
 
 pub returns-in-Accepted-clause-headline : goal.returns-in-Accepted-clause-headline
 returns-in-Accepted-clause-headline g c = rw c.in-Accepted.is c.run_checked.ensures.headline

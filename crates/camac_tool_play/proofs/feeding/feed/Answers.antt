@@ -107,7 +107,7 @@ answers-preserved g c =
       first = c.in-Went.ensures.overrun;
       flags =
           ap (λ b. b || has_failed c.write_event.new.events) (c.in_ok-tell-in-Went.ensures.failed ∙ or-false _ ∙ c.in_ok-ask.ensures.failed ∙ or-false _)
-          ∙ ap (λ b. has_failed c.answers.out || b) (c.in_ok-write_event-in-Went.ensures.failed ∙ or-false _) ∙ i.flags;
+          ∙ ap (λ b. g.L.RunWriter.failed c.answers.out || b) (c.in_ok-write_event-in-Went.ensures.failed ∙ or-false _) ∙ i.flags;
       reader_flag = flag ∙ or-false _ ∙ i.reader_flag;
       same_reader = c.next.ensures.same_reader ∙ i.same_reader;
     }

@@ -1,0 +1,37 @@
+-- What a listing has of a line that it did not take. The line of an item is never empty.
+use Rattle.std.proofs.Common.{◌≡◌, ◌<◌, ℕ, List, [], ◌++◌, length, Option, None, Some, refl, sym, ap, ◌∙◌, append-nil, append_assoc, arith}
+use Rattle.std.specs.Io.KnownBytes.{Appends, Keeps, append_known}
+use Rattle.std.specs.Prelude.{true, false, Result, Ok, Err}
+use Rattle.std.specs.Result.{IsErr}
+use Rattle.camac_word.specs.Writing.{AppendsPrefix, Writes}
+use Rattle.camac_lang.specs.Tree.{Script}
+use Rattle.camac_report.specs.Items.{item_text}
+use Rattle.camac_run_machine.specs.MachineState.{piece_of}
+use Rattle.camac_run_machine.specs.declared.item.Item.{Item}
+use Rattle.camac_run_machine.specs.declared.item.Item.TheVariants as item
+
+pub some_line : (script : Script) (i : Item) (after : List ℕ) → 0 < length (item_text script (piece_of i) ++ after)
+some_line script (item.Cycle d) after = omega arith
+some_line script (item.Lock c w) after = omega arith
+some_line script (item.Unlock c) after = omega arith
+some_line script (item.Demand p v) after = omega arith
+
+appends_nothing : (a b : Option (List ℕ)) → Keeps a b → Appends a b []
+appends_nothing None b kept = tt
+appends_nothing (Some xs) None kept = absurd kept
+appends_nothing (Some xs) (Some ys) kept = kept ∙ sym (append-nil xs)
+
+-- nothing of a text was written
+pub nothing_of : (a b : Option (List ℕ)) (text : List ℕ) → 0 < length text → Keeps a b → AppendsPrefix a b text
+nothing_of a b text some kept = ([], text, refl, some, appends_nothing a b kept)
+
+-- a call that failed and left the bytes as they were has written a prefix of a text
+pub writes_nothing : {T E : Type 0} (r : Result T E) (a b : Option (List ℕ)) (text : List ℕ) → IsErr r → 0 < length text → Keeps a b → Writes a b r text
+writes_nothing (Ok x) a b text failed some kept = let no_error : false ≡ true = failed in cc
+writes_nothing (Err e) a b text failed some kept = nothing_of a b text some kept
+
+-- what was held and then a text
+pub taken : (a d : Option (List ℕ)) (held text room : List ℕ) → Keeps a (append_known d held) → room ≡ held ++ text → Appends a (append_known d room) text
+taken None d held text room kept is = tt
+taken (Some xs) None held text room kept is = absurd kept
+taken (Some xs) (Some ys) held text room kept is = ap (λ (l : List ℕ). ys ++ l) is ∙ sym (append_assoc ys held text) ∙ ap (λ (l : List ℕ). l ++ text) kept
