@@ -2,6 +2,8 @@
 
 use camac_branch::{BuildFault, Plan, TypeName};
 use camac_module::{Decl, ModuleType};
+use camac_plan::read;
+use camac_test_fixtures::plans::SAMPLE;
 use camac_word::{CrateNo, Function, GlBit, Station, SubAddress};
 use std::alloc::Global;
 use std::test::Fail;
@@ -55,28 +57,9 @@ fn adc_commands(alloc: Global) -> Result<ModuleType, Fail> {
     Ok(commands)
 }
 
-fn register_commands(alloc: Global) -> Result<ModuleType, Fail> {
-    let mut commands = ModuleType::new(alloc);
-    declare(&mut commands, 16, 0, 8, false)?;
-    for f in [0, 27, 5] {
-        declare(&mut commands, f, 0, 24, false)?;
-    }
-    Ok(commands)
-}
-
-fn sample(alloc: Global) -> Result<Plan, Fail> {
-    let mut plan = Plan::new(alloc, 4096).ok_or("buffer")?;
-    let adc = plan.add_type(name("ADC")?, adc_commands(alloc)?)?;
-    let register = plan.add_type(name("REG")?, register_commands(alloc)?)?;
-    plan.add_crate(crate_no(1)?, 2)?;
-    plan.add_station(crate_no(1)?, station(5)?, adc, Some(bit(3)?))?;
-    plan.add_station(crate_no(1)?, station(6)?, register, None)?;
-    Ok(plan)
-}
-
 #[test]
 fn builder_faults_of_types_and_crates(rt: HostRuntime) -> Result<(), Fail> {
-    let mut plan = sample(rt.alloc())?;
+    let mut plan = read(rt.alloc(), SAMPLE)?;
     let again = plan.add_type(name("ADC")?, ModuleType::new(rt.alloc()));
     assert!(rt; again == Err(BuildFault::TypeTwice));
     assert!(rt; plan.add_crate(crate_no(1)?, 2) == Err(BuildFault::CrateTwice));
@@ -86,7 +69,7 @@ fn builder_faults_of_types_and_crates(rt: HostRuntime) -> Result<(), Fail> {
 
 #[test]
 fn builder_faults_of_stations(rt: HostRuntime) -> Result<(), Fail> {
-    let mut plan = sample(rt.alloc())?;
+    let mut plan = read(rt.alloc(), SAMPLE)?;
     let past = plan.add_station(crate_no(1)?, station(24)?, 0, None);
     assert!(rt; past == Err(BuildFault::OutOfRange));
     let again = plan.add_station(crate_no(1)?, station(5)?, 0, None);
@@ -116,7 +99,7 @@ fn type_copy(rt: HostRuntime) -> Result<(), Fail> {
 
 #[test]
 fn plan_copy(rt: HostRuntime) -> Result<(), Fail> {
-    let plan = sample(rt.alloc())?;
+    let plan = read(rt.alloc(), SAMPLE)?;
     let copy = plan.try_clone(rt.alloc())?;
     assert!(rt; copy.types() == plan.types());
     for i in 0..plan.types() {
@@ -141,7 +124,7 @@ fn widths(plan: &Plan, n: u32, f: u32, first: u32, last: u32) -> Result<Option<(
 
 #[test]
 fn widths_of_range(rt: HostRuntime) -> Result<(), Fail> {
-    let plan = sample(rt.alloc())?;
+    let plan = read(rt.alloc(), SAMPLE)?;
     assert!(rt; widths(&plan, 5, 0, 0, 11)? == Some((12, 12)));
     assert!(rt; widths(&plan, 5, 0, 0, 15)? == Some((12, 24)));
     assert!(rt; widths(&plan, 6, 0, 0, 1)? == None);
@@ -150,7 +133,7 @@ fn widths_of_range(rt: HostRuntime) -> Result<(), Fail> {
 
 #[test]
 fn widths_of_controller(rt: HostRuntime) -> Result<(), Fail> {
-    let plan = sample(rt.alloc())?;
+    let plan = read(rt.alloc(), SAMPLE)?;
     assert!(rt; widths(&plan, 30, 24, 9, 10)? == Some((24, 24)));
     assert!(rt; widths(&plan, 30, 24, 9, 11)? == None);
     Ok(())

@@ -1,0 +1,73 @@
+#!/usr/bin/env python3
+"""Plays the command lines of tests/command_lines.text over the built program, one after the other in one folder: the examples, each subcommand, event
+files that are inputs, words that name no job, inputs that lack or are too long, help.
+
+usage: tests/command_lines_test.py [-v]     from any folder; takes a second
+
+The program is crates/camac/out/camac (cd crates/camac && rt run makes it), or what the environment variable CAMAC_PROGRAM names. The text has each
+line after '$ camac', then what the program writes to standard output, and its status. Standard input is the straight-line script where a line
+has '@in' for a script, and else empty.
+"""
+import os
+import pathlib
+import re
+import shutil
+import subprocess
+import tempfile
+import unittest
+
+TOP = pathlib.Path(__file__).resolve().parent.parent
+PROGRAM = os.path.abspath(os.environ.get("CAMAC_PROGRAM") or TOP / "crates/camac/out/camac")
+EXAMPLES = [*(TOP / "examples").glob("*.toml"), TOP / "examples/three_modules.script", TOP / "examples/three_modules.answers"]
+STRAIGHT_LINE = """cdlam adc 1 1 5 12
+var v
+service adc within 3 cycles event 1 words {
+  cdreg r 1 1 5 0
+  cfsa 0 r -> v
+  put v
+}
+"""
+FILES = {
+    "straight.script": STRAIGHT_LINE,
+    # with a cycle less than it can take
+    "greedy.script": STRAIGHT_LINE.replace("within 3", "within 2"),
+    "answers": "0 0 000000 0 000004\n1 1 123fff 2 000000\n",
+    # a wait that the sample plan does not permit, and a line that is no answer
+    "late.answers": "0 0 000000 0 000004\n1 1 123fff 3 000000\n",
+    "bad.answers": "0 0 000000 0 000004\n1 1 fffffff 0 000000\n",
+    # at the limits of a text and of an event file, and above them
+    "whole.text": " " * 1_048_576,
+    "long.text": " " * 1_048_577,
+    "whole.events": " " * 16_777_216,
+    "long.events": " " * 16_777_217,
+}
+
+
+class CommandLines(unittest.TestCase):
+    def setUp(self):
+        room = tempfile.TemporaryDirectory(prefix="camac-test-")
+        self.addCleanup(room.cleanup)
+        self.room = pathlib.Path(room.name)
+        for path in EXAMPLES:
+            shutil.copy(path, self.room)
+        for name, text in FILES.items():
+            (self.room / name).write_text(text)
+        os.link(self.room / "answers", self.room / "link")
+
+    def played(self, line):
+        given = STRAIGHT_LINE if line.split().count("@in") == 1 else ""
+        ran = subprocess.run([PROGRAM, *line.split()], input=given, stdout=subprocess.PIPE, stderr=subprocess.DEVNULL, cwd=self.room, text=True, timeout=60)
+        return f"$ camac {line}\n{ran.stdout}status {ran.returncode}\n"
+
+    def test_each(self):
+        text = (TOP / "tests/command_lines.text").read_text()
+        parts = re.split(r"^(?=\$ camac )", text, flags=re.MULTILINE)[1:]
+        self.assertEqual(len(parts), 55)
+        for part in parts:
+            line = part.partition("\n")[0].removeprefix("$ camac ")
+            with self.subTest(line):
+                self.assertEqual(self.played(line), part)
+
+
+if __name__ == "__main__":
+    unittest.main()
