@@ -37,7 +37,7 @@ use std::rt::Runtime;
 const USAGE: u8 = 2;
 
 /// How many bytes of the answers are asked for at a time.
-const AHEAD: usize = 65_536;
+const AHEAD: usize = 32_768;
 
 /// Does what the words after the program's name ask for, and returns the exit status: 0 or 1 by the outcome, 2 where the words
 /// ask for nothing that is there, and 3 for a fault. Help and version print and end with 0. A fault is one line on standard error.
