@@ -14,8 +14,8 @@ use std::io::Read;
 #[derive(Clone, Copy, Debug, PartialEq, Eq)]
 pub(crate) struct ReadFailed;
 
-// How many bytes an answer's line has with its LF. Any line that is longer is wrong, whatever else it holds.
-pub(crate) const LINE: usize = 20;
+/// How many bytes an answer's line has with its LF (own). Any line that is longer is wrong, whatever else it holds.
+pub const LINE: usize = 20;
 
 // Fills the line with so many bytes as it has, or those up to the piece that has an LF, or all that are left, and tells how many they are.
 pub(crate) fn fill<R: Read>(reader: &mut Watched<R>, line: &mut [u8]) -> Result<usize, ReadFailed>

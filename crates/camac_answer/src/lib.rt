@@ -8,3 +8,4 @@ mod line;
 
 pub use answers::{Answers, FILE_ANSWERS, LIVE_ANSWERS, answers_are_few};
 pub use fault::{AnswerFault, AnswerRule};
+pub use filling::LINE;

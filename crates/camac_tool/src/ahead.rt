@@ -1,13 +1,11 @@
 // A reader that reads ahead of what it is asked for.
 
+use camac_answer::LINE;
 use std::alloc::Global;
 use std::io;
 use std::io::{BufRead, BufReader, Read};
 
-/// How many bytes the line of an answer has with its LF.
-const LINE: usize = 20;
-
-/// Reads ahead as far as its memory goes. Of what it holds, the line of an answer is given without a look at its length.
+/// Reads ahead as far as its memory goes. The line of an answer that it holds is given at once: a copy of a fixed length needs no call.
 #[derive(Drop)]
 pub struct Ahead<R: Read + Drop>(BufReader<R, Global>);
 

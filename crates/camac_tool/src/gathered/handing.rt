@@ -61,10 +61,8 @@ impl<W: Write + Drop> Gathered<W> {
         self.room.remove_prefix(written);
         result
     }
-}
 
-impl<W: Write + Drop> Gathered<W> {
-    // Hands on all that is held where there is no room for so many bytes more.
+    // Where there is no room for so many bytes more, hands on all that is held.
     #[inline(always)]
     fn make_room(&mut self, count: usize) -> Result<(), WriteFault>
         requires { count ≤ ROOM }
