@@ -1,7 +1,7 @@
 #!/usr/bin/env python3
 """Compares the program with the independent reader of tools/oracle, on cases that are made by a seed, and the reader with the worked rows.
 
-usage: tests/oracle_test.py [-v] [TEST ..]     from any folder; takes a minute
+usage: tests/oracle_test.py [-v] [TEST ..]     from any folder; takes half a minute
 
 The program is crates/camac/out/camac (cd crates/camac && rt run makes it), or what the environment variable CAMAC_PROGRAM names. CAMAC_SEED
 is another seed than the usual one. A difference is told with its files, which are kept in out/oracle.
@@ -23,7 +23,7 @@ from oracle.reader.engines import TELL, Inputs, tell
 from oracle.reader.refusals import LeftOut
 
 SEED = os.environ.get("CAMAC_SEED") or "camac"
-SECONDS = 55
+SECONDS = 30
 # So many are compared on a slow computer, too: the usual seed has reached every code after 1,200.
 LEAST_CASES, MOST_CASES = 1_500, 6_000
 

@@ -113,7 +113,8 @@ class Tool(unittest.TestCase):
     @classmethod
     def start_tool(cls, *words):
         environment = {**os.environ, "CAMAC_TOP": cls.room.name, "XDG_CACHE_HOME": f"{cls.room.name}/cache"}
-        command = [sys.executable, f"{TOP}/wrong_bodies", *words]
+        # (with one prover at a time all bodies that can share a round do)
+        command = [sys.executable, f"{TOP}/wrong_bodies", "--jobs", "1", *words]
         return subprocess.Popen(command, env=environment, stdout=subprocess.PIPE, stderr=subprocess.PIPE, text=True)
 
     @classmethod
@@ -164,15 +165,15 @@ class Tries(Tool):
         self.assertEqual(ran.returncode, 0)
 
     def test_what_was_refused_before_is_not_tried_again(self):
-        ran = self.run_tool()
+        ran = self.run_tool("sample/half_is_a_third", "sample/sum_and_one", "sample/weak_is_half", "sample/old_text_twice", "above")
         kept = [it for it in ran.stdout.split("\n") if ": refused: before: " in it]
         names = [it.partition(": ")[0] for it in kept]
         self.assertEqual(names, ["sample/half_is_a_third", "sample/sum_and_one", "above/same_is_all"])
         for line in kept:
             self.assertIn(line.replace("before: ", ""), self.whole.stdout)
-        told = "3 of them were refused before, over the same sources: --anew tries them again\n3 refused, 5 not\n"
+        told = "3 of them were refused before, over the same sources: --anew tries them again\n3 refused, 2 not\n"
         self.assertTrue(ran.stdout.endswith(told))
-        for name in ("weak_is_half", "sum_of_sums", "half_of_nothing", "sum_renamed", "old_text_twice"):
+        for name in ("weak_is_half", "old_text_twice"):
             self.assertIn(f"sample/{name}: {self.said(name)}\n", ran.stdout)
         self.assertEqual(ran.returncode, 1)
 
@@ -182,8 +183,8 @@ class Tries(Tool):
         self.assertEqual(ran.returncode, 0)
 
     def test_the_counter_test_refuses_no_function_as_it_stands(self):
-        ran = self.run_tool("--unchanged", "sample/half_is_a_third", "sample/sum_and_one", "above")
-        told = "sample: 2 of 2 functions are proved as they stand\nabove: 1 of 1 functions are proved as they stand\n3 proved, 0 not\n"
+        ran = self.run_tool("--unchanged", "sample/half_is_a_third", "sample/sum_and_one")
+        told = "sample: 2 of 2 functions are proved as they stand\n2 proved, 0 not\n"
         self.assertEqual(ran.stdout, told)
         self.assertEqual(ran.returncode, 0)
 
@@ -309,15 +310,16 @@ class Checked(Parts):
 
     def test_the_same_bodies_are_refused_as_with_a_hole_for_each_proof(self):
         crate = repository.crates()["sample"]
-        before = self.run_tool("--anew", "sample")
+        chosen = ["sample/half_is_a_third", "sample/weak_is_half", "sample/sum_and_one"]
+        before = self.run_tool("--anew", *chosen)
         os.makedirs(f"{crate.folder}/out/incremental")
         checked = repository.rattle("check", [*crate.words(), "--incremental", "out/incremental"], crate.folder)
         self.assertIn("\nlogic=proved ", checked.stdout)
         self.assertEqual(Round(crate, [self.body("weak_is_half")]).open_proofs(), set())
-        after = self.run_tool("--anew", "sample")
+        after = self.run_tool("--anew", *chosen)
         refused = [{it.partition(": ")[0] for it in ran.stdout.split("\n") if ": refused: " in it} for ran in (before, after)]
         self.assertEqual(refused, [{"sample/half_is_a_third", "sample/sum_and_one"}] * 2)
-        self.assertTrue(after.stdout.endswith("2 refused, 5 not\n"))
+        self.assertTrue(after.stdout.endswith("2 refused, 1 not\n"))
 
 
 CONVERSION = """\
@@ -368,7 +370,6 @@ class HiddenCall(Parts):
         write(f"{crate}/src/lib.rt", CONVERSION)
         for name, *pairs in (
             ("from_is_half", ("n: s.n }", "n: s.n / 2 }")),
-            ("high_is_half", ("Ok(n)", "Ok(n / 2)")),
             ("high_renamed", ("let n = ", "let m = "), ("Ok(n)", "Ok(m)")),
         ):
             lines = [f"old: {old}\nnew: {new}\n" for old, new in pairs]
@@ -386,7 +387,7 @@ class HiddenCall(Parts):
         self.assertEqual(kinds, {"from_is_half": "refused", "high_renamed": "waits"})
         ran = self.run_tool("--anew", "sample")
         self.assertIn("sample/high_renamed: NOT REFUSED FOR ITSELF: its function is still proved\n", ran.stdout)
-        self.assertTrue(ran.stdout.endswith("2 refused, 1 not\n"), ran.stdout)
+        self.assertTrue(ran.stdout.endswith("1 refused, 1 not\n"), ran.stdout)
 
 
 CHAIN = """\

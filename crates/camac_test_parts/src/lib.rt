@@ -21,8 +21,6 @@ mod log;
 #[cfg(test)]
 mod plan_builders;
 #[cfg(test)]
-mod plan_texts;
-#[cfg(test)]
 mod runner;
 #[cfg(test)]
 mod tokens;

@@ -1,11 +1,10 @@
 //! The sample plan, and what its builders refuse.
 
 use camac_branch::{BuildFault, Plan, TypeName};
-use camac_module::{Decl, ModuleType};
+use camac_module::ModuleType;
 use camac_plan::read;
 use camac_test_fixtures::plans::SAMPLE;
 use camac_word::{CrateNo, Function, GlBit, Station, SubAddress};
-use std::alloc::Global;
 use std::test::Fail;
 
 fn crate_no(value: u32) -> Result<CrateNo, Fail> {
@@ -30,31 +29,6 @@ fn bit(value: u32) -> Result<GlBit, Fail> {
 
 fn name(text: &str) -> Result<TypeName, Fail> {
     Ok(TypeName::new(text.as_bytes()).ok_or("type name")?)
-}
-
-fn declare(commands: &mut ModuleType, f: u32, a: u32, width: u8, probe: bool) -> Result<(), Fail> {
-    let d = Decl {
-        f: function(f)?,
-        a: sub_address(a)?,
-        width,
-        probe,
-    };
-    commands.declare(d)?;
-    Ok(())
-}
-
-fn adc_commands(alloc: Global) -> Result<ModuleType, Fail> {
-    let mut commands = ModuleType::new(alloc);
-    for a in 0..12 {
-        declare(&mut commands, 0, a, 12, false)?;
-    }
-    for a in 12..16 {
-        declare(&mut commands, 0, a, 24, true)?;
-    }
-    for f in [8, 10, 24, 26] {
-        declare(&mut commands, f, 12, 24, false)?;
-    }
-    Ok(commands)
 }
 
 #[test]
@@ -83,18 +57,6 @@ fn builder_faults_of_stations(rt: HostRuntime) -> Result<(), Fail> {
 fn builder_faults_of_buffers(rt: HostRuntime) {
     assert!(rt; Plan::new(rt.alloc(), 0).is_none());
     assert!(rt; Plan::new(rt.alloc(), 4097).is_none());
-}
-
-#[test]
-fn type_copy(rt: HostRuntime) -> Result<(), Fail> {
-    let commands = adc_commands(rt.alloc())?;
-    let copy = commands.try_clone(rt.alloc())?;
-    assert!(rt; copy.counts() == (20, 4));
-    for a in 0..16 {
-        let a = sub_address(a)?;
-        assert!(rt; copy.width(function(0)?, a) == commands.width(function(0)?, a));
-    }
-    Ok(())
 }
 
 #[test]
