@@ -5,6 +5,7 @@ use camac_module::ModuleType;
 use camac_plan::read;
 use camac_test_fixtures::plans::SAMPLE;
 use camac_word::{CrateNo, Function, GlBit, Station, SubAddress};
+use std::process::Abort;
 use std::test::Fail;
 
 fn crate_no(value: u32) -> Result<CrateNo, Fail> {
@@ -31,9 +32,9 @@ fn name(text: &str) -> Result<TypeName, Fail> {
     Ok(TypeName::new(text.as_bytes()).ok_or("type name")?)
 }
 
-#[test]
-fn builder_faults_of_types_and_crates(rt: HostRuntime) -> Result<(), Fail> {
-    let mut plan = read(rt.alloc(), SAMPLE)?;
+// What takes a plan takes a reference, so that few values are to be dropped where it stops: each of them is a goal for the prover.
+
+fn refuses_types_and_crates(rt: &(impl Abort + AllocGlobal), plan: &mut Plan) -> Result<(), Fail> {
     let again = plan.add_type(name("ADC")?, ModuleType::new(rt.alloc()));
     assert!(rt; again == Err(BuildFault::TypeTwice));
     assert!(rt; plan.add_crate(crate_no(1)?, 2) == Err(BuildFault::CrateTwice));
@@ -42,8 +43,11 @@ fn builder_faults_of_types_and_crates(rt: HostRuntime) -> Result<(), Fail> {
 }
 
 #[test]
-fn builder_faults_of_stations(rt: HostRuntime) -> Result<(), Fail> {
-    let mut plan = read(rt.alloc(), SAMPLE)?;
+fn builder_faults_of_types_and_crates(rt: HostRuntime) -> Result<(), Fail> {
+    refuses_types_and_crates(&rt, &mut read(rt.alloc(), SAMPLE)?)
+}
+
+fn refuses_stations(rt: &impl Abort, plan: &mut Plan) -> Result<(), Fail> {
     let past = plan.add_station(crate_no(1)?, station(24)?, 0, None);
     assert!(rt; past == Err(BuildFault::OutOfRange));
     let again = plan.add_station(crate_no(1)?, station(5)?, 0, None);
@@ -54,25 +58,34 @@ fn builder_faults_of_stations(rt: HostRuntime) -> Result<(), Fail> {
 }
 
 #[test]
+fn builder_faults_of_stations(rt: HostRuntime) -> Result<(), Fail> {
+    refuses_stations(&rt, &mut read(rt.alloc(), SAMPLE)?)
+}
+
+#[test]
 fn builder_faults_of_buffers(rt: HostRuntime) {
     assert!(rt; Plan::new(rt.alloc(), 0).is_none());
     assert!(rt; Plan::new(rt.alloc(), 4097).is_none());
+}
+
+fn expect_alike(rt: &impl Abort, plan: &Plan, copy: &Plan) -> Result<(), Fail> {
+    assert!(rt; copy.types() == plan.types());
+    for i in 0..plan.types() {
+        assert!(rt; copy.type_counts(i) == plan.type_counts(i));
+    }
+    let (c, n, f) = (crate_no(1)?, station(5)?, function(0)?);
+    for a in 0..16 {
+        let a = sub_address(a)?;
+        assert!(rt; copy.allowed(c, n, a, f) == plan.allowed(c, n, a, f));
+    }
+    Ok(())
 }
 
 #[test]
 fn plan_copy(rt: HostRuntime) -> Result<(), Fail> {
     let plan = read(rt.alloc(), SAMPLE)?;
     let copy = plan.try_clone(rt.alloc())?;
-    assert!(rt; copy.types() == plan.types());
-    for i in 0..plan.types() {
-        assert!(rt; copy.type_counts(i) == plan.type_counts(i));
-    }
-    let (c, n) = (crate_no(1)?, station(5)?);
-    for a in 0..16 {
-        let (a, f) = (sub_address(a)?, function(0)?);
-        assert!(rt; copy.allowed(c, n, a, f) == plan.allowed(c, n, a, f));
-    }
-    Ok(())
+    expect_alike(&rt, &plan, &copy)
 }
 
 // The widths in crate 1.
@@ -84,19 +97,16 @@ fn widths(plan: &Plan, n: u32, f: u32, first: u32, last: u32) -> Result<Option<(
     Ok(plan.widths(crate_no(1)?, station(n)?, function(f)?, first, last))
 }
 
-#[test]
-fn widths_of_range(rt: HostRuntime) -> Result<(), Fail> {
-    let plan = read(rt.alloc(), SAMPLE)?;
-    assert!(rt; widths(&plan, 5, 0, 0, 11)? == Some((12, 12)));
-    assert!(rt; widths(&plan, 5, 0, 0, 15)? == Some((12, 24)));
-    assert!(rt; widths(&plan, 6, 0, 0, 1)? == None);
+fn expect_widths(rt: &impl Abort, plan: &Plan) -> Result<(), Fail> {
+    assert!(rt; widths(plan, 5, 0, 0, 11)? == Some((12, 12)));
+    assert!(rt; widths(plan, 5, 0, 0, 15)? == Some((12, 24)));
+    assert!(rt; widths(plan, 6, 0, 0, 1)? == None);
+    assert!(rt; widths(plan, 30, 24, 9, 10)? == Some((24, 24)));
+    assert!(rt; widths(plan, 30, 24, 9, 11)? == None);
     Ok(())
 }
 
 #[test]
-fn widths_of_controller(rt: HostRuntime) -> Result<(), Fail> {
-    let plan = read(rt.alloc(), SAMPLE)?;
-    assert!(rt; widths(&plan, 30, 24, 9, 10)? == Some((24, 24)));
-    assert!(rt; widths(&plan, 30, 24, 9, 11)? == None);
-    Ok(())
+fn widths_of_range(rt: HostRuntime) -> Result<(), Fail> {
+    expect_widths(&rt, &read(rt.alloc(), SAMPLE)?)
 }

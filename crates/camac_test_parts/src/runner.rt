@@ -77,22 +77,31 @@ fn expect_wanted_read(rt: &impl Abort, wanted: Option<Wanted>) -> Result<(), Fai
     Ok(())
 }
 
+fn takes_the_demand(rt: &impl Abort, runner: &mut Runner<1, 1, 1>) -> Result<(), Fail> {
+    assert!(rt; runner.wants() == Some(Wanted::Demand));
+    let progress = feed(rt, runner, answer(false, 0, 0, 4)?);
+    expect_demand(rt, &progress)?;
+    expect_at(rt, runner, 1, true, 2)
+}
+
+fn takes_the_cycle(rt: &impl Abort, runner: &mut Runner<1, 1, 1>) -> Result<(), Fail> {
+    expect_wanted_read(rt, runner.wants())?;
+    assert!(rt; runner.last_words().is_empty());
+    let progress = feed(rt, runner, answer(true, 0x123fff, 2, 0)?);
+    expect_event(rt, &progress)?;
+    expect_at(rt, runner, 2, false, 0)?;
+    let word = runner.last_words().first().ok_or("a word")?;
+    assert!(rt; word.get() == 0xfff);
+    Ok(())
+}
+
 fn expect_straight_line(rt: &impl Abort, checked: &Checked) -> Result<(), Fail> {
     assert!(rt; checked.fits(1, 1, 1));
     let mut runner = Runner::<1, 1, 1>::start(checked);
     expect_at(rt, &runner, 0, false, 0)?;
+    takes_the_demand(rt, &mut runner)?;
+    takes_the_cycle(rt, &mut runner)?;
     assert!(rt; runner.wants() == Some(Wanted::Demand));
-    let progress = feed(rt, &mut runner, answer(false, 0, 0, 4)?);
-    expect_demand(rt, &progress)?;
-    expect_at(rt, &runner, 1, true, 2)?;
-    expect_wanted_read(rt, runner.wants())?;
-    assert!(rt; runner.last_words().is_empty());
-    let progress = feed(rt, &mut runner, answer(true, 0x123fff, 2, 0)?);
-    expect_event(rt, &progress)?;
-    expect_at(rt, &runner, 2, false, 0)?;
-    assert!(rt; runner.wants() == Some(Wanted::Demand));
-    let word = runner.last_words().first().ok_or("a word")?;
-    assert!(rt; word.get() == 0xfff);
     Ok(())
 }
 
