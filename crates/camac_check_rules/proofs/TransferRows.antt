@@ -12,7 +12,7 @@ use Rattle.camac_check_rules.specs.declared.case.Operator.TheVariants.{Sub}
 use Rattle.camac_check_rules.specs.Cases.{operation}
 use Rattle.camac_check_rules.specs.declared.rule.CheckRule.TheVariants.{StationNotInstalled, CommandNotDeclared, WrongDirection, ValueTooWide, RegisterUnset, ScanCratesDiffer, CountAboveTable, TooManyCycles, TooManyWords, ValueOutOfRange, MeasureBroken, LoopVariableAssigned}
 use Rattle.camac_check_rules.specs.declared.case.Body.TheVariants as body
-use Rattle.camac_func.specs.declared.code.FunctionClass.TheVariants.{Read, Write, Control}
+use Rattle.camac_func.specs.declared.code.FunctionClass.TheVariants.{Read, Write}
 use Rattle.camac_check_rules.specs.Fault.{Fault, broken}
 use Rattle.camac_check_rules.specs.Refusal.{go_on, required, given, if_reached}
 use Rattle.camac_check_rules.specs.Known.{Region, region, facts}

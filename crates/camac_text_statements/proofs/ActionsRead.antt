@@ -18,7 +18,7 @@ use Rattle.camac_text_cursor.proofs.Steps.{then_ok, ok_is}
 use Rattle.camac_text_cursor.proofs.Moves.{AllFit, Moves, after_less, stays, moved, then_moves, one_moves, branch_ok, function_ok, expect_sign_ok}
 use Rattle.camac_text_cursor.proofs.Uses.{scope_of, same_scope, used_register_ok, used_variable_ok, variable_here_ok}
 use Rattle.camac_text_phrases.proofs.BracketsRead.{expression_ok}
-use Rattle.camac_text_cursor.proofs.Registers.{Limits, limits_of, both, below_le, RegistersFit, set_name_ok}
+use Rattle.camac_text_cursor.proofs.Registers.{limits_of, both, below_le, RegistersFit, set_name_ok}
 use Rattle.camac_text_statements.proofs.Acts.{begun, begin_ok, Acts, acts}
 
 -- ---- what a single action moves

@@ -1,5 +1,5 @@
 -- What a statement that is read leaves, and which rules it keeps.
-use Rattle.std.proofs.Common.{◌≡◌, ℕ, suc, ◌+◌, ◌≤◌, ◌<◌, nat_lt, List, [], length, Some, Ok, sym, ap, subst, ◌∙◌, arith}
+use Rattle.std.proofs.Common.{◌≡◌, ℕ, suc, ◌+◌, ◌≤◌, ◌<◌, nat_lt, List, length, Some, Ok, sym, ap, subst, ◌∙◌, arith}
 use Rattle.std.proofs.lemmas.Bool.{ltb-true}
 use Rattle.camac_lang.specs.Depth.{statement_depth}
 use Rattle.camac_lang.specs.Statements.{after, statements_in}
@@ -10,7 +10,7 @@ use Rattle.camac_text_cursor.specs.Reading.{State, ◌>>◌, change, advance, ki
 use Rattle.camac_text_cursor.specs.Readers.{begin}
 use Rattle.camac_text_cursor.proofs.Steps.{ok_is}
 use Rattle.camac_text_cursor.proofs.Moves.{AllFit, Moves, after_less, moved, check_ok}
-use Rattle.camac_text_cursor.proofs.Registers.{Limits, limits_of, RegistersFit}
+use Rattle.camac_text_cursor.proofs.Registers.{limits_of, RegistersFit}
 use Rattle.camac_text_cursor.proofs.Uses.{scope_of}
 
 -- the state after the first token of a statement

@@ -1,5 +1,5 @@
 -- What a block that is read leaves, and a statement that holds blocks.
-use Rattle.std.proofs.Common.{◌≡◌, ℕ, suc, ◌+◌, ◌≤◌, ◌<◌, Bool, true, List, [], length, Some, refl, sym, ap, subst, ◌∙◌, arith}
+use Rattle.std.proofs.Common.{◌≡◌, ℕ, suc, ◌+◌, ◌≤◌, ◌<◌, Bool, true, List, length, Some, refl, sym, ap, subst, ◌∙◌, arith}
 use Rattle.std.specs.Prelude.{option_and_then}
 use Rattle.camac_lang.specs.Depth.{part_depth, statement_depth, inner_depth}
 use Rattle.camac_lang.specs.Expressions.{Callable, Scope, condition_fits}

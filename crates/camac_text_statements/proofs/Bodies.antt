@@ -4,7 +4,7 @@ use Rattle.std.specs.Prelude.{option_and_then}
 use Rattle.camac_lang.specs.Depth.{statement_depth, inner_depth}
 use Rattle.camac_lang.specs.Expressions.{Callable, Scope}
 use Rattle.camac_lang.specs.Statements.{after, after_block, statements_in, statements}
-use Rattle.camac_lang.specs.Tree.{Text, Statement}
+use Rattle.camac_lang.specs.Tree.{Statement}
 use Rattle.camac_lang.specs.View.{block_of}
 use Rattle.camac_text_tokens.specs.declared.fault.TextRule.TheVariants.{UnexpectedToken, LimitPassed}
 use Rattle.camac_text_tokens.specs.declared.token.Sign.TheVariants as sign

@@ -1,22 +1,18 @@
 -- Readers of statements are local.
-use Rattle.std.proofs.Common.{not, ◌≡◌, true, false, cond, ℕ, zero, suc, List, Ok, nat_lt, [], ◌∷◌, ◌++◌, Option, Some, refl}
-use Rattle.camac_lang.specs.Tree.{no_data, into, from, assign, set_register, single, put, crate_call, lam_call, choose, choose_else, for_, while_, locked, Statement, Condition}
+use Rattle.std.proofs.Common.{not, ◌≡◌, cond, ℕ, zero, suc, List, Ok, [], ◌∷◌, ◌++◌, Option, Some, refl}
+use Rattle.camac_lang.specs.Tree.{no_data, into, from, assign, set_register, single, put, choose, choose_else, for_, while_, locked, Statement, Condition}
 use Rattle.camac_lang.specs.View.{block_of}
 use Rattle.camac_lang.specs.declared.word.WordSize.{WordSize}
 use Rattle.camac_lang.specs.declared.word.WordSize.TheVariants.{Full, Short}
-use Rattle.camac_lang.specs.declared.word.CrateCall.{CrateCall}
-use Rattle.camac_lang.specs.declared.word.CrateCall.TheVariants as crate_word
-use Rattle.camac_lang.specs.declared.word.LamCall.{LamCall}
-use Rattle.camac_lang.specs.declared.word.LamCall.TheVariants as lam_word
 use Rattle.camac_text_tokens.specs.declared.fault.TextRule.TheVariants.{UnexpectedToken, LimitPassed}
 use Rattle.camac_text_tokens.specs.declared.token.Keyword.TheVariants as word
 use Rattle.camac_text_tokens.specs.declared.token.Sign.TheVariants as sign
 use Rattle.camac_text_tokens.specs.declared.token.TokenKind.{TokenKind}
 use Rattle.camac_text_tokens.specs.declared.token.TokenKind.TheVariants as kind
-use Rattle.camac_text_cursor.specs.Reading.{State, Reader, fail, ◌>>=◌, ◌>>◌, give, change, peek, advance, check, kind_of, line_of, one_more, many}
-use Rattle.camac_text_cursor.specs.Readers.{begin, is_sign, expect, expect_sign, any_number, branch_number, function_number, set_name, used_register, used_variable, variable_here, used_lam}
+use Rattle.camac_text_cursor.specs.Reading.{State, Reader, fail, ◌>>=◌, ◌>>◌, give, peek, advance, check, kind_of, line_of, one_more, many}
+use Rattle.camac_text_cursor.specs.Readers.{begin, is_sign, expect, expect_sign, any_number, branch_number, function_number, set_name, used_register, used_variable, variable_here}
 use Rattle.camac_text_phrases.specs.Expressions.{expression_at}
-use Rattle.camac_text_statements.specs.Statements.{assignment, register_setting, move_by, move_at, single_action, put_action, switch_by, switch, crate_action, crate_switch, lam_action, lam_switch, lam_call_by, crate_call_by, else_by, if_statement, for_statement, while_statement, lock_statement, nested_by, statement_by, statement_with, is_no_end, block_at}
+use Rattle.camac_text_statements.specs.Statements.{assignment, register_setting, move_by, move_at, single_action, put_action, else_by, if_statement, for_statement, while_statement, lock_statement, nested_by, statement_by, statement_with, is_no_end, block_at}
 use Rattle.camac_text_phrases.specs.Conditions.{condition_at}
 use Rattle.camac_text_phrases.specs.Keeps.{keeps_at}
 use Rattle.camac_text_statements.proofs.Blocks.{Body}
@@ -24,8 +20,8 @@ use Rattle.camac_text_statements.proofs.LocalTransfers.{local_transfer_by}
 use Rattle.camac_text_statements.proofs.Bodies.{with_progress, block_ok}
 use Rattle.camac_text_phrases.proofs.LocalConditions.{local_condition}
 use Rattle.camac_text_phrases.proofs.LocalKeeps.{local_keeps}
-use Rattle.camac_text_cursor.proofs.Places.{IsLocal, local_then, local_peek, local_line, local_ask, local_change, local_give, local_fail, local_advance, local_if, local_check, local_while}
-use Rattle.camac_text_cursor.proofs.Local.{local_begin, local_take, local_expect, local_any_number, local_used_lam, local_expect_sign, local_branch, local_function, local_set_name, local_used_register, local_used_variable, local_variable_here}
+use Rattle.camac_text_cursor.proofs.Places.{IsLocal, local_then, local_peek, local_line, local_ask, local_give, local_fail, local_advance, local_if, local_check, local_while}
+use Rattle.camac_text_cursor.proofs.Local.{local_begin, local_expect, local_any_number, local_expect_sign, local_branch, local_function, local_set_name, local_used_register, local_used_variable, local_variable_here}
 use Rattle.camac_text_phrases.proofs.LocalExpressions.{local_expression}
 
 local_assignment : (room line : ℕ) (s : State) → IsLocal (assignment room line) s

@@ -1,6 +1,6 @@
 -- Readers of transfers and of calls are local.
 use Rattle.std.proofs.Common.{◌≡◌, ℕ, Option, Some, None, Ok, sym, subst}
-use Rattle.camac_lang.specs.Tree.{Text, Expression, address_scan, q_stop, q_repeat, call}
+use Rattle.camac_lang.specs.Tree.{Text, address_scan, q_stop, q_repeat, call}
 use Rattle.camac_text_tokens.specs.declared.token.Keyword.{Keyword}
 use Rattle.camac_text_tokens.specs.declared.token.Keyword.TheVariants as word
 use Rattle.camac_text_tokens.specs.declared.token.TokenKind.{TokenKind}

@@ -1,10 +1,10 @@
-use Rattle.std.proofs.Common.{◌≡◌, Option, Ok, [], ◌∷◌, refl, subst, sym, ◌∙◌}
+use Rattle.std.proofs.Common.{Option, Ok, [], ◌∷◌, refl, subst, sym, ◌∙◌}
 use Rattle.std.proofs.lemmas.Result.{err_from_is_err_and}
 use Rattle.camac_lang.specs.Nodes.{expression_in}
 use Rattle.camac_lang.specs.declared.expression.Node.{Node}
 use Rattle.camac_text_cursor.specs.Parser.{state}
 use Rattle.camac_text_cursor.proofs.Loops.{ends}
-use Rattle.camac_text_phrases.specs.Expressions.{bracketed, counted, expression_at, is_product_sign, is_sum_sign, product_turn, sum_turn}
+use Rattle.camac_text_phrases.specs.Expressions.{bracketed, counted, is_product_sign, is_sum_sign, product_turn, sum_turn}
 use Rattle.camac_text_phrases.specs.Views.{Leaf}
 use Rattle.camac_text_phrases.proofs.BracketsRead.{product_progress, sum_progress, bracketed_ok}
 use Rattle.camac_text_phrases.proofs.ExpressionSteps.{factor_fails, is_read}

@@ -1,11 +1,9 @@
-use Rattle.std.proofs.Common.{◌≡◌, [], List, ◌++◌, Ok, refl, subst, sym, ap, ◌∙◌}
+use Rattle.std.proofs.Common.{◌≡◌, [], List, ◌++◌, subst, sym, ap, ◌∙◌}
 use Rattle.std.proofs.lemmas.Result.{err_from_is_err_and}
 use Rattle.camac_lang.specs.Nodes.{AreWhole, expression_in, nodes_of}
 use Rattle.camac_lang.specs.View.{expression_of}
 use Rattle.camac_lang.specs.declared.expression.Node.{Node}
 use Rattle.camac_lang.proofs.Terms.{expression_in-nodes_of, whole}
-use Rattle.camac_text_cursor.specs.Parser.{state}
-use Rattle.camac_text_phrases.specs.Expressions.{counted, expression_at}
 use Rattle.camac_text_phrases.proofs.ExpressionSteps.{factor_fails, is_read, leaf_stays, products_fail, sums_fail}
 use Rattle.camac_text_phrases.proofs.expressions.long_expression.Goals as goal
 

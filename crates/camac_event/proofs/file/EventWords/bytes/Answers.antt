@@ -1,4 +1,4 @@
-use Rattle.std.proofs.Common.{◌≡◌, ◌<◌, ◌∙◌, ap, sym, length, get_or, arith}
+use Rattle.std.proofs.Common.{◌<◌, ◌∙◌, ap, sym, length, arith}
 use Rattle.byteorder.specs.Endian.{big_bytes}
 use Rattle.camac_event.proofs.InPlace.{length-words_in, words_in-at}
 use Rattle.camac_event.proofs.file.EventWords.bytes.Goals as goal
