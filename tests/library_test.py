@@ -140,7 +140,7 @@ class Calls(Case):
             folder.mkdir()
             return call(compare, PROGRAM, plan, its, lists, number, folder)
 
-        with concurrent.futures.ThreadPoolExecutor(os.cpu_count()) as pool:
+        with concurrent.futures.ThreadPoolExecutor(len(os.sched_getaffinity(0))) as pool:
             told = list(pool.map(ran, range(len(every))))
         self.assertEqual([(pair, it) for pair, it in zip(every, told) if it[0]], [])
         counts = [[int(number) for number in it[1].split()] for it in told]
