@@ -1,4 +1,4 @@
-// The sample plan.
+// The sample plan as a text, and its lines.
 
 /// The sample plan as TOML.
 pub const SAMPLE: &[u8] = b"[[type]]
@@ -20,4 +20,13 @@ gl = 3
 [[crate.station]]
 n = 6
 type = \"REG\"
+";
+
+/// The listing of the sample.
+pub const LISTING: &[u8] = b"buffer 4096
+type ADC commands 20 probes 4
+type REG commands 4 probes 0
+crate 1 waits 2
+station 5 ADC gl 3
+station 6 REG gl -
 ";

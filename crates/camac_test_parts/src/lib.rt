@@ -1,5 +1,5 @@
 //! Tests of single crates, of what no text of lines shows: builders, event lists, copies, readers that fail, the runner, its lines,
-//! and a happy path through each public call. Worked rows: tests/rows.
+//! and happy paths through public calls. Worked rows: tests/rows.
 #![tactic(auto)]
 
 #[cfg(test)]

@@ -1,10 +1,11 @@
 //! The sample plan, and what its builders refuse.
 
 use camac_branch::{BuildFault, Plan, TypeName};
-use camac_module::ModuleType;
+use camac_module::{Decl, ModuleType};
 use camac_plan::read;
 use camac_test_fixtures::plans::SAMPLE;
 use camac_word::{CrateNo, Function, GlBit, Station, SubAddress};
+use std::alloc::Global;
 use std::process::Abort;
 use std::test::Fail;
 
@@ -66,6 +67,48 @@ fn builder_faults_of_stations(rt: HostRuntime) -> Result<(), Fail> {
 fn builder_faults_of_buffers(rt: HostRuntime) {
     assert!(rt; Plan::new(rt.alloc(), 0).is_none());
     assert!(rt; Plan::new(rt.alloc(), 4097).is_none());
+}
+
+fn declare(commands: &mut ModuleType, f: u32, a: u32, width: u8, probe: bool) -> Result<(), Fail> {
+    let d = Decl {
+        f: function(f)?,
+        a: sub_address(a)?,
+        width,
+        probe,
+    };
+    commands.declare(d)?;
+    Ok(())
+}
+
+fn adc_commands(alloc: Global) -> Result<ModuleType, Fail> {
+    let mut commands = ModuleType::new(alloc);
+    for a in 0..12 {
+        declare(&mut commands, 0, a, 12, false)?;
+    }
+    for a in 12..16 {
+        declare(&mut commands, 0, a, 24, true)?;
+    }
+    for f in [8, 10, 24, 26] {
+        declare(&mut commands, f, 12, 24, false)?;
+    }
+    Ok(commands)
+}
+
+fn expect_same_type(rt: &impl Abort, commands: &ModuleType, copy: &ModuleType) -> Result<(), Fail> {
+    assert!(rt; copy.counts() == (20, 4));
+    let f = function(0)?;
+    for a in 0..16 {
+        let a = sub_address(a)?;
+        assert!(rt; copy.width(f, a) == commands.width(f, a));
+    }
+    Ok(())
+}
+
+#[test]
+fn type_copy(rt: HostRuntime) -> Result<(), Fail> {
+    let commands = adc_commands(rt.alloc())?;
+    let copy = commands.try_clone(rt.alloc())?;
+    expect_same_type(&rt, &commands, &copy)
 }
 
 fn expect_alike(rt: &impl Abort, plan: &Plan, copy: &Plan) -> Result<(), Fail> {
