@@ -1,5 +1,4 @@
-// Lines of the library that the program does not write. All others are worked rows: tests/rows. What writes takes no more than references,
-// so that few values are to be dropped where a write fails: each of them is a goal for the prover.
+// Lines of the library that the program does not write. All others are worked rows: tests/rows.
 
 use crate::checked::straight_line;
 use crate::judged::straight_line_log;

@@ -1,5 +1,4 @@
-// The log of a run over a list of answers, and its event file. What looks at a log takes a reference, so that few values are to be dropped
-// where it stops: each of them is a goal for the prover.
+// The log of a run over a list of answers, and its event file.
 
 use crate::checked::straight_line;
 use camac_branch::Answer;

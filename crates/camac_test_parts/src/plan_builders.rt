@@ -33,8 +33,6 @@ fn name(text: &str) -> Result<TypeName, Fail> {
     Ok(TypeName::new(text.as_bytes()).ok_or("type name")?)
 }
 
-// What takes a plan takes a reference, so that few values are to be dropped where it stops: each of them is a goal for the prover.
-
 fn refuses_types_and_crates(rt: &(impl Abort + AllocGlobal), plan: &mut Plan) -> Result<(), Fail> {
     let again = plan.add_type(name("ADC")?, ModuleType::new(rt.alloc()));
     assert!(rt; again == Err(BuildFault::TypeTwice));
