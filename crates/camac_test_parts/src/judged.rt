@@ -1,16 +1,12 @@
-// What a checked script says of itself, and a log of its run.
+// What a checked script says of itself.
 
 use crate::checked::straight_line;
-use camac_branch::Answer;
 use camac_check::{Checked, least};
 use camac_lang::Script;
 use camac_plan::read;
-use camac_run::{Log, run};
 use camac_test_fixtures::plans::SAMPLE;
 use camac_test_fixtures::scripts::STRAIGHT_LINE;
 use camac_text::parse;
-use camac_word::Word24;
-use std::alloc::Global;
 use std::process::Abort;
 use std::test::Fail;
 
@@ -35,18 +31,6 @@ fn least_headings(rt: HostRuntime) -> Result<(), Fail> {
     let checked = least(rt.alloc(), script, &plan)?;
     assert!(rt; numbers_of_the_service(checked.script()) == Some((3, 1)));
     Ok(())
-}
-
-fn word(value: u32) -> Result<Word24, Fail> {
-    Ok(Word24::new(value).ok_or("a word of 24 bits")?)
-}
-
-// A demand of the service, and its one cycle.
-pub fn straight_line_log(alloc: Global, checked: &Checked) -> Result<Log, Fail> {
-    let demand = Answer::new(false, false, word(0)?, 0, word(4)?).ok_or("a wait below 16")?;
-    let read = Answer::new(true, true, word(0x12_3fff)?, 2, word(0)?).ok_or("a wait below 16")?;
-    let answers = [demand, read];
-    Ok(run(alloc, checked, &answers)?)
 }
 
 fn expect_service(rt: &impl Abort, checked: &Checked) {

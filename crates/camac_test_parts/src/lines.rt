@@ -1,7 +1,7 @@
 // Lines of the library that the program does not write. All others are worked rows: tests/rows.
 
 use crate::checked::straight_line;
-use crate::judged::straight_line_log;
+use crate::log::straight_line_log;
 use camac_check::Checked;
 use camac_event::Events;
 use camac_report::{write_cycle, write_events, write_item, write_items};
@@ -28,7 +28,7 @@ fn item_lines(alloc: Global, checked: &Checked, items: &[Item]) -> Result<Vec<u8
 #[test]
 fn lines_of_items(rt: HostRuntime) -> Result<(), Fail> {
     let checked = straight_line(rt.alloc())?;
-    let log = straight_line_log(rt.alloc(), &checked)?;
+    let log = straight_line_log(&rt, &checked)?;
     let lines = item_lines(rt.alloc(), &checked, log.items.as_slice())?;
     let want =
         b"demand 000004 adc\ncycle 1 5 0 0 in 123fff x1 q1 wait 2\ncycle 1 5 0 0 in 123fff x1 q1 wait 2\n";
@@ -45,7 +45,7 @@ fn event_lines(alloc: Global, events: &Events) -> Result<Vec<u8>, Fail> {
 #[test]
 fn lines_of_events(rt: HostRuntime) -> Result<(), Fail> {
     let checked = straight_line(rt.alloc())?;
-    let log = straight_line_log(rt.alloc(), &checked)?;
+    let log = straight_line_log(&rt, &checked)?;
     let lines = event_lines(rt.alloc(), &log.events)?;
     let want = b"event 1 gl 3 cycles 3 missed 0 words 1 000fff\nevents 1\n";
     assert!(rt; lines.as_slice() == want.as_slice());

@@ -2,6 +2,7 @@
 
 use crate::checked::straight_line;
 use camac_branch::Answer;
+use camac_check::Checked;
 use camac_event::{Events, encode};
 use camac_run::{End, Item, Log, requests_are_safe, run, runs_by_headline};
 use camac_test_fixtures::event_files::FILE_TWO;
@@ -21,11 +22,18 @@ fn read(wait: u8) -> Result<Answer, Fail> {
     Ok(Answer::new(true, true, word(0x12_3fff)?, wait, word(0)?).ok_or("read")?)
 }
 
-// The log of the straight-line script.
-fn log_of(rt: &(impl Abort + AllocGlobal), answers: &[Answer]) -> Result<Log, Fail> {
+fn log_of(
+    rt: &(impl Abort + AllocGlobal),
+    checked: &Checked,
+    answers: &[Answer],
+) -> Result<Log, Fail> {
     assert!(rt; answers.len() <= 2);
-    let checked = straight_line(rt.alloc())?;
-    Ok(run(rt.alloc(), &checked, answers)?)
+    Ok(run(rt.alloc(), checked, answers)?)
+}
+
+/// A demand of the service, and its one cycle.
+pub fn straight_line_log(rt: &(impl Abort + AllocGlobal), checked: &Checked) -> Result<Log, Fail> {
+    log_of(rt, checked, &[demand()?, read(2)?])
 }
 
 fn expect_items(rt: &impl Abort, items: &[Item]) -> Result<(), Fail> {
@@ -46,9 +54,9 @@ fn expect_file(rt: &(impl Abort + AllocGlobal), events: &Events) -> Result<(), F
 }
 
 #[test]
-fn straight_line_log(rt: HostRuntime) -> Result<(), Fail> {
-    let answers = [demand()?, read(2)?];
-    let log = log_of(&rt, &answers)?;
+fn ended_log(rt: HostRuntime) -> Result<(), Fail> {
+    let checked = straight_line(rt.alloc())?;
+    let log = straight_line_log(&rt, &checked)?;
     assert!(rt; log.end == End::Ended);
     expect_items(&rt, log.items.as_slice())?;
     expect_file(&rt, &log.events)
@@ -62,7 +70,8 @@ fn expect_no_event(rt: &impl Abort, log: &Log) {
 #[test]
 fn short_log(rt: HostRuntime) -> Result<(), Fail> {
     let answers = [demand()?];
-    let log = log_of(&rt, &answers)?;
+    let checked = straight_line(rt.alloc())?;
+    let log = log_of(&rt, &checked, &answers)?;
     assert!(rt; log.end == End::Short);
     expect_no_event(&rt, &log);
     Ok(())
@@ -71,7 +80,8 @@ fn short_log(rt: HostRuntime) -> Result<(), Fail> {
 #[test]
 fn overrun_log(rt: HostRuntime) -> Result<(), Fail> {
     let answers = [demand()?, read(3)?];
-    let log = log_of(&rt, &answers)?;
+    let checked = straight_line(rt.alloc())?;
+    let log = log_of(&rt, &checked, &answers)?;
     assert!(rt; matches!(&log.end, End::Overrun(o) if o.c.get() == 1 && o.wait == 3));
     expect_no_event(&rt, &log);
     Ok(())
