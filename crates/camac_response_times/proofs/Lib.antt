@@ -1,0 +1,7 @@
+pub mod Wanted
+pub mod Rounds
+pub mod Rates
+pub mod Calls
+pub mod Answered
+pub mod Words
+pub mod Load

@@ -1,0 +1,32 @@
+-- What the search computes, in one form for a stretch and for a call.
+use Rattle.std.specs.Prelude.{ℕ, ◌+◌, ◌*◌, ◌^◌, ◌≤◌, Bool, List, Option, Some, None, nat_le, option_and_then, option_map, slice_get, if◌then◌else◌}
+use Rattle.camac_response_times.specs.declared.source.Source.{Source}
+use Rattle.camac_response_times.specs.declared.search.Response.{Response}
+use Rattle.camac_response_times.specs.Response.{is_up_to, is_below, called_within}
+use Rattle.camac_response_times.specs.Rounds.{longest, most_cycles, response}
+
+-- services up to a bit, or below it
+abbrev pub is_meant : (bit : ℕ) → (own : Bool) → Source → Bool
+is_meant g own t = if own then is_up_to g t else is_below g t
+
+abbrev pub wants : (first bit : ℕ) → (own : Bool) → List Source → ℕ → ℕ
+wants first g own ts e = first + called_within (is_meant g own) e ts
+
+-- a number up to the limit
+abbrev pub within : ℕ → Option ℕ
+within n = if nat_le n most_cycles then Some n else None
+
+-- with a load of so many parts of 2^32 beside them, so many cycles of calls are more than e
+abbrev pub TakesAll : (load e called : ℕ) → Type 0
+TakesAll load e called = 2 ^ 32 * (e + 1) ≤ load * (e + 1) + 2 ^ 32 * called
+
+-- what is told of a service in a longest stretch of so many cycles that is called so many cycles after its look-at-me at most
+abbrev pub told : Source → (longest start : ℕ) → Response
+told s most start = record { start = start; end = start + s.cycles; longest = most }
+
+abbrev pub answer : List Source → Source → Option Response
+answer ts s = option_and_then (λ most. option_map (told s most) (response ts s)) (longest ts s)
+
+-- the response of the service of this number
+abbrev pub response_at : List Source → ℕ → Option Response
+response_at ts number = option_and_then (answer ts) (slice_get ts number)

@@ -1,0 +1,5 @@
+pub mod Response
+pub mod Rounds
+pub mod Found
+pub mod Rates
+pub mod Setting
