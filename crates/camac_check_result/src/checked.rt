@@ -1,7 +1,7 @@
 // A checked script.
 
 ghost use Rattle.std.specs.Prelude.{◌≡◌, ◌<◌, length, Some, slice_get};
-ghost use Rattle.camac_names.specs.Linked.{bit_of_service};
+ghost use Rattle.camac_names.specs.Linked.{IsLinked, bit_of_service};
 ghost use Rattle.camac_check_result.specs.Checked.{linked_of, checked_with, IsChecked};
 
 use camac_branch::Plan;
@@ -94,6 +94,13 @@ impl Checked {
         ensures { slice_get self.now.bounds i ≡ Some result }
     {
         self.bounds[i]
+    }
+
+    /// The law that a checked script is linked to its plan.
+    pub fn is_linked(&self)
+        ensures { IsLinked (linked_of self.now) }
+    {
+        let _ = self.linked.script();
     }
 
     /// The law that what is true of each checked script is true of this one.

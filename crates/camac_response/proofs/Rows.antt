@@ -1,0 +1,155 @@
+-- Worked rows: responses, and a run in which a service is called as late as its response allows.
+use Rattle.std.proofs.Common.{◌≡◌, ℕ, zero, suc, ◌*◌, ◌<◌, ◌≤◌, List, [], ◌∷◌, Option, Some, None, true, false, refl, subst, take, arith}
+use Rattle.std.specs.Prelude.{codes, slice_get}
+use Rattle.std.proofs.lemmas.Option.{same_Some}
+use Rattle.camac_lang.specs.declared.word.CrateCall.TheVariants as crate_word
+use Rattle.camac_lang.specs.Tree.{number, Statement, crate_call, Script, Lam, Service, next_lam, next_service}
+use Rattle.camac_lang.specs.View.{block_of}
+use Rattle.camac_branch.specs.Branch.{Answer, IsSet}
+use Rattle.camac_branch.specs.Plan.{Layout}
+use Rattle.camac_model.specs.Behaviour.{pieces, Piece}
+use Rattle.camac_model.specs.Run.{the_run}
+use Rattle.camac_model.specs.Sample.{gap, adc, reg, answer, demand}
+use Rattle.camac_response_times.specs.declared.source.Source.{Source}
+use Rattle.camac_model.specs.Moments.{Holds}
+use Rattle.camac_response.specs.Stretch.{Stretch, no_stretch, one_more, stretch_after}
+use Rattle.camac_response.specs.Modules.{Raises, at_start, modules_watch}
+use Rattle.camac_response_times.specs.Rounds.{response, most_rounds}
+
+abbrev source : ℕ → ℕ → Option ℕ → Source
+source bit cycles every = record { bit = bit; cycles = cycles; every = every }
+
+-- adc of bit 3 with bound 3, reg of bit 7 with bound 6
+abbrev two : Option ℕ → Option ℕ → List Source
+two t u = source 3 3 t ∷ source 7 6 u ∷ []
+
+adc_once : response (two None None) (source 3 3 None) ≡ Some 6
+unfolding most_rounds
+adc_once = refl
+
+reg_once : response (two None None) (source 7 6 None) ≡ Some 3
+unfolding most_rounds
+reg_once = refl
+
+adc_every_4 : response (two (Some 4) None) (source 3 3 (Some 4)) ≡ Some 6
+unfolding most_rounds
+adc_every_4 = refl
+
+reg_every_4 : response (two (Some 4) None) (source 7 6 None) ≡ Some 3
+unfolding most_rounds
+reg_every_4 = refl
+
+adc_every_20 : response (two (Some 20) (Some 12)) (source 3 3 (Some 20)) ≡ Some 6
+unfolding most_rounds
+adc_every_20 = refl
+
+reg_every_12 : response (two (Some 20) (Some 12)) (source 7 6 (Some 12)) ≡ Some 3
+unfolding most_rounds
+reg_every_12 = refl
+
+-- the services of bits 3 and 2: each makes a cycle in crate 2, which has no waits, and one in crate 1, which has up to 2
+abbrev plan : Layout
+plan = record {
+  buffer = 4096;
+  types = adc ∷ reg ∷ [];
+  crates =
+      Some (record { waits = 2; stations = gap 4 (Some (record { type_no = 0; gl = Some 3 }) ∷ gap 18 []) }) ∷
+      Some (record { waits = 0; stations = gap 4 (Some (record { type_no = 0; gl = Some 2 }) ∷ gap 18 []) }) ∷
+      gap 5 [];
+}
+
+abbrev lam_at : List ℕ → ℕ → Lam
+lam_at name c = record { line = 1; name = name; crate_no = c; station = 5; sub_address = 12 }
+
+abbrev served_by : ℕ → List Statement → Service
+served_by l ss = record { line = 3; lam = l; cycles = 4; words = 0; registers = []; body = block_of ss }
+
+abbrev both : Script
+both = record {
+  order = next_lam ∷ next_lam ∷ next_service ∷ next_service ∷ [];
+  tables = [];
+  lams = lam_at (codes "a") 1 ∷ lam_at (codes "b") 2 ∷ [];
+  variables = [];
+  procedures = [];
+  services =
+      served_by 0 (crate_call 4 crate_word.TestDemand (number 2) ∷ crate_call 4 crate_word.TestInhibit (number 1) ∷ []) ∷
+      served_by 1 (crate_call 4 crate_word.TestDemand (number 2) ∷ crate_call 4 crate_word.TestInhibit (number 1) ∷ []) ∷
+      [];
+}
+
+abbrev of_both : List Source
+of_both = source 3 4 None ∷ source 2 4 (Some 9) ∷ []
+
+-- bit 2 comes while the service of bit 3 is in progress, and again during its own service
+abbrev answers : List Answer
+answers =
+    demand 4 ∷ answer true false 0 0 0 ∷ answer true false 0 2 0 ∷
+    demand 2 ∷ answer true false 0 0 0 ∷ answer true false 0 2 0 ∷
+    demand 2 ∷ answer true false 0 0 0 ∷ []
+
+abbrev after : ℕ → Stretch
+after n = go (no_stretch None) (take n (pieces (the_run plan both answers)))
+  where
+    go : Stretch → List Piece → Stretch
+    go x [] = x
+    go x (p ∷ ps) = go (stretch_after of_both 2 x p) ps
+
+response_of_2 : response of_both (source 2 4 (Some 9)) ≡ Some 4
+unfolding most_rounds
+response_of_2 = refl
+
+-- an operation, two cycles and an event, and the next operation: it calls the service of bit 2, 4 cycles after the operation before
+called_late : (after 5).elapsed ≡ 4
+called_late = refl
+
+called_first : (after 5).calls 1 ≡ 1
+called_first = refl
+
+-- its event comes 8 cycles after
+ends_late : (after 8).elapsed ≡ 8
+ends_late = refl
+
+at_its_rate : (after 8).kept ≡ true
+at_its_rate = refl
+
+-- the second call is too early: rate 9 allows the second no sooner than 9 cycles after
+called_again : (after 9).calls 1 ≡ 2
+called_again = refl
+
+too_early : (after 9).kept ≡ false
+too_early = refl
+
+-- Modules that keep to what the law of look-at-mes asks, in a run in which bit 2 waits as long as its response: raised at the start, it is
+-- called 4 cycles later.
+abbrev raises : Raises
+raises i k = k * 100
+
+abbrev first_answers : List Answer
+first_answers =
+    demand 4 ∷ answer true false 0 0 0 ∷ answer true false 0 2 0 ∷ demand 2 ∷ answer true false 0 0 0 ∷ answer true false 0 2 0 ∷ []
+
+in_pattern : (i : ℕ) (t : Source) → slice_get of_both i ≡ Some t → one_more 0 (λ j. 0) i * 100 < 4 → IsSet 2 t.bit
+in_pattern zero t at less = absurd (omega (arith, less))
+in_pattern (suc zero) t at less = subst (λ u. IsSet 2 u.bit) (same_Some (source 2 4 (Some 9)) t at) refl
+in_pattern (suc (suc i)) t at less = absurd (cc)
+
+modules_keep : Holds (modules_watch of_both raises (λ k. 0) 2) at_start (the_run plan both first_answers)
+modules_keep = (
+  record { raised = λ i e. omega arith; stays = λ i t at less. absurd (omega (arith, less)); once = λ t at up none. refl },
+  (
+    tt,
+    (
+      tt,
+      (
+        tt,
+        (
+          record { raised = called; stays = in_pattern; once = λ t at up none. refl },
+          (tt, (tt, (tt, tt))),
+        ),
+      ),
+    ),
+  ),
+)
+  where
+    called : (i : ℕ) → Some 1 ≡ Some i → one_more 0 (λ j. 0) i * 100 ≤ 4
+    called i e = subst (λ j. one_more 0 (λ k. 0) j * 100 ≤ 4) (same_Some 1 i e) (omega arith)

@@ -1,0 +1,5 @@
+use Rattle.camac_response.proofs.Waits.{look_at_mes_are_answered}
+use Rattle.camac_response.proofs.laws.look_at_mes_are_answered.Goals as goal
+
+pub returns : goal.returns
+returns c = look_at_mes_are_answered

@@ -1,0 +1,7 @@
+use Rattle.std.proofs.Common.{subst}
+use Rattle.camac_branch.specs.Plan.{IsPlan}
+use Rattle.camac_response.proofs.Told.{checked_respond}
+use Rattle.camac_response.proofs.laws.responds.Goals as goal
+
+pub returns : goal.returns
+returns c = checked_respond c.args.checked.now (subst IsPlan c.plan.ensures c.is_plan.ensures) c.is_linked.ensures c.is_checked.ensures

@@ -1,0 +1,15 @@
+//! How long a look-at-me of a checked script waits for its service, at told rates: what `camac response` prints, and the laws on every run.
+#![tactic(auto)]
+
+mod kept;
+pub mod laws;
+mod lines;
+mod of_checked;
+
+pub use camac_response_times::{
+    MOST_ROUNDS, Misuse, Rate, Response, Setting, SettingOption, Settings, Source, read_settings,
+    response_of, told_for,
+};
+pub use kept::are_kept;
+pub use lines::write_responses;
+pub use of_checked::{no_service, sources_of};

@@ -1,0 +1,130 @@
+// The lines of `camac response`.
+
+ghost use Rattle.std.specs.Prelude.{◌≡◌, ◌<◌, ◌≤◌, ◌+◌, ◌||◌, ◌++◌, is_err, length, nat_eq};
+ghost use Rattle.std.specs.List.{position};
+ghost use Rattle.camac_response.specs.Lines.{bit_text, cycles_text, limit_text, numbers_text, rate_text, response_line, responses_text, service_text};
+ghost use Rattle.camac_word.specs.Watched.{inner_of, has_failed};
+ghost use Rattle.camac_word.specs.Writing.{Writes};
+
+use crate::of_checked::service_name;
+use camac_check_result::Checked;
+use camac_report_text::Line;
+use camac_response_times::{Rate, Response, Setting, Source, response_of, told_for};
+use camac_word::{Watched, WriteFault};
+use std::io::Write;
+
+/// Writes a line for each service, in the order of their bits: its bound, its rate, the most cycles from its look-at-me to its beginning and to
+/// its end, with the number that was asked for, and its longest stretch. After a write fault a prefix of this was written.
+pub fn write_responses<W: Write>(
+    out: &mut Watched<W>,
+    checked: &Checked,
+    sources: &[Source],
+    within: &[Setting<'_>],
+) -> Result<(), WriteFault>
+    requires { length sources.now ≡ length checked.now.script.services }
+    ensures text { Writes (W.contents (inner_of out.old)) (W.contents (inner_of out.new)) result (responses_text checked.now.script within.now sources.now) }
+    ensures failed { has_failed out.new ≡ (has_failed out.old || is_err result) }
+{
+    'bits: for bit in 1..25 {
+        let line = line_of_bit(checked, sources, within, bit);
+        out.write_text(line.as_bytes())?;
+    }
+    Ok(())
+}
+
+// The line of the service of a bit, nothing where there is none.
+fn line_of_bit(checked: &Checked, sources: &[Source], within: &[Setting<'_>], bit: u32) -> Line
+    requires { length sources.now ≡ length checked.now.script.services }
+    ensures { result ≡ bit_text checked.now.script within.now sources.now bit }
+{
+    match place_of(sources, bit) {
+        Some(number) => line_of(checked, sources, within, number),
+        None => Line::new(),
+    }
+}
+
+fn place_of(sources: &[Source], bit: u32) -> Option<usize>
+    ensures { result ≡ position (λ t. nat_eq t.bit bit) sources.now }
+{
+    sources.iter().position(|source| source.bit.get() == bit)
+}
+
+fn line_of(checked: &Checked, sources: &[Source], within: &[Setting<'_>], number: usize) -> Line
+    requires many { length sources.now ≡ length checked.now.script.services }
+    requires one { number < length sources.now }
+    ensures { result ≡ service_text checked.now.script within.now sources.now number }
+{
+    let name = service_name(checked, number);
+    laid_out(
+        name,
+        sources[number],
+        told_for(within, name),
+        response_of(sources, number),
+    )
+}
+
+fn laid_out(name: &[u8], source: Source, within: Option<u32>, response: Option<Response>) -> Line
+    requires { length name.now ≤ 32 }
+    ensures { result ≡ response_line name.now source within response }
+{
+    let mut line = Line::new();
+    line.push_str("service ");
+    line.push_bytes(name);
+    line.push_str(" gl ");
+    line.push_number(source.bit.get());
+    line.push_str(" cycles ");
+    line.push_number(source.cycles);
+    push_rate(&mut line, source.every);
+    push_numbers(&mut line, within, response);
+    line
+}
+
+fn push_rate(line: &mut Line, every: Option<Rate>)
+    requires { length line.old ≤ 100 }
+    ensures text { line.new ≡ line.old ++ rate_text every }
+    ensures len { length line.new ≤ length line.old + 17 }
+{
+    match every {
+        None => line.push_str(" once"),
+        Some(rate) => {
+            line.push_str(" every ");
+            line.push_number(rate.get());
+        }
+    }
+}
+
+fn push_numbers(line: &mut Line, within: Option<u32>, response: Option<Response>)
+    requires { length line.old ≤ 120 }
+    ensures { line.new ≡ line.old ++ numbers_text within response }
+{
+    line.push_str(" start ");
+    push_cycles(line, response.map(|found| found.start));
+    line.push_str(" end ");
+    push_cycles(line, response.map(|found| found.end));
+    push_limit(line, within);
+    line.push_str(" longest ");
+    push_cycles(line, response.map(|found| found.longest));
+    line.push_str("\n");
+}
+
+fn push_cycles(line: &mut Line, cycles: Option<u32>)
+    requires { length line.old ≤ 200 }
+    ensures text { line.new ≡ line.old ++ cycles_text cycles }
+    ensures len { length line.new ≤ length line.old + 10 }
+{
+    match cycles {
+        Some(cycles) => line.push_number(cycles),
+        None => line.push_str("-"),
+    }
+}
+
+fn push_limit(line: &mut Line, within: Option<u32>)
+    requires { length line.old ≤ 160 }
+    ensures text { line.new ≡ line.old ++ limit_text within }
+    ensures len { length line.new ≤ length line.old + 14 }
+{
+    if let Some(cycles) = within {
+        line.push_str(" of ");
+        line.push_number(cycles);
+    }
+}
