@@ -14,8 +14,9 @@ mod streams;
 mod target;
 
 pub use camac_tool_check::{
-    Outcome, PlanSource, ToolFault, engine_bounds, engine_check, engine_commands, engine_costs,
-    engine_events, engine_explain, engine_explain_plan, engine_plan, sample_plan, status,
+    Outcome, PlanSource, Responded, ToolFault, engine_bounds, engine_check, engine_commands,
+    engine_costs, engine_events, engine_explain, engine_explain_plan, engine_plan, engine_response,
+    sample_plan, status,
 };
 pub use camac_tool_words::{Job, JobFault, read_words};
 pub use launch::{ArgumentsFault, arguments};

@@ -5,7 +5,7 @@ ghost use Rattle.std.specs.Str.{bytes_eq};
 ghost use Rattle.camac_tool_check.specs.Engine.{status_of};
 ghost use Rattle.camac_tool_check.specs.declared.fault.ToolFault.TheVariants.{Read as read-fault, Write};
 ghost use Rattle.clap.specs.Words.{kind_of};
-ghost use Rattle.camac_tool.specs.Status.{Ends, EndsJob, EndsUsage};
+ghost use Rattle.camac_tool.specs.Status.{Ends, EndsJob, EndsResponse, EndsUsage};
 ghost use Rattle.camac_tool.specs.declared.launch.ArgumentsFault.TheVariants.{Memory, NotText};
 ghost use Rattle.camac_tool.specs.Gathered.{has_stopped, held_in};
 
@@ -18,11 +18,13 @@ use crate::running::{engine_drive, engine_run};
 use crate::shared::{FromAnswers, ToListing, ToRecords};
 use crate::streams::Streams;
 use crate::target::{NewFile, create, keep_apart, settle};
+use camac_response::Misuse;
 use camac_tool_check::{
-    Outcome, PlanSource, ToolFault, engine_bounds, engine_check, engine_commands, engine_costs,
-    engine_events, engine_explain, engine_explain_plan, engine_plan, status,
+    Outcome, PlanSource, Responded, ToolFault, engine_bounds, engine_check, engine_commands,
+    engine_costs, engine_events, engine_explain, engine_explain_plan, engine_plan, engine_response,
+    status,
 };
-use camac_tool_words::{Job, JobFault, read_words};
+use camac_tool_words::{Job, JobFault, read_words, setting_error};
 use camac_word::Watched;
 use clap::Error;
 use clap::error::ErrorKind;
@@ -68,7 +70,7 @@ pub fn unread_status<R: Runtime>(rt: &R, fault: ArgumentsFault) -> u8
 
 #[tactic(auto, using(crate::proofs::Ended::engine_ends))]
 fn serve<R: Runtime + AllocGlobal>(rt: &R, job: Job<'_>) -> u8
-    ensures { EndsJob result }
+    ensures { EndsJob job result }
 {
     match job {
         Job::Plan(plan) => finished(rt, show_plan(rt, plan)),
@@ -78,6 +80,9 @@ fn serve<R: Runtime + AllocGlobal>(rt: &R, job: Job<'_>) -> u8
         Job::ExplainPlan(plan) => finished(rt, explain_plan(rt, plan)),
         Job::Bounds(plan, script) => finished(rt, show_bounds(rt, plan, script)),
         Job::Costs(plan, script) => finished(rt, show_costs(rt, plan, script)),
+        Job::Response(plan, script, every, within) => {
+            responded(rt, show_responses(rt, plan, script, &every, &within))
+        }
         Job::Events(file) => finished(rt, show_events(rt, file)),
         Job::Run(plan, script, answers, events) => {
             finished(rt, run(rt, plan, script, answers, events))
@@ -146,6 +151,19 @@ fn show_costs<R: Runtime + AllocGlobal>(
     let mut out = Watched::new(Gathered::new(rt.alloc(), io::writer(rt))?);
     let outcome = engine_costs(rt.alloc(), &mut plan, &mut script, &mut out)?;
     handed_on(&mut out.into_inner(), outcome)
+}
+
+fn show_responses<'a, R: Runtime + AllocGlobal>(
+    rt: &R,
+    plan: &str,
+    script: &str,
+    every: &[&'a str],
+    within: &[&'a str],
+) -> Result<Responded<'a>, ToolFault> {
+    let mut plan = source_of(plan_input(rt, plan)?);
+    let mut script = Watched::new(open(rt, script)?);
+    let mut out = Watched::new(io::writer(rt));
+    engine_response(rt.alloc(), &mut plan, &mut script, every, within, &mut out)
 }
 
 // What it tells is gathered, and handed on before each read of the answers and at the end. An output that fails, also before a read, is a
@@ -270,6 +288,32 @@ fn finished<R: Runtime>(rt: &R, answer: Result<Outcome, ToolFault>) -> u8
         let _ = eprintln!(rt; "{fault}");
     }
     status(&answer)
+}
+
+// Of `response`, whose words may be wrong.
+#[tactic(auto, using(crate::proofs::Ended::response_ends, crate::proofs::Ended::stopped_ends))]
+fn responded<R: Runtime + AllocGlobal>(rt: &R, answer: Result<Responded<'_>, ToolFault>) -> u8
+    ensures { EndsResponse result }
+{
+    match answer {
+        Ok(Responded::Told(outcome)) => finished(rt, Ok(outcome)),
+        Ok(Responded::Misused(misuse)) => misused_words(rt, misuse),
+        Err(fault) => stopped(rt, fault),
+    }
+}
+
+#[tactic(auto, using(crate::proofs::Ended::usage_ends, crate::proofs::Ended::stopped_ends))]
+fn misused_words<R: Runtime + AllocGlobal>(rt: &R, misuse: Misuse<'_>) -> u8
+    ensures { EndsResponse result }
+{
+    let Misuse::Form(option, word) = misuse else {
+        let _ = eprintln!(rt; "{misuse}");
+        return USAGE;
+    };
+    match setting_error(rt.alloc(), option, word) {
+        Ok(error) => print_usage(rt, error),
+        Err(_) => stopped(rt, ToolFault::Memory),
+    }
 }
 
 fn stopped<R: Runtime>(rt: &R, fault: ToolFault) -> u8

@@ -8,3 +8,4 @@ pub mod Accepted
 pub mod Found
 pub mod Explain
 pub mod Costs
+pub mod Response

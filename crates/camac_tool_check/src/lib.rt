@@ -1,4 +1,5 @@
-//! The engines that tell of a plan, a script or an event file, and run nothing: `plan`, `check`, `explain`, `bounds`, `costs` and `events`.
+//! The engines that tell of a plan, a script or an event file, and run nothing: `plan`, `check`, `explain`, `bounds`, `costs`,
+//! `response` and `events`.
 // A crate of its own beside the runner, whose proof is the longest, so that both are proved at once.
 #![tactic(auto)]
 
@@ -11,6 +12,7 @@ mod judging;
 mod outcome;
 mod plan;
 mod reading;
+mod response;
 mod sample;
 
 pub use costs::engine_costs;
@@ -21,4 +23,5 @@ pub use headings::engine_bounds;
 pub use judging::{Judged, read_judged};
 pub use outcome::{Outcome, status};
 pub use plan::PlanSource;
+pub use response::{Responded, engine_response};
 pub use sample::sample_plan;

@@ -1,12 +1,12 @@
 -- The command line as `clap` is told of it, and the job that its matches name.
-use Rattle.std.specs.Prelude.{◌≡◌, ◌⊎◌, ◌<◌, ℕ, Bool, true, false, List, [], ◌∷◌, map, codes, count_by, Option, Some, None}
+use Rattle.std.specs.Prelude.{◌≡◌, ◌⊎◌, ◌<◌, ℕ, Bool, true, false, List, [], ◌∷◌, map, codes, count_by, Option, Some, None, unwrap_or}
 use Rattle.std.specs.Str.{bytes_eq}
-use Rattle.clap.specs.Words.{App, HasKind, Row, Rule, Text, fault_of, first_of, kind_of, new_app, new_rule, subcommand_of, takes, with_rule, with_subcommand}
-use Rattle.clap.specs.declared.builder.action.ArgAction.TheVariants.{SetTrue}
+use Rattle.clap.specs.Words.{App, HasKind, Row, Rule, Text, all_of, fault_of, first_of, kind_of, new_app, new_rule, subcommand_of, takes, with_rule, with_subcommand}
+use Rattle.clap.specs.declared.builder.action.ArgAction.TheVariants.{Append, SetTrue}
 use Rattle.clap.specs.declared.error.Error.{Error}
 use Rattle.clap.specs.declared.error.kind.ErrorKind.TheVariants as kind
 use Rattle.camac_tool_words.specs.declared.words.Job.{Job}
-use Rattle.camac_tool_words.specs.declared.words.Job.TheVariants.{Plan, Commands, Check, Explain, ExplainPlan, Bounds, Costs, Run, Drive, Events}
+use Rattle.camac_tool_words.specs.declared.words.Job.TheVariants.{Plan, Commands, Check, Explain, ExplainPlan, Bounds, Costs, Response, Run, Drive, Events}
 use Rattle.camac_tool_words.specs.declared.words.JobFault.{JobFault}
 use Rattle.camac_tool_words.specs.declared.words.JobFault.TheVariants.{Usage, InTwice}
 
@@ -20,6 +20,10 @@ optional_rule name = new_rule name
 -- an option without a value, by its long name
 abbrev pub option_rule : Text → Rule
 option_rule name = record (new_rule name) { long = Some name; action = Some SetTrue }
+
+-- an option with a value, which may stand several times
+abbrev pub setting_rule : Text → Rule
+setting_rule name = record (new_rule name) { long = Some name; action = Some Append; value_names = 1 }
 
 abbrev pub plan_app : App
 plan_app = with_rule (with_rule (new_app (codes "plan")) (word_rule (codes "PLAN"))) (option_rule (codes "commands"))
@@ -40,6 +44,9 @@ bounds_app = script_app (codes "bounds")
 abbrev pub costs_app : App
 costs_app = script_app (codes "costs")
 
+abbrev pub response_app : App
+response_app = with_rule (with_rule (script_app (codes "response")) (setting_rule (codes "every"))) (setting_rule (codes "within"))
+
 abbrev pub run_app : App
 run_app = with_rule (with_rule (script_app (codes "run")) (word_rule (codes "ANSWERS"))) (word_rule (codes "EVENTS"))
 
@@ -57,7 +64,7 @@ camac_top =
 
 abbrev pub camac_app : App
 camac_app =
-    with_subcommand (with_subcommand (with_subcommand (with_subcommand (with_subcommand (with_subcommand (with_subcommand (with_subcommand camac_top plan_app.top) check_app.top) explain_app.top) bounds_app.top) costs_app.top) run_app.top) drive_app.top) events_app.top
+    with_subcommand (with_subcommand (with_subcommand (with_subcommand (with_subcommand (with_subcommand (with_subcommand (with_subcommand (with_subcommand camac_top plan_app.top) check_app.top) explain_app.top) bounds_app.top) costs_app.top) response_app.top) run_app.top) drive_app.top) events_app.top
 
 abbrev pub name_of : Job → Text
 name_of (Plan plan) = codes "plan"
@@ -67,6 +74,7 @@ name_of (Explain plan script) = codes "explain"
 name_of (ExplainPlan plan) = codes "explain"
 name_of (Bounds plan script) = codes "bounds"
 name_of (Costs plan script) = codes "costs"
+name_of (Response plan script every within) = codes "response"
 name_of (Run plan script answers events) = codes "run"
 name_of (Drive plan script events) = codes "drive"
 name_of (Events file) = codes "events"
@@ -80,6 +88,7 @@ ids_of (Explain plan script) = codes "PLAN" ∷ codes "SCRIPT" ∷ []
 ids_of (ExplainPlan plan) = codes "PLAN" ∷ []
 ids_of (Bounds plan script) = codes "PLAN" ∷ codes "SCRIPT" ∷ []
 ids_of (Costs plan script) = codes "PLAN" ∷ codes "SCRIPT" ∷ []
+ids_of (Response plan script every within) = codes "PLAN" ∷ codes "SCRIPT" ∷ []
 ids_of (Run plan script answers events) = codes "PLAN" ∷ codes "SCRIPT" ∷ codes "ANSWERS" ∷ codes "EVENTS" ∷ []
 ids_of (Drive plan script events) = codes "PLAN" ∷ codes "SCRIPT" ∷ codes "EVENTS" ∷ []
 ids_of (Events file) = codes "FILE" ∷ []
@@ -92,6 +101,7 @@ words_of (Explain plan script) = plan.now ∷ script.now ∷ []
 words_of (ExplainPlan plan) = plan.now ∷ []
 words_of (Bounds plan script) = plan.now ∷ script.now ∷ []
 words_of (Costs plan script) = plan.now ∷ script.now ∷ []
+words_of (Response plan script every within) = plan.now ∷ script.now ∷ []
 words_of (Run plan script answers events) = plan.now ∷ script.now ∷ answers.now ∷ events.now ∷ []
 words_of (Drive plan script events) = plan.now ∷ script.now ∷ events.now ∷ []
 words_of (Events file) = file.now ∷ []
@@ -105,6 +115,7 @@ inputs_of (Explain plan script) = plan.now ∷ script.now ∷ []
 inputs_of (ExplainPlan plan) = plan.now ∷ []
 inputs_of (Bounds plan script) = plan.now ∷ script.now ∷ []
 inputs_of (Costs plan script) = plan.now ∷ script.now ∷ []
+inputs_of (Response plan script every within) = plan.now ∷ script.now ∷ []
 inputs_of (Run plan script answers events) = plan.now ∷ script.now ∷ answers.now ∷ []
 inputs_of (Drive plan script events) = codes "@in" ∷ plan.now ∷ script.now ∷ []
 inputs_of (Events file) = file.now ∷ []
@@ -117,11 +128,18 @@ is_true (Some text) = bytes_eq text (codes "true")
 abbrev pub is_on : Text → List Row → Bool
 is_on id rows = is_true (first_of id rows)
 
--- what tells jobs of one subcommand apart: the option of `plan`, and whether `explain` is given a script
+-- the values of an option
+abbrev pub values_of : Text → List Row → List Text
+values_of id rows = unwrap_or (all_of id rows) []
+
+-- what tells jobs of one subcommand apart: the option of `plan`, whether `explain` is given a script, and what stands after the options of
+-- `response`
 abbrev pub HasForm : Job → List Row → Type 0
 HasForm (Plan plan) rows = is_on (codes "commands") rows ≡ false
 HasForm (Commands plan) rows = is_on (codes "commands") rows ≡ true
 HasForm (ExplainPlan plan) rows = first_of (codes "SCRIPT") rows ≡ None
+HasForm (Response plan script every within) rows =
+    (map (λ w. w.now) every.items ≡ values_of (codes "every") rows) × (map (λ w. w.now) within.items ≡ values_of (codes "within") rows)
 HasForm _ rows = Unit {0}
 
 -- the job is the subcommand in its form with the values that these matches hold, in order
@@ -137,6 +155,11 @@ input_count_of job = count_by (λ word. bytes_eq word (codes "@in")) (inputs_of 
 -- no job is the subcommand with the values of these matches
 abbrev pub NamesNoJob : Option (Text × List Row) → Type 0
 NamesNoJob found = (job : Job) → IsJob job found → ⊥
+
+-- the job that the matches name, if they name one
+abbrev pub NamesJob : Option (Text × List Row) → Option Job → Type 0
+NamesJob found (Some job) = IsJob job found
+NamesJob found None = NamesNoJob found
 
 abbrev pub IsOfMemory : JobFault → Type 0
 IsOfMemory (Usage e) = kind_of e ≡ kind.OutOfMemory

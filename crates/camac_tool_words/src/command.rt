@@ -1,13 +1,16 @@
 // The command line as `clap` is told of it.
 
 ghost use Rattle.std.specs.Prelude.{◌≡◌, IfOk, false};
-ghost use Rattle.clap.specs.Words.{app_of, new_app, rule_of};
+ghost use Rattle.clap.specs.Words.{app_of, kind_of, new_app, rule_of};
 ghost use Rattle.clap.specs.declared.builder.command.Command.TheViews.{out-Command};
-ghost use Rattle.camac_tool_words.specs.Words.{word_rule, optional_rule, option_rule, script_app, plan_app, check_app, explain_app, bounds_app, costs_app, run_app, drive_app, events_app, camac_top, camac_app};
+ghost use Rattle.clap.specs.declared.error.kind.ErrorKind.TheVariants.{ValueValidation};
+ghost use Rattle.camac_tool_words.specs.Words.{word_rule, optional_rule, option_rule, script_app, plan_app, check_app, explain_app, bounds_app, costs_app, response_app, setting_rule, run_app, drive_app, events_app, camac_top, camac_app};
 
 use crate::texts;
-use clap::{Arg, ArgAction, Command};
+use clap::error::ErrorKind;
+use clap::{Arg, ArgAction, Command, Error};
 use std::alloc::{AllocError, Global};
+use std::fmt::Display;
 
 /// The program's command line: the subcommands with their words, and what help says of each. `clap`'s own `help` stays beside `--help`.
 pub fn camac_command<'a>(alloc: Global) -> Result<Command<'a>, AllocError>
@@ -19,6 +22,7 @@ pub fn camac_command<'a>(alloc: Global) -> Result<Command<'a>, AllocError>
         .subcommand(explain_command(alloc)?)?
         .subcommand(bounds_command(alloc)?)?
         .subcommand(costs_command(alloc)?)?
+        .subcommand(response_command(alloc)?)?
         .subcommand(run_command(alloc)?)?
         .subcommand(drive_command(alloc)?)?
         .subcommand(events_command(alloc)?)
@@ -59,6 +63,18 @@ fn option<'a>(alloc: Global, name: &'a str, help: &'a str) -> Arg<'a>
     Arg::new(alloc, name)
         .long(name)
         .action(ArgAction::SetTrue)
+        .help(help)
+}
+
+// An option with a value for a service, which may stand several times, and what help says of it.
+fn setting<'a>(alloc: Global, name: &'a str, help: &'a str) -> Arg<'a>
+    ensures rule { rule_of result ≡ setting_rule name.entry.now }
+    ensures local { result.global ≡ false }
+{
+    Arg::new(alloc, name)
+        .long(name)
+        .action(ArgAction::Append)
+        .value_name("SERVICE=CYCLES")
         .help(help)
 }
 
@@ -127,6 +143,33 @@ fn costs_command<'a>(alloc: Global) -> Result<Command<'a>, AllocError>
     ensures local { IfOk result (λ c. (out-Command c).has_globals ≡ false) }
 {
     script_command(alloc, "costs", texts::COSTS_COMMAND, texts::AFTER_COSTS)
+}
+
+fn response_command<'a>(alloc: Global) -> Result<Command<'a>, AllocError>
+    ensures app { IfOk result (λ c. app_of c ≡ response_app) }
+    ensures local { IfOk result (λ c. (out-Command c).has_globals ≡ false) }
+{
+    script_command(
+        alloc,
+        "response",
+        texts::RESPONSE_COMMAND,
+        texts::AFTER_RESPONSE,
+    )?
+    .arg(setting(alloc, "every", texts::EVERY))?
+    .arg(setting(alloc, "within", texts::WITHIN))
+}
+
+/// The usage fault of a word after an option of `response` that is no SERVICE=CYCLES.
+pub fn setting_error<T: Display + Drop>(
+    alloc: Global,
+    option: T,
+    word: &str,
+) -> Result<Error, AllocError>
+    ensures { IfOk result (λ e. kind_of e ≡ ValueValidation) }
+{
+    let mut command = response_command(alloc)?.bin_name("camac response")?;
+    let message = format!(in alloc; "invalid value '{word}' for '{option} <SERVICE=CYCLES>'")?;
+    command.error(ErrorKind::ValueValidation, &message)
 }
 
 fn run_command<'a>(alloc: Global) -> Result<Command<'a>, AllocError>

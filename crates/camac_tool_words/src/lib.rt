@@ -6,4 +6,5 @@ mod command;
 mod texts;
 mod words;
 
+pub use command::setting_error;
 pub use words::{Job, JobFault, read_words};

@@ -18,6 +18,9 @@ pub const BOUNDS_COMMAND: &str =
 pub const COSTS_COMMAND: &str =
     "Prints what each statement has of the bounds of an accepted script";
 
+pub const RESPONSE_COMMAND: &str =
+    "Prints the most cycles from each look-at-me to the end of its service";
+
 pub const RUN_COMMAND: &str =
     "Plays an accepted script against a list of answers, and writes its events";
 
@@ -31,6 +34,12 @@ pub const PLAN: &str = "A plan: a TOML file, or @sample, the built-in plan, or @
 pub const COMMANDS: &str = "Lists the commands of each type, too";
 
 pub const SCRIPT: &str = "A script: a file, or @in, standard input";
+
+pub const EVERY: &str =
+    "The module of the service raises its look-at-me no sooner than so many cycles after the last";
+
+pub const WITHIN: &str =
+    "Asks whether the service has ended so many cycles after its look-at-me (status 1 if not)";
 
 pub const PLAN_OF_DRIVE: &str = "A plan: a TOML file, or @sample, the built-in plan";
 
@@ -56,6 +65,7 @@ Examples:
   camac explain plan.toml readout.script
   camac bounds plan.toml readout.script
   camac costs plan.toml readout.script
+  camac response plan.toml readout.script --every adc=200
   camac run plan.toml readout.script answers.txt run.events
   camac drive plan.toml readout.script run.events
   camac events run.events
@@ -111,6 +121,25 @@ share of the bounds (status 0); or 'refused' with the rule and the line (status
 Examples:
   camac costs plan.toml readout.script
   camac costs @sample @in < readout.script";
+
+pub const AFTER_RESPONSE: &str =
+    "Prints a line for each service, in the order of their bits, or 'refused' with the
+rule and the line (status 1):
+  service NAME gl G cycles C every T start S end E longest L
+  C  the most dataway cycles that the service takes
+  T  the rate that --every tells; 'once' without one: then the line holds while
+     the service is called once at most in a row of look-at-mes up to its bit
+  S  the most cycles from its look-at-me until it begins
+  E  the most cycles from its look-at-me until it has ended
+  L  the longest time for which look-at-mes up to its bit can follow one another
+A dash stands where there is no such number. With --within the line has 'end E of
+W', and the status is 1 where E is above W, or a dash. @in stands for one of the
+two files at most.
+
+Examples:
+  camac response plan.toml readout.script
+  camac response plan.toml readout.script --every adc=200 --every tick=5000
+  camac response plan.toml readout.script --every adc=200 --within adc=150";
 
 pub const AFTER_RUN: &str = "Each answer is a line of 19 bytes, 'x q word wait gl':
   x     X of the reply, 0 or 1

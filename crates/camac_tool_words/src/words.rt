@@ -1,10 +1,10 @@
 // What the words after the program's name ask for.
 
-ghost use Rattle.std.specs.Prelude.{◌≡◌, ◌≤◌, ◌↔◌, IsTrue, option_map, map, string_bytes, codes, Some, IfOk, IfErr, IfSome, IfNone};
+ghost use Rattle.std.specs.Prelude.{◌≡◌, ◌≤◌, ◌↔◌, IsTrue, option_map, map, string_bytes, codes, Some, IfOk, IfErr};
 ghost use Rattle.std.specs.Str.{bytes_eq};
 ghost use Rattle.clap.specs.Words.{first_of, found_of, rows_of, subcommand_of, subcommand_rows_of};
 ghost use Rattle.camac_tool_words.specs.declared.words.JobFault.TheVariants.{Usage};
-ghost use Rattle.camac_tool_words.specs.Words.{camac_app, is_on, IsJob, IsFaultOf, IsOfMemory, NamesNoJob, input_count_of};
+ghost use Rattle.camac_tool_words.specs.Words.{camac_app, is_on, IsJob, IsFaultOf, IsOfMemory, NamesJob, input_count_of, values_of};
 
 use crate::command::camac_command;
 use clap::error::ErrorKind;
@@ -12,7 +12,7 @@ use clap::{ArgMatches, Error};
 use std::alloc::{AllocError, Global};
 
 /// What the program is asked to do, with its words.
-#[derive(Clone, Copy, Debug)]
+#[derive(Debug, Drop)]
 pub enum Job<'a> {
     Plan(&'a str),
     /// A plan with its commands.
@@ -22,6 +22,8 @@ pub enum Job<'a> {
     ExplainPlan(&'a str),
     Bounds(&'a str, &'a str),
     Costs(&'a str, &'a str),
+    /// A plan, a script, and the words after `--every` and `--within`.
+    Response(&'a str, &'a str, Vec<&'a str>, Vec<&'a str>),
     Run(&'a str, &'a str, &'a str, &'a str),
     Drive(&'a str, &'a str, &'a str),
     Events(&'a str),
@@ -61,7 +63,7 @@ pub fn read_words<'a>(alloc: Global, words: &'a [String]) -> Result<Job<'a>, Job
 {
     let mut command = camac_command(alloc)?;
     let matches = command.try_get_matches_from_mut(words)?;
-    let Some(job) = job_of(&matches) else {
+    let Some(job) = job_of(alloc, &matches)? else {
         // Never, since each word is required.
         let error = command.error(ErrorKind::MissingRequiredArgument, "a word is missing")?;
         return Err(JobFault::Usage(error));
@@ -79,6 +81,28 @@ fn value_of<'a>(found: &ArgMatches<'a>, id: &str) -> Option<&'a str>
     found.get_str(id)
 }
 
+// The values of an option, of all its uses.
+fn values_of<'a>(
+    alloc: Global,
+    found: &ArgMatches<'a>,
+    id: &str,
+) -> Result<Vec<&'a str>, AllocError>
+    ensures { IfOk result (λ v. map (λ s. s.now) v.items ≡ values_of id.now (rows_of (found_of found.now))) }
+{
+    match found.get_strs(id) {
+        Some(values) => copied(alloc, values),
+        None => Ok(Vec::new(alloc)),
+    }
+}
+
+fn copied<'a>(alloc: Global, values: &[&'a str]) -> Result<Vec<&'a str>, AllocError>
+    ensures { IfOk result (λ v. v.items ≡ values.now) }
+{
+    let mut all = Vec::new(alloc);
+    all.extend_from_slice(values)?;
+    Ok(all)
+}
+
 // Whether an option is among the words.
 fn is_on(found: &ArgMatches<'_>, id: &str) -> bool
     ensures { result ≡ is_on id.now (rows_of (found_of found.now)) }
@@ -90,8 +114,7 @@ fn is_on(found: &ArgMatches<'_>, id: &str) -> bool
 }
 
 fn plan_job<'a>(found: &ArgMatches<'a>) -> Option<Job<'a>>
-    ensures some { IfSome result (λ job. IsJob job (Some (codes "plan", rows_of (found_of found.now)))) }
-    ensures none { IfNone result (NamesNoJob (Some (codes "plan", rows_of (found_of found.now)))) }
+    ensures { NamesJob (Some (codes "plan", rows_of (found_of found.now))) result }
 {
     let plan = value_of(found, "PLAN")?;
     Some(if is_on(found, "commands") {
@@ -102,15 +125,13 @@ fn plan_job<'a>(found: &ArgMatches<'a>) -> Option<Job<'a>>
 }
 
 fn check_job<'a>(found: &ArgMatches<'a>) -> Option<Job<'a>>
-    ensures some { IfSome result (λ job. IsJob job (Some (codes "check", rows_of (found_of found.now)))) }
-    ensures none { IfNone result (NamesNoJob (Some (codes "check", rows_of (found_of found.now)))) }
+    ensures { NamesJob (Some (codes "check", rows_of (found_of found.now))) result }
 {
     Some(Job::Check(value_of(found, "PLAN")?, value_of(found, "SCRIPT")?))
 }
 
 fn explain_job<'a>(found: &ArgMatches<'a>) -> Option<Job<'a>>
-    ensures some { IfSome result (λ job. IsJob job (Some (codes "explain", rows_of (found_of found.now)))) }
-    ensures none { IfNone result (NamesNoJob (Some (codes "explain", rows_of (found_of found.now)))) }
+    ensures { NamesJob (Some (codes "explain", rows_of (found_of found.now))) result }
 {
     let plan = value_of(found, "PLAN")?;
     Some(match value_of(found, "SCRIPT") {
@@ -120,22 +141,32 @@ fn explain_job<'a>(found: &ArgMatches<'a>) -> Option<Job<'a>>
 }
 
 fn bounds_job<'a>(found: &ArgMatches<'a>) -> Option<Job<'a>>
-    ensures some { IfSome result (λ job. IsJob job (Some (codes "bounds", rows_of (found_of found.now)))) }
-    ensures none { IfNone result (NamesNoJob (Some (codes "bounds", rows_of (found_of found.now)))) }
+    ensures { NamesJob (Some (codes "bounds", rows_of (found_of found.now))) result }
 {
     Some(Job::Bounds(value_of(found, "PLAN")?, value_of(found, "SCRIPT")?))
 }
 
 fn costs_job<'a>(found: &ArgMatches<'a>) -> Option<Job<'a>>
-    ensures some { IfSome result (λ job. IsJob job (Some (codes "costs", rows_of (found_of found.now)))) }
-    ensures none { IfNone result (NamesNoJob (Some (codes "costs", rows_of (found_of found.now)))) }
+    ensures { NamesJob (Some (codes "costs", rows_of (found_of found.now))) result }
 {
     Some(Job::Costs(value_of(found, "PLAN")?, value_of(found, "SCRIPT")?))
 }
 
+fn response_job<'a>(alloc: Global, found: &ArgMatches<'a>) -> Result<Option<Job<'a>>, AllocError>
+    ensures { IfOk result (NamesJob (Some (codes "response", rows_of (found_of found.now)))) }
+{
+    let Some(plan) = value_of(found, "PLAN") else {
+        return Ok(None);
+    };
+    let Some(script) = value_of(found, "SCRIPT") else {
+        return Ok(None);
+    };
+    let every = values_of(alloc, found, "every")?;
+    Ok(Some(Job::Response(plan, script, every, values_of(alloc, found, "within")?)))
+}
+
 fn run_job<'a>(found: &ArgMatches<'a>) -> Option<Job<'a>>
-    ensures some { IfSome result (λ job. IsJob job (Some (codes "run", rows_of (found_of found.now)))) }
-    ensures none { IfNone result (NamesNoJob (Some (codes "run", rows_of (found_of found.now)))) }
+    ensures { NamesJob (Some (codes "run", rows_of (found_of found.now))) result }
 {
     let plan = value_of(found, "PLAN")?;
     let script = value_of(found, "SCRIPT")?;
@@ -144,8 +175,7 @@ fn run_job<'a>(found: &ArgMatches<'a>) -> Option<Job<'a>>
 }
 
 fn drive_job<'a>(found: &ArgMatches<'a>) -> Option<Job<'a>>
-    ensures some { IfSome result (λ job. IsJob job (Some (codes "drive", rows_of (found_of found.now)))) }
-    ensures none { IfNone result (NamesNoJob (Some (codes "drive", rows_of (found_of found.now)))) }
+    ensures { NamesJob (Some (codes "drive", rows_of (found_of found.now))) result }
 {
     let plan = value_of(found, "PLAN")?;
     let script = value_of(found, "SCRIPT")?;
@@ -153,8 +183,7 @@ fn drive_job<'a>(found: &ArgMatches<'a>) -> Option<Job<'a>>
 }
 
 fn events_job<'a>(found: &ArgMatches<'a>) -> Option<Job<'a>>
-    ensures some { IfSome result (λ job. IsJob job (Some (codes "events", rows_of (found_of found.now)))) }
-    ensures none { IfNone result (NamesNoJob (Some (codes "events", rows_of (found_of found.now)))) }
+    ensures { NamesJob (Some (codes "events", rows_of (found_of found.now))) result }
 {
     Some(Job::Events(value_of(found, "FILE")?))
 }
@@ -166,9 +195,23 @@ fn is_word(word: &str, text: &str) -> bool
 }
 
 // The job of a subcommand with its matches.
-fn job_in<'a>(name: &str, found: &ArgMatches<'a>) -> Option<Job<'a>>
-    ensures some { IfSome result (λ job. IsJob job (Some (name.now, rows_of (found_of found.now)))) }
-    ensures none { IfNone result (NamesNoJob (Some (name.now, rows_of (found_of found.now)))) }
+fn job_in<'a>(
+    alloc: Global,
+    name: &str,
+    found: &ArgMatches<'a>,
+) -> Result<Option<Job<'a>>, AllocError>
+    ensures { IfOk result (NamesJob (Some (name.now, rows_of (found_of found.now)))) }
+{
+    if is_word(name, "response") {
+        return response_job(alloc, found);
+    }
+    Ok(plain_job(name, found))
+}
+
+// That of a subcommand whose words each have one value.
+fn plain_job<'a>(name: &str, found: &ArgMatches<'a>) -> Option<Job<'a>>
+    requires { name.now ≡ codes "response" → ⊥ }
+    ensures { NamesJob (Some (name.now, rows_of (found_of found.now))) result }
 {
     if is_word(name, "plan") {
         plan_job(found)
@@ -191,12 +234,13 @@ fn job_in<'a>(name: &str, found: &ArgMatches<'a>) -> Option<Job<'a>>
     }
 }
 
-fn job_of<'a>(matches: &ArgMatches<'a>) -> Option<Job<'a>>
-    ensures some { IfSome result (λ job. IsJob job (subcommand_rows_of matches.now)) }
-    ensures none { IfNone result (NamesNoJob (subcommand_rows_of matches.now)) }
+fn job_of<'a>(alloc: Global, matches: &ArgMatches<'a>) -> Result<Option<Job<'a>>, AllocError>
+    ensures { IfOk result (NamesJob (subcommand_rows_of matches.now)) }
 {
-    let (name, found) = matches.subcommand()?;
-    job_in(name, found)
+    match matches.subcommand() {
+        Some((name, found)) => job_in(alloc, name, found),
+        None => Ok(None),
+    }
 }
 
 fn is_standard_input(word: &str) -> bool
@@ -210,12 +254,13 @@ fn input_count(job: &Job<'_>) -> usize
     ensures { result ≡ input_count_of job.now }
 {
     let is_in = |word: &str| usize::from(is_standard_input(word));
-    match *job {
+    match job {
         Job::Plan(plan) | Job::Commands(plan) | Job::ExplainPlan(plan) => is_in(plan),
         Job::Check(plan, script)
         | Job::Explain(plan, script)
         | Job::Bounds(plan, script)
-        | Job::Costs(plan, script) => is_in(plan) + is_in(script),
+        | Job::Costs(plan, script)
+        | Job::Response(plan, script, _, _) => is_in(plan) + is_in(script),
         Job::Run(plan, script, answers, _) => is_in(plan) + is_in(script) + is_in(answers),
         Job::Drive(plan, script, _) => 1 + is_in(plan) + is_in(script),
         Job::Events(file) => is_in(file),

@@ -1,6 +1,7 @@
-use Rattle.std.proofs.Common.{rules, map, string_bytes}
+use Rattle.std.proofs.Common.{rules, map, string_bytes, subst}
 use Rattle.std.proofs.lemmas.Result.{err_from_is_err_and}
-use Rattle.clap.specs.Words.{app_of}
+use Rattle.clap.specs.Words.{app_of, subcommand_rows_of}
+use Rattle.camac_tool_words.specs.Words.{NamesJob}
 use Rattle.camac_tool_words.proofs.Faults.{of_job, of_memory, of_no_job, of_two, of_usage}
 use Rattle.camac_tool_words.proofs.words.read_words.Goals as goal
 
@@ -25,9 +26,11 @@ returns-in_default-clause-fault c =
 
 pub returns-then-input_count-gt1-clause-fault : goal.returns-then-input_count-gt1-clause-fault
 returns-then-input_count-gt1-clause-fault c =
-    of_two (map string_bytes c.args.words.now) c.in-Some.job (of_job (app_of c.in_ok-command.command) _ c.in-Some.job _ (c.in_ok-matches.ensures.ok.2 (search rules)).1 (search rules) c.in-Some.ensures.some)
-    (search rules)
+    let found = c.in_ok-matches.ensures.ok.2 (search rules) in
+    of_two (map string_bytes c.args.words.now) c.in-Some.job
+    (of_job (app_of c.in_ok-command.command) _ c.in-Some.job _ found.1 (search rules) (subst (NamesJob (subcommand_rows_of c.in_ok-matches.matches)) c.in-Some.is c.in_ok-job.ensures)) (search rules)
 
 pub returns-clause-job : goal.returns-clause-job
 returns-clause-job c =
-    of_job (app_of c.in_ok-command.command) _ c.in-Some.job _ (c.in_ok-matches.ensures.ok.2 (search rules)).1 (search rules) c.in-Some.ensures.some
+    let found = c.in_ok-matches.ensures.ok.2 (search rules) in
+    of_job (app_of c.in_ok-command.command) _ c.in-Some.job _ found.1 (search rules) (subst (NamesJob (subcommand_rows_of c.in_ok-matches.matches)) c.in-Some.is c.in_ok-job.ensures)
