@@ -34,13 +34,13 @@ class Program:
             self.written[name] = data
 
     def words(self, command: str, inputs: Inputs) -> List[str]:
-        """The words of a call: the subcommand and the files, which are written."""
+        """The words of a call: the subcommand, the files, which are written, and options."""
         for name in ("plan", "script", "answers", "file"):
             self.write(name, getattr(inputs, name))
         words = [str(self.room / it) for it in words_of(command)]
         if words_of(command)[0] == "plan" and inputs.plan is None:
             words[0] = "@sample"
-        return [command, *words]
+        return [command, *words, *(inputs.words.decode().split() if command == "response" else [])]
 
     def call(self, command: str, inputs: Inputs) -> Told:
         words = self.words(command, inputs)

@@ -48,7 +48,7 @@ class Made(Answers):
         chance = self.random.random
         word = self.random.choice((self.random.choice(WORDS), self.random.randrange(2**24)))
         answer = Answer(int(chance() < 0.85), int(chance() < self.q), word, self.wait(request), self.gl())
-        self.lines.append(f"{answer.x} {answer.q} {answer.word:06x} {answer.wait:x} {answer.gl:06x}")
+        self.lines.append(answer.line())
         return answer
 
 

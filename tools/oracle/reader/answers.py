@@ -19,6 +19,9 @@ class Answer(NamedTuple):
     wait: int
     gl: int
 
+    def line(self) -> str:
+        return f"{self.x} {self.q} {self.word:06x} {self.wait:x} {self.gl:06x}"
+
 
 class Answers:
     """The answers of a text, one at a time. `limit` is how many lines a run takes."""

@@ -1,6 +1,7 @@
 """What the program has to answer on the bytes of its inputs, by subcommand."""
 from __future__ import annotations
 
+import functools
 from typing import Callable, Dict, List, NamedTuple, Optional, Tuple
 
 from oracle.reader.answers import Answers
@@ -10,9 +11,10 @@ from oracle.reader.grammar import read_script
 from oracle.reader.meaning import Run
 from oracle.reader.plan import Plan, read_plan, sample_plan
 from oracle.reader.refusals import EVENT_FILE_LIMIT, TEXT_LIMIT, Refused, TooLong
+from oracle.reader.response import WordFault, rates_of, response_lines
 from oracle.reader.shares import Shares
 
-GOOD, REFUSED, FAULT = 0, 1, 3
+GOOD, REFUSED, MISUSE, FAULT = range(4)
 
 
 class Told(NamedTuple):
@@ -27,12 +29,13 @@ class Told(NamedTuple):
 
 
 class Inputs(NamedTuple):
-    """The bytes of the inputs; the plan is None for `@sample`."""
+    """The bytes of the inputs; the plan is None for `@sample`. `words` are the options of `response`."""
 
     plan: Optional[bytes] = None
     script: bytes = b""
     answers: bytes = b""
     file: bytes = b""
+    words: bytes = b""
 
 
 def told(lines: List[str], status: int, reached: str, events: Optional[bytes] = None) -> Told:
@@ -51,6 +54,11 @@ def plan_of(inputs: Inputs) -> Plan:
 
 def checked(inputs: Inputs, is_least: bool = False) -> Checker:
     """The checker that has judged the script over the plan, with no rule broken."""
+    return judged(Inputs(inputs.plan, inputs.script), is_least)
+
+
+@functools.lru_cache(maxsize=1)
+def judged(inputs: Inputs, is_least: bool) -> Checker:
     plan = plan_of(inputs)
     checker = Checker(read_script(limited(inputs.script, TEXT_LIMIT)), plan, is_least)
     checker.judge()
@@ -73,6 +81,12 @@ def tell_costs(inputs: Inputs) -> Told:
     return told(Shares(checked(inputs)).lines(), GOOD, "costs")
 
 
+def tell_response(inputs: Inputs) -> Told:
+    every, within = rates_of(inputs.words.decode().split())
+    lines, is_kept = response_lines(checked(inputs), every, within)
+    return told(lines, GOOD if is_kept else REFUSED, "response")
+
+
 def played(inputs: Inputs) -> Run:
     checker = checked(inputs)
     run = Run(checker.script, checker.plan, Answers(inputs.answers))
@@ -85,9 +99,12 @@ def reached_by(run: Run) -> str:
     return last[1] if last[0] == "refused" else last[0]
 
 
-def tell_run(inputs: Inputs) -> Told:
-    run = played(inputs)
+def listed(run: Run) -> Told:
     return told(run.listing, REFUSED if run.is_refused else GOOD, reached_by(run), bytes(run.events))
+
+
+def tell_run(inputs: Inputs) -> Told:
+    return listed(played(inputs))
 
 
 def tell_drive(inputs: Inputs) -> Told:
@@ -100,8 +117,8 @@ def tell_events(inputs: Inputs) -> Told:
 
 
 TELL: Dict[str, Callable[[Inputs], Told]] = {
-    "plan": tell_plan, "check": tell_check, "bounds": tell_bounds, "costs": tell_costs, "run": tell_run, "drive": tell_drive,
-    "events": tell_events,
+    "plan": tell_plan, "check": tell_check, "bounds": tell_bounds, "costs": tell_costs, "response": tell_response,
+    "run": tell_run, "drive": tell_drive, "events": tell_events,
 }
 
 
@@ -111,6 +128,8 @@ def tell(command: str, inputs: Inputs) -> Told:
         return TELL[command](inputs)
     except Refused as refused:
         return told([refused.line()], REFUSED, refused.code, b"" if command == "run" else None)
+    except WordFault as fault:
+        return Told(MISUSE, b"", f"fault {fault}\n".encode(), None, "words")
     except TooLong:
         return Told(FAULT, b"", b"fault input too long\n", b"" if command == "run" else None, "G4")
 
@@ -119,5 +138,5 @@ def words_of(command: str) -> Tuple[str, ...]:
     """The inputs and outputs that stand after a subcommand."""
     return {
         "plan": ("plan",), "check": ("plan", "script"), "bounds": ("plan", "script"), "costs": ("plan", "script"),
-        "run": ("plan", "script", "answers", "EVENTS"), "drive": ("plan", "script", "EVENTS"), "events": ("file",),
+        "response": ("plan", "script"), "run": ("plan", "script", "answers", "EVENTS"), "drive": ("plan", "script", "EVENTS"), "events": ("file",),
     }[command]

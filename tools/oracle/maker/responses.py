@@ -1,0 +1,90 @@
+"""Scripts of several services with rates, for `response`."""
+from __future__ import annotations
+
+from random import Random
+from typing import Dict, List, Tuple
+
+from oracle.reader.checker import Checker
+from oracle.reader.engines import Inputs, checked
+from oracle.reader.refusals import MOST, Refused
+from oracle.reader.response import response_of, services_of
+
+NAMES = "adc", "reg", "tick", "trip", "scaler", "busy_1"
+TYPE = b'[[type]]\nname = "A"\ncommands = [ { f = 0, a = 0 } ]\n'
+
+
+def make_plan(random: Random, bits: List[int]) -> Tuple[bytes, List[Tuple[int, int]]]:
+    """A plan of two crates with a station for each bit, and where these stand."""
+    places = [(random.choice((1, 2)), n) for n in range(1, len(bits) + 1)]
+    text = TYPE
+    for crate in (1, 2):
+        stations = ", ".join(f'{{ n = {n}, type = "A", gl = {bit} }}' for bit, (its, n) in zip(bits, places) if its == crate)
+        text += f"[[crate]]\nnumber = {crate}\nwaits = {random.choice((0, 0, 1, 2, 15))}\nstation = [ {stations} ]\n".encode()
+    return text, places
+
+
+def make_block(random: Random, crate: int) -> str:
+    """Statements of a service. It takes its bound where each Q is 1 and all waits are the greatest."""
+    read, count = "cfsa 0 r -> v ", random.choice((0, 1, 1, 1, 2, 2, 3, 4, 6))
+    return random.choice((
+        read * count, read * count, f"for i = 1 to {count} {{ {read}}} ", f"lock {crate} {{ {read * count}}} ", f"cfubc 0 r max {count} tally i ",
+        f"{read}if q {{ {read * count}}} ", f"{read}lock {crate} {{ {read * count}}} ",
+    ))
+
+
+def make_script(random: Random, places: List[Tuple[int, int]]) -> bytes:
+    """A service for each place."""
+    names = random.sample(NAMES, len(places))
+    lams, services = "", ""
+    for name, (crate, n) in zip(names, places):
+        lams += f"cdlam {name} 1 {crate} {n} 0\n"
+        block = "".join(make_block(random, crate) for _ in range(random.choice((1, 1, 2))))
+        if random.random() < 0.01:
+            block += f"for i = 1 to {random.choice((9_000, 65_535))} {{ for k = 1 to {random.choice((40, 65_535))} {{ cfsa 0 r -> v }} }}"
+        promised = MOST if random.random() < 0.99 else random.choice((0, 1, 5))
+        services += f"service {name} within {promised} cycles event {random.choice((12, 4096))} words {{ cdreg r 1 {crate} {n} 0 {block}}}\n"
+    return f"{lams}var v i k\n{services}".encode()
+
+
+def make_rate(random: Random, cycles: int, total: int) -> int:
+    """Some rates leave room for all services, some nearly do, and some are at an edge."""
+    near = cycles + random.choice((-1, -1, 0, 1, 2, 3))
+    edge = random.choice((1, MOST, near, total, total + 1, 2 * total))
+    close = random.randrange(2 * total // 3, 4 * total // 3 + 2)
+    return random.choices((edge, close, random.randrange(total + 1, 5 * total + 3)), (10, 55, 35))[0]
+
+
+def make_rates(random: Random, cycles: Dict[str, int]) -> Dict[str, int]:
+    """Rates of most services. Now and then all have one that leaves just enough room: then a later call of a stretch may wait longest."""
+    total = sum(cycles.values())
+    if random.random() < 0.3:
+        rates = {name: random.randrange(9 * total // 10, 6 * total // 5 + 2) for name in cycles}
+    else:
+        rates = {name: make_rate(random, it, total) for name, it in cycles.items() if random.random() < 0.7}
+    return {name: min(MOST, max(1, it)) for name, it in rates.items()}
+
+
+def make_words(random: Random, checker: Checker) -> bytes:
+    """Rates, promises near the ends of some services, and now and then a word that is at fault."""
+    every = make_rates(random, {it.name: it.cycles for it in services_of(checker, {})})
+    services = services_of(checker, every)
+    words = [f"--every {name}={rate}" for name, rate in every.items()]
+    for it in services:
+        if random.random() < 0.2:
+            found = response_of(services, it)
+            most = random.choice((0, MOST)) if found is None else found.end + random.choice((-1, 0, 0, 1, 9))
+            words.append(f"--within {it.name}={min(MOST, max(0, most))}")
+    if random.random() < 0.02:
+        words.append(random.choice((*words, "--every nobody=7", "--within nobody=7")))
+    random.shuffle(words)
+    return " ".join(words).encode()
+
+
+def make_inputs(random: Random) -> Inputs:
+    """A plan, a script of two to six services, which is mostly accepted, and words for it."""
+    plan, places = make_plan(random, random.sample(range(1, 25), random.randrange(2, 7)))
+    inputs = Inputs(plan, make_script(random, places))
+    try:
+        return inputs._replace(words=make_words(random, checked(inputs)))
+    except Refused:
+        return inputs._replace(words=b"--every adc=9")

@@ -1,0 +1,113 @@
+"""How long look-at-mes wait at most: the lines of `response`, over the bounds of services and what was said of their rates."""
+from __future__ import annotations
+
+import functools
+from typing import Dict, List, NamedTuple, Optional, Tuple
+
+from oracle.reader.checker import Checker
+from oracle.reader.linking import gl_of
+from oracle.reader.refusals import MOST
+
+ROUNDS = 65_535
+OPTIONS = "--every", "--within"
+
+
+class WordFault(Exception):
+    """A fault of the words. Its message is what the program prints after `fault`."""
+
+
+class Service(NamedTuple):
+    """A service: its name, its graded-L bit, its bound in cycles, and the least cycles between two look-at-mes (None where nothing was said)."""
+
+    name: str
+    bit: int
+    cycles: int
+    every: Optional[int]
+
+    def calls(self, elapsed: int) -> int:
+        """How often it is called at most within so many cycles."""
+        return 1 if self.every is None else elapsed // self.every + 1
+
+
+class Response(NamedTuple):
+    """The most cycles from a look-at-me until its service begins and until it has ended, and the longest stretch."""
+
+    start: int
+    end: int
+    longest: int
+
+
+class NoNumber(Exception):
+    """A service has no such numbers."""
+
+
+class Search:
+    """Finds the least numbers that stand still. All of one service share the limit of rounds."""
+
+    def __init__(self) -> None:
+        self.rounds = 0
+
+    def least(self, sure: int, callers: List[Service]) -> int:
+        """The least number of cycles that holds `sure` and all calls of `callers` within it."""
+        elapsed, needed = -1, 0
+        while elapsed != needed:
+            elapsed = needed
+            self.rounds += 1
+            needed = sure + sum([it.calls(elapsed) * it.cycles for it in callers])
+            if self.rounds > ROUNDS or needed > MOST:
+                raise NoNumber
+        return elapsed
+
+
+@functools.lru_cache(maxsize=32)
+def response_of(services: Tuple[Service, ...], its: Service) -> Optional[Response]:
+    """The numbers of one of these services, or None."""
+    search = Search()
+    before = max([0, *(it.cycles for it in services if it.bit > its.bit)])
+    lower = [it for it in services if it.bit < its.bit]
+    try:
+        longest = search.least(before, [*lower, its])
+        start = 0
+        for earlier in range(its.calls(longest)):
+            start = max(start, search.least(before + earlier * its.cycles, lower) - earlier * (its.every or 0))
+    except NoNumber:
+        return None
+    return Response(start, start + its.cycles, longest)
+
+
+def rates_of(words: List[str]) -> Tuple[Dict[str, int], Dict[str, int]]:
+    """What --every and --within say, by service. WordFault where one of them names a service twice."""
+    rates: Dict[str, Dict[str, int]] = {it: {} for it in OPTIONS}
+    for option, word in zip(words[::2], words[1::2]):
+        name, _, cycles = word.partition("=")
+        if name in rates[option]:
+            raise WordFault(f"{option} {name} twice")
+        rates[option][name] = int(cycles)
+    return rates["--every"], rates["--within"]
+
+
+def services_of(checker: Checker, every: Dict[str, int]) -> Tuple[Service, ...]:
+    """The services of an accepted script, in the order of their bits."""
+    bodies = [(it.name, cost.cycles) for it, cost in zip(checker.script.bodies, checker.costs) if it.is_service]
+    services = [Service(name, gl_of(checker.script, checker.plan, name) or 0, cycles, every.get(name)) for name, cycles in bodies]
+    return tuple(sorted(services, key=lambda it: it.bit))
+
+
+def line_of(its: Service, found: Optional[Response], within: Optional[int]) -> str:
+    start, end, longest = found or ("-", "-", "-")
+    rate = "once" if its.every is None else f"every {its.every}"
+    promised = "" if within is None else f" of {within}"
+    return f"service {its.name} gl {its.bit} cycles {its.cycles} {rate} start {start} end {end}{promised} longest {longest}"
+
+
+def response_lines(checker: Checker, every: Dict[str, int], within: Dict[str, int]) -> Tuple[List[str], bool]:
+    """The lines of an accepted script, and whether each end keeps to what --within says. WordFault where a service is not the script's."""
+    services = services_of(checker, every)
+    for option, rates in zip(OPTIONS, (every, within)):
+        for name in rates:
+            if name not in [it.name for it in services]:
+                raise WordFault(f"{option} {name}: no such service")
+    found = {it.name: response_of(services, it) for it in services}
+    ends = {name: MOST + 1 if it is None else it.end for name, it in found.items()}
+    lines = [line_of(it, found[it.name], within.get(it.name)) for it in services]
+    return lines, all(ends[name] <= most for name, most in within.items())
