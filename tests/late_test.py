@@ -1,21 +1,30 @@
 #!/usr/bin/env python3
-"""Tests of what is told of how late services are: the lines of `camac response`, and what a run shows.
+"""Tests of what is told of how late services are: the lines of `camac response`, the picture, and the part of the report.
 
 usage: tests/late_test.py [-v] [TEST ..]     from any folder; takes a few seconds
 
 The program is crates/camac/out/camac (cd crates/camac && rt run makes it), or what the environment variable CAMAC_PROGRAM names.
 """
+import contextlib
+import io
 import os
 import random
+import re
 import sys
 import unittest
+import xml.etree.ElementTree as ElementTree
 from unittest import mock
 
 from live import PROGRAM, TOP
+import bench
 import camac
 import told
 from camac import Response
+from camac import __main__ as commands
+from camac import pictures
 from camac.late import Broken
+from camac.pictures.response import NO_NUMBER, pieces_of
+from camac.report import report
 from camac.scripts import parse_response
 
 VETO, STRIP, SPILL, SLOW = parse_response(told.RESPONSE)
@@ -104,6 +113,39 @@ class Lines(unittest.TestCase):
                     camac.response(*words, every)
 
 
+class Pieces(unittest.TestCase):
+    """What the end of a service consists of."""
+
+    def test_by_hand(self):
+        its = (VETO, STRIP, SPILL, SLOW)
+        wanted = {
+            VETO: [("slack", 7, "7 (spill, in progress)"), ("ours", 5, "5 (its own)")],
+            # Before its second look-at-me, at 6, came 7 of spill, 3 of strip, 5 of veto: 9 of these 15 are left. Veto comes again at 15.
+            STRIP: [("slack", 9, "9 (left from before, at call 2)"), ("waits", 5, "5 (veto)"), ("ours", 3, "3 (its own)")],
+            SPILL: [("slack", 7, "7 (slow, in progress)"), ("waits", 20, "4 × 5 (veto)"), ("waits", 30, "10 × 3 (strip)"), ("ours", 7, "7 (its own)")],
+        }
+        for it, pieces in wanted.items():
+            self.assertEqual([(piece.kind, piece.cycles, piece.term) for piece in pieces_of(it, its)], pieces)
+        tip = pieces_of(STRIP, its)[0].tip
+        self.assertEqual(tip, "Call 2 of a stretch ends latest. Before its look-at-me came 15 cycles:\n7 (spill) + 3 (strip) + 5 (veto)\nof which 6 have passed: 1 period of 6")
+
+    def test_sums(self):
+        """The pieces add up to the end, whichever call is the latest."""
+        chance, later = random.Random(4), 0
+        for _ in range(600):
+            its = chosen(chance)
+            for it in its:
+                if it.end is not None:
+                    pieces = pieces_of(it, its)
+                    self.assertEqual((sum(piece.cycles for piece in pieces), min([1, *(piece.cycles for piece in pieces)])), (it.end, 1))
+                    later += any("left from before" in piece.term for piece in pieces)
+        self.assertGreater(later, 0)
+
+    def test_numbers_that_do_not_agree(self):
+        with self.assertRaises(ValueError):
+            pieces_of(STRIP._replace(start=15, end=18), (VETO, STRIP, SPILL, SLOW))
+
+
 class Watched(unittest.TestCase):
     """What a run shows."""
 
@@ -155,6 +197,133 @@ class Watched(unittest.TestCase):
         run = told.run_of((VETO._replace(start=0, end=4),), [(1, 5)])
         self.assertFalse(run.agrees())
         self.assertIn("no service ended later", run.checks[-1].text)
+
+
+class Shown(bench.BenchCase):
+    """The picture, and the part of the report."""
+
+    RATES = ("--every", "adc=60", "--every", "tick=400")
+
+    def call(self, *words, status=0):
+        out, err = io.StringIO(), io.StringIO()
+        with contextlib.redirect_stdout(out), contextlib.redirect_stderr(err):
+            try:
+                found = commands.main([str(it) for it in words])
+            except SystemExit as stop:
+                found = stop.code
+        self.assertEqual(found, status, err.getvalue())
+        return out.getvalue() + err.getvalue()
+
+    def page(self, *rates, source=None):
+        plan, script, answers = self.files
+        self.assertEqual(self.call("report", plan, script, source or answers, *rates, "-o", self.room / "run.html"), "")
+        return bench.Page((self.room / "run.html").read_text(encoding="utf-8"))
+
+    def operations(self):
+        """The bit and the cycles of each service of the bench's run, and (0, 0) where none was called."""
+        found = []
+        for line in bench.call("run", *self.files, self.room / "run.events").splitlines():
+            words = line.split()
+            if words[0] == "demand":
+                found.append([{"adc": 3, "tick": 5, "-": 0}[words[2]], 0])
+            elif words[0] in ("cycle", "lock"):
+                found[-1][1] += int(words[-1]) + (words[0] == "cycle")
+        return [tuple(it) for it in found]
+
+    def test_page(self):
+        """Adc may take 43 cycles and tick 26; with these rates each waits for the other once."""
+        of = (Response("adc", 3, 43, 60, 26, 69, 112), Response("tick", 5, 26, 400, 43, 69, 112))
+        ends = ends_of(of, self.operations())
+        page = self.page(*self.RATES)
+        rows = page.table("How late")
+        for it, row in zip(of, rows):
+            late, broken = ends[it.gl]
+            kept = [end for end in late if end is not None]
+            wanted = [it.name, it.gl, it.every, it.start, it.end, it.longest, max(kept) if kept else "", len(kept), len(late) - len(kept)]
+            titles = ["service", "GL", "every", "start", "end", "longest stretch", "seen", "services", "left out"]
+            self.assertEqual([row[title] for title in titles], [str(number) for number in wanted])
+            gl, call, cycles = broken[0]
+            self.assertRegex(row["a rate was broken first by"], rf"^{ {3: 'adc', 5: 'tick'}[gl]}: call {call} after {cycles} cycles, service \d+$")
+        texts = page.parts["How late"]["texts"]
+        for text in ("at most 69", "26 (tick, in progress) + 43 (its own)", "43 (adc) + 26 (its own)", f"seen {rows[0]['seen']}", "every 60"):
+            self.assertIn(text, texts)
+        self.assertIn("A rate was broken: ", " ".join(page.parts["How late"]["paragraphs"]))
+        kept = sum(int(row["services"]) for row in rows)
+        check = f"no service ended later after its look-at-me than its bound, of {kept} in whose stretch the rates were kept"
+        self.assertIn(["agrees", check], page.parts["Checks of this page"]["tables"][0])
+
+    def test_once_and_no_number(self):
+        rows = self.page().table("How late")
+        self.assertEqual([[row[title] for title in ("every", "start", "end", "longest stretch")] for row in rows], [["once", "26", "69", "69"], ["once", "43", "69", "69"]])
+        page = self.page("--every", "adc=43")
+        self.assertEqual([row["end"] for row in page.table("How late")], ["-", "-"])
+        self.assertEqual(page.parts["How late"]["texts"].count(NO_NUMBER), 2)
+
+    def test_events_alone(self):
+        """An event file has the bounds alone."""
+        self.operations()
+        page = self.page(source=self.room / "run.events")
+        part = page.parts["How late"]
+        self.assertEqual(part["tables"], [])
+        self.assertIn("at most 69", part["texts"])
+        self.assertFalse([it for it in part["texts"] if it.startswith("seen")])
+        self.assertIn("An event file does not tell how late a service was: answers do.", part["paragraphs"])
+
+    def test_no_operation(self):
+        empty = self.write("empty.answers", "")
+        self.assertEqual([(row["seen"], row["services"]) for row in self.page(source=empty).table("How late")], [("", "0"), ("", "0")])
+        script = self.write("empty.script", "var v\n")
+        self.call("report", self.files[0], script, empty, "-o", self.room / "run.html")
+        page = bench.Page((self.room / "run.html").read_text())
+        self.assertIn("The script has no service.", page.parts["How late"]["texts"])
+
+    def test_picture(self):
+        plan, script, answers = self.files
+        self.operations()
+        drawn = []
+        for source in ((), (answers,), (self.room / "run.events",)):
+            for out in (self.room / "1.svg", self.room / "2.svg"):
+                self.assertEqual(self.call("draw", "response", *self.RATES, plan, script, *source, "-o", out), "")
+            self.assertEqual((self.room / "1.svg").read_bytes(), (self.room / "2.svg").read_bytes())
+            drawn.append((self.room / "1.svg").read_text(encoding="utf-8"))
+            ElementTree.fromstring(drawn[-1])
+        self.assertEqual(drawn[0], drawn[2])
+        made = report(self.inputs, every={"adc": 60, "tick": 400}).text
+        part = re.search(r'<h2 id="late">.*?(<svg .*?</svg>)', made, re.S)[1]
+        self.assertEqual(re.sub(r"<style>.*?</style><rect[^>]*/>", "", drawn[1].replace(' xmlns="http://www.w3.org/2000/svg"', "")), part + "\n")
+
+    def test_words(self):
+        plan, script, answers = self.files
+        out = self.room / "x"
+        for rates in (["adc"], ["=5"], ["adc="], ["adc=0"], ["adc=+5"], ["adc=4294967296"], ["adc=٣"], ["adc=5", "adc=6"], ["a=b=5"], ["<b>\x1b=x"]):
+            words = [word for it in rates for word in ("--every", it)]
+            for call in (("report", plan, script, answers), ("draw", "response", plan, script)):
+                said = self.call(*call, *words, "-o", out, status=2)
+                self.assertIn("usage: ", said)
+                self.assertNotIn("\x1b", said)
+        self.assertIn("--every is an option", self.call("draw", "bounds", plan, script, "--every", "adc=5", "-o", out, status=2))
+        for call in (("report", plan, script, answers), ("draw", "response", plan, script)):
+            self.assertEqual(self.call(*call, "--every", "nobody=5", "-o", out, status=2), "camac: fault --every nobody: no such service\n")
+        self.call("draw", "response", plan, "-o", out, status=2)
+        self.assertFalse(out.exists())
+
+    def test_names_that_would_harm(self):
+        """Whatever stands in a name, or in the name of a file, harms nobody."""
+        harm = '</text></svg><script>"\'&\x00\x1b'
+        canvas = pictures.draw_response([it._replace(name=harm) for it in (VETO, STRIP, SPILL, SLOW)])
+        ElementTree.fromstring(canvas.picture())
+        self.assertNotIn("<script", canvas.picture())
+
+    def test_an_older_program(self):
+        """Without `response` the page says what it lacks; the picture is refused."""
+        lines = ["#!/bin/sh", "case $1 in", f"--help) '{PROGRAM}' --help | grep -v '^  response ' ;;", "response) exit 2 ;;", f"*) exec '{PROGRAM}' \"$@\" ;;", "esac"]
+        older = self.write("older", "".join(f"{it}\n" for it in lines))
+        older.chmod(0o755)
+        with mock.patch.dict(os.environ, {"CAMAC_PROGRAM": str(older)}):
+            part = self.page("--every", "adc=60").parts["How late"]
+            self.assertEqual(part["paragraphs"], ["This program has no response: how late each service can be is not known."])
+            said = self.call("draw", "response", *self.files, "-o", self.room / "x.svg", status=3)
+        self.assertEqual(said, "camac: this program has no `response`\n")
 
 
 if __name__ == "__main__":
