@@ -292,17 +292,20 @@ class Pages(unittest.TestCase):
             commands.main(["report", "--help"])
         self.options = re.findall(r"^  -(\w)(?: [A-Z]+)?, --(\w+)", out.getvalue(), re.M)
         self.assertEqual(self.options, [("h", "help"), ("o", "out")])
+        self.assertEqual(re.findall(r"^  --(\w+)", out.getvalue(), re.M), ["every"])
 
     def test_manual_page(self):
         page = (TOP / "man/camac-report.1").read_text()
         for short, long in self.options:
             self.assertRegex(page, rf"\n\.It Fl {short} , Fl -{long}\b")
+        self.assertIn("\n.It Fl -every Ar ", page)
         self.assertEqual(re.search(r"\.Os .*", page)[0], re.search(r"\.Os .*", (TOP / "man/camac.1").read_text())[0])
 
     def test_completions(self):
         for name in ("camac-report.bash", "_camac-report", "camac-report.fish"):
             text = (TOP / "completions" / name).read_text()
             self.assertIn("@sample", text)
+            self.assertRegex(text, r"--every\b|-l every\b")
             for short, long in self.options:
                 self.assertRegex(text, rf"-{short}\b|-s {short}\b")
                 self.assertRegex(text, rf"--{long}\b|-l {long}\b")
@@ -317,7 +320,7 @@ class Pages(unittest.TestCase):
         self.assertEqual(offered("sample_p"), ["sample_plan.toml"])
         self.assertEqual(offered("@sample", "stra"), ["straight_line.script"])
         self.assertEqual(offered("@sample", "@"), [])
-        self.assertEqual(offered("@sample", "-"), ["--help", "--out", "-h", "-o"])
+        self.assertEqual(offered("@sample", "-"), ["--every", "--help", "--out", "-h", "-o"])
 
 
 if __name__ == "__main__":
