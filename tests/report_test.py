@@ -11,6 +11,7 @@ import os
 import re
 import subprocess
 import sys
+import tempfile
 import unittest
 import xml.etree.ElementTree as ElementTree
 from unittest import mock
@@ -26,6 +27,21 @@ from camac.runs import Inputs
 
 STRAIGHT = "cdlam adc 1 1 5 12\nvar v\nservice adc within 3 cycles event 1 words {\n  cdreg r 1 1 5 0\n  cfsa 0 r -> v\n  put v\n}\n"
 FIGURE = re.compile(r"<svg .*?</svg>", re.S)
+
+
+def ran(*words):
+    """Status, standard output and standard error of a command, which runs in this process."""
+    err = io.StringIO()
+    with tempfile.TemporaryFile() as out, contextlib.redirect_stderr(err):
+        before = os.dup(1)
+        os.dup2(out.fileno(), 1)
+        try:
+            status = commands.main([str(it) for it in words])
+        finally:
+            os.dup2(before, 1)
+            os.close(before)
+        out.seek(0)
+        return status, out.read().decode(), err.getvalue()
 
 
 class Ends(bench.BenchCase):
@@ -179,14 +195,9 @@ class Commands(bench.BenchCase):
     """The command line: words, statuses, and what is left behind."""
 
     def call(self, *words, status=0):
-        out, err = io.StringIO(), io.StringIO()
-        with contextlib.redirect_stdout(out), contextlib.redirect_stderr(err):
-            try:
-                found = commands.main([str(it) for it in words])
-            except SystemExit as stop:
-                found = stop.code
-        self.assertEqual(found, status, err.getvalue())
-        return out.getvalue(), err.getvalue()
+        found, *told = ran(*words)
+        self.assertEqual(found, status, told)
+        return tuple(told)
 
     def test_pictures(self):
         plan, script, answers = self.files
@@ -243,6 +254,11 @@ class Commands(bench.BenchCase):
         with mock.patch.dict(os.environ, {"CAMAC_PROGRAM": str(self.room / "none")}):
             self.assertIn("none", self.call("draw", "plan", plan, "-o", out, status=3)[1])
 
+    def test_an_input_that_a_picture_would_take_the_place_of(self):
+        its = self.write("costs.adc.svg", STRAIGHT)
+        told = self.call("draw", "costs", "@sample", its, "-o", self.room / "costs.svg", status=3)[1]
+        self.assertEqual((told, its.read_text()), (f"camac: {its} is an input: it would be lost\n", STRAIGHT))
+
     def test_an_older_program(self):
         """Of a program without `costs` a page is made, and says what it lacks."""
         plan, script, answers = self.files
@@ -287,10 +303,7 @@ class Pages(unittest.TestCase):
     """The manual page and the completions of camac-report, compared with its help."""
 
     def setUp(self):
-        out = io.StringIO()
-        with contextlib.redirect_stdout(out), self.assertRaises(SystemExit):
-            commands.main(["report", "--help"])
-        self.options = re.findall(r"^  -(\w)(?: [A-Z]+)?, --(\w+)", out.getvalue(), re.M)
+        self.options = re.findall(r"^  -(\w)(?: [A-Z]+)?, --(\w+)", ran("report", "--help")[1], re.M)
         self.assertEqual(self.options, [("h", "help"), ("o", "out")])
 
     def test_manual_page(self):

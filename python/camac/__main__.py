@@ -1,17 +1,20 @@
 """The commands of the package: python3 -m camac check, draw, report, annotate, csv."""
 import argparse
 import contextlib
+import errno
 import io
 import os
 import re
+import signal
 import sys
-from typing import Callable, Dict, Iterator, List, Optional, Sequence, TextIO, Tuple
+from typing import Callable, Dict, List, Optional, Sequence, TextIO, Tuple
 
 from camac import judge, pictures, tables
 from camac.annotate import annotate
 from camac.bodies import Kind, costs
 from camac.drive import DriveFault, ProgramFault, Refused, UsageFault
 from camac.events import EventFileFault
+from camac.output import end_by, output, say
 from camac.pictures import Canvas
 from camac.plans import plan
 from camac.program import is_standard_input, knows_command
@@ -20,6 +23,7 @@ from camac.runs import Inputs, collect
 from camac.scripts import check, source_lines
 
 DONE, REFUSED, USAGE, FAULT = 0, 1, 2, 3
+LOST = "{} is an input: it would be lost"
 DESCRIPTION = """\
 Judges scripts, draws pictures of a plan, a script and a run of camac, and makes a report of a run.
 
@@ -94,10 +98,14 @@ PICTURES: Dict[str, Tuple[Callable[[Source], Dict[str, Canvas]], int, int]] = {
 
 
 def draw(args: argparse.Namespace) -> int:
-    drawer = PICTURES[args.picture][0]
-    for name, canvas in drawer(Source(args.files)).items():
-        root, end = os.path.splitext(args.out)
-        write(f"{root}.{name}{end}" if name else args.out, canvas.picture())
+    root, end = os.path.splitext(args.out)
+    drawn = PICTURES[args.picture][0](Source(args.files))
+    pictures_of = {f"{root}.{name}{end}" if name else args.out: canvas for name, canvas in drawn.items()}
+    for out in pictures_of:
+        if is_one_of(out, args.files):
+            raise UsageFault(LOST.format(out), USAGE)
+    for out, canvas in pictures_of.items():
+        write(out, canvas.picture())
     return DONE
 
 
@@ -105,6 +113,11 @@ def make_report(args: argparse.Namespace) -> int:
     made = report(Inputs(args.plan, args.script, args.source))
     write(args.out, made.text)
     return made.status
+
+
+def write(path: str, text: str) -> None:
+    with output(path) as out:
+        out.write(text)
 
 
 def make_annotated(args: argparse.Namespace) -> int:
@@ -117,46 +130,34 @@ def make_annotated(args: argparse.Namespace) -> int:
 
 
 def make_csv(args: argparse.Namespace) -> int:
+    refusal = None
     with output(args.out) as out:
-        if args.what == "events":
-            tables.write_events(args.file, out)
+        if args.what == "listing":
+            with open_listing(args.file) as listing:
+                tables.write_listing(listing, out)
             return DONE
-        listing = sys.stdin if args.file == "-" else open(args.file, encoding="utf-8", errors="replace", newline="\n")
-        with listing:
-            tables.write_listing(listing, out)
+        try:
+            tables.write_events(args.file, out)
+        except EventFileFault as found:
+            # The events before the fault are a table, too.
+            refusal = found
+            if found.code == "V1":
+                raise
+    if refusal:
+        raise refusal
     return DONE
 
 
-def write(path: str, text: str) -> None:
-    """Writes a file beside its place and puts it there, so that it is never half there."""
-    new = f"{path}.new"
-    try:
-        with open(new, "w", encoding="utf-8", newline="\n") as file:
-            file.write(text)
-        os.replace(new, path)
-    except OSError:
-        with contextlib.suppress(OSError):
-            os.remove(new)
-        raise
-
-
-@contextlib.contextmanager
-def output(path: Optional[str]) -> Iterator[TextIO]:
-    """Standard output, or a file that is put in its place at the end; one that was refused half-way has what came before."""
-    if path is None:
-        with io.TextIOWrapper(os.fdopen(os.dup(1), "wb"), encoding="utf-8", newline="\n") as out:
-            yield out
-        return
-    gathered = io.StringIO(newline="")
-    try:
-        yield gathered
-    finally:
-        write(path, gathered.getvalue())
+def open_listing(name: str) -> TextIO:
+    is_standard = name == "-"
+    if is_standard and sys.stdin is None:
+        raise OSError(errno.EBADF, os.strerror(errno.EBADF), "standard input")
+    return open(0 if is_standard else name, encoding="utf-8", errors="replace", newline="\n", closefd=not is_standard)
 
 
 def judge_scripts(args: argparse.Namespace) -> int:
     judged = judge.judge(args.plan, args.scripts)
-    sys.stdout.write(judge.told(judged, args.json))
+    say(judge.told(judged, args.json))
     note = judge.note()
     if note and not args.json:
         print(f"camac: {note}", file=sys.stderr)
@@ -211,26 +212,51 @@ def parse(words: List[str]) -> argparse.Namespace:
     pipes = [it for it in inputs if os.path.exists(it) and not os.path.isfile(it) and not os.path.isdir(it)]
     if pipes and getattr(args, "what", "") != "listing":
         its.error(f"{pipes[0]} is no file, and cannot be an input here: it is read more than once")
-    if args.out and os.path.exists(args.out) and any(os.path.exists(it) and os.path.samefile(it, args.out) for it in inputs):
-        its.error(f"{args.out} is an input: it would be lost")
+    if args.out and is_one_of(args.out, inputs):
+        its.error(LOST.format(args.out))
     return args
 
 
+def is_one_of(out: str, inputs: Sequence[str]) -> bool:
+    """Whether a file is one of the inputs, under whatever name."""
+    return os.path.exists(out) and any(os.path.exists(it) and os.path.samefile(it, out) for it in inputs)
+
+
 def main(words: Optional[List[str]] = None) -> int:
-    args = parse(sys.argv[1:] if words is None else words)
+    """Runs a command, and returns its status. Where the reader of a pipe closed it, and at Ctrl-C, the process ends without a word, by the
+    signal that says so."""
+    if sys.stderr is None:
+        sys.stderr = open(os.devnull, "w", encoding="utf-8")
     try:
-        return args.do(args)
-    except (Refused, EventFileFault) as refusal:
-        print(refusal)
-        return REFUSED
-    except (UsageFault, ProgramFault) as fault:
-        print(f"camac: {fault}", file=sys.stderr)
+        return run(sys.argv[1:] if words is None else words)
+    except BrokenPipeError:
+        return end_by(signal.SIGPIPE)
+    except KeyboardInterrupt:
+        return end_by(signal.SIGINT)
     except (DriveFault, ValueError) as fault:
-        print(f"camac: {fault}", file=sys.stderr)
+        text = str(fault).replace("\n  ", ": ")
     except OSError as fault:
-        name = f": {os.fsdecode(fault.filename)}" if fault.filename else ""
-        print(f"camac: {fault.strerror or fault}{name}", file=sys.stderr)
+        text = f"{fault.strerror or fault}" + (f": {os.fsdecode(fault.filename)}" if fault.filename else "")
+    with contextlib.suppress(OSError):
+        print(f"camac: {text}", file=sys.stderr)
     return FAULT
+
+
+def run(words: List[str]) -> int:
+    """Runs a command, and returns its status. Help is told as all that is printed."""
+    told = io.StringIO()
+    try:
+        with contextlib.redirect_stdout(told):
+            args = parse(words)
+    except SystemExit as stop:
+        if told.getvalue():
+            say(told.getvalue())
+        return int(stop.code or DONE)
+    try:
+        return int(args.do(args))
+    except (Refused, EventFileFault) as refusal:
+        say(f"{refusal}\n")
+        return REFUSED
 
 
 if __name__ == "__main__":
