@@ -10,6 +10,7 @@ import os
 import re
 import subprocess
 import sys
+import time
 import unittest
 from unittest import mock
 
@@ -76,6 +77,17 @@ class Warnings(Case):
         for body, is_told in (("cclc adc", False), ("ctlm adc", True)):
             text = script(["call o()"]).replace("service", procedure % body + "service")
             self.assertEqual(self.codes(text), [(5, "W3")] if is_told else [])
+
+    def test_deep_procedures(self):
+        """Each procedure is looked at once: 13 of them, each of which calls the one before four times, take no second."""
+        heads = [f"proc p{k}() within 0 cycles event 0 words steps 0 {{" for k in range(13)]
+        bodies = ["", *("".join(f" call p{k}()" for _ in range(4)) for k in range(12))]
+        text = script(["call p12()"]).replace("service", "".join(f"{head}{body} }}\n" for head, body in zip(heads, bodies)) + "service")
+        for head, least in zip(heads, camac.bounds("@sample", self.write("a.script", text))):
+            text = text.replace(head, f"{least.line} {{")
+        began = time.process_time()
+        self.assertEqual(self.codes(text), [(16, "W3")])
+        self.assertLess(time.process_time() - began, 1)
 
     def test_unused_keep(self):
         loop = "for i = 0 to 3 keep {} {{ {} }}"

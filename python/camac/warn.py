@@ -40,9 +40,8 @@ class Token(NamedTuple):
 
 TOKEN = re.compile(rb"#[^\n]*|([A-Za-z][A-Za-z0-9_]*|[0-9]+|->|<-|\.\.|<=|>=|==|!=|[-{}()+*/%=,<>])")
 READS_OR_CLEARS = frozenset([*range(8), 9, 10, 11])
+TRANSFERS = frozenset(("cfsa", "cssa", "cfubc", "cfubr", "cfmad"))
 Place = Tuple[int, int]
-# An address of which the crate or the station is computed.
-ANYWHERE = None
 
 
 def warnings(plan: File, script: File, program: Optional[File] = None) -> List[Warned]:
@@ -111,10 +110,15 @@ def _bodies(tokens: List[Token], word: str) -> Iterator[_Text]:
 def _left_calling(tokens: List[Token]) -> Iterator[Warned]:
     """Services that neither read nor clear the module of their look-at-me."""
     lams = {tokens[k + 1].text: (int(tokens[k + 3].text), int(tokens[k + 4].text)) for k, it in enumerate(tokens) if it.text == "cdlam"}
-    procedures = {it.name: it.tokens for it in _bodies(tokens, "proc")}
-    for service in _bodies(tokens, "service"):
+    services = list(_bodies(tokens, "service"))
+    places = {lams[it.name] for it in services}
+    touched: Dict[str, Set[Place]] = {}
+    # A body calls procedures that end before it, so each is looked at once.
+    for it in [*_bodies(tokens, "proc"), *services]:
+        touched[it.name] = _touched([token.text for token in it.tokens], places, lams, touched)
+    for service in services:
         crate, station = lams[service.name]
-        if not _touches(service.tokens, (crate, station), lams, procedures):
+        if (crate, station) not in touched[service.name]:
             yield Warned(
                 service.line,
                 Code.LEFT_CALLING,
@@ -122,37 +126,35 @@ def _left_calling(tokens: List[Token]) -> Iterator[Warned]:
             )
 
 
-def _touches(tokens: List[Token], place: Place, lams: Dict[str, Place], procedures: Dict[str, List[Token]]) -> bool:
-    """Whether statements may read or clear the module at a place, or silence its look-at-me."""
-    words = [it.text for it in tokens]
-    registers: Dict[str, List[Optional[Place]]] = {}
+def _touched(words: List[str], places: Set[Place], lams: Dict[str, Place], before: Dict[str, Set[Place]]) -> Set[Place]:
+    """The places of modules that statements may read or clear, or whose look-at-me they may silence: all of `places` where one is computed.
+    `before` has those of procedures."""
+    registers: Dict[str, Set[Place]] = {}
+    computed: Set[str] = set()
     for at, word in enumerate(words):
         if word == "cdreg":
             crate, after = _number(words, at + 3)
             station, _ = _number(words, after)
-            registers.setdefault(words[at + 1], []).append(ANYWHERE if crate is None or station is None else (crate, station))
+            its = registers.setdefault(words[at + 1], set())
+            if crate is None or station is None:
+                computed.add(words[at + 1])
+            else:
+                its.add((crate, station))
+    found: Set[Place] = set()
     for at, word in enumerate(words):
         if word in ("cccz", "cccc"):
-            return True
+            return places
         if word == "cclc" or word == "cclm" and words[at + 2] == "off":
-            if lams[words[at + 1]] == place:
-                return True
-        if word == "call" and _touches(procedures[words[at + 1]], place, lams, procedures):
-            return True
-        if word in ("cfsa", "cssa", "cfubc", "cfubr") and int(words[at + 1]) in READS_OR_CLEARS:
-            if any(it in (ANYWHERE, place) for it in registers[words[at + 2]]):
-                return True
-        if word == "cfmad" and int(words[at + 1]) in READS_OR_CLEARS:
-            if _spans(registers[words[at + 2]], registers[words[at + 3]], place):
-                return True
-    return False
-
-
-def _spans(first: List[Optional[Place]], last: List[Optional[Place]], place: Place) -> bool:
-    """Whether a scan may come to a place."""
-    if ANYWHERE in first + last:
-        return True
-    return min(first) <= place <= max(last)
+            found.add(lams[words[at + 1]])
+        elif word == "call":
+            found |= before[words[at + 1]]
+        elif word in TRANSFERS and int(words[at + 1]) in READS_OR_CLEARS:
+            names = words[at + 2 : at + 4] if word == "cfmad" else words[at + 2 : at + 3]
+            if computed.intersection(names):
+                return places
+            first, last = min(registers[names[0]]), max(registers[names[-1]])
+            found |= {it for it in places if first <= it <= last} if word == "cfmad" else registers[names[0]]
+    return found
 
 
 def _number(words: List[str], at: int) -> Tuple[Optional[int], int]:
