@@ -160,7 +160,7 @@ def drive(
     end; the time that the branch takes does not count. It is 0 to 2,147,483; without it the program may take as long as it does.
 
     The lockouts that are held when the requests end are released by `branch.unlock`, however the run ends. An interrupt (Ctrl-C) inside
-    `branch.lock` may come after the lockout was taken, so this one is released too.
+    `branch.lock` may come after the lockout was taken, so this one is released too. After one inside `branch.unlock` it is called again.
 
     Raises what the branch raises. The run ends first: the events of all services that ended are in the file. Raises Refused,
     UsageFault, ProgramFault, ProtocolFault or TimeFault, all of them DriveFault, OSError where the program cannot be started, and
@@ -200,14 +200,20 @@ class Lockouts:
             self.held.remove(crate)
 
     def release(self) -> None:
-        """Releases all that is held, the last first. Each is tried; the first failure is raised."""
-        failure = None
-        for crate in reversed(self.held):
+        """Releases all that is held, the last first. Each is tried, and once more where an interrupt (Ctrl-C) came into it; the first
+        failure is raised."""
+        failure: Optional[BaseException] = None
+        interrupted: Optional[int] = None
+        while self.held:
+            crate = self.held[-1]
             try:
                 self.branch.unlock(crate)
             except BaseException as error:
                 failure = failure or error
-        self.held = []
+                if isinstance(error, KeyboardInterrupt) and crate != interrupted:
+                    interrupted = crate
+                    continue
+            self.held.pop()
         if failure:
             raise failure
 
