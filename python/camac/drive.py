@@ -25,8 +25,9 @@ DEMAND = re.compile(rb"demand")
 CYCLE = re.compile(rb"cycle ([1-7]) (\d\d?) (\d\d?) (\d\d?) (?:in|none|out ([0-9a-f]{6}))")
 LOCK = re.compile(rb"lock ([1-7])")
 UNLOCK = re.compile(rb"unlock ([1-7])")
-END = re.compile(r"(ended|short|overrun ([1-7]) wait (\d\d?)) events (\d+)")
-REFUSAL = re.compile(r"refused ([A-Z]\d\d?)(?: line (\d+))?: (.+)")
+WAIT = "(1[0-5]|[0-9])"
+END = re.compile(f"(ended|short|overrun ([1-7]) wait {WAIT}) events (0|[1-9][0-9]*)")
+REFUSAL = re.compile("refused ([A-Z][0-9][0-9]?)(?: line ([1-9][0-9]*))?: (.+)")
 
 
 @dataclasses.dataclass(frozen=True)

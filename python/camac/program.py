@@ -58,6 +58,11 @@ def _judge(status: int, printed: str, errors: str) -> None:
         raise ProgramFault(errors.rstrip("\n"), status)
 
 
+def shown(line: str) -> str:
+    """A line as a fault tells it: it may be of any length, and hold anything."""
+    return repr(line if len(line) <= 80 else f"{line[:80]}..")
+
+
 def version(program: Optional[File] = None) -> str:
     """The version as the program tells it: "camac 0.2.0"."""
     return output_of("--version", program=program).rstrip("\n")

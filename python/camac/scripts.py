@@ -3,7 +3,7 @@ import re
 from typing import List, NamedTuple, Optional
 
 from camac.drive import File
-from camac.program import output_of
+from camac.program import output_of, shown
 
 VERDICT = re.compile(r"service (\w+) gl (\d+) cycles (\d+) of (\d+) words (\d+) of (\d+) steps (\d+)")
 HEADING = re.compile(r"(?:service (\w+)|proc (\w+)\(.*\)) within (\d+) cycles event (\d+) words(?: steps (\d+))?")
@@ -64,7 +64,7 @@ def parse_bounds(printed: str) -> List[Heading]:
 
 def _read(line: str, found: "Optional[re.Match[str]]") -> "re.Match[str]":
     if found is None:
-        raise ValueError(f"no line of this kind: {line}")
+        raise ValueError(f"no line of this kind: {shown(line)}")
     return found
 
 
