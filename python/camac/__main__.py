@@ -11,7 +11,7 @@ from typing import Callable, Dict, List, Optional, Sequence, TextIO, Tuple
 
 from camac import judge, pictures, tables
 from camac.annotate import annotate
-from camac.bodies import Kind, costs
+from camac.bodies import costs
 from camac.drive import DriveFault, ProgramFault, Refused, UsageFault
 from camac.events import EventFileFault
 from camac.output import end_by, output, say
@@ -19,7 +19,7 @@ from camac.pictures import Canvas
 from camac.plans import plan
 from camac.program import is_standard_input, knows_command
 from camac.report import report
-from camac.runs import Inputs, collect
+from camac.runs import Inputs, Run, collect
 from camac.scripts import check, source_lines
 
 DONE, REFUSED, USAGE, FAULT = 0, 1, 2, 3
@@ -44,31 +44,33 @@ PLAN may be @sample, the built-in plan. An event file is told from answers by ho
 
 
 class Source:
-    """What is drawn: the files, and what the program and a run say of them, each read once where it is wanted."""
+    """What is drawn: the files, and what the program and a run say of them, each read once. A script or a run that is not given is an empty
+    one."""
 
     def __init__(self, files: Sequence[str]) -> None:
         self.files = files
         self.plan = plan(files[0])
-        self.services = check(*files[:2]) if len(files) > 1 else None
-        self.run = collect(Inputs(*files), self.plan, self.services) if len(files) > 2 else None
+        self.services = check(*files[:2]) if len(files) > 1 else []
+        self.has_run = len(files) > 2
+        self.run = collect(Inputs(*files), self.plan, self.services) if self.has_run else Run(has_listing=False)
 
 
 def _draw_plan(of: Source) -> Dict[str, Canvas]:
-    return {"": pictures.draw_plan(of.plan, of.services, of.run)}
+    return {"": pictures.draw_plan(of.plan, of.services if len(of.files) > 1 else None, of.run if of.has_run else None)}
 
 
 def _draw_bounds(of: Source) -> Dict[str, Canvas]:
-    return {"": pictures.draw_bounds(of.services, of.run)}
+    return {"": pictures.draw_bounds(of.services, of.run if of.has_run else None)}
 
 
 def _draw_costs(of: Source) -> Dict[str, Canvas]:
     if not knows_command("costs"):
         raise UsageFault("this program has no `costs`", USAGE)
-    seen = of.run.seen if of.run and of.run.has_cycles else {}
+    seen = of.run.seen if of.run.has_cycles else {}
     source = source_lines(of.files[1])
     drawn = {}
     for body in costs(*of.files[:2]):
-        its = seen.get(body.gl) if body.kind is Kind.SERVICE else None
+        its = seen.get(body.gl) if body.gl else None
         drawn[body.name] = pictures.draw_costs(body, source, its.cycles if its else None)
     return drawn
 

@@ -299,9 +299,11 @@ class _Program:
         except BaseException:
             self.errors.close()
             raise
+        assert self.process.stdin and self.process.stdout
+        self.stdin, self.stdout = self.process.stdin, self.process.stdout
         self.unread = b""
         self.poll = select.poll()
-        self.poll.register(self.process.stdout, select.POLLIN)
+        self.poll.register(self.stdout, select.POLLIN)
 
     def __enter__(self) -> "_Program":
         return self
@@ -309,7 +311,7 @@ class _Program:
     def __exit__(self, *_raised: object) -> None:
         self.kill()
         self.end_input()
-        self.process.stdout.close()
+        self.stdout.close()
         self.errors.close()
 
     def read_line(self) -> Optional[bytes]:
@@ -318,7 +320,7 @@ class _Program:
         while not found:
             if self.timeout is not None and not self.poll.poll(self.timeout * 1000):
                 raise TimeFault(f"camac wrote no line in {self.timeout} seconds")
-            piece = self.process.stdout.read(65_536)
+            piece = self.stdout.read(65_536)
             if not piece:
                 self.unread = b""
                 return None
@@ -340,12 +342,12 @@ class _Program:
     def write(self, line: bytes) -> None:
         """Hands on an answer. A program that takes it no more says why at its end."""
         try:
-            self.process.stdin.write(line)
+            self.stdin.write(line)
         except BrokenPipeError:
             pass
 
     def end_input(self) -> None:
-        self.process.stdin.close()
+        self.stdin.close()
 
     def end(self, end: Optional[RunEnd]) -> RunEnd:
         """Waits for the program's end. Returns the end of the run where the status and standard error agree, or raises the fault."""

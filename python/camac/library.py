@@ -288,8 +288,8 @@ class _Game:
 
     def serve(self) -> RunEnd:
         """Has the branch make all that is wanted, and returns the end of the run."""
-        while True:
-            want = self.session.wants()
+        progress = Progress()
+        while (want := self.session.wants()) is not None:
             answer = self.make(want)
             if answer is None:
                 return RunEnd(Ending.ENDED, f"ended events {self.events}", self.events)
@@ -297,10 +297,10 @@ class _Game:
                 progress = self.session.next(answer)
             except OverflowError:
                 return RunEnd(Ending.REFUSED, SPENT_LINE)
-            if progress.kind == STOPPED:
-                line = f"overrun {progress.c} wait {progress.wait} events {self.events}"
-                return RunEnd(Ending.OVERRUN, line, self.events, progress.c, progress.wait)
-            self.settle(progress)
+            if progress.kind != STOPPED:
+                self.settle(progress)
+        line = f"overrun {progress.c} wait {progress.wait} events {self.events}"
+        return RunEnd(Ending.OVERRUN, line, self.events, progress.c, progress.wait)
 
     def make(self, want: Want) -> Optional[Answer]:
         """Has the branch make an operation. Only a demand may be without an answer."""

@@ -76,8 +76,10 @@ def plan(path: File, program: Optional[File] = None) -> Plan:
 
 def parse_plan(printed: str) -> Plan:
     """Reads what `camac plan` prints, with `--commands` or without."""
-    buffer, types, crates = 0, {}, []
-    name, stations = "", []
+    buffer, name = 0, ""
+    types: Dict[str, ModuleType] = {}
+    crates: List[Tuple[int, int, List[Station]]] = []
+    stations: List[Station] = []
     for line in printed.splitlines():
         kind, *words = line.split(" ")
         if kind == "buffer":

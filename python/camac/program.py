@@ -33,6 +33,7 @@ def lines_of(*words: File, program: Optional[File] = None) -> Iterator[str]:
         with subprocess.Popen(
             [find_program(program), *words], stdin=subprocess.DEVNULL, stdout=subprocess.PIPE, stderr=errors, bufsize=1 << 16
         ) as started:
+            assert started.stdout
             try:
                 for line in started.stdout:
                     yield line.decode("utf-8", "replace").rstrip("\n")
@@ -69,18 +70,18 @@ def version(program: Optional[File] = None) -> str:
 
 
 @functools.lru_cache(maxsize=None)
-def _help(program: File, words: Tuple[str, ...]) -> str:
+def _help(program: str, words: Tuple[str, ...]) -> str:
     return output_of(*words, program=program)
 
 
 def knows_command(command: str, program: Optional[File] = None) -> bool:
     """Whether the program has this subcommand. Its help is asked once."""
-    return re.search(rf"^  {command}\b", _help(find_program(program), ("--help",)), re.M) is not None
+    return re.search(rf"^  {command}\b", _help(os.fsdecode(find_program(program)), ("--help",)), re.M) is not None
 
 
 def knows_option(command: str, option: str, program: Optional[File] = None) -> bool:
     """Whether a subcommand of the program has this option. Its help is asked once."""
-    return option in _help(find_program(program), ("help", command)).split()
+    return option in _help(os.fsdecode(find_program(program)), ("help", command)).split()
 
 
 def is_standard_input(names: List[File]) -> bool:

@@ -43,8 +43,8 @@ def check(plan: File, script: File, program: Optional[File] = None) -> List[Serv
 
 def parse_verdict(printed: str) -> List[Service]:
     """Reads what `camac check` prints of an accepted script."""
-    found = [(line, VERDICT.fullmatch(line)) for line in printed.splitlines()[1:]]
-    return [Service(_read(line, it)[1], *map(int, it.groups()[1:])) for line, it in found]
+    found = [_read(line, VERDICT.fullmatch(line)) for line in printed.splitlines()[1:]]
+    return [Service(it[1], *map(int, it.groups()[1:])) for it in found]
 
 
 def bounds(plan: File, script: File, program: Optional[File] = None) -> List[Heading]:

@@ -110,7 +110,7 @@ def page_style() -> str:
 
 def picture_style() -> str:
     """The style of a picture that stands alone, by plain colours, which every reader of SVG knows."""
-    light, dark = (_colour_rules(lambda name, theme=theme: COLOURS[name][theme]) for theme in (LIGHT, DARK))
+    light, dark = _colour_rules(lambda name: COLOURS[name][LIGHT]), _colour_rules(lambda name: COLOURS[name][DARK])
     return f"{light}@media (prefers-color-scheme:dark){{{dark}}}{_form_rules()}"
 
 
