@@ -170,7 +170,7 @@ def parser() -> argparse.ArgumentParser:
     raw = argparse.RawDescriptionHelpFormatter
     top = argparse.ArgumentParser(prog="python3 -m camac", description=DESCRIPTION, epilog=STATUS, formatter_class=raw)
     commands = top.add_subparsers(dest="command", metavar="COMMAND", required=True)
-    it = commands.add_parser("check", help="Judges scripts, and warns of what is hardly meant", epilog=STATUS, formatter_class=raw)
+    it = commands.add_parser("check", prog="camac-check", help="Judges scripts, and warns of what is hardly meant", epilog=STATUS, formatter_class=raw)
     it.add_argument("plan", metavar="PLAN", help="a plan: a TOML file, or @sample, the built-in plan")
     it.add_argument("scripts", nargs="+", metavar="SCRIPT", help="scripts")
     it.add_argument("--json", action="store_true", help="prints JSON in place of lines FILE:LINE: TEXT")
@@ -181,7 +181,7 @@ def parser() -> argparse.ArgumentParser:
     it.add_argument("files", nargs="+", metavar="FILE", help="the files that the picture is of, see below")
     it.add_argument("-o", "--out", required=True, metavar="SVG", help="the file to write")
     it.set_defaults(do=draw)
-    it = commands.add_parser("report", help="Makes one page of all that is known of a run", epilog=STATUS, formatter_class=raw)
+    it = commands.add_parser("report", prog="camac-report", help="Makes one page of all that is known of a run", epilog=STATUS, formatter_class=raw)
     it.add_argument("plan", metavar="PLAN", help="a plan: a TOML file, or @sample, the built-in plan")
     it.add_argument("script", metavar="SCRIPT", help="a script")
     it.add_argument("source", metavar="ANSWERS|EVENTS", help="the answers of the run, or its event file")
@@ -259,6 +259,14 @@ def run(words: List[str]) -> int:
     except (Refused, EventFileFault) as refusal:
         say(f"{refusal}\n")
         return REFUSED
+
+
+def check_command() -> int:
+    return main(["check", *sys.argv[1:]])
+
+
+def report_command() -> int:
+    return main(["report", *sys.argv[1:]])
 
 
 if __name__ == "__main__":
