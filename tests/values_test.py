@@ -75,6 +75,7 @@ class Values(Case):
         self.assertEqual(plans.parse_plan("buffer 4096\n").crates, ())
 
     def test_sample_plan(self):
+        self.assertEqual((TOP / "python/camac/sample_plan.toml").read_text(), (TOP / "examples/sample_plan.toml").read_text())
         plan = camac.plan("@sample")
         self.assertEqual(plan.crates[0].stations, (Station(5, "ADC", 3), Station(6, "REG", None)))
         self.assertEqual({name: it.commands for name, it in plan.types.items()}, {"ADC": 20, "REG": 4})

@@ -17,10 +17,11 @@ from camac.events import EventFileFault
 from camac.output import end_by, output, say
 from camac.pictures import Canvas
 from camac.plans import plan
-from camac.program import is_standard_input, knows_command
+from camac.program import knows_command
 from camac.report import report
 from camac.runs import Inputs, Run, collect
 from camac.scripts import check, source_lines
+from camac.texts import is_standard_input
 
 DONE, REFUSED, USAGE, FAULT = 0, 1, 2, 3
 LOST = "{} is an input: it would be lost"

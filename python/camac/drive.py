@@ -128,6 +128,12 @@ class ProgramFault(DriveFault):
         self.text, self.status, self.end = text, status, end
 
 
+def file_fault(what: str, name: File, why: Union[OSError, str]) -> ProgramFault:
+    """The fault of a file that cannot be opened, read or written (`what` is "read" or "write"), as the program tells it."""
+    reason = why if isinstance(why, str) else why.strerror or str(why)
+    return ProgramFault(f"fault {what}\n  {os.fsdecode(name)}: {reason}", 3)
+
+
 class UsageFault(ProgramFault):
     """The program did not understand its words (status 2): @in as plan or script, or a program without `drive`."""
 

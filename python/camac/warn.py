@@ -1,13 +1,11 @@
 """What the checker accepts and what is hardly meant: warnings about an accepted script. docs/WARNINGS.md has each with an example."""
 import enum
-import os
 import re
-import tempfile
 from typing import Dict, Iterator, List, NamedTuple, Optional, Set, Tuple
 
 from camac.bodies import Body, costs
-from camac.drive import File, Refused
-from camac.program import knows_command
+from camac.drive import File
+from camac.program import accepts, knows_command
 from camac.scripts import check
 
 
@@ -177,7 +175,7 @@ def _unused_keeps(plan: File, text: bytes, program: Optional[File]) -> Iterator[
     tokens = _tokens(text)
     for name, start, end, line in _keeps(tokens):
         without = text[:start] + re.sub(rb"[^\n]", b" ", text[start:end]) + text[end:]
-        if _is_accepted(plan, without, program):
+        if accepts(plan, without, program):
             yield Warned(line, Code.UNUSED_KEEP, f"this kept bound of `{name}` is not needed: the script is accepted without it")
 
 
@@ -198,15 +196,3 @@ def _keeps(tokens: List[Token]) -> Iterator[Tuple[str, int, int, int]]:
             else:
                 start = tokens[item - 1].start
             yield name.text, start, end, name.line
-
-
-def _is_accepted(plan: File, text: bytes, program: Optional[File]) -> bool:
-    with tempfile.TemporaryDirectory(prefix="camac-") as room:
-        script = os.path.join(room, "script")
-        with open(script, "wb") as file:
-            file.write(text)
-        try:
-            check(plan, script, program)
-        except Refused:
-            return False
-    return True
