@@ -17,7 +17,7 @@ from camac.events import EventFileFault
 from camac.output import end_by, output, say
 from camac.pictures import Canvas
 from camac.plans import plan
-from camac.program import knows_command
+from camac.program import knows_command, quickest
 from camac.report import report
 from camac.runs import Inputs, Run, collect
 from camac.scripts import check, source_lines
@@ -159,10 +159,11 @@ def open_listing(name: str) -> TextIO:
 
 
 def judge_scripts(args: argparse.Namespace) -> int:
-    judged = judge.judge(args.plan, args.scripts)
-    say(judge.told(judged, args.json))
-    note = judge.note()
-    if note and not args.json:
+    program = quickest()
+    judged = judge.judge(args.plan, args.scripts, program, args.write)
+    say(judge.told(judged, args.format))
+    note = judge.note(program)
+    if note and args.format != "json":
         print(f"camac: {note}", file=sys.stderr)
     return judge.status(judged, args.strict)
 
@@ -174,8 +175,10 @@ def parser() -> argparse.ArgumentParser:
     it = commands.add_parser("check", prog="camac-check", help="Judges scripts, and warns of what is hardly meant", epilog=STATUS, formatter_class=raw)
     it.add_argument("plan", metavar="PLAN", help="a plan: a TOML file, or @sample, the built-in plan")
     it.add_argument("scripts", nargs="+", metavar="SCRIPT", help="scripts")
-    it.add_argument("--json", action="store_true", help="prints JSON in place of lines FILE:LINE: TEXT")
+    it.add_argument("--format", choices=judge.FORMATS, default="text", metavar="FORMAT", help="text: lines FILE:LINE: TEXT; json; github: annotations")
+    it.add_argument("--json", action="store_const", const="json", dest="format", help="--format json")
     it.add_argument("--strict", action="store_true", help="a warning is status 1, too")
+    it.add_argument("--write", action="store_true", help="first puts the least headings that are accepted into each script")
     it.set_defaults(do=judge_scripts, out=None)
     it = commands.add_parser("draw", help="Draws a picture", epilog=DRAW, formatter_class=raw)
     it.add_argument("picture", choices=PICTURES, metavar="PICTURE", help="plan, bounds, costs, run or words")

@@ -17,6 +17,11 @@ REFUSED, USAGE = 1, 2
 IN_PROCESS = "@library"
 
 
+def quickest() -> Optional[File]:
+    """The library, where it is there and no program is named: what is judged by it costs no other process."""
+    return None if os.environ.get("CAMAC_PROGRAM") or not library.is_there() else IN_PROCESS
+
+
 def _find(command: str, program: Optional[File]) -> str:
     """The program that answers a command, or `IN_PROCESS`. Raises FileNotFoundError where there is none of both."""
     try:

@@ -52,7 +52,7 @@ def warnings(plan: File, script: File, program: Optional[File] = None) -> List[W
         text = file.read()
     if not services:
         return [Warned(1, Code.NO_SERVICE, "this script has no service, so a run of it makes no cycle")]
-    found = [*_left_calling(_tokens(text)), *_unused_keeps(plan, text, program)]
+    found = [*_left_calling(tokens_of(text)), *_unused_keeps(plan, text, program)]
     if looks_for_all(program):
         found += _of_costs(costs(plan, script, program))
     return sorted(found, key=lambda it: (it.line, it.code.value))
@@ -63,7 +63,8 @@ def looks_for_all(program: Optional[File] = None) -> bool:
     return knows_command("costs", program)
 
 
-def _tokens(text: bytes) -> List[Token]:
+def tokens_of(text: bytes) -> List[Token]:
+    """The tokens of a script that is no refused text."""
     line, last, found = 1, 0, []
     for it in TOKEN.finditer(text):
         line += text.count(b"\n", last, it.start())
@@ -172,7 +173,7 @@ def _factor(words: List[str], at: int) -> Tuple[Optional[int], int]:
 
 def _unused_keeps(plan: File, text: bytes, program: Optional[File]) -> Iterator[Warned]:
     """Bounds that a loop keeps, and without which the script is accepted, too."""
-    tokens = _tokens(text)
+    tokens = tokens_of(text)
     for name, start, end, line in _keeps(tokens):
         without = text[:start] + re.sub(rb"[^\n]", b" ", text[start:end]) + text[end:]
         if accepts(plan, without, program):
