@@ -300,37 +300,47 @@ class Commands(bench.BenchCase):
 
 
 class Pages(unittest.TestCase):
-    """The manual page and the completions of camac-report, compared with its help."""
+    """The manual pages and the completions of camac-check and camac-report, compared with their help."""
 
-    def setUp(self):
-        self.options = re.findall(r"^  -(\w)(?: [A-Z]+)?, --(\w+)", ran("report", "--help")[1], re.M)
-        self.assertEqual(self.options, [("h", "help"), ("o", "out")])
+    def options(self, command):
+        """Each option as it stands in the help: its short name, if it has one, and its long one."""
+        told = ran(command, "--help")[1]
+        self.assertTrue(told.startswith(f"usage: camac-{command} "), told)
+        return re.findall(r"^  (?:-(\w)(?: [A-Z]+)?, )?--(\w+)", told, re.M)
 
-    def test_manual_page(self):
-        page = (TOP / "man/camac-report.1").read_text()
-        for short, long in self.options:
-            self.assertRegex(page, rf"\n\.It Fl {short} , Fl -{long}\b")
-        self.assertEqual(re.search(r"\.Os .*", page)[0], re.search(r"\.Os .*", (TOP / "man/camac.1").read_text())[0])
+    def test_manual_pages(self):
+        for command, count in (("check", 5), ("report", 2)):
+            page = (TOP / f"man/camac-{command}.1").read_text()
+            self.assertEqual(len(self.options(command)), count)
+            for short, long in self.options(command):
+                self.assertRegex(page, rf"\n\.It {f'Fl {short} , ' if short else ''}Fl -{long}\b")
+            self.assertEqual(re.search(r"\.Os .*", page)[0], re.search(r"\.Os .*", (TOP / "man/camac.1").read_text())[0])
 
     def test_completions(self):
-        for name in ("camac-report.bash", "_camac-report", "camac-report.fish"):
-            text = (TOP / "completions" / name).read_text()
-            self.assertIn("@sample", text)
-            for short, long in self.options:
-                self.assertRegex(text, rf"-{short}\b|-s {short}\b")
-                self.assertRegex(text, rf"--{long}\b|-l {long}\b")
+        for command in ("check", "report"):
+            for name in (f"camac-{command}.bash", f"_camac-{command}", f"camac-{command}.fish"):
+                text = (TOP / "completions" / name).read_text()
+                self.assertIn("@sample", text)
+                for short, long in self.options(command):
+                    self.assertRegex(text, rf"-{short}\b|-s {short}\b")
+                    self.assertRegex(text, rf"--{long}\b|-l {long}\b")
 
     def test_bash(self):
-        def offered(*words):
-            line = 'source "$0"; COMP_WORDS=(camac-report "$@"); COMP_CWORD=$#; _camac_report; printf "%s\\n" "${COMPREPLY[@]}"'
-            done = subprocess.run(["bash", "-c", line, TOP / "completions/camac-report.bash", *words], stdout=subprocess.PIPE, cwd=TOP / "examples")
+        def offered(command, *words):
+            line = f'source "$0"; COMP_WORDS=(camac-{command} "$@"); COMP_CWORD=$#; _camac_{command}; printf "%s\\n" "${{COMPREPLY[@]}}"'
+            done = subprocess.run(["bash", "-c", line, TOP / f"completions/camac-{command}.bash", *words], stdout=subprocess.PIPE, cwd=TOP / "examples")
             return done.stdout.decode().split()
 
-        self.assertEqual(offered("@"), ["@sample"])
-        self.assertEqual(offered("sample_p"), ["sample_plan.toml"])
-        self.assertEqual(offered("@sample", "stra"), ["straight_line.script"])
-        self.assertEqual(offered("@sample", "@"), [])
-        self.assertEqual(offered("@sample", "-"), ["--help", "--out", "-h", "-o"])
+        for command in ("check", "report"):
+            self.assertEqual(offered(command, "@"), ["@sample"])
+            self.assertEqual(offered(command, "sample_p"), ["sample_plan.toml"])
+            self.assertEqual(offered(command, "@sample", "stra"), ["straight_line.script"])
+            self.assertEqual(offered(command, "@sample", "@"), [])
+        self.assertEqual(offered("report", "@sample", "-"), ["--help", "--out", "-h", "-o"])
+        self.assertEqual(offered("check", "@sample", "--f"), ["--format"])
+        self.assertEqual(offered("check", "--format", "g"), ["github"])
+        self.assertEqual(offered("check", "--write", "--format", "json", "@"), ["@sample"])
+        self.assertEqual(offered("check", "--write", "@sample", "lockout.script", "@"), [])
 
 
 if __name__ == "__main__":

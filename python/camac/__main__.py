@@ -106,7 +106,7 @@ def draw(args: argparse.Namespace) -> int:
     pictures_of = {f"{root}.{name}{end}" if name else args.out: canvas for name, canvas in drawn.items()}
     for out in pictures_of:
         if is_one_of(out, args.files):
-            raise UsageFault(LOST.format(out), USAGE)
+            raise ProgramFault(LOST.format(out), FAULT)
     for out, canvas in pictures_of.items():
         write(out, canvas.picture())
     return DONE
