@@ -22,7 +22,7 @@ import of_c
 from live import PROGRAM, TOP, Broken, Case, Listed
 from live_test import LOCKOUT, STRAIGHT_LINE
 import camac
-from camac import Answer, Ending, ProgramFault, Refused, UsageFault, library
+from camac import Answer, Ending, ProgramFault, Refused, UsageFault, judge, library
 from camac.mock import Adc, Auxiliary, MockBranch, Recorder, Register
 from camac.program import lines_of, output_of
 
@@ -227,6 +227,16 @@ class Python(Case):
         with self.assertRaises(UsageFault):
             output_of("run", "--", *its[0], "a", "e", program="@library")
 
+    def test_check(self):
+        """`camac-check` says the same by the library as by the program, in each format."""
+        plans = {its: str(plan) for plan, its in pairs()}
+        plans.update({EXAMPLES / "too_few_cycles.script": "@sample", self.write("none.script", ""): "@sample", self.room / "no.script": "@sample"})
+        for its, plan in plans.items():
+            judged = [judge.judge(plan, [str(its)], program) for program in (PROGRAM, "@library")]
+            for form in judge.FORMATS:
+                with self.subTest(script=its, form=form):
+                    self.assertEqual(*(judge.told(it, form) for it in judged))
+
     def test_run_and_events(self):
         answers = EXAMPLES / "three_modules.answers"
         its = (EXAMPLES / "three_crates.toml", EXAMPLES / "three_modules.script")
@@ -354,7 +364,13 @@ class Package(Case):
         few, its, event_file = EXAMPLES / "too_few_cycles.script", EXAMPLES / "procedure.script", self.room / "run.events"
         event_file.write_bytes(b"CAMACEV2")
         calls = [sys.executable, "-m", "camac"]
-        self.assertEqual(call(*calls, "check", "@sample", few, env=env), (1, f"{few}:4: refused E12: more cycles than annotated\n"))
+        refused = (1, f"{few}:4: refused E12: more cycles than annotated\n")
+        self.assertEqual(call(*calls, "check", "@sample", few, env=env), refused)
+        (self.room / "bin").mkdir()
+        broken = self.write("bin/camac", "#!/bin/sh\necho broken >&2; exit 9\n")
+        broken.chmod(0o755)
+        self.assertEqual(call(*calls, "check", "@sample", few, env={**env, "PATH": f"{self.room}/bin:{env['PATH']}"}), refused)
+        self.assertEqual(call(*calls, "check", "@sample", few, env={**env, "CAMAC_PROGRAM": str(broken)})[0], 3)
         for words in (["draw", "costs", "@sample", its], ["draw", "plan", "@sample", its], ["report", "@sample", its, event_file]):
             self.assertEqual(call(*calls, *words, "-o", self.room / "it.svg", env=env), (0, ""))
         status, told = call(*calls, "report", "@sample", its, self.write("answers", ""), "-o", self.room / "it.html", env=env)
