@@ -169,6 +169,7 @@ class Outputs(Case):
             ("csv events run.events -o out >&- 2>&- <&-", 0, ""),
             ("csv listing - -o out <&-", 3, f"{fault} input\n"),
             ("csv nothing 2>&-", 2, ""),
+            ("csv nothing >&- 2>&-", 2, ""),
         ):
             with self.subTest(line):
                 self.assertEqual(self.shell(line), (status, "", told))

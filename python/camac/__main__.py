@@ -255,8 +255,7 @@ def run(words: List[str]) -> int:
         with contextlib.redirect_stdout(told):
             args = parse(words)
     except SystemExit as stop:
-        if told.getvalue():
-            say(told.getvalue())
+        say(told.getvalue())
         return int(stop.code or DONE)
     try:
         return int(args.do(args))

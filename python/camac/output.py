@@ -115,9 +115,10 @@ def _named(shown: str) -> Iterator[None]:
 
 
 def say(text: str) -> None:
-    """Writes a text to standard output."""
-    with output(None) as out:
-        out.write(text)
+    """Writes a text to standard output, which is not needed where there is none."""
+    if text:
+        with output(None) as out:
+            out.write(text)
 
 
 def end_by(number: signal.Signals) -> int:

@@ -34,10 +34,12 @@ def _find(command: str, program: Optional[File]) -> str:
 
 def _told(*words: File) -> library.Verdict:
     """What the library tells in the program's place. Before the files there may stand "--"."""
-    command, *files = (os.fsdecode(it) for it in words)
+    command, *files = map(os.fsdecode, words)
+    if files[:1] == ["--"]:
+        files = files[1:]
     if command not in library.COMMANDS:
         raise UsageFault(f"the library has no `{command}`", USAGE)
-    return library.told(command, *files[files[:1] == ["--"] :])
+    return library.told(command, *files)
 
 
 def output_of(*words: File, program: Optional[File] = None) -> str:
