@@ -11,6 +11,7 @@ import stat
 import struct
 import subprocess
 import sys
+import tempfile
 import unittest
 
 from live import TOP, Case
@@ -26,11 +27,17 @@ def event_file(count, words=1):
 
 
 class Outputs(Case):
+    @classmethod
+    def setUpClass(cls):
+        """Python keeps what it compiles for all calls, and not in the sources."""
+        cache = tempfile.TemporaryDirectory(prefix="camac-python-")
+        cls.addClassCleanup(cache.cleanup)
+        cls.env = {**os.environ, "PYTHONPATH": str(TOP / "python"), "PYTHONDONTWRITEBYTECODE": "", "PYTHONPYCACHEPREFIX": cache.name}
+
     def setUp(self):
         super().setUp()
         data, self.table = event_file(3)
         (self.room / "run.events").write_bytes(data)
-        self.env = {**os.environ, "PYTHONPATH": str(TOP / "python"), "PYTHONDONTWRITEBYTECODE": "1"}
 
     def shell(self, line, before=()):
         """Status, standard output and standard error of a line of bash, in which `csv` makes a table."""
