@@ -111,6 +111,16 @@ class Outputs(Case):
         self.assertEqual(self.shell("csv events out.new -o out")[0], 0)
         self.assertEqual((self.file("out.new"), self.text("out"), self.there()), (event_file(3)[0], self.table, ["out", "out.new"]))
 
+    def test_inputs(self):
+        """An input is no OUT, under another name neither, nor where it is standard input."""
+        (self.room / "link").symlink_to("run.events")
+        self.write("listing", "unlock 1\n")
+        for line in ("events run.events -o link", "events link -o run.events", "listing - -o listing <listing"):
+            status, out, told = self.shell(f"csv {line}")
+            self.assertEqual((status, out), (2, ""))
+            self.assertIn(" is an input: it would be lost\n", told)
+        self.assertEqual((self.file("run.events"), self.text("listing")), (event_file(3)[0], "unlock 1\n"))
+
     def test_two_at_once(self):
         """Both write before one of them ends: each table is whole when it comes to its place."""
         words = [sys.executable, "-m", "camac", "csv", "listing", "-", "-o", "out"]

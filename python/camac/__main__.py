@@ -224,8 +224,9 @@ def parse(words: List[str]) -> argparse.Namespace:
 
 
 def is_one_of(out: str, inputs: Sequence[str]) -> bool:
-    """Whether a file is one of the inputs, under whatever name."""
-    return os.path.exists(out) and any(os.path.exists(it) and os.path.samefile(it, out) for it in inputs)
+    """Whether a file is one of the inputs, under whatever name; `-` is the one behind standard input."""
+    names = ("/dev/stdin" if it == "-" else it for it in inputs)
+    return os.path.exists(out) and any(os.path.exists(it) and os.path.samefile(it, out) for it in names)
 
 
 def main(words: Optional[List[str]] = None) -> int:
