@@ -254,6 +254,14 @@ class Commands(bench.BenchCase):
         with mock.patch.dict(os.environ, {"CAMAC_PROGRAM": str(self.room / "none")}):
             self.assertIn("none", self.call("draw", "plan", plan, "-o", out, status=3)[1])
 
+    def test_a_fault_of_the_program(self):
+        """Its second line, which names the file, is told in the same line."""
+        fake = self.write("fake", "#!/bin/sh\nprintf 'fault read\\n  plan.toml: Is a directory\\n' >&2\nexit 3\n")
+        fake.chmod(0o755)
+        with mock.patch.dict(os.environ, {"CAMAC_PROGRAM": str(fake)}):
+            told = self.call("draw", "plan", self.files[0], "-o", self.room / "out", status=3)[1]
+        self.assertEqual(told, "camac: fault read: plan.toml: Is a directory\n")
+
     def test_an_input_that_a_picture_would_take_the_place_of(self):
         its = self.write("costs.adc.svg", STRAIGHT)
         told = self.call("draw", "costs", "@sample", its, "-o", self.room / "costs.svg", status=3)[1]

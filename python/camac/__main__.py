@@ -12,7 +12,7 @@ from typing import Callable, Dict, List, Optional, Sequence, TextIO, Tuple
 from camac import judge, pictures, tables
 from camac.annotate import annotate
 from camac.bodies import costs
-from camac.drive import DriveFault, ProgramFault, Refused, UsageFault
+from camac.drive import DriveFault, ProgramFault, Refused, UsageFault, one_line
 from camac.events import EventFileFault
 from camac.output import end_by, output, say
 from camac.pictures import Canvas
@@ -241,7 +241,7 @@ def main(words: Optional[List[str]] = None) -> int:
     except KeyboardInterrupt:
         return end_by(signal.SIGINT)
     except (DriveFault, ValueError) as fault:
-        text = str(fault).replace("\n  ", ": ")
+        text = one_line(fault)
     except OSError as fault:
         text = f"{fault.strerror or fault}" + (f": {os.fsdecode(fault.filename)}" if fault.filename else "")
     with contextlib.suppress(OSError):

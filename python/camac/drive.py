@@ -134,6 +134,11 @@ def file_fault(what: str, name: File, why: Union[OSError, str]) -> ProgramFault:
     return ProgramFault(f"fault {what}\n  {os.fsdecode(name)}: {reason}", 3)
 
 
+def one_line(fault: Exception) -> str:
+    """A fault whose second line names a file, in one line."""
+    return str(fault).replace("\n  ", ": ")
+
+
 class UsageFault(ProgramFault):
     """The program did not understand its words (status 2): @in as plan or script, or a program without `drive`."""
 

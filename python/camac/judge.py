@@ -2,7 +2,7 @@
 import json
 from typing import Callable, Dict, List, NamedTuple, Optional, Sequence, Tuple
 
-from camac.drive import File, ProgramFault, Refused, UsageFault
+from camac.drive import File, ProgramFault, Refused, UsageFault, one_line
 from camac.headings import write_headings
 from camac.plans import plan as read_plan
 from camac.program import lines_of
@@ -87,7 +87,7 @@ def _look_at_plan(plan: str, program: Optional[File]) -> List[Found]:
 
 
 def _open(file: str) -> None:
-    """Raises OSError, which tells why, where a file cannot be read: the program says no more than that."""
+    """Raises OSError where a file cannot be read."""
     with open(file, "rb"):
         pass
 
@@ -116,7 +116,7 @@ def _faults(look: Callable[[], List[Found]], files: List[str], program: Optional
     except UsageFault:
         raise
     except ProgramFault as fault:
-        return [Found("fault", None, None, fault.text)]
+        return [Found("fault", None, None, one_line(fault))]
     except OSError as fault:
         if fault.filename not in files:
             raise

@@ -115,7 +115,7 @@ def _named(shown: str) -> Iterator[None]:
 
 
 def say(text: str) -> None:
-    """Writes a text to standard output, which is not needed where there is none."""
+    """Writes a text to standard output. For an empty one that may be closed."""
     if text:
         with output(None) as out:
             out.write(text)
