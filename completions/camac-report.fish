@@ -1,5 +1,6 @@
 # Completion of camac-report for fish.
 
 complete -c camac-report -s h -l help -d 'Print help'
+complete -c camac-report -l every -x -d 'how soon a module calls again: SERVICE=CYCLES'
 complete -c camac-report -s o -l out -r -F -d 'the file to write'
 complete -c camac-report -n 'test (count (commandline -opc)) -eq 1' -a @sample -d 'the built-in plan'

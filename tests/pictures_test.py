@@ -27,7 +27,7 @@ from camac.plans import parse_plan
 from camac.program import knows_option, output_of
 from camac.report import report
 from camac.runs import Inputs, Run
-from camac.scripts import parse_verdict
+from camac.scripts import parse_response, parse_verdict
 from rows_test import ROWS
 
 KEPT = TOP / "tests/pictures"
@@ -157,7 +157,7 @@ class Numbers(bench.BenchCase):
 
     def test_checks(self):
         rows = self.page.parts["Checks of this page"]["tables"][0]
-        self.assertEqual([row[0] for row in rows], ["agrees"] * 5)
+        self.assertEqual([row[0] for row in rows], ["agrees"] * 6)
 
     def test_checks_that_differ(self):
         """Each number that is told twice, changed in one place."""
@@ -346,11 +346,12 @@ def small_run():
 def kept_pictures():
     """The pictures that are kept, by name, drawn without the program."""
     plan, services, bodies, run = parse_plan(told.PLAN), parse_verdict(told.VERDICT), parse_costs(told.COSTS), told.told_run(200)
-    source, seen = bench.SCRIPT.split("\n"), run.seen
+    source, seen, responses = bench.SCRIPT.split("\n"), run.seen, parse_response(told.RESPONSE)
     drawn = {
         "plan": pictures.draw_plan(plan, services, run),
         "plan-alone": pictures.draw_plan(parse_plan(LISTED_PLAN)),
         "bounds": pictures.draw_bounds(services, run),
+        "response": pictures.draw_response(responses, told.run_of(responses, [(9, 7), (4, 3), (1, 5), (4, 3), (0, 0), (4, 3), (1, 5), (1, 5), (9, 7)])),
         "costs-scaler": pictures.draw_costs(bodies[0], source),
         "costs-adc": pictures.draw_costs(bodies[1], source, seen[3].cycles),
         "costs-tick": pictures.draw_costs(bodies[2], source, seen[5].cycles),

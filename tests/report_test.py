@@ -317,7 +317,7 @@ class Pages(unittest.TestCase):
         return re.findall(r"^  (?:-(\w)(?: [A-Z]+)?, )?--(\w+)", told, re.M)
 
     def test_manual_pages(self):
-        for command, count in (("check", 5), ("report", 2)):
+        for command, count in (("check", 5), ("report", 3)):
             page = (TOP / f"man/camac-{command}.1").read_text()
             self.assertEqual(len(self.options(command)), count)
             for short, long in self.options(command):
@@ -344,7 +344,7 @@ class Pages(unittest.TestCase):
             self.assertEqual(offered(command, "sample_p"), ["sample_plan.toml"])
             self.assertEqual(offered(command, "@sample", "stra"), ["straight_line.script"])
             self.assertEqual(offered(command, "@sample", "@"), [])
-        self.assertEqual(offered("report", "@sample", "-"), ["--help", "--out", "-h", "-o"])
+        self.assertEqual(offered("report", "@sample", "-"), ["--every", "--help", "--out", "-h", "-o"])
         self.assertEqual(offered("check", "@sample", "--f"), ["--format"])
         self.assertEqual(offered("check", "--format", "g"), ["github"])
         self.assertEqual(offered("check", "--write", "--format", "json", "@"), ["@sample"])

@@ -72,6 +72,14 @@ line 34 depth 2 call times 12 cycles 2 words 1 steps 4 share 24 12 48 proc scale
 line 35 depth 1 ccci times 1 cycles 1 words 0 steps 1 share 1 0 1
 line 36 depth 1 cclc times 1 cycles 1 words 0 steps 1 share 1 0 1 at 2 2 0
 """
+# Three services by hand. For veto the 7 cycles of spill may be in progress. Call 1 of strip begins at 7 + 5 = 12; call 2, whose look-at-me
+# comes at 6, at 7 + 3 + 2 * 5 = 20, so 14 after it. Spill begins at 7 + 4 * 5 + 10 * 3 = 57.
+RESPONSE = """\
+service veto gl 1 cycles 5 every 15 start 7 end 12 longest 12
+service strip gl 4 cycles 3 every 6 start 14 end 17 longest 57
+service spill gl 9 cycles 7 every 50 start 57 end 64 longest 299
+service slow gl 12 cycles 7 every 60 start - end - longest -
+"""
 
 
 class Chance:
@@ -160,9 +168,21 @@ def told_run(services):
     return collected(PLAN, VERDICT, [*told.lines, f"ended events {services}"], told.events)
 
 
-def collected(plan, verdict, lines, events):
-    """The run of such a listing and such events."""
+def run_of(responses, operations):
+    """The run in which operations call services by their bits (0: none), and each takes so many cycles."""
+    names = {it.gl: it.name for it in responses}
+    lines, events = [], []
+    for gl, cycles in operations:
+        lines += [f"demand {1 << gl >> 1:06x} {names.get(gl, '-')}", *["cycle 1 5 0 9 none x1 q1 wait 0"] * cycles]
+        if gl:
+            events.append(camac.Event(len(events) + 1, gl, cycles, 0, ()))
+    verdict = "".join(f"service {it.name} gl {it.gl} cycles {it.cycles} of 99 words 0 of 0 steps 9\n" for it in responses)
+    return collected(PLAN, f"accepted\n{verdict}", [*lines, f"ended events {len(events)}"], events, responses)
+
+
+def collected(plan, verdict, lines, events, responses=()):
+    """The run of such a listing and such events; `responses` are what `camac response` would say of the script."""
     services = parse_verdict(verdict)
     with mock.patch("camac.runs.run", lambda *_, **__: parse_listing(lines)), mock.patch("camac.runs.read_events", lambda _: iter(events)):
         with mock.patch("camac.runs.is_event_file", lambda _: False):
-            return runs.collect(runs.Inputs("plan", "script", "answers"), parse_plan(plan), services)
+            return runs.collect(runs.Inputs("plan", "script", "answers"), parse_plan(plan), services, None, responses)

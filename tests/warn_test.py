@@ -115,6 +115,30 @@ class Warnings(Case):
             with self.subTest(script=text):
                 self.assertEqual(self.codes(text), [(1, "W5")])
 
+    def test_held_up(self):
+        """Services of a bit and so many cycles, each on a line: told are the short ones, and of longer ones on lower bits the longest."""
+        for services, wanted in [
+            ([(1, 11), (2, 10)], [(2, "(bit 2, cycles 10) can be held up by `s1` (bit 1, cycles 11)")]),
+            ([(2, 10), (1, 11)], [(1, "(bit 2, cycles 10) can be held up by `s1` (bit 1, cycles 11)")]),
+            ([(1, 10), (2, 11)], []),
+            ([(1, 12), (2, 11)], []),
+            ([(1, 10), (2, 10)], []),
+            ([(7, 1), (9, 0)], [(2, "(bit 9, cycles 0) can be held up by `s7` (bit 7, cycles 1)")]),
+            ([(1, 12), (2, 14), (3, 3), (4, 14), (5, 11)], [(3, "(bit 3, cycles 3) can be held up by `s2` (bit 2, cycles 14)")]),
+            ([(4, 14), (2, 14), (5, 9)], [(3, "(bit 5, cycles 9) can be held up by `s2` (bit 2, cycles 14)")]),
+        ]:
+            with self.subTest(services=services):
+                found = [it for it in self.warned(services) if it.code is Code.HELD_UP]
+                self.assertEqual([(it.line, it.text) for it in found], [(line, f"this service {text}, whose bit is lower") for line, text in wanted])
+
+    def warned(self, services):
+        """The warnings of a script with these services, in a crate without waits."""
+        stations = ", ".join(f'{{ n = {bit}, type = "T", gl = {bit} }}' for bit, _ in services)
+        plan = f'[[type]]\nname = "T"\ncommands = [ {{ f = 10, a = 0 }} ]\n[[crate]]\nnumber = 1\nstation = [ {stations} ]\n'
+        lams = " ".join(f"cdlam s{bit} 1 1 {bit} 0" for bit, _ in services)
+        lines = [f"service s{bit} within 99 cycles event 0 words {{ {f'cclc s{bit} ' * cycles}}}\n" for bit, cycles in services]
+        return camac.warnings(self.write("plan", plan), self.write("a.script", f"{lams} {''.join(lines)}"))
+
     def test_comments_may_hold_anything(self):
         text = script(["cclc adc  # keep x in {{ cdreg \xff"]).encode("latin-1")
         (self.room / "a.script").write_bytes(text)
@@ -129,7 +153,9 @@ class Warnings(Case):
                 with self.subTest(script=it.name):
                     self.assertEqual({its.code for its in camac.warnings(plan, it)} - {Code.LEFT_CALLING}, set())
         for bench in sorted((TOP / "examples/benches").iterdir()):
-            self.assertEqual(camac.warnings(bench / "plan.toml", bench / "readout.script"), [])
+            held_up = [(32, Code.HELD_UP), (43, Code.HELD_UP)] if bench.name == "slow_control" else []
+            found = camac.warnings(bench / "plan.toml", bench / "readout.script")
+            self.assertEqual([(it.line, it.code) for it in found], held_up)
 
     def test_pages(self):
         """The scripts of the pages that are accepted on @sample are meant, but for the examples of the page of warnings."""

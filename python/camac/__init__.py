@@ -1,9 +1,9 @@
 """What stands around the program camac in Python.
 
-What the program prints is given as values: `plan`, `check`, `bounds`, `costs` and `run` call its subcommands, and `warnings` tells what is
-accepted and hardly meant. `read_events` reads an event file and tests it as `camac events` does (`whole` and `whole_size`: one that was
-cut; `event_arrays`: as arrays, where numpy is). A branch driver in Python is run by a checked script (`drive`, and `call` for one service
-once), and `camac.mock` has a branch without hardware. `play` does what `drive` does in this process, over the library for C
+What the program prints is given as values: `plan`, `check`, `bounds`, `costs`, `response` and `run` call its subcommands, and `warnings`
+tells what is accepted and hardly meant. `read_events` reads an event file and tests it as `camac events` does (`whole` and `whole_size`:
+one that was cut; `event_arrays`: as arrays, where numpy is). A branch driver in Python is run by a checked script (`drive`, and `call` for
+one service once), and `camac.mock` has a branch without hardware. `play` does what `drive` does in this process, over the library for C
 (`camac.library`). Where no program is there, the library answers what needs no run. `python3 -m camac` judges scripts, draws pictures and
 makes a report of a run (`camac.pictures`, `camac.report`).
 
@@ -17,7 +17,7 @@ from camac.events import Event, EventFileFault, Whole, read_events, whole, whole
 from camac.library import play
 from camac.listings import Command, Cycle, Demand, Lock, Move, Unlock, parse_listing, run
 from camac.plans import Crate, Declaration, ModuleType, Plan, Station, plan
-from camac.scripts import Heading, Service, bounds, check
+from camac.scripts import Heading, Response, Service, bounds, check, response
 from camac.warn import Warned, warnings
 
 __all__ = [
@@ -43,6 +43,7 @@ __all__ = [
     "ProgramFault",
     "ProtocolFault",
     "Refused",
+    "Response",
     "Row",
     "RunEnd",
     "Service",
@@ -63,6 +64,7 @@ __all__ = [
     "plan",
     "play",
     "read_events",
+    "response",
     "run",
     "warnings",
     "whole",

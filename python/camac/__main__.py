@@ -7,7 +7,7 @@ import os
 import re
 import signal
 import sys
-from typing import Callable, Dict, List, Optional, Sequence, TextIO, Tuple
+from typing import Callable, Dict, List, Mapping, Optional, Sequence, TextIO, Tuple
 
 from camac import judge, pictures, tables
 from camac.annotate import annotate
@@ -20,10 +20,11 @@ from camac.plans import plan
 from camac.program import knows_command, quickest
 from camac.report import report
 from camac.runs import Inputs, Run, collect
-from camac.scripts import check, source_lines
+from camac.scripts import Response, check, response, source_lines
 from camac.texts import is_standard_input
 
 DONE, REFUSED, USAGE, FAULT = 0, 1, 2, 3
+GREATEST_RATE = 4_294_967_295
 LOST = "{} is an input: it would be lost"
 DESCRIPTION = """\
 Judges scripts, draws pictures of a plan, a script and a run of camac, and makes a report of a run.
@@ -35,25 +36,36 @@ Status: 0 done; 1 refused, a wait that was not permitted, or numbers that differ
 # A line of an annotated run that stopped.
 STOPPED = re.compile(r"  (overrun \d wait \d+ events \d+|refused A\d line \d+: [a-z ]+)$")
 DRAW = """\
-  plan    PLAN [SCRIPT [ANSWERS]]           crates, stations, graded-L bits; with a run the cycles at each station
-  bounds  PLAN SCRIPT [ANSWERS|EVENTS]      what each service may take, of its heading's numbers
-  costs   PLAN SCRIPT [ANSWERS|EVENTS]      what the cycles consist of: FILE.NAME.svg for each service and procedure
-  run     PLAN SCRIPT ANSWERS|EVENTS        the cycles of each service of a run against its bound
-  words   PLAN SCRIPT ANSWERS|EVENTS        histograms of cycles and words
+  plan      PLAN [SCRIPT [ANSWERS]]           crates, stations, graded-L bits; with a run the cycles at each station
+  bounds    PLAN SCRIPT [ANSWERS|EVENTS]      what each service may take, of its heading's numbers
+  response  PLAN SCRIPT [ANSWERS]             how late each service can be, from its look-at-me to its end
+  costs     PLAN SCRIPT [ANSWERS|EVENTS]      what the cycles consist of: FILE.NAME.svg for each service and procedure
+  run       PLAN SCRIPT ANSWERS|EVENTS        the cycles of each service of a run against its bound
+  words     PLAN SCRIPT ANSWERS|EVENTS        histograms of cycles and words
 
 PLAN may be @sample, the built-in plan. An event file is told from answers by how it begins."""
 
 
 class Source:
     """What is drawn: the files, and what the program and a run say of them, each read once. A script or a run that is not given is an empty
-    one."""
+    one. `every` are the rates of modules, where it is drawn how late services can be."""
 
-    def __init__(self, files: Sequence[str]) -> None:
+    def __init__(self, files: Sequence[str], every: Optional[Mapping[str, int]] = None) -> None:
         self.files = files
         self.plan = plan(files[0])
         self.services = check(*files[:2]) if len(files) > 1 else []
+        self.responses: List[Response] = []
+        if every is not None:
+            _need("response")
+            self.responses = response(files[0], files[1], every)
         self.has_run = len(files) > 2
-        self.run = collect(Inputs(*files), self.plan, self.services) if self.has_run else Run(has_listing=False)
+        self.run = collect(Inputs(*files), self.plan, self.services, None, self.responses) if self.has_run else Run(has_listing=False)
+
+
+def _need(command: str) -> None:
+    """Raises ProgramFault where the program does not have a subcommand."""
+    if not knows_command(command):
+        raise ProgramFault(f"this program has no `{command}`", FAULT)
 
 
 def _draw_plan(of: Source) -> Dict[str, Canvas]:
@@ -65,8 +77,7 @@ def _draw_bounds(of: Source) -> Dict[str, Canvas]:
 
 
 def _draw_costs(of: Source) -> Dict[str, Canvas]:
-    if not knows_command("costs"):
-        raise UsageFault("this program has no `costs`", USAGE)
+    _need("costs")
     seen = of.run.seen if of.run.has_cycles else {}
     source = source_lines(of.files[1])
     drawn = {}
@@ -74,6 +85,10 @@ def _draw_costs(of: Source) -> Dict[str, Canvas]:
         its = seen.get(body.gl) if body.gl else None
         drawn[body.name] = pictures.draw_costs(body, source, its.cycles if its else None)
     return drawn
+
+
+def _draw_response(of: Source) -> Dict[str, Canvas]:
+    return {"": pictures.draw_response(of.responses, of.run if of.has_run else None)}
 
 
 def _draw_run(of: Source) -> Dict[str, Canvas]:
@@ -94,6 +109,7 @@ def _draw_words(of: Source) -> Dict[str, Canvas]:
 PICTURES: Dict[str, Tuple[Callable[[Source], Dict[str, Canvas]], int, int]] = {
     "plan": (_draw_plan, 1, 3),
     "bounds": (_draw_bounds, 2, 3),
+    "response": (_draw_response, 2, 3),
     "costs": (_draw_costs, 2, 3),
     "run": (_draw_run, 3, 3),
     "words": (_draw_words, 3, 3),
@@ -102,7 +118,7 @@ PICTURES: Dict[str, Tuple[Callable[[Source], Dict[str, Canvas]], int, int]] = {
 
 def draw(args: argparse.Namespace) -> int:
     root, end = os.path.splitext(args.out)
-    drawn = PICTURES[args.picture][0](Source(args.files))
+    drawn = PICTURES[args.picture][0](Source(args.files, args.every if args.picture == "response" else None))
     pictures_of = {f"{root}.{name}{end}" if name else args.out: canvas for name, canvas in drawn.items()}
     for out in pictures_of:
         if is_one_of(out, args.files):
@@ -113,7 +129,7 @@ def draw(args: argparse.Namespace) -> int:
 
 
 def make_report(args: argparse.Namespace) -> int:
-    made = report(Inputs(args.plan, args.script, args.source))
+    made = report(Inputs(args.plan, args.script, args.source), every=args.every)
     write(args.out, made.text)
     return made.status
 
@@ -181,15 +197,17 @@ def parser() -> argparse.ArgumentParser:
     it.add_argument("--write", action="store_true", help="first puts the least headings that are accepted into each script")
     it.set_defaults(do=judge_scripts, out=None)
     it = commands.add_parser("draw", help="Draws a picture", epilog=DRAW, formatter_class=raw)
-    it.add_argument("picture", choices=PICTURES, metavar="PICTURE", help="plan, bounds, costs, run or words")
+    it.add_argument("picture", choices=PICTURES, metavar="PICTURE", help="plan, bounds, response, costs, run or words")
     it.add_argument("files", nargs="+", metavar="FILE", help="the files that the picture is of, see below")
     it.add_argument("-o", "--out", required=True, metavar="SVG", help="the file to write")
+    _add_rates(it)
     it.set_defaults(do=draw)
     it = commands.add_parser("report", prog="camac-report", help="Makes one page of all that is known of a run", epilog=STATUS, formatter_class=raw)
     it.add_argument("plan", metavar="PLAN", help="a plan: a TOML file, or @sample, the built-in plan")
     it.add_argument("script", metavar="SCRIPT", help="a script")
     it.add_argument("source", metavar="ANSWERS|EVENTS", help="the answers of the run, or its event file")
     it.add_argument("-o", "--out", required=True, metavar="HTML", help="the file to write")
+    _add_rates(it)
     it.set_defaults(do=make_report)
     it = commands.add_parser("annotate", help="Lists a run with each answer line beside its operation")
     for name in ("plan", "script", "answers"):
@@ -204,6 +222,24 @@ def parser() -> argparse.ArgumentParser:
     return top
 
 
+def _add_rates(to: argparse.ArgumentParser) -> None:
+    text = "the module of a service raises its look-at-me again no sooner than so many cycles later; once for each service"
+    to.add_argument("--every", action="append", default=[], metavar="SERVICE=CYCLES", help=text)
+
+
+def _read_rates(words: Sequence[str], its: argparse.ArgumentParser) -> Dict[str, int]:
+    """Reads the values of --every; ends with status 2 where they are not understood."""
+    rates: Dict[str, int] = {}
+    for word in words:
+        name, _, cycles = word.partition("=")
+        if not name or not re.fullmatch("[0-9]{1,10}", cycles) or not 1 <= int(cycles) <= GREATEST_RATE:
+            its.error(f"--every is SERVICE=CYCLES with 1 to {GREATEST_RATE:,} cycles, not {word!r}")
+        if name in rates:
+            its.error(f"--every {name} stands twice")
+        rates[name] = int(cycles)
+    return rates
+
+
 def parse(words: List[str]) -> argparse.Namespace:
     """Reads the words of the command line; ends with status 2 where they are not understood."""
     its = parser()
@@ -212,6 +248,10 @@ def parse(words: List[str]) -> argparse.Namespace:
         _, least, most = PICTURES[args.picture]
         if not least <= len(args.files) <= most:
             its.error(f"draw {args.picture} takes {least} to {most} files" if least < most else f"draw {args.picture} takes {least} files")
+        if args.every and args.picture != "response":
+            its.error("--every is an option of draw response and of report")
+    if args.command in ("draw", "report"):
+        args.every = _read_rates(args.every, its)
     inputs = getattr(args, "files", []) + getattr(args, "scripts", []) + [getattr(args, name, "") for name in ("plan", "script", "source", "answers", "file")]
     if is_standard_input(inputs):
         its.error("@in cannot be an input here: it is read more than once")
@@ -234,19 +274,22 @@ def main(words: Optional[List[str]] = None) -> int:
     signal that says so."""
     if sys.stderr is None:
         sys.stderr = open(os.devnull, "w", encoding="utf-8")
+    status = FAULT
     try:
         return run(sys.argv[1:] if words is None else words)
     except BrokenPipeError:
         return end_by(signal.SIGPIPE)
     except KeyboardInterrupt:
         return end_by(signal.SIGINT)
+    except UsageFault as fault:
+        text, status = str(fault), USAGE
     except (DriveFault, ValueError) as fault:
         text = one_line(fault)
     except OSError as fault:
         text = f"{fault.strerror or fault}" + (f": {os.fsdecode(fault.filename)}" if fault.filename else "")
     with contextlib.suppress(OSError):
         print(f"camac: {text}", file=sys.stderr)
-    return FAULT
+    return status
 
 
 def run(words: List[str]) -> int:

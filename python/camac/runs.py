@@ -3,14 +3,15 @@ import dataclasses
 import enum
 import tempfile
 from array import array
-from typing import Dict, Iterable, List, NamedTuple, Optional, Tuple, Union
+from typing import Dict, Iterable, List, NamedTuple, Optional, Sequence, Tuple, Union
 
 from camac.drive import Ending, File, RunEnd
 from camac.events import Event, EventFileFault, read_events
 from camac.histograms import Histogram
+from camac.late import Late, Watch
 from camac.listings import Command, Cycle, Demand, Item, Lock, Move, Unlock, run
 from camac.plans import Plan
-from camac.scripts import Service
+from camac.scripts import Response, Service
 
 Operation = Union[Cycle, Lock, Unlock]
 # Of a service that is shown cycle by cycle, so many operations are kept.
@@ -124,7 +125,8 @@ class Run:
 
     `has_listing` is False of an event file alone, which tells no waits, no Q, no commands and no locks; `has_cycles` is False of one of
     version one. `end` is the end of a run, `fault` the fault of an event file. `kept` are services to be shown cycle by cycle.
-    `by_place` has the words by the bit and by their place in the event, `seen` what was seen of the services of each bit."""
+    `by_place` has the words by the bit and by their place in the event, `seen` what was seen of the services of each bit, and `late` how
+    late they ended, where a listing and `camac response` tell that."""
 
     def __init__(self, has_listing: bool) -> None:
         self.has_listing, self.has_cycles = has_listing, True
@@ -137,6 +139,7 @@ class Run:
         self.kept: Dict[Tuple[Why, int], Kept] = {}
         self.by_place: Dict[Tuple[int, int], Histogram] = {}
         self.seen: Dict[int, SeenOfBit] = {}
+        self.late: Dict[int, Late] = {}
         self.checks: List[Check] = []
 
     def last_line(self) -> str:
@@ -166,17 +169,22 @@ def is_event_file(file: File) -> bool:
         return opened.read(6) == b"CAMACE"
 
 
-def collect(inputs: Inputs, plan: Plan, services: List[Service], program: Optional[File] = None) -> Run:
-    """Plays the answers, or reads the event file, and returns what the run did.
+def collect(
+    inputs: Inputs, plan: Plan, services: List[Service], program: Optional[File] = None, responses: Sequence[Response] = ()
+) -> Run:
+    """Plays the answers, or reads the event file, and returns what the run did. `responses` are what `camac response` says of the script;
+    without them it is not told how late services ended.
 
     Raises OSError where a file cannot be read, and Refused and ProgramFault as `camac.run`."""
     if is_event_file(inputs.source):
         collected = _read_event_file(inputs.source, services)
     else:
         with tempfile.NamedTemporaryFile(suffix=".events") as events:
-            collector = _Collector(plan, {it.name: it.gl for it in services})
+            collector = _Collector(plan, {it.name: it.gl for it in services}, Watch(responses))
             collector.take(run(*inputs, events.name, program=program))
             collected = _compare(collector, events.name, services)
+            if responses:
+                _tell_late(collected, collector.watch.seen(), responses)
     collected.seen = _seen(collected)
     return collected
 
@@ -195,8 +203,8 @@ def _seen(run: Run) -> Dict[int, SeenOfBit]:
 class _Collector:
     """Gathers a run from the items of its listing. The last service is left open: the listing alone does not tell whether it ended."""
 
-    def __init__(self, plan: Plan, bits: Dict[str, int]) -> None:
-        self.plan, self.bits = plan, bits
+    def __init__(self, plan: Plan, bits: Dict[str, int], watch: Watch) -> None:
+        self.plan, self.bits, self.watch = plan, bits, watch
         self.run = Run(has_listing=True)
         self.longest: Dict[int, int] = {}
         self.open: Optional[InProgress] = None
@@ -221,6 +229,7 @@ class _Collector:
                 service = InProgress(self.bits.get(item.service or "", 0))
                 self.open = service if item.service else None
                 self.run.idle += item.service is None
+                self.watch.call(service.gl, len(self.run.gl) + 1)
                 continue
             else:
                 self.run.end = item
@@ -249,6 +258,7 @@ class _Collector:
             run.kept[Why.LONGEST, it.gl] = it.kept(len(run.gl))
         if it.no_x and (Why.MISSED, 0) not in run.kept:
             run.kept[Why.MISSED, 0] = it.kept(len(run.gl))
+        self.watch.end(it.gl, it.cycles, len(run.gl))
 
 
 def _take_cycle(service: InProgress, sent: Sent, item: Cycle) -> None:
@@ -298,6 +308,15 @@ def _compare(collector: _Collector, path: File, services: List[Service]) -> Run:
         Check(f"no service above its bound of cycles or words, {within:,} of {count:,}", within == count),
     ]
     return run
+
+
+def _tell_late(run: Run, late: Dict[int, Late], responses: Sequence[Response]) -> None:
+    """How late services ended, beside their bounds."""
+    run.late = late
+    total = sum(it.count for it in late.values())
+    is_within = all(it.end is None or late[it.gl].most <= it.end for it in responses)
+    text = f"no service ended later after its look-at-me than its bound, of {total:,} in whose stretch the rates were kept"
+    run.checks.append(Check(text, is_within))
 
 
 def _is_within(event: Event, of: Dict[int, Service]) -> bool:

@@ -1,12 +1,15 @@
-"""What the program says of a script: the verdict of `camac check`, and the least headings of `camac bounds`."""
+"""What the program says of a script: the verdict of `camac check`, the least headings of `camac bounds`, and how late services can be."""
 import re
-from typing import List, NamedTuple, Optional
+from typing import List, Mapping, NamedTuple, Optional
 
 from camac.drive import File
 from camac.program import output_of, shown
 
 VERDICT = re.compile(r"service (\w+) gl (\d+) cycles (\d+) of (\d+) words (\d+) of (\d+) steps (\d+)")
 HEADING = re.compile(r"(?:service (\w+)|proc (\w+)\(.*\)) within (\d+) cycles event (\d+) words(?: steps (\d+))?")
+RESPONSE = re.compile(
+    r"service (\w+) gl (\d+) cycles (\d+) (?:once|every (\d+)) start (\d+|-) end (\d+|-)(?: of \d+)? longest (\d+|-)"
+)
 
 
 class Service(NamedTuple):
@@ -32,6 +35,25 @@ class Heading(NamedTuple):
     words: int
     steps: Optional[int]
     line: str
+
+
+class Response(NamedTuple):
+    """How late a service of an accepted script can be, in dataway cycles (with those of auxiliary controllers): the name of its LAM, its
+    bit of the graded-L pattern, and its own bound. `every` is how soon its module may raise its look-at-me again, None where nothing was
+    said. `start` and `end` are the most cycles from a look-at-me until its service begins and has ended; within `longest` all look-at-mes
+    up to this bit are answered. These three are None where there is no such number."""
+
+    name: str
+    gl: int
+    cycles: int
+    every: Optional[int]
+    start: Optional[int]
+    end: Optional[int]
+    longest: Optional[int]
+
+    def calls(self, elapsed: int) -> int:
+        """How often the service is called at most within so many cycles."""
+        return 1 if self.every is None else elapsed // self.every + 1
 
 
 def check(plan: File, script: File, program: Optional[File] = None) -> List[Service]:
@@ -60,6 +82,26 @@ def parse_bounds(printed: str) -> List[Heading]:
         steps = int(found[5]) if found[5] else None
         headings.append(Heading(found[1] or found[2], bool(found[1]), int(found[3]), int(found[4]), steps, line))
     return headings
+
+
+def response(
+    plan: File, script: File, every: Optional[Mapping[str, int]] = None, program: Optional[File] = None
+) -> List[Response]:
+    """Returns how late each service of a script can be, in the order of their bits. `every` has the rates that are known: of a service's
+    name, how many cycles pass at least until its module raises its look-at-me again (1 to 4,294,967,295).
+
+    Raises as `check`, and UsageFault where the program has no `response`, or a rate is none of a service of the script."""
+    rates = [f"--every={name}={cycles}" for name, cycles in (every or {}).items()]
+    return parse_response(output_of("response", *rates, "--", plan, script, program=program))
+
+
+def parse_response(printed: str) -> List[Response]:
+    """Reads what `camac response` prints of an accepted script."""
+    responses = []
+    for line in printed.splitlines():
+        name, gl, cycles, *numbers = _read(line, RESPONSE.fullmatch(line)).groups()
+        responses.append(Response(name, int(gl), int(cycles), *(int(it) if it and it != "-" else None for it in numbers)))
+    return responses
 
 
 def _read(line: str, found: "Optional[re.Match[str]]") -> "re.Match[str]":

@@ -6,7 +6,7 @@ from typing import Dict, Iterator, List, NamedTuple, Optional, Set, Tuple
 from camac.bodies import Body, costs
 from camac.drive import File
 from camac.program import accepts, knows_command
-from camac.scripts import check
+from camac.scripts import Service, check
 
 
 class Code(enum.Enum):
@@ -17,6 +17,7 @@ class Code(enum.Enum):
     LEFT_CALLING = "W3"
     UNUSED_KEEP = "W4"
     NO_SERVICE = "W5"
+    HELD_UP = "W6"
 
 
 class Warned(NamedTuple):
@@ -39,6 +40,8 @@ class Token(NamedTuple):
 TOKEN = re.compile(rb"#[^\n]*|([A-Za-z][A-Za-z0-9_]*|[0-9]+|->|<-|\.\.|<=|>=|==|!=|[-{}()+*/%=,<>])")
 READS_OR_CLEARS = frozenset([*range(8), 9, 10, 11])
 TRANSFERS = frozenset(("cfsa", "cssa", "cfubc", "cfubr", "cfmad"))
+# A service of so many cycles or fewer is a short one.
+SHORT = 10
 Place = Tuple[int, int]
 
 
@@ -52,7 +55,8 @@ def warnings(plan: File, script: File, program: Optional[File] = None) -> List[W
         text = file.read()
     if not services:
         return [Warned(1, Code.NO_SERVICE, "this script has no service, so a run of it makes no cycle")]
-    found = [*_left_calling(tokens_of(text)), *_unused_keeps(plan, text, program)]
+    tokens = tokens_of(text)
+    found = [*_left_calling(tokens), *_held_up(tokens, services), *_unused_keeps(plan, text, program)]
     if looks_for_all(program):
         found += _of_costs(costs(plan, script, program))
     return sorted(found, key=lambda it: (it.line, it.code.value))
@@ -169,6 +173,17 @@ def _factor(words: List[str], at: int) -> Tuple[Optional[int], int]:
         value, after = _number(words, at + 1)
         return value, after + 1
     return (int(words[at]) if words[at].isdigit() else None), at + 1
+
+
+def _held_up(tokens: List[Token], services: List[Service]) -> Iterator[Warned]:
+    """Short services that a longer one on a lower bit can hold up; the longest of those is told."""
+    lines = {it.name: it.line for it in _bodies(tokens, "service")}
+    for it in services:
+        lower = [other for other in services if other.gl < it.gl and other.cycles > it.cycles]
+        if it.cycles <= SHORT and lower:
+            longest = max(lower, key=lambda other: (other.cycles, -other.gl))
+            text = f"this service (bit {it.gl}, cycles {it.cycles}) can be held up by `{longest.name}` (bit {longest.gl}, cycles {longest.cycles})"
+            yield Warned(lines[it.name], Code.HELD_UP, f"{text}, whose bit is lower")
 
 
 def _unused_keeps(plan: File, text: bytes, program: Optional[File]) -> Iterator[Warned]:

@@ -4,6 +4,7 @@ Each `draw_..` returns a `Canvas`: `picture()` is a file of its own, `figure()` 
 from camac.pictures.bounds import draw_bounds
 from camac.pictures.costs import draw_costs
 from camac.pictures.plan import draw_plan
+from camac.pictures.response import draw_response
 from camac.pictures.spectra import draw_events, draw_words
 from camac.pictures.places import draw_places
 from camac.pictures.strips import draw_strip
@@ -17,6 +18,7 @@ __all__ = [
     "draw_events",
     "draw_places",
     "draw_plan",
+    "draw_response",
     "draw_run",
     "draw_strip",
     "draw_words",

@@ -1,5 +1,5 @@
 """The report: one page of HTML with all that is known of a run. It fetches nothing, and opens from a file."""
-from typing import List, NamedTuple, Optional
+from typing import List, Mapping, NamedTuple, Optional
 
 from camac.bodies import Body, costs
 from camac.drive import File, Refused
@@ -9,7 +9,7 @@ from camac.report import sections
 from camac.report.page import page
 from camac.report.refused import refused_page
 from camac.runs import Check, Inputs, collect
-from camac.scripts import check, source_lines
+from camac.scripts import check, response, source_lines
 
 __all__ = ["Report", "report"]
 
@@ -22,24 +22,26 @@ class Report(NamedTuple):
     status: int
 
 
-def report(inputs: Inputs, program: Optional[File] = None) -> Report:
-    """Makes the page of a run, or of the refusal of plan or script.
+def report(inputs: Inputs, program: Optional[File] = None, every: Optional[Mapping[str, int]] = None) -> Report:
+    """Makes the page of a run, or of the refusal of plan or script. `every` are the rates of modules, as `camac.response` takes them.
 
-    Raises OSError where a file cannot be read, and UsageFault and ProgramFault as `camac.run`."""
+    Raises OSError where a file cannot be read, UsageFault where a rate is none of a service, and ProgramFault as `camac.run`."""
     try:
         plan = read_plan(inputs.plan, program)
         services = check(inputs.plan, inputs.script, program)
-        run = collect(inputs, plan, services, program)
+        responses = response(inputs.plan, inputs.script, every, program) if knows_command("response", program) else None
+        run = collect(inputs, plan, services, program, responses or ())
     except Refused as refusal:
         return Report(refused_page(inputs, str(refusal), program), 1)
     bodies = costs(inputs.plan, inputs.script, program) if knows_command("costs", program) else None
     if bodies is not None:
         run.checks.append(_shares_check(bodies))
-    facts = sections.Facts(inputs, version(program), plan, services, source_lines(inputs.script), bodies, run)
+    facts = sections.Facts(inputs, version(program), plan, services, source_lines(inputs.script), bodies, responses, run)
     parts = [
         sections.tiles(run),
         sections.last_line(run),
         sections.bounds(facts),
+        sections.late(facts),
         sections.cost(facts),
         sections.plan(facts),
         sections.run_section(facts),

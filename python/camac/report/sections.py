@@ -2,20 +2,21 @@
 import hashlib
 import heapq
 import os
-from typing import Dict, List, NamedTuple, Optional, Sequence, Tuple
+from typing import Dict, List, NamedTuple, Optional, Sequence, Tuple, Union
 
 from camac import functions
 from camac.bodies import Body
 from camac.drive import Ending, File
-from camac.pictures import draw_bounds, draw_costs, draw_events, draw_places, draw_plan, draw_run, draw_strip, draw_words
-from camac.pictures.svg import escape, share
+from camac.pictures import draw_bounds, draw_costs, draw_events, draw_places, draw_plan, draw_response, draw_run, draw_strip, draw_words
+from camac.pictures.svg import count, escape, share
 from camac.plans import Plan
 from camac.report.page import Cell, Column, Row, figure, header, table
 from camac.runs import Inputs, Kept, Run, Why
-from camac.scripts import Service
+from camac.scripts import Response, Service
 
 SECTIONS = (
     ("bounds", "Bounds"),
+    ("late", "How late"),
     ("cost", "Cost by line"),
     ("plan", "Plan"),
     ("run", "Run"),
@@ -37,7 +38,8 @@ NO_DEMAND_WAS_SERVED = (
 
 
 class Facts(NamedTuple):
-    """All that the page tells. `bodies` is None where the program does not tell the cost of lines."""
+    """All that the page tells. `bodies` and `responses` are None where the program does not tell the cost of lines, or how late services
+    can be."""
 
     inputs: Inputs
     version: str
@@ -45,6 +47,7 @@ class Facts(NamedTuple):
     services: List[Service]
     source: List[str]
     bodies: Optional[List[Body]]
+    responses: Optional[List[Response]]
     run: Run
 
     def service(self, gl: int) -> Optional[Service]:
@@ -121,6 +124,48 @@ def bounds(facts: Facts) -> str:
         "service is longer than these bounds, as long as auxiliary controllers keep to the waits of the plan.</p>"
         + figure(draw_bounds(facts.services, facts.run))
     )
+
+
+def late(facts: Facts) -> str:
+    """How late each service can be, and how late it was."""
+    out, run = ['<h2 id="late">How late</h2>'], facts.run
+    if facts.responses is None:
+        return out[0] + '<p class="mute">This program has no <code>response</code>: how late each service can be is not known.</p>'
+    out.append(
+        "<p>From a look-at-me to the end of its service no more cycles pass than these, whatever the modules answer. This holds where "
+        "auxiliary controllers keep to the waits of the plan, a look-at-me stays until it is answered, the demand output of its crate is "
+        "on, and modules keep the rates that were told (<code>--every</code>).</p>"
+    )
+    out.append(figure(draw_response(facts.responses, run)))
+    if not run.has_listing:
+        return "".join(out) + '<p class="mute">An event file does not tell how late a service was: answers do.</p>'
+    if any(it.broken for it in run.late.values()):
+        out.append(
+            "<p>A rate was broken: in a stretch of look-at-mes without a pause a service was called more often than its rate allows, or twice "
+            "where no rate was told. Services that ended later in the stretch are left out. A listing shows a pause only where an operation "
+            "called no service, or one of a greater bit.</p>"
+        )
+    return "".join([*out, _late_table(facts.responses, run)])
+
+
+def _late_table(responses: List[Response], run: Run) -> str:
+    """A line for each service: how late it can be, and what was seen."""
+    rows: List[Row] = []
+    for it in responses:
+        its, broken = run.late[it.gl], ""
+        if its.broken:
+            name, call, elapsed, number = its.broken
+            broken = f"{name}: call {call:,} after {count(elapsed, 'cycle')}, service {number:,}"
+        can_be = [_number(number, "-") for number in (it.start, it.end, it.longest)]
+        seen = [_number(number if its.count else None, "") for number in (its.most, its.number)]
+        rows.append((it.name, it.gl, _number(it.every, "once"), *can_be, *seen, its.count, its.left_out, broken))
+    titles = "GL,every,start,end,longest stretch,seen,in service,services,left out".split(",")
+    return table([Column("service", True), *map(Column, titles), Column("a rate was broken first by", True)], rows)
+
+
+def _number(number: Optional[int], word: str) -> Union[int, str]:
+    """The number, or the word that stands where there is none."""
+    return word if number is None else number
 
 
 def cost(facts: Facts) -> str:
