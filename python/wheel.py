@@ -1,5 +1,6 @@
 #!/usr/bin/env python3
-"""Makes a wheel of the package camac, with the standard library alone. `pip install ./python` calls it, too.
+"""Makes a wheel of the package camac, with the standard library alone: pip can then install from these sources without a network, where it
+could fetch no other tool that builds. `pip install ./python` calls it, and `pip install -e ./python`.
 
 usage: python/wheel.py FOLDER [LIBRARY]
 
@@ -38,18 +39,27 @@ def said(key):
     return re.search(rf'^{key} = "(.*)"$', (HERE / "pyproject.toml").read_text(encoding="utf-8"), re.M)[1]
 
 
-def contents(library):
+def commands():
+    """The entry points, as a file of the wheel tells them."""
+    section = (HERE / "pyproject.toml").read_text(encoding="utf-8").partition("[project.scripts]\n")[2].partition("\n[")[0]
+    return "[console_scripts]\n" + section.replace('"', "")
+
+
+def contents(library, is_link):
     """The files of the wheel by their names, without the list of them, and its tag."""
     files = {}
     for it in sorted((HERE / "camac").rglob("*")):
-        if it.is_file() and "__pycache__" not in it.parts:
+        if it.is_file() and "__pycache__" not in it.parts and not is_link:
             files[it.relative_to(HERE).as_posix()] = it.read_bytes()
+    if is_link:
+        files["camac.pth"] = f"{HERE}\n".encode()
     if library:
         files["camac/libcamac.so.0"] = pathlib.Path(library).read_bytes()
     tag = WITH_LIBRARY if library else ALONE
     version = said("version")
     metadata = METADATA.format(version=version, summary=said("description"), python=said("requires-python"))
     files[f"camac-{version}.dist-info/METADATA"] = metadata.encode()
+    files[f"camac-{version}.dist-info/entry_points.txt"] = commands().encode()
     files[f"camac-{version}.dist-info/WHEEL"] = WHEEL.format(pure="false" if library else "true", tag=tag).encode()
     return files, tag
 
@@ -59,9 +69,9 @@ def row(name, data):
     return f"{name},sha256={digest},{len(data)}\n"
 
 
-def make(folder, library=None):
-    """Writes the wheel, and returns its name."""
-    files, tag = contents(library)
+def make(folder, library=None, is_link=False):
+    """Writes the wheel, and returns its name. One that is a link leads Python to these sources."""
+    files, tag = contents(library, is_link)
     version = said("version")
     record = f"camac-{version}.dist-info/RECORD"
     files[record] = ("".join(row(*it) for it in files.items()) + f"{record},,\n").encode()
@@ -77,6 +87,11 @@ def make(folder, library=None):
 def build_wheel(wheel_directory, config_settings=None, metadata_directory=None):
     """What pip calls (PEP 517)."""
     return make(wheel_directory, os.environ.get("CAMAC_LIBRARY"))
+
+
+def build_editable(wheel_directory, config_settings=None, metadata_directory=None):
+    """What `pip install -e` calls (PEP 660)."""
+    return make(wheel_directory, is_link=True)
 
 
 if __name__ == "__main__":

@@ -207,18 +207,36 @@ class Client(Case):
         self.assertEqual(branch.asked[3:], [("unlock", 2), ("unlock", 1)])
 
     def test_an_interrupt_while_lockouts_are_released(self):
-        """Ctrl-C in a cycle, and again in each `unlock` that it calls for: each lockout is released, and the first interrupt is raised."""
-        branch = Listed(Answer(gl=4), Answer(), Answer(), KeyboardInterrupt())
+        """Ctrl-C in a cycle, and again in an `unlock` that it calls for: each lockout is released, and the first interrupt is raised."""
+        first = KeyboardInterrupt("first")
+        for interrupts, wanted in (((1,), [2, 2, 1]), ((2,), [2, 1, 1]), ((1, 3), [2, 2, 1, 1]), ((1, 2, 3, 4), [2, 2, 1, 1])):
+            branch = Listed(Answer(gl=4), Answer(), Answer(), first)
+            asked = []
+
+            def unlock(crate):
+                asked.append(crate)
+                if len(asked) in interrupts:
+                    raise KeyboardInterrupt
+
+            branch.unlock = unlock
+            with self.subTest(interrupts), self.assertRaises(KeyboardInterrupt) as raised:
+                self.drive(branch, "demand", "lock 1", "lock 2", "cycle 2 1 0 0 in", at_end="short events 0")
+            self.assertEqual((raised.exception, asked), (first, wanted))
+
+    def test_an_interrupt_inside_an_unlock_of_the_script(self):
+        """It may not have been released, so it is released again."""
+        branch = Listed(*[Answer(gl=4)] * 4)
         asked = []
 
         def unlock(crate):
             asked.append(crate)
-            raise KeyboardInterrupt
+            if len(asked) == 1:
+                raise KeyboardInterrupt
 
         branch.unlock = unlock
         with self.assertRaises(KeyboardInterrupt):
-            self.drive(branch, "demand", "lock 1", "lock 2", "cycle 2 1 0 0 in", at_end="short events 0")
-        self.assertEqual(asked, [2, 1])
+            self.drive(branch, "demand", "lock 1", "lock 2", "unlock 2", "demand", at_end="ended events 1")
+        self.assertEqual(asked, [2, 2, 1])
 
     def test_an_interrupt_inside_a_lock(self):
         """It may have been taken, so it is released."""

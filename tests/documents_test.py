@@ -234,6 +234,7 @@ class Documents(unittest.TestCase):
         self.addCleanup(room.cleanup)
         self.room = pathlib.Path(room.name)
         (self.room / "camac").symlink_to(PROGRAM)
+        shutil.copy(TOP / "python/camac-report", self.room / "camac-check")
         shutil.copytree(TOP / "examples", self.room / "examples")
 
     def test_pages(self):

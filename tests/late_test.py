@@ -169,7 +169,7 @@ class Watched(unittest.TestCase):
 
     def test_unfinished(self):
         """A service that did not come to its end is none."""
-        lines = ["demand 000001 veto", "cycle 1 5 0 0 none x1 q1 wait 0", "demand 000008 strip", "cycle 1 5 0 0 none x1 q1 wait 0", "short events 1"]
+        lines = ["demand 000001 veto", "cycle 1 5 0 9 none x1 q1 wait 0", "demand 000008 strip", "cycle 1 5 0 9 none x1 q1 wait 0", "short events 1"]
         verdict = "accepted\nservice veto gl 1 cycles 5 of 9 words 0 of 0 steps 9\nservice strip gl 4 cycles 3 of 9 words 0 of 0 steps 9\n"
         run = told.collected(told.PLAN, verdict, lines, [camac.Event(1, 1, 1, 0, ())], (VETO, STRIP))
         self.assertEqual([(run.late[gl].count, run.late[gl].most) for gl in (1, 4)], [(1, 1), (0, 0)])

@@ -353,6 +353,8 @@ class Install(unittest.TestCase):
         wanted += " share/emacs/site-lisp/camac-mode.el share/camac/vscode/package.json bin/camac-report share/man/man1/camac-report.1"
         wanted += " share/bash-completion/completions/camac-report share/zsh/site-functions/_camac-report"
         wanted += " share/fish/vendor_completions.d/camac-report.fish share/doc/camac/README.md share/doc/camac/docs/REFUSALS.md"
+        wanted += " bin/camac-check share/man/man1/camac-check.1 share/bash-completion/completions/camac-check share/zsh/site-functions/_camac-check"
+        wanted += " share/fish/vendor_completions.d/camac-check.fish"
         wanted += " share/doc/camac/examples/tutorial/crate.toml share/doc/camac/tests/pictures/plan.svg"
         wanted += "" if self.lacking else f" {self.of_c}"
         for name in wanted.split():
@@ -366,6 +368,9 @@ class Install(unittest.TestCase):
         self.assertEqual(call("camac-report", *words, cwd=elsewhere, env=path), (0, "", ""))
         self.assertEqual(call(place / "bin/camac-report", *words, cwd=elsewhere, env={"PATH": "/usr/bin:/bin"}), (0, "", ""))
         self.assertIn("ended events 1", (elsewhere / "run.html").read_text())
+        for command, env in (("camac-check", path), (place / "bin/camac-check", {"PATH": "/usr/bin:/bin"})):
+            told = call(command, "@sample", COPY / "examples/too_few_cycles.script", cwd=elsewhere, env=env)
+            self.assertEqual(told, (1, f"{COPY}/examples/too_few_cycles.script:4: refused E12: more cycles than annotated\n", ""))
         status, out, err = call(COPY / "install", place, env={**os.environ, "PATH": f"{place}/bin:{os.environ['PATH']}"})
         self.assertEqual((status, out.splitlines()[-2].startswith("install: camac 0.2.0"), err), (0, True, ""))
         if not self.lacking and shutil.which("pkg-config"):

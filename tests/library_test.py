@@ -22,8 +22,9 @@ import of_c
 from live import PROGRAM, TOP, Broken, Case, Listed
 from live_test import LOCKOUT, STRAIGHT_LINE
 import camac
-from camac import Answer, Ending, ProgramFault, Refused, UsageFault, library
+from camac import Answer, Ending, ProgramFault, Refused, UsageFault, judge, library
 from camac.mock import Adc, Auxiliary, MockBranch, Recorder, Register
+from camac.program import lines_of, output_of
 
 EXAMPLES = TOP / "examples"
 SAMPLE = EXAMPLES / "sample_plan.toml"
@@ -194,10 +195,10 @@ class Python(Case):
         return SAMPLE.read_bytes()
 
     def test_texts(self):
-        for plan, its in [*pairs(), (SAMPLE, EXAMPLES / "too_few_cycles.script")]:
+        for its in (EXAMPLES / "straight_line.script", EXAMPLES / "too_few_cycles.script"):
             for name in ("check", "explain", "bounds", "costs"):
-                verdict = getattr(library, name)(plan.read_bytes(), its.read_text())
-                self.assertEqual((0 if verdict.accepted else 1, verdict.text), call(PROGRAM, name, plan, its))
+                verdict = getattr(library, name)(self.sample(), its.read_text())
+                self.assertEqual((0 if verdict.accepted else 1, verdict.text), call(PROGRAM, name, SAMPLE, its))
         for name, of_program in (("plan", "plan"), ("explain_plan", "explain")):
             for plan in sorted(EXAMPLES.glob("*.toml")):
                 verdict = getattr(library, name)(plan.read_bytes())
@@ -205,6 +206,36 @@ class Python(Case):
         with self.assertRaises(ProgramFault) as found:
             library.check(self.sample(), b" " * (1 << 20) + b" ")
         self.assertEqual((str(found.exception), found.exception.status), ("fault input too long", 3))
+
+    def test_in_the_place_of_the_program(self):
+        """What the package is told by the program and by the library is the same, byte for byte and fault for fault."""
+        odd = self.room / "odd.script"
+        odd.write_bytes(STRAIGHT_LINE.replace("within 3 cycles", "within 0 cycles").replace("{", "{ # \xe9", 1).encode("latin-1"))
+        plan = self.write("bad.toml", "[[types]]\n")
+        its = [*pairs(), ("@sample", EXAMPLES / "too_few_cycles.script"), ("@sample", odd), (plan, odd), ("@sample", self.write("none.script", ""))]
+        words = [(command, "--", *it) for it in its for command in ("check", "explain", "bounds", "costs")]
+        for it in [*words, ("explain", "--", plan), ("plan", "--", plan), ("plan", "--", "@sample")]:
+            with self.subTest(it):
+                self.assertEqual(*(list(lines_of(*it, program=program)) for program in (PROGRAM, "@library")))
+        for it in (("check", "--", "@sample", self.room), ("check", "--", self.room / "none", odd), ("check", "--", "@sample", "/dev/zero")):
+            with self.subTest(it), self.assertRaises(ProgramFault) as by_program:
+                output_of(*it, program=PROGRAM)
+            with self.subTest(it), self.assertRaises(ProgramFault) as by_library:
+                output_of(*it, program="@library")
+            first, second = (found.exception.text.partition("\n")[0] for found in (by_program, by_library))
+            self.assertEqual((first, by_program.exception.status), (second, by_library.exception.status))
+        with self.assertRaises(UsageFault):
+            output_of("run", "--", *its[0], "a", "e", program="@library")
+
+    def test_check(self):
+        """`camac-check` says the same by the library as by the program, in each format."""
+        plans = {its: str(plan) for plan, its in pairs()}
+        plans.update({EXAMPLES / "too_few_cycles.script": "@sample", self.write("none.script", ""): "@sample", self.room / "no.script": "@sample"})
+        for its, plan in plans.items():
+            judged = [judge.judge(plan, [str(its)], program) for program in (PROGRAM, "@library")]
+            for form in judge.FORMATS:
+                with self.subTest(script=its, form=form):
+                    self.assertEqual(*(judge.told(it, form) for it in judged))
 
     def test_run_and_events(self):
         answers = EXAMPLES / "three_modules.answers"
@@ -226,10 +257,11 @@ class Python(Case):
     def test_play_is_drive(self):
         for its in (EXAMPLES / "lockout.script", EXAMPLES / "straight_line.script"):
             ends = []
-            for number, by in enumerate((camac.drive, lambda plan, it, branch, events: camac.play(plan, it, branch, events=events))):
+            for number, by in enumerate((camac.drive, camac.play)):
                 recorder = Recorder(self.branch())
                 (self.room / f"{number}").unlink(missing_ok=True)
-                ends.append((by(SAMPLE, its, recorder, self.room / f"{number}"), recorder.answer_lines(), self.file(f"{number}")))
+                end = by("@sample", its, recorder, self.room / f"{number}", program=PROGRAM, timeout=60)
+                ends.append((end, recorder.answer_lines(), self.file(f"{number}")))
             self.assertEqual(ends[0], ends[1])
             self.assertEqual(ends[0][0].events, 200)
 
@@ -248,11 +280,17 @@ class Python(Case):
         events.write_bytes(b"of the night before")
         with self.assertRaises(ProgramFault) as found:
             self.play(STRAIGHT_LINE, DEMAND, events=events)
-        self.assertEqual((str(found.exception), found.exception.status, events.read_bytes()), ("fault write", 3, b"of the night before"))
+        told = f"fault write\n  {events}: it holds bytes; a live run needs a file of its own"
+        self.assertEqual((str(found.exception), found.exception.status, events.read_bytes()), (told, 3, b"of the night before"))
         self.assertEqual(self.branch_asked.asked, [])
         with self.assertRaises(ProgramFault) as found:
             camac.play(self.room / "none", self.room / "none", None)
-        self.assertEqual((str(found.exception), found.exception.status), ("fault read", 3))
+        self.assertEqual((str(found.exception), found.exception.status), (f"fault read\n  {self.room}/none: No such file or directory", 3))
+        with self.assertRaises(ProgramFault) as found:
+            camac.play("@sample", "/dev/zero", None)
+        self.assertEqual(str(found.exception), "fault input too long")
+        with self.assertRaises(UsageFault):
+            camac.play("@in", EXAMPLES / "lockout.script", None)
         with self.assertRaises(TypeError):
             self.play(STRAIGHT_LINE, DEMAND, None)
 
@@ -266,6 +304,21 @@ class Python(Case):
                 # a lockout that failed is not held; one that was interrupted may be
                 is_held = count > 1 or isinstance(error, KeyboardInterrupt)
                 self.assertEqual(self.branch_asked.asked.count(("unlock", 1)), int(is_held))
+
+    def test_an_interrupt_inside_an_unlock(self):
+        """Ctrl-C where the script releases the lockout: it is released again."""
+        branch = Listed(DEMAND, Answer(), *[CYCLE] * 4)
+        asked = []
+
+        def unlock(crate):
+            asked.append(crate)
+            if len(asked) == 1:
+                raise KeyboardInterrupt
+
+        branch.unlock = unlock
+        with self.assertRaises(KeyboardInterrupt):
+            camac.play("@sample", self.write("its.script", LOCKOUT), branch)
+        self.assertEqual(asked, [1, 1])
 
     def test_sessions(self):
         with library.Session(self.sample(), STRAIGHT_LINE) as session:
@@ -297,29 +350,57 @@ class Package(Case):
             its.extractall(self.room / "place")
             listed = {it.split(",")[0] for it in its.read(next(it for it in its.namelist() if it.endswith("RECORD"))).decode().split()}
             self.assertEqual(listed, set(its.namelist()))
-        self.check_place(self.room / "place")
+        self.check_without_program(self.check_place(self.room / "place"))
 
     def check_place(self, place):
         bare = {key: it for key, it in os.environ.items() if key not in ("CAMAC_LIBRARY", "LD_LIBRARY_PATH", "PYTHONPATH")}
+        env = {**bare, "PYTHONPATH": str(place)}
         code = "import camac.library as it; print(it.version(), it.__file__)"
-        status, told = call(sys.executable, "-c", code, cwd=place, env={**bare, "PYTHONPATH": str(place)})
-        self.assertEqual((status, told), (0, f"{library.version()} {place}/camac/library.py\n"))
+        self.assertEqual(call(sys.executable, "-c", code, cwd=place, env=env), (0, f"{library.version()} {place}/camac/library.py\n"))
+        return {**env, "CAMAC_PROGRAM": "", "PATH": "/usr/bin:/bin"}
+
+    def check_without_program(self, env):
+        """What needs no run is done by the library."""
+        few, its, event_file = EXAMPLES / "too_few_cycles.script", EXAMPLES / "procedure.script", self.room / "run.events"
+        event_file.write_bytes(b"CAMACEV2")
+        calls = [sys.executable, "-m", "camac"]
+        refused = (1, f"{few}:4: refused E12: more cycles than annotated\n")
+        self.assertEqual(call(*calls, "check", "@sample", few, env=env), refused)
+        (self.room / "bin").mkdir()
+        broken = self.write("bin/camac", "#!/bin/sh\necho broken >&2; exit 9\n")
+        broken.chmod(0o755)
+        self.assertEqual(call(*calls, "check", "@sample", few, env={**env, "PATH": f"{self.room}/bin:{env['PATH']}"}), refused)
+        self.assertEqual(call(*calls, "check", "@sample", few, env={**env, "CAMAC_PROGRAM": str(broken)})[0], 3)
+        for words in (["draw", "costs", "@sample", its], ["draw", "plan", "@sample", its], ["report", "@sample", its, event_file]):
+            self.assertEqual(call(*calls, *words, "-o", self.room / "it.svg", env=env), (0, ""))
+        status, told = call(*calls, "report", "@sample", its, self.write("answers", ""), "-o", self.room / "it.html", env=env)
+        self.assertEqual((status, told), (3, "camac: the program camac is not in PATH, and CAMAC_PROGRAM is not set\n"))
 
     @unittest.skipUnless(importlib.util.find_spec("pip"), "pip is not here")
     def test_pip(self):
         place = self.room / "place"
         source = self.room / "python"
         shutil.copytree(TOP / "python", source, ignore=shutil.ignore_patterns("__pycache__"))
-        words = ["-m", "pip", "install", "--quiet", "--no-index", "--disable-pip-version-check", "--root-user-action=ignore", "--target", place]
+        words = [sys.executable, "-m", "pip", "install", "--quiet", "--no-index", "--disable-pip-version-check", "--root-user-action=ignore"]
         bare = {key: it for key, it in os.environ.items() if key != "CAMAC_LIBRARY"}
-        status, told = call(sys.executable, *words, source, env=bare)
-        self.assertEqual((status, told), (0, ""))
-        self.assertTrue((place / "camac/library.py").is_file())
+        self.assertEqual(call(*words, "--target", place, source, env=bare), (0, ""))
+        self.assertTrue((place / "camac/py.typed").is_file())
         self.assertFalse((place / "camac/libcamac.so.0").exists())
+        self.check_commands(place, place)
         shutil.rmtree(place)
-        status, told = call(sys.executable, *words, source, env=dict(os.environ))
-        self.assertEqual((status, told), (0, ""))
+        self.assertEqual(call(*words, "--target", place, source), (0, ""))
         self.check_place(place)
+        place = self.room / "of_a_link"
+        self.assertEqual(call(*words, "--prefix", place, "-e", source, env=bare), (0, ""))
+        (link,) = place.rglob("camac.pth")
+        self.check_commands(place, link.read_text().rstrip("\n"))
+
+    def check_commands(self, place, package):
+        """The commands of the package are there."""
+        for name, *words in (("camac-check", "@sample", EXAMPLES / "straight_line.script"), ("camac-report", "--help")):
+            (command,) = place.rglob(name)
+            status, told = call(command, *words, env={**os.environ, "PYTHONPATH": str(package)})
+            self.assertEqual((status, told.partition(" [")[0]), (0, "usage: camac-report" if "--help" in words else ""))
 
 
 if __name__ == "__main__":

@@ -26,7 +26,7 @@ TOP = pathlib.Path(__file__).resolve().parent.parent
 PROGRAM = os.path.abspath(os.environ.get("CAMAC_PROGRAM") or TOP / "crates/camac/out/camac")
 sys.path.insert(0, str(TOP / "python"))
 sys.dont_write_bytecode = True
-from camac import Event, EventFileFault, event_arrays, read_events, whole  # noqa: E402
+from camac import Event, EventFileFault, event_arrays, read_events, whole, whole_size  # noqa: E402
 
 ONE = bytes.fromhex("43414d4143455631 ca4d 0003 00000001 0002 00000fff 00ffffff ca4d 0018 00000002 0000")
 TWO = bytes.fromhex("43414d4143455632 ca4d 0003 00000001 00000003 0000 0001 00000fff ca4d 0001 00000002 00010000 ffff 0000")
@@ -150,7 +150,7 @@ class EventFiles(unittest.TestCase):
                 found = whole(io.BytesIO(data[:cut]))
                 size = max([end for end in ends if end <= cut], default=0)
                 events = list(read_events(io.BytesIO(data)))[: ends.index(size) if size else 0]
-                self.assertEqual((found.events, found.size), (events, size), cut)
+                self.assertEqual((found.events, found.size, whole_size(io.BytesIO(data[:cut]))), (events, size, size), cut)
                 self.assertEqual(found.fault is None, cut in ends, cut)
                 if found.fault:
                     self.assertEqual(found.fault.code, "V7" if cut >= 8 else "V1")
@@ -161,6 +161,15 @@ class EventFiles(unittest.TestCase):
         """A file with so many events, of up to 20 words each."""
         records = (struct.pack(f">HHIIHH{k % 21}I", 0xCA4D, 1 + k % 24, k + 1, 40, k % 3, k % 21, *[k] * (k % 21)) for k in range(count))
         return b"CAMACEV2" + b"".join(records)
+
+    def test_the_size_of_a_long_file(self):
+        """It is added up in little memory: the events would take ten times the file."""
+        data = self.many(20_000)
+        file = io.BytesIO(data + data[8:20])
+        tracemalloc.start()
+        self.addCleanup(tracemalloc.stop)
+        self.assertEqual(whole_size(file), len(data))
+        self.assertLess(tracemalloc.get_traced_memory()[1], 500_000)
 
     def test_time(self):
         data = self.many(500_000)

@@ -11,6 +11,7 @@ import os
 import re
 import subprocess
 import sys
+import tempfile
 import unittest
 import xml.etree.ElementTree as ElementTree
 from unittest import mock
@@ -26,6 +27,21 @@ from camac.runs import Inputs
 
 STRAIGHT = "cdlam adc 1 1 5 12\nvar v\nservice adc within 3 cycles event 1 words {\n  cdreg r 1 1 5 0\n  cfsa 0 r -> v\n  put v\n}\n"
 FIGURE = re.compile(r"<svg .*?</svg>", re.S)
+
+
+def ran(*words):
+    """Status, standard output and standard error of a command, which runs in this process."""
+    err = io.StringIO()
+    with tempfile.TemporaryFile() as out, contextlib.redirect_stderr(err):
+        before = os.dup(1)
+        os.dup2(out.fileno(), 1)
+        try:
+            status = commands.main([str(it) for it in words])
+        finally:
+            os.dup2(before, 1)
+            os.close(before)
+        out.seek(0)
+        return status, out.read().decode(), err.getvalue()
 
 
 class Ends(bench.BenchCase):
@@ -179,14 +195,9 @@ class Commands(bench.BenchCase):
     """The command line: words, statuses, and what is left behind."""
 
     def call(self, *words, status=0):
-        out, err = io.StringIO(), io.StringIO()
-        with contextlib.redirect_stdout(out), contextlib.redirect_stderr(err):
-            try:
-                found = commands.main([str(it) for it in words])
-            except SystemExit as stop:
-                found = stop.code
-        self.assertEqual(found, status, err.getvalue())
-        return out.getvalue(), err.getvalue()
+        found, *told = ran(*words)
+        self.assertEqual(found, status, told)
+        return tuple(told)
 
     def test_pictures(self):
         plan, script, answers = self.files
@@ -243,6 +254,19 @@ class Commands(bench.BenchCase):
         with mock.patch.dict(os.environ, {"CAMAC_PROGRAM": str(self.room / "none")}):
             self.assertIn("none", self.call("draw", "plan", plan, "-o", out, status=3)[1])
 
+    def test_a_fault_of_the_program(self):
+        """Its second line, which names the file, is told in the same line."""
+        fake = self.write("fake", "#!/bin/sh\nprintf 'fault read\\n  plan.toml: Is a directory\\n' >&2\nexit 3\n")
+        fake.chmod(0o755)
+        with mock.patch.dict(os.environ, {"CAMAC_PROGRAM": str(fake)}):
+            told = self.call("draw", "plan", self.files[0], "-o", self.room / "out", status=3)[1]
+        self.assertEqual(told, "camac: fault read: plan.toml: Is a directory\n")
+
+    def test_an_input_that_a_picture_would_take_the_place_of(self):
+        its = self.write("costs.adc.svg", STRAIGHT)
+        told = self.call("draw", "costs", "@sample", its, "-o", self.room / "costs.svg", status=3)[1]
+        self.assertEqual((told, its.read_text()), (f"camac: {its} is an input: it would be lost\n", STRAIGHT))
+
     def test_an_older_program(self):
         """Of a program without `costs` a page is made, and says what it lacks."""
         plan, script, answers = self.files
@@ -284,43 +308,47 @@ class Commands(bench.BenchCase):
 
 
 class Pages(unittest.TestCase):
-    """The manual page and the completions of camac-report, compared with its help."""
+    """The manual pages and the completions of camac-check and camac-report, compared with their help."""
 
-    def setUp(self):
-        out = io.StringIO()
-        with contextlib.redirect_stdout(out), self.assertRaises(SystemExit):
-            commands.main(["report", "--help"])
-        self.options = re.findall(r"^  -(\w)(?: [A-Z]+)?, --(\w+)", out.getvalue(), re.M)
-        self.assertEqual(self.options, [("h", "help"), ("o", "out")])
-        self.assertEqual(re.findall(r"^  --(\w+)", out.getvalue(), re.M), ["every"])
+    def options(self, command):
+        """Each option as it stands in the help: its short name, if it has one, and its long one."""
+        told = ran(command, "--help")[1]
+        self.assertTrue(told.startswith(f"usage: camac-{command} "), told)
+        return re.findall(r"^  (?:-(\w)(?: [A-Z]+)?, )?--(\w+)", told, re.M)
 
-    def test_manual_page(self):
-        page = (TOP / "man/camac-report.1").read_text()
-        for short, long in self.options:
-            self.assertRegex(page, rf"\n\.It Fl {short} , Fl -{long}\b")
-        self.assertIn("\n.It Fl -every Ar ", page)
-        self.assertEqual(re.search(r"\.Os .*", page)[0], re.search(r"\.Os .*", (TOP / "man/camac.1").read_text())[0])
+    def test_manual_pages(self):
+        for command, count in (("check", 5), ("report", 3)):
+            page = (TOP / f"man/camac-{command}.1").read_text()
+            self.assertEqual(len(self.options(command)), count)
+            for short, long in self.options(command):
+                self.assertRegex(page, rf"\n\.It {f'Fl {short} , ' if short else ''}Fl -{long}\b")
+            self.assertEqual(re.search(r"\.Os .*", page)[0], re.search(r"\.Os .*", (TOP / "man/camac.1").read_text())[0])
 
     def test_completions(self):
-        for name in ("camac-report.bash", "_camac-report", "camac-report.fish"):
-            text = (TOP / "completions" / name).read_text()
-            self.assertIn("@sample", text)
-            self.assertRegex(text, r"--every\b|-l every\b")
-            for short, long in self.options:
-                self.assertRegex(text, rf"-{short}\b|-s {short}\b")
-                self.assertRegex(text, rf"--{long}\b|-l {long}\b")
+        for command in ("check", "report"):
+            for name in (f"camac-{command}.bash", f"_camac-{command}", f"camac-{command}.fish"):
+                text = (TOP / "completions" / name).read_text()
+                self.assertIn("@sample", text)
+                for short, long in self.options(command):
+                    self.assertRegex(text, rf"-{short}\b|-s {short}\b")
+                    self.assertRegex(text, rf"--{long}\b|-l {long}\b")
 
     def test_bash(self):
-        def offered(*words):
-            line = 'source "$0"; COMP_WORDS=(camac-report "$@"); COMP_CWORD=$#; _camac_report; printf "%s\\n" "${COMPREPLY[@]}"'
-            done = subprocess.run(["bash", "-c", line, TOP / "completions/camac-report.bash", *words], stdout=subprocess.PIPE, cwd=TOP / "examples")
+        def offered(command, *words):
+            line = f'source "$0"; COMP_WORDS=(camac-{command} "$@"); COMP_CWORD=$#; _camac_{command}; printf "%s\\n" "${{COMPREPLY[@]}}"'
+            done = subprocess.run(["bash", "-c", line, TOP / f"completions/camac-{command}.bash", *words], stdout=subprocess.PIPE, cwd=TOP / "examples")
             return done.stdout.decode().split()
 
-        self.assertEqual(offered("@"), ["@sample"])
-        self.assertEqual(offered("sample_p"), ["sample_plan.toml"])
-        self.assertEqual(offered("@sample", "stra"), ["straight_line.script"])
-        self.assertEqual(offered("@sample", "@"), [])
-        self.assertEqual(offered("@sample", "-"), ["--every", "--help", "--out", "-h", "-o"])
+        for command in ("check", "report"):
+            self.assertEqual(offered(command, "@"), ["@sample"])
+            self.assertEqual(offered(command, "sample_p"), ["sample_plan.toml"])
+            self.assertEqual(offered(command, "@sample", "stra"), ["straight_line.script"])
+            self.assertEqual(offered(command, "@sample", "@"), [])
+        self.assertEqual(offered("report", "@sample", "-"), ["--every", "--help", "--out", "-h", "-o"])
+        self.assertEqual(offered("check", "@sample", "--f"), ["--format"])
+        self.assertEqual(offered("check", "--format", "g"), ["github"])
+        self.assertEqual(offered("check", "--write", "--format", "json", "@"), ["@sample"])
+        self.assertEqual(offered("check", "--write", "@sample", "lockout.script", "@"), [])
 
 
 if __name__ == "__main__":

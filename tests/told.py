@@ -173,7 +173,7 @@ def run_of(responses, operations):
     names = {it.gl: it.name for it in responses}
     lines, events = [], []
     for gl, cycles in operations:
-        lines += [f"demand {1 << gl >> 1:06x} {names.get(gl, '-')}", *["cycle 1 5 0 0 none x1 q1 wait 0"] * cycles]
+        lines += [f"demand {1 << gl >> 1:06x} {names.get(gl, '-')}", *["cycle 1 5 0 9 none x1 q1 wait 0"] * cycles]
         if gl:
             events.append(camac.Event(len(events) + 1, gl, cycles, 0, ()))
     verdict = "".join(f"service {it.name} gl {it.gl} cycles {it.cycles} of 99 words 0 of 0 steps 9\n" for it in responses)

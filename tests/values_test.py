@@ -75,6 +75,7 @@ class Values(Case):
         self.assertEqual(plans.parse_plan("buffer 4096\n").crates, ())
 
     def test_sample_plan(self):
+        self.assertEqual((TOP / "python/camac/sample_plan.toml").read_text(), (TOP / "examples/sample_plan.toml").read_text())
         plan = camac.plan("@sample")
         self.assertEqual(plan.crates[0].stations, (Station(5, "ADC", 3), Station(6, "REG", None)))
         self.assertEqual({name: it.commands for name, it in plan.types.items()}, {"ADC": 20, "REG": 4})
@@ -120,9 +121,25 @@ class Values(Case):
             ("refused A1 line 7: line shape", RunEnd(Ending.REFUSED, "refused A1 line 7: line shape")),
         ]:
             self.assertEqual(list(camac.parse_listing((LISTING + last).splitlines(True))), [*wanted, end])
-        for line in ("", "demand", "cycle 1 5 0 0 in 123fff x2 q1 wait 0", "cycle 8 5 0 0 none x1 q1 wait 0", "lock 1", "cycle 1 5 0 0 none x1"):
-            with self.subTest(line), self.assertRaises(ValueError):
-                list(camac.parse_listing([line]))
+
+    def test_what_is_no_line_of_a_listing(self):
+        good = ["cycle 1 5 0 0 in 123fff x1 q1 wait 0", "cycle 1 30 15 31 none x0 q0 wait 15", "cycle 7 28 8 23 out 00000f x1 q0 wait 10"]
+        self.assertEqual(len(list(camac.parse_listing([*good, "demand 00000f a_Z9", "lock 7 wait 15", "unlock 1", "ended events 10\n"]))), 7)
+        wrong = ["", "demand", "demand 00000F adc", "demand 000004 9", "demand 000004 \xe9t\xe9", "lock 1", "lock 1 wait 16", "unlock 0"]
+        wrong += ["ended events 01", "overrun 1 wait 16 events 0", "hello", "\udc80", "x", " x", "none x1 q1 wait 0", "demand 000004 adc x1 q1 wait 0"]
+        for old, new in [
+            *((" in 123fff", it) for it in (" in +12345", " in 12_345", " in 12345", " in 1234567", " in 123FFF", " in12345f", "", " none", " out 123fff")),
+            *((" in 123fff", it) for it in (" in \u0661\u0662\u0663\u0664\u0665\u0666", " in\t123fff", " none 123fff", " in 123fff none")),
+            *(("1 5 0 0", it) for it in ("8 5 0 0", "1 0 0 0", "1 24 0 0", "1 29 0 0", "1 05 0 0", "1 5 16 0", "1 5 0 32", "1 5 0 8", "1 \u0665 0 0")),
+            *(("x1 q1 wait 0", it) for it in ("x2 q1 wait 0", "x1", "x1 q1 wait 16", "x1 q1 wait 00", "x1 q1 wait 0 ", "x1 q1 wait \u0660")),
+        ]:
+            wrong.append(good[0].replace(old, new))
+        for line in wrong:
+            with self.subTest(line), self.assertRaisesRegex(ValueError, "^line 2 is no line of a listing: "):
+                list(camac.parse_listing(["unlock 1", line]))
+        with self.assertRaises(ValueError) as raised:
+            list(camac.parse_listing(["x" * 100_000]))
+        self.assertEqual(str(raised.exception), f"line 1 is no line of a listing: '{'x' * 80}..'")
 
     def test_run(self):
         answers = self.write("answers", "0 0 000000 0 000004\n1 1 123fff 2 000000\n")

@@ -10,6 +10,7 @@ import os
 import re
 import subprocess
 import sys
+import time
 import unittest
 from unittest import mock
 
@@ -19,6 +20,14 @@ from camac.warn import Code
 
 ACCEPTED = re.compile(r"^```camac accepted([^\n]*)\n(.*?)^```$", re.M | re.S)
 READ = "cdreg r 1 1 5 0\ncfsa 0 r -> v"
+# Headings over several lines, with comments, and numbers that are right in another spelling.
+DRAFT = b"""cdlam adc 1 1 5 12  # service x within 9 cycles\r\nproc read(a in 0..15)\r
+  within 90 # within 7 cycles {\r
+  cycles event 001 words\tsteps 99{ cdreg r 1 1 5 a cfsa 0 r -> a put a }\r
+\r
+# \xff\xfe\r
+service adc within 0 cycles event 2 words { call read(0)\rcall read(11) }  # the end"""
+LEAST = DRAFT.replace(b"within 90", b"within 3").replace(b"steps 99", b"steps 3").replace(b"within 0", b"within 6")
 
 
 class Warnings(Case):
@@ -76,6 +85,17 @@ class Warnings(Case):
         for body, is_told in (("cclc adc", False), ("ctlm adc", True)):
             text = script(["call o()"]).replace("service", procedure % body + "service")
             self.assertEqual(self.codes(text), [(5, "W3")] if is_told else [])
+
+    def test_deep_procedures(self):
+        """Each procedure is looked at once: 13 of them, each of which calls the one before four times, take no second."""
+        heads = [f"proc p{k}() within 0 cycles event 0 words steps 0 {{" for k in range(13)]
+        bodies = ["", *("".join(f" call p{k}()" for _ in range(4)) for k in range(12))]
+        text = script(["call p12()"]).replace("service", "".join(f"{head}{body} }}\n" for head, body in zip(heads, bodies)) + "service")
+        for head, least in zip(heads, camac.bounds("@sample", self.write("a.script", text))):
+            text = text.replace(head, f"{least.line} {{")
+        began = time.process_time()
+        self.assertEqual(self.codes(text), [(16, "W3")])
+        self.assertLess(time.process_time() - began, 1)
 
     def test_unused_keep(self):
         loop = "for i = 0 to 3 keep {} {{ {} }}"
@@ -148,6 +168,10 @@ class Warnings(Case):
                         self.assertEqual({code for _, code in self.codes(text)} - {"W3"}, set())
         self.assertGreater(tried, 20)
 
+
+class Command(Case):
+    """The command line."""
+
     def command(self, *words):
         env = {**os.environ, "PYTHONPATH": str(TOP / "python"), "CAMAC_PROGRAM": PROGRAM, "PYTHONDONTWRITEBYTECODE": "1"}
         words = [sys.executable, "-m", "camac", "check", *map(str, words)]
@@ -195,6 +219,59 @@ class Warnings(Case):
         self.write("plan", "[[types]]\n")
         plan = json.loads(self.command("--json", "plan", "odd")[1])
         self.assertIn("`types`", plan[0]["found"][0]["explanation"][0])
+        self.assertEqual(self.command("--format", "json", "@sample", "odd", "bad")[1], printed)
+
+    def test_github(self):
+        """Workflow commands, in which a comma, a colon, a percent sign and the end of a line are escaped."""
+        self.write("100%,a:b", script(["put 1"]))
+        self.write("bad", script(["put w  # 5%"]))
+        status, printed = self.command("--format", "github", "@sample", "100%,a:b", "bad", "none")
+        odd, bad, none = printed.splitlines()
+        calling = "this service neither reads nor clears the module of `adc` (crate 1, station 5), which may call it for ever"
+        self.assertEqual((status, odd), (3, f"::warning file=100%25%2Ca%3Ab,line=3,title=warning W3::{calling}"))
+        self.assertTrue(bad.startswith("::error file=bad,line=4,title=refused S5::name not declared%0A    4 | put w  # 5%25%0A"), bad)
+        self.assertEqual(none, "::error file=none,title=fault::No such file or directory")
+
+    def test_write(self):
+        """The least headings are put into the script, and nothing else of it changes."""
+        file = self.room / "a.script"
+        file.write_bytes(DRAFT)
+        file.chmod(0o640)
+        (self.room / "link").symlink_to("a.script")
+        printed = "link:2: written: proc read(a in 0..15) within 3 cycles event 1 words steps 3\nlink:7: written: service adc within 6 cycles event 2 words\n"
+        self.assertEqual(self.command("--write", "--strict", "@sample", "link"), (0, printed))
+        self.assertEqual((file.read_bytes(), file.stat().st_mode & 0o777, (self.room / "link").is_symlink()), (LEAST, 0o640, True))
+        before = file.stat()
+        self.assertEqual(self.command("--write", "@sample", "a.script"), (0, ""))
+        self.assertEqual((file.stat().st_ino, file.stat().st_mtime_ns), (before.st_ino, before.st_mtime_ns))
+        self.assertEqual(sorted(it.name for it in self.room.iterdir()), ["a.script", "link"])
+
+    def test_refused_headings(self):
+        """What no heading mends is told, and the file is as it was. Where `explain` speaks of a heading first, nothing of it is told."""
+        wide = DRAFT.replace(b"event 001", b"event 0").replace(b"call read(11)", b"put 16777216")
+        for text, wanted, begins in (
+            (wide, "refused E16: word above 24 bits", []),
+            (wide.replace(b"event 0", b"event 1"), "refused E16: word above 24 bits", ["    7 | service adc within 0 cycles event 2 words { call read(0)"]),
+            (b"service\n" + DRAFT, "refused S2: unexpected token", ["    2 | cdlam adc 1 1 5 12  # service x within 9 cycles"]),
+        ):
+            file = self.room / "a.script"
+            file.write_bytes(text)
+            before = file.stat()
+            status, printed = self.command("--write", "--json", "@sample", "a.script")
+            (found,) = json.loads(printed)[0]["found"]
+            self.assertEqual((status, f"{found['kind']} {found['code']}: {found['text']}"), (1, wanted))
+            self.assertEqual([it[: len(begins[0])] for it in found["explanation"][:1]], begins)
+            self.assertEqual((file.read_bytes(), file.stat().st_ino, file.stat().st_mtime_ns), (text, before.st_ino, before.st_mtime_ns))
+
+    def test_write_many(self):
+        """Each script is written for itself; a plan that is refused leaves all."""
+        for name in ("a", "b"):
+            (self.room / name).write_bytes(DRAFT)
+        self.write("plan", "[[types]]\n")
+        self.assertEqual(self.command("--write", "plan", "a", "b")[0], 1)
+        self.assertEqual([self.file(it) for it in "ab"], [DRAFT] * 2)
+        self.assertEqual(self.command("--write", "@sample", "a", "none", "b")[0], 3)
+        self.assertEqual([self.file(it) for it in "ab"], [LEAST] * 2)
 
 
 if __name__ == "__main__":

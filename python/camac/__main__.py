@@ -1,26 +1,31 @@
 """The commands of the package: python3 -m camac check, draw, report, annotate, csv."""
 import argparse
 import contextlib
+import errno
 import io
 import os
 import re
+import signal
 import sys
-from typing import Callable, Dict, Iterator, List, Mapping, Optional, Sequence, TextIO, Tuple
+from typing import Callable, Dict, List, Mapping, Optional, Sequence, TextIO, Tuple
 
 from camac import judge, pictures, tables
 from camac.annotate import annotate
-from camac.bodies import Kind, costs
-from camac.drive import DriveFault, ProgramFault, Refused, UsageFault
+from camac.bodies import costs
+from camac.drive import DriveFault, ProgramFault, Refused, UsageFault, one_line
 from camac.events import EventFileFault
+from camac.output import end_by, output, say
 from camac.pictures import Canvas
 from camac.plans import plan
-from camac.program import is_standard_input, knows_command
+from camac.program import knows_command, quickest
 from camac.report import report
-from camac.runs import Inputs, collect
+from camac.runs import Inputs, Run, collect
 from camac.scripts import Response, check, response, source_lines
+from camac.texts import is_standard_input
 
 DONE, REFUSED, USAGE, FAULT = 0, 1, 2, 3
 GREATEST_RATE = 4_294_967_295
+LOST = "{} is an input: it would be lost"
 DESCRIPTION = """\
 Judges scripts, draws pictures of a plan, a script and a run of camac, and makes a report of a run.
 
@@ -42,18 +47,19 @@ PLAN may be @sample, the built-in plan. An event file is told from answers by ho
 
 
 class Source:
-    """What is drawn: the files, and what the program and a run say of them, each read once where it is wanted. `every` are the rates of
-    modules, where it is drawn how late services can be."""
+    """What is drawn: the files, and what the program and a run say of them, each read once. A script or a run that is not given is an empty
+    one. `every` are the rates of modules, where it is drawn how late services can be."""
 
     def __init__(self, files: Sequence[str], every: Optional[Mapping[str, int]] = None) -> None:
         self.files = files
         self.plan = plan(files[0])
-        self.services = check(*files[:2]) if len(files) > 1 else None
+        self.services = check(*files[:2]) if len(files) > 1 else []
         self.responses: List[Response] = []
         if every is not None:
             _need("response")
             self.responses = response(files[0], files[1], every)
-        self.run = collect(Inputs(*files), self.plan, self.services, None, self.responses) if len(files) > 2 else None
+        self.has_run = len(files) > 2
+        self.run = collect(Inputs(*files), self.plan, self.services, None, self.responses) if self.has_run else Run(has_listing=False)
 
 
 def _need(command: str) -> None:
@@ -63,26 +69,26 @@ def _need(command: str) -> None:
 
 
 def _draw_plan(of: Source) -> Dict[str, Canvas]:
-    return {"": pictures.draw_plan(of.plan, of.services, of.run)}
+    return {"": pictures.draw_plan(of.plan, of.services if len(of.files) > 1 else None, of.run if of.has_run else None)}
 
 
 def _draw_bounds(of: Source) -> Dict[str, Canvas]:
-    return {"": pictures.draw_bounds(of.services, of.run)}
+    return {"": pictures.draw_bounds(of.services, of.run if of.has_run else None)}
 
 
 def _draw_costs(of: Source) -> Dict[str, Canvas]:
     _need("costs")
-    seen = of.run.seen if of.run and of.run.has_cycles else {}
+    seen = of.run.seen if of.run.has_cycles else {}
     source = source_lines(of.files[1])
     drawn = {}
     for body in costs(*of.files[:2]):
-        its = seen.get(body.gl) if body.kind is Kind.SERVICE else None
+        its = seen.get(body.gl) if body.gl else None
         drawn[body.name] = pictures.draw_costs(body, source, its.cycles if its else None)
     return drawn
 
 
 def _draw_response(of: Source) -> Dict[str, Canvas]:
-    return {"": pictures.draw_response(of.responses, of.run)}
+    return {"": pictures.draw_response(of.responses, of.run if of.has_run else None)}
 
 
 def _draw_run(of: Source) -> Dict[str, Canvas]:
@@ -111,10 +117,14 @@ PICTURES: Dict[str, Tuple[Callable[[Source], Dict[str, Canvas]], int, int]] = {
 
 
 def draw(args: argparse.Namespace) -> int:
-    drawer = PICTURES[args.picture][0]
-    for name, canvas in drawer(Source(args.files, args.every if args.picture == "response" else None)).items():
-        root, end = os.path.splitext(args.out)
-        write(f"{root}.{name}{end}" if name else args.out, canvas.picture())
+    root, end = os.path.splitext(args.out)
+    drawn = PICTURES[args.picture][0](Source(args.files, args.every if args.picture == "response" else None))
+    pictures_of = {f"{root}.{name}{end}" if name else args.out: canvas for name, canvas in drawn.items()}
+    for out in pictures_of:
+        if is_one_of(out, args.files):
+            raise ProgramFault(LOST.format(out), FAULT)
+    for out, canvas in pictures_of.items():
+        write(out, canvas.picture())
     return DONE
 
 
@@ -122,6 +132,11 @@ def make_report(args: argparse.Namespace) -> int:
     made = report(Inputs(args.plan, args.script, args.source), every=args.every)
     write(args.out, made.text)
     return made.status
+
+
+def write(path: str, text: str) -> None:
+    with output(path) as out:
+        out.write(text)
 
 
 def make_annotated(args: argparse.Namespace) -> int:
@@ -134,48 +149,37 @@ def make_annotated(args: argparse.Namespace) -> int:
 
 
 def make_csv(args: argparse.Namespace) -> int:
+    refusal = None
     with output(args.out) as out:
-        if args.what == "events":
-            tables.write_events(args.file, out)
+        if args.what == "listing":
+            with open_listing(args.file) as listing:
+                tables.write_listing(listing, out)
             return DONE
-        listing = sys.stdin if args.file == "-" else open(args.file, encoding="utf-8", errors="replace", newline="\n")
-        with listing:
-            tables.write_listing(listing, out)
+        try:
+            tables.write_events(args.file, out)
+        except EventFileFault as found:
+            # The events before the fault are a table, too.
+            refusal = found
+            if found.code == "V1":
+                raise
+    if refusal:
+        raise refusal
     return DONE
 
 
-def write(path: str, text: str) -> None:
-    """Writes a file beside its place and puts it there, so that it is never half there."""
-    new = f"{path}.new"
-    try:
-        with open(new, "w", encoding="utf-8", newline="\n") as file:
-            file.write(text)
-        os.replace(new, path)
-    except OSError:
-        with contextlib.suppress(OSError):
-            os.remove(new)
-        raise
-
-
-@contextlib.contextmanager
-def output(path: Optional[str]) -> Iterator[TextIO]:
-    """Standard output, or a file that is put in its place at the end; one that was refused half-way has what came before."""
-    if path is None:
-        with io.TextIOWrapper(os.fdopen(os.dup(1), "wb"), encoding="utf-8", newline="\n") as out:
-            yield out
-        return
-    gathered = io.StringIO(newline="")
-    try:
-        yield gathered
-    finally:
-        write(path, gathered.getvalue())
+def open_listing(name: str) -> TextIO:
+    is_standard = name == "-"
+    if is_standard and sys.stdin is None:
+        raise OSError(errno.EBADF, os.strerror(errno.EBADF), "standard input")
+    return open(0 if is_standard else name, encoding="utf-8", errors="replace", newline="\n", closefd=not is_standard)
 
 
 def judge_scripts(args: argparse.Namespace) -> int:
-    judged = judge.judge(args.plan, args.scripts)
-    sys.stdout.write(judge.told(judged, args.json))
-    note = judge.note()
-    if note and not args.json:
+    program = quickest()
+    judged = judge.judge(args.plan, args.scripts, program, args.write)
+    say(judge.told(judged, args.format))
+    note = judge.note(program)
+    if note and args.format != "json":
         print(f"camac: {note}", file=sys.stderr)
     return judge.status(judged, args.strict)
 
@@ -184,11 +188,13 @@ def parser() -> argparse.ArgumentParser:
     raw = argparse.RawDescriptionHelpFormatter
     top = argparse.ArgumentParser(prog="python3 -m camac", description=DESCRIPTION, epilog=STATUS, formatter_class=raw)
     commands = top.add_subparsers(dest="command", metavar="COMMAND", required=True)
-    it = commands.add_parser("check", help="Judges scripts, and warns of what is hardly meant", epilog=STATUS, formatter_class=raw)
+    it = commands.add_parser("check", prog="camac-check", help="Judges scripts, and warns of what is hardly meant", epilog=STATUS, formatter_class=raw)
     it.add_argument("plan", metavar="PLAN", help="a plan: a TOML file, or @sample, the built-in plan")
     it.add_argument("scripts", nargs="+", metavar="SCRIPT", help="scripts")
-    it.add_argument("--json", action="store_true", help="prints JSON in place of lines FILE:LINE: TEXT")
+    it.add_argument("--format", choices=judge.FORMATS, default="text", metavar="FORMAT", help="text: lines FILE:LINE: TEXT; json; github: annotations")
+    it.add_argument("--json", action="store_const", const="json", dest="format", help="--format json")
     it.add_argument("--strict", action="store_true", help="a warning is status 1, too")
+    it.add_argument("--write", action="store_true", help="first puts the least headings that are accepted into each script")
     it.set_defaults(do=judge_scripts, out=None)
     it = commands.add_parser("draw", help="Draws a picture", epilog=DRAW, formatter_class=raw)
     it.add_argument("picture", choices=PICTURES, metavar="PICTURE", help="plan, bounds, response, costs, run or words")
@@ -196,7 +202,7 @@ def parser() -> argparse.ArgumentParser:
     it.add_argument("-o", "--out", required=True, metavar="SVG", help="the file to write")
     _add_rates(it)
     it.set_defaults(do=draw)
-    it = commands.add_parser("report", help="Makes one page of all that is known of a run", epilog=STATUS, formatter_class=raw)
+    it = commands.add_parser("report", prog="camac-report", help="Makes one page of all that is known of a run", epilog=STATUS, formatter_class=raw)
     it.add_argument("plan", metavar="PLAN", help="a plan: a TOML file, or @sample, the built-in plan")
     it.add_argument("script", metavar="SCRIPT", help="a script")
     it.add_argument("source", metavar="ANSWERS|EVENTS", help="the answers of the run, or its event file")
@@ -252,27 +258,62 @@ def parse(words: List[str]) -> argparse.Namespace:
     pipes = [it for it in inputs if os.path.exists(it) and not os.path.isfile(it) and not os.path.isdir(it)]
     if pipes and getattr(args, "what", "") != "listing":
         its.error(f"{pipes[0]} is no file, and cannot be an input here: it is read more than once")
-    if args.out and os.path.exists(args.out) and any(os.path.exists(it) and os.path.samefile(it, args.out) for it in inputs):
-        its.error(f"{args.out} is an input: it would be lost")
+    if args.out and is_one_of(args.out, inputs):
+        its.error(LOST.format(args.out))
     return args
 
 
+def is_one_of(out: str, inputs: Sequence[str]) -> bool:
+    """Whether a file is one of the inputs, under whatever name; `-` is the one behind standard input."""
+    names = ("/dev/stdin" if it == "-" else it for it in inputs)
+    return os.path.exists(out) and any(os.path.exists(it) and os.path.samefile(it, out) for it in names)
+
+
 def main(words: Optional[List[str]] = None) -> int:
-    args = parse(sys.argv[1:] if words is None else words)
+    """Runs a command, and returns its status. Where the reader of a pipe closed it, and at Ctrl-C, the process ends without a word, by the
+    signal that says so."""
+    if sys.stderr is None:
+        sys.stderr = open(os.devnull, "w", encoding="utf-8")
+    status = FAULT
     try:
-        return args.do(args)
-    except (Refused, EventFileFault) as refusal:
-        print(refusal)
-        return REFUSED
+        return run(sys.argv[1:] if words is None else words)
+    except BrokenPipeError:
+        return end_by(signal.SIGPIPE)
+    except KeyboardInterrupt:
+        return end_by(signal.SIGINT)
     except UsageFault as fault:
-        print(f"camac: {fault}", file=sys.stderr)
-        return USAGE
+        text, status = str(fault), USAGE
     except (DriveFault, ValueError) as fault:
-        print(f"camac: {fault}", file=sys.stderr)
+        text = one_line(fault)
     except OSError as fault:
-        name = f": {os.fsdecode(fault.filename)}" if fault.filename else ""
-        print(f"camac: {fault.strerror or fault}{name}", file=sys.stderr)
-    return FAULT
+        text = f"{fault.strerror or fault}" + (f": {os.fsdecode(fault.filename)}" if fault.filename else "")
+    with contextlib.suppress(OSError):
+        print(f"camac: {text}", file=sys.stderr)
+    return status
+
+
+def run(words: List[str]) -> int:
+    """Runs a command, and returns its status. Help is told as all that is printed."""
+    told = io.StringIO()
+    try:
+        with contextlib.redirect_stdout(told):
+            args = parse(words)
+    except SystemExit as stop:
+        say(told.getvalue())
+        return int(stop.code or DONE)
+    try:
+        return int(args.do(args))
+    except (Refused, EventFileFault) as refusal:
+        say(f"{refusal}\n")
+        return REFUSED
+
+
+def check_command() -> int:
+    return main(["check", *sys.argv[1:]])
+
+
+def report_command() -> int:
+    return main(["report", *sys.argv[1:]])
 
 
 if __name__ == "__main__":

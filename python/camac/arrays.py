@@ -1,30 +1,30 @@
 """Event files as arrays of numpy, where numpy is there: an extra, which nothing else of this package needs."""
+import importlib
 import io
-from typing import TYPE_CHECKING, NamedTuple, Optional
+from typing import Any, NamedTuple, Optional
 
 from camac.events import GREATEST_COUNT, GREATEST_GL, GREATEST_WORD, HEADER, MARKER, TWO, File, read_events
 
-if TYPE_CHECKING:
-    import numpy
+# An array of numpy, which need not be here.
+Array = Any
 
 
 class EventArrays(NamedTuple):
     """All events of a file. Element k tells of event k + 1: its bit of the graded-L pattern, the dataway cycles that it cost, and how many
     of them had no X. Its words are words[first[k]:first[k + 1]]. A file of version one has no cycles and no missed."""
 
-    gl: "numpy.ndarray"
-    cycles: "Optional[numpy.ndarray]"
-    missed: "Optional[numpy.ndarray]"
-    first: "numpy.ndarray"
-    words: "numpy.ndarray"
+    gl: Array
+    cycles: Optional[Array]
+    missed: Optional[Array]
+    first: Array
+    words: Array
 
 
 def event_arrays(file: File) -> EventArrays:
     """Reads an event file, named by its path or open for reading bytes, into arrays.
 
     Raises EventFileFault at the first wrong field, OSError where the file cannot be read, and ImportError where numpy is not there."""
-    import numpy
-
+    numpy = importlib.import_module("numpy")
     if hasattr(file, "read"):
         data = file.read()
     else:
@@ -33,7 +33,7 @@ def event_arrays(file: File) -> EventArrays:
     return _at_once(numpy, data) or _one_by_one(numpy, data)
 
 
-def _at_once(numpy, data: bytes) -> Optional[EventArrays]:
+def _at_once(numpy: Any, data: bytes) -> Optional[EventArrays]:
     """Reads a good file of version two. A record begins where a number of four bytes begins with the marker: no word does. None where
     that is not the whole truth: the file is wrong, or another number looks like a marker."""
     head = TWO.head.size // 4
@@ -63,7 +63,7 @@ def _at_once(numpy, data: bytes) -> Optional[EventArrays]:
     return EventArrays(gl.astype("u1"), cycles, missed.astype("u2"), numpy.concatenate([[0], numpy.cumsum(counts)]), words)
 
 
-def _one_by_one(numpy, data: bytes) -> EventArrays:
+def _one_by_one(numpy: Any, data: bytes) -> EventArrays:
     """Reads any file, event by event."""
     events = list(read_events(io.BytesIO(data)))
     has_usage = data[:HEADER] != b"CAMACEV1"

@@ -4,7 +4,7 @@ import re
 from typing import Dict, List, NamedTuple, Optional, Tuple
 
 from camac.drive import File
-from camac.program import output_of
+from camac.program import output_of, shown
 
 
 class Kind(enum.Enum):
@@ -118,7 +118,7 @@ def _read_head(line: str) -> Body:
     if procedure:
         at, cycles, of_cycles, words, of_words, steps, of_steps = map(int, procedure.groups()[1:])
         return Body(Kind.PROCEDURE, procedure[1], at, Cost(cycles, words, steps), (of_cycles, of_words, of_steps), ())
-    raise ValueError(f"no line of costs: {line}")
+    raise ValueError(f"no line of costs: {shown(line)}")
 
 
 def _with_parts(row: Row, procedures: Dict[str, Body]) -> Row:

@@ -25,8 +25,9 @@ DEMAND = re.compile(rb"demand")
 CYCLE = re.compile(rb"cycle ([1-7]) (\d\d?) (\d\d?) (\d\d?) (?:in|none|out ([0-9a-f]{6}))")
 LOCK = re.compile(rb"lock ([1-7])")
 UNLOCK = re.compile(rb"unlock ([1-7])")
-END = re.compile(r"(ended|short|overrun ([1-7]) wait (\d\d?)) events (\d+)")
-REFUSAL = re.compile(r"refused ([A-Z]\d\d?)(?: line (\d+))?: (.+)")
+WAIT = "(1[0-5]|[0-9])"
+END = re.compile(f"(ended|short|overrun ([1-7]) wait {WAIT}) events (0|[1-9][0-9]*)")
+REFUSAL = re.compile("refused ([A-Z][0-9][0-9]?)(?: line ([1-9][0-9]*))?: (.+)")
 
 
 @dataclasses.dataclass(frozen=True)
@@ -127,6 +128,17 @@ class ProgramFault(DriveFault):
         self.text, self.status, self.end = text, status, end
 
 
+def file_fault(what: str, name: File, why: Union[OSError, str]) -> ProgramFault:
+    """The fault of a file that cannot be opened, read or written (`what` is "read" or "write"), as the program tells it."""
+    reason = why if isinstance(why, str) else why.strerror or str(why)
+    return ProgramFault(f"fault {what}\n  {os.fsdecode(name)}: {reason}", 3)
+
+
+def one_line(fault: Exception) -> str:
+    """A fault whose second line names a file, in one line."""
+    return str(fault).replace("\n  ", ": ")
+
+
 class UsageFault(ProgramFault):
     """The program did not understand its words (status 2): @in as plan or script, or a program without `drive`."""
 
@@ -160,7 +172,7 @@ def drive(
     end; the time that the branch takes does not count. It is 0 to 2,147,483; without it the program may take as long as it does.
 
     The lockouts that are held when the requests end are released by `branch.unlock`, however the run ends. An interrupt (Ctrl-C) inside
-    `branch.lock` may come after the lockout was taken, so this one is released too.
+    `branch.lock` may come after the lockout was taken, so this one is released too. After one inside `branch.unlock` it is called again.
 
     Raises what the branch raises. The run ends first: the events of all services that ended are in the file. Raises Refused,
     UsageFault, ProgramFault, ProtocolFault or TimeFault, all of them DriveFault, OSError where the program cannot be started, and
@@ -200,14 +212,20 @@ class Lockouts:
             self.held.remove(crate)
 
     def release(self) -> None:
-        """Releases all that is held, the last first. Each is tried; the first failure is raised."""
-        failure = None
-        for crate in reversed(self.held):
+        """Releases all that is held, the last first. Each is tried, and once more where an interrupt (Ctrl-C) came into it; the first
+        failure is raised."""
+        failure: Optional[BaseException] = None
+        interrupted: Optional[int] = None
+        while self.held:
+            crate = self.held[-1]
             try:
                 self.branch.unlock(crate)
             except BaseException as error:
                 failure = failure or error
-        self.held = []
+                if isinstance(error, KeyboardInterrupt) and crate != interrupted:
+                    interrupted = crate
+                    continue
+            self.held.pop()
         if failure:
             raise failure
 
@@ -292,9 +310,11 @@ class _Program:
         except BaseException:
             self.errors.close()
             raise
+        assert self.process.stdin and self.process.stdout
+        self.stdin, self.stdout = self.process.stdin, self.process.stdout
         self.unread = b""
         self.poll = select.poll()
-        self.poll.register(self.process.stdout, select.POLLIN)
+        self.poll.register(self.stdout, select.POLLIN)
 
     def __enter__(self) -> "_Program":
         return self
@@ -302,7 +322,7 @@ class _Program:
     def __exit__(self, *_raised: object) -> None:
         self.kill()
         self.end_input()
-        self.process.stdout.close()
+        self.stdout.close()
         self.errors.close()
 
     def read_line(self) -> Optional[bytes]:
@@ -311,7 +331,7 @@ class _Program:
         while not found:
             if self.timeout is not None and not self.poll.poll(self.timeout * 1000):
                 raise TimeFault(f"camac wrote no line in {self.timeout} seconds")
-            piece = self.process.stdout.read(65_536)
+            piece = self.stdout.read(65_536)
             if not piece:
                 self.unread = b""
                 return None
@@ -333,12 +353,12 @@ class _Program:
     def write(self, line: bytes) -> None:
         """Hands on an answer. A program that takes it no more says why at its end."""
         try:
-            self.process.stdin.write(line)
+            self.stdin.write(line)
         except BrokenPipeError:
             pass
 
     def end_input(self) -> None:
-        self.process.stdin.close()
+        self.stdin.close()
 
     def end(self, end: Optional[RunEnd]) -> RunEnd:
         """Waits for the program's end. Returns the end of the run where the status and standard error agree, or raises the fault."""

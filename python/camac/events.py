@@ -180,13 +180,22 @@ def whole(file: File) -> Whole:
 
     Raises OSError where the file cannot be read."""
     events: List[Event] = []
-    fault = None
+    size, fault = _take_whole(file, events.append)
+    return Whole(events, size, fault)
+
+
+def whole_size(file: File) -> int:
+    """Returns the `size` of `whole`, in little memory however long the file is. Raises as `whole`."""
+    return _take_whole(file, lambda _: None)[0]
+
+
+def _take_whole(file: File, take: Callable[[Event], None]) -> Tuple[int, Optional[EventFileFault]]:
+    """Hands on the events up to the first fault; returns how many bytes hold them, with the header, and the fault."""
+    size = HEADER
     try:
         for event in read_events(file):
-            events.append(event)
-    except EventFileFault as found:
-        fault = found
-    if fault and fault.code == "V1":
-        return Whole(events, 0, fault)
-    heads = [(ONE if event.cycles is None else TWO).head.size for event in events]
-    return Whole(events, HEADER + sum(heads) + 4 * sum(len(event.words) for event in events), fault)
+            take(event)
+            size += (ONE if event.cycles is None else TWO).head.size + 4 * len(event.words)
+    except EventFileFault as fault:
+        return 0 if fault.code == "V1" else size, fault
+    return size, None

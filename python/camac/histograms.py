@@ -31,17 +31,17 @@ class Histogram:
             self.counts[at] += 1
         else:
             self.counts[at] = 1
-        if self.least is None:
+        if self.least is None or self.greatest is None:
             self.least = self.greatest = value
         elif value < self.least:
             self.least = value
-            self._widen()
+            self._widen(value, self.greatest)
         elif value > self.greatest:
             self.greatest = value
-            self._widen()
+            self._widen(self.least, value)
 
-    def _widen(self) -> None:
-        while (self.greatest >> self.shift) - (self.least >> self.shift) >= self.most:
+    def _widen(self, least: int, greatest: int) -> None:
+        while (greatest >> self.shift) - (least >> self.shift) >= self.most:
             self.shift += 1
             before, self.counts = self.counts, {}
             for at, count in before.items():
@@ -52,7 +52,7 @@ class Histogram:
 
     def bins(self) -> Bins:
         """The bins from that of the least to that of the greatest value."""
-        if self.least is None:
+        if self.least is None or self.greatest is None:
             return Bins(0, 1, [])
         first, last = self.least >> self.shift, self.greatest >> self.shift
         return Bins(first << self.shift, 1 << self.shift, [self.counts.get(at, 0) for at in range(first, last + 1)])

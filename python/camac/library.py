@@ -7,7 +7,6 @@ The library is `libcamac.so.0`: the one that the environment variable CAMAC_LIBR
 ./install put both, else the system's."""
 import contextlib
 import ctypes
-import ctypes.util
 import functools
 import os
 import pathlib
@@ -15,8 +14,9 @@ import stat
 from ctypes import POINTER, byref, c_char_p, c_size_t, c_uint8, c_uint16, c_uint32
 from typing import Any, BinaryIO, Iterator, List, NamedTuple, Optional, Tuple, Union
 
-from camac.drive import Answer, Branch, Ending, File, Lockouts, ProgramFault, Refused, RunEnd, UsageFault
+from camac.drive import Answer, Branch, Ending, File, Lockouts, ProgramFault, Refused, RunEnd, UsageFault, file_fault
 from camac.events import NEW_FILE, Event, record
+from camac.texts import plan_text, script_text
 
 Text = Union[bytes, str]
 NAME = "libcamac.so.0"
@@ -29,6 +29,8 @@ EVENT_WORDS = 4096
 ROOM = 4096
 # What the program says at the codes that it knows, with its status.
 FAULTS = {NO_MEMORY: ("fault memory", 3), LONG: ("fault input too long", 3)}
+# The subcommands of the program that the library can stand in for.
+COMMANDS = frozenset(("plan", "check", "explain", "bounds", "costs"))
 SPENT_LINE = "refused A4 line 4294967296: too many answers"
 
 
@@ -62,7 +64,7 @@ class Verdict(NamedTuple):
 
 
 def find_library() -> str:
-    """The file of the library. Raises FileNotFoundError where there is none."""
+    """The file of the library; its name alone where the system has to find it."""
     named = os.environ.get("CAMAC_LIBRARY")
     if named:
         return named
@@ -70,16 +72,28 @@ def find_library() -> str:
     for folder in (here.parent, *here.parents[3:4]):
         if (folder / NAME).is_file():
             return str(folder / NAME)
-    found = ctypes.util.find_library("camac")
-    if found:
-        return found
-    raise FileNotFoundError(f"{NAME} is nowhere to be found: ./install puts it in place, and CAMAC_LIBRARY may name it")
+    return NAME
+
+
+def is_there() -> bool:
+    """Whether the library can be loaded."""
+    try:
+        _library()
+    except (OSError, AttributeError):
+        return False
+    return True
 
 
 @functools.lru_cache(maxsize=None)
 def _library() -> ctypes.CDLL:
     """The library, with the types of its calls. Raises OSError where it cannot be loaded, or is of a version that does not fit."""
-    library = ctypes.CDLL(find_library())
+    found = find_library()
+    try:
+        library = ctypes.CDLL(found)
+    except OSError as why:
+        if found != NAME:
+            raise
+        raise FileNotFoundError(f"{NAME} is nowhere to be found: ./install puts it in place, and CAMAC_LIBRARY may name it") from why
     text, buffer, size, session = [c_char_p, c_size_t], [c_char_p, c_size_t, POINTER(c_size_t)], c_uint32, POINTER(_Session)
     forms = {
         "version": [],
@@ -158,7 +172,13 @@ def _filled(call: Any, *given: Any, buffers: int = 1) -> Tuple[int, List[bytes]]
 
 def _judged(name: str, *texts: Text) -> Verdict:
     code, (text,) = _filled(getattr(_library(), f"camac_raw_{name}"), *_given(*texts))
-    return Verdict(code == OK, text.decode())
+    return Verdict(code == OK, text.decode("utf-8", "replace"))
+
+
+def told(command: str, plan: File, *script: File) -> Verdict:
+    """What the program prints when it is called with one of `COMMANDS` and these files. Raises as the program fails: ProgramFault, UsageFault."""
+    name = command if script or command == "plan" else f"{command}_plan"
+    return _judged(name, plan_text(plan), *map(script_text, script))
 
 
 def plan(plan: Text) -> Verdict:
@@ -199,7 +219,7 @@ def events(file: bytes) -> Verdict:
 def run(plan: Text, script: Text, answers: Text) -> Tuple[Verdict, bytes]:
     """What `camac run` prints of the text of all answers, and the bytes of its event file."""
     code, (listing, file) = _filled(_library().camac_raw_run, *_given(plan, script, answers), buffers=2)
-    return Verdict(code == OK, listing.decode()), file
+    return Verdict(code == OK, listing.decode("utf-8", "replace")), file
 
 
 class Session:
@@ -261,14 +281,16 @@ class Session:
             self.close()
 
 
-def play(plan: File, script: File, branch: Branch, *, events: Optional[File] = None) -> RunEnd:
-    """Plays a script against a branch, as `camac.drive` does, but in this process. `plan` and `script` are files ("@sample" is not known
-    here). The event file is `events`, which must not hold bytes; without it none is written. Each event stands there before the next
-    operation is made.
+def play(
+    plan: File, script: File, branch: Branch, events: Optional[File] = None, *, program: Optional[File] = None, timeout: Optional[float] = None
+) -> RunEnd:
+    """Plays a script against a branch, as `camac.drive` does, but in this process. `plan` may be "@sample". The event file is `events`, which
+    must not hold bytes; without it none is written. Each event stands there before the next operation is made. `program` and `timeout`
+    are taken as `camac.drive` takes them, and have nothing to do here.
 
     Returns how the run ended, and raises what `camac.drive` raises, with the texts of the program: what the branch raises, Refused,
     ProgramFault. The lockouts that are held then are released by `branch.unlock`, however the run ends."""
-    with Session(_read(plan), _read(script)) as session, _event_file(events) as file:
+    with Session(plan_text(plan), script_text(script)) as session, _event_file(events) as file:
         game = _Game(session, branch, file)
         try:
             end = game.serve()
@@ -288,8 +310,8 @@ class _Game:
 
     def serve(self) -> RunEnd:
         """Has the branch make all that is wanted, and returns the end of the run."""
-        while True:
-            want = self.session.wants()
+        progress = Progress()
+        while (want := self.session.wants()) is not None:
             answer = self.make(want)
             if answer is None:
                 return RunEnd(Ending.ENDED, f"ended events {self.events}", self.events)
@@ -297,10 +319,10 @@ class _Game:
                 progress = self.session.next(answer)
             except OverflowError:
                 return RunEnd(Ending.REFUSED, SPENT_LINE)
-            if progress.kind == STOPPED:
-                line = f"overrun {progress.c} wait {progress.wait} events {self.events}"
-                return RunEnd(Ending.OVERRUN, line, self.events, progress.c, progress.wait)
-            self.settle(progress)
+            if progress.kind != STOPPED:
+                self.settle(progress)
+        line = f"overrun {progress.c} wait {progress.wait} events {self.events}"
+        return RunEnd(Ending.OVERRUN, line, self.events, progress.c, progress.wait)
 
     def make(self, want: Want) -> Optional[Answer]:
         """Has the branch make an operation. Only a demand may be without an answer."""
@@ -326,20 +348,19 @@ class _Game:
                 _write(self.file, record(Event(*its, self.session.words())))
 
 
-def _read(path: File) -> bytes:
+@contextlib.contextmanager
+def _writes(path: File) -> Iterator[None]:
+    """Tells a fault of the system as the program does."""
     try:
-        with open(path, "rb") as file:
-            return file.read()
+        yield
     except OSError as why:
-        raise ProgramFault("fault read", 3) from why
+        raise file_fault("write", path, why) from why
 
 
 def _write(file: BinaryIO, data: bytes) -> None:
-    try:
+    with _writes(file.name):
         file.write(data)
         file.flush()
-    except OSError as why:
-        raise ProgramFault("fault write", 3) from why
 
 
 @contextlib.contextmanager
@@ -348,16 +369,15 @@ def _event_file(path: Optional[File]) -> Iterator[Optional[BinaryIO]]:
     if path is None:
         yield None
         return
-    try:
+    with _writes(path):
         file = open(path, "ab")
-    except OSError as why:
-        raise ProgramFault("fault write", 3) from why
     with file:
         its = os.fstat(file.fileno())
         is_file = stat.S_ISREG(its.st_mode)
         if is_file and its.st_size:
-            raise ProgramFault("fault write", 3)
+            raise file_fault("write", path, "it holds bytes; a live run needs a file of its own")
         _write(file, NEW_FILE)
         yield file
         if is_file:
-            os.fsync(file.fileno())
+            with _writes(path):
+                os.fsync(file.fileno())

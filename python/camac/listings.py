@@ -3,8 +3,9 @@ import enum
 import re
 from typing import Dict, Iterable, Iterator, NamedTuple, Optional, Tuple, Union
 
-from camac.drive import Ending, File, Refused, RunEnd, read_end
-from camac.program import lines_of
+from camac.drive import WAIT, Ending, File, Refused, RunEnd, read_end
+from camac.functions import reads, writes
+from camac.program import lines_of, shown
 
 
 class Move(enum.Enum):
@@ -57,11 +58,13 @@ class Unlock(NamedTuple):
 
 
 Item = Union[Demand, Cycle, Lock, Unlock, RunEnd]
-CYCLE = re.compile(r"cycle ([1-7]) (\d\d?) (\d\d?) (\d\d?) (in|out|none)")
-REPLY = re.compile(r"([01]) q([01]) wait (\d\d?)")
-DEMAND = re.compile(r"demand ([0-9a-f]{6}) (\w+|-)")
-LOCK = re.compile(r"lock ([1-7]) wait (\d\d?)")
-UNLOCK = re.compile(r"unlock ([1-7])")
+STATION, SUB_ADDRESS, FUNCTION = "([1-9]|1[0-9]|2[0-3]|28|30)", "(1[0-5]|[0-9])", "([12][0-9]|3[01]|[0-9])"
+CYCLE = re.compile(f"cycle ([1-7]) {STATION} {SUB_ADDRESS} {FUNCTION} (in |out |none)")
+WORD = re.compile("[0-9a-f]{6}")
+REPLY = re.compile(f"([01]) q([01]) wait {WAIT}")
+DEMAND = re.compile("demand ([0-9a-f]{6}) ([A-Za-z][A-Za-z0-9_]{0,31}|-)")
+LOCK = re.compile(f"lock ([1-7]) wait {WAIT}")
+UNLOCK = re.compile("unlock ([1-7])")
 
 
 def run(plan: File, script: File, answers: File, events: File, program: Optional[File] = None) -> Iterator[Item]:
@@ -81,55 +84,54 @@ def run(plan: File, script: File, answers: File, events: File, program: Optional
 def parse_listing(lines: Iterable[str]) -> Iterator[Item]:
     """Yields the items of a listing, given by its lines.
 
-    Raises ValueError at a line that is none of a listing."""
+    Raises ValueError, with the number of the line, where one is none of a listing."""
     # There are few commands and few replies, so each is read once.
-    commands: Dict[str, Tuple[Command, Move]] = {}
-    replies: Dict[str, Tuple[int, int, int]] = {}
-    for line in lines:
+    commands: Dict[str, Optional[Tuple[Command, Move]]] = {}
+    replies: Dict[str, Optional[Tuple[int, int, int]]] = {}
+    for number, line in enumerate(lines, 1):
         line = line.rstrip("\n")
         head, _, tail = line.partition(" x")
+        item: Optional[Item] = None
         if tail:
-            if head.endswith("none"):
-                at, word = head, 0
-            else:
-                at, word = head[:-7], int(head[-6:], 16)
+            at, word = (head, "000000") if head.endswith("none") else (head[:-6], head[-6:])
             if at not in commands:
-                commands[at] = _read_command(line, at)
+                commands[at] = _read_command(at)
             if tail not in replies:
-                replies[tail] = _read_reply(line, tail)
-            command, move = commands[at]
-            x, q, wait = replies[tail]
-            yield Cycle(command, move, word, x, q, wait)
+                replies[tail] = _read_reply(tail)
+            its, reply = commands[at], replies[tail]
+            if its and reply and WORD.fullmatch(word):
+                item = Cycle(its[0], its[1], int(word, 16), *reply)
         else:
-            yield _read_other(line)
+            item = _read_other(line)
+        if item is None:
+            raise ValueError(f"line {number} is no line of a listing: {shown(line)}")
+        yield item
 
 
-def _read_command(line: str, text: str) -> Tuple[Command, Move]:
-    found = _found(CYCLE.fullmatch(text), line)
-    return Command(*map(int, found.group(1, 2, 3, 4))), Move(found[5])
+def _read_command(text: str) -> Optional[Tuple[Command, Move]]:
+    """Reads a dataway cycle up to its word; None where its function does not move a word so."""
+    found = CYCLE.fullmatch(text)
+    if found is None:
+        return None
+    command, move = Command(*map(int, found.group(1, 2, 3, 4))), Move(found[5].rstrip())
+    fits = Move.IN if reads(command.function) else Move.OUT if writes(command.function) else Move.NONE
+    return (command, move) if move is fits else None
 
 
-def _read_reply(line: str, text: str) -> Tuple[int, int, int]:
-    x, q, wait = map(int, _found(REPLY.fullmatch(text), line).groups())
+def _read_reply(text: str) -> Optional[Tuple[int, int, int]]:
+    found = REPLY.fullmatch(text)
+    if found is None:
+        return None
+    x, q, wait = map(int, found.groups())
     return x, q, wait
 
 
-def _read_other(line: str) -> Item:
+def _read_other(line: str) -> Optional[Item]:
     """Reads a line that is none of a dataway cycle."""
-    demand, lock, unlock = (form.fullmatch(line) for form in (DEMAND, LOCK, UNLOCK))
-    if demand:
-        return Demand(int(demand[1], 16), None if demand[2] == "-" else demand[2])
-    if lock:
-        return Lock(int(lock[1]), int(lock[2]))
-    if unlock:
-        return Unlock(int(unlock[1]))
-    end = read_end(line.encode())
-    if end is None:
-        raise ValueError(f"no line of a listing: {line}")
-    return end
-
-
-def _found(found: "Optional[re.Match[str]]", line: str) -> "re.Match[str]":
-    if found is None:
-        raise ValueError(f"no line of a listing: {line}")
-    return found
+    if found := DEMAND.fullmatch(line):
+        return Demand(int(found[1], 16), None if found[2] == "-" else found[2])
+    if found := LOCK.fullmatch(line):
+        return Lock(int(found[1]), int(found[2]))
+    if found := UNLOCK.fullmatch(line):
+        return Unlock(int(found[1]))
+    return read_end(line.encode("utf-8", "replace"))

@@ -17,7 +17,7 @@ A module is a class with one method. This one holds a word: F16 writes it, F0 re
 from a seed, so that two runs are alike."""
 import dataclasses
 import random
-from typing import Dict, Iterable, List, Mapping, NamedTuple, Optional, Tuple, Union
+from typing import Dict, Iterable, List, Mapping, NamedTuple, Optional, Set, Tuple, Union
 
 from camac.drive import Answer, Branch, File
 from camac.plans import Plan
@@ -88,9 +88,19 @@ class Adc(Module):
 
     `hits` is the share of channels that are hit, from 0 to 1; `spread` is the standard deviation of pedestal and peak."""
 
-    def __init__(self, channels=12, width=12, pedestal=100.0, peak=1800.0, spread=20.0, hits=0.3, seed=1, lam_at=12) -> None:
+    def __init__(
+        self,
+        channels: int = 12,
+        width: int = 12,
+        pedestal: float = 100.0,
+        peak: float = 1800.0,
+        spread: float = 20.0,
+        hits: float = 0.3,
+        seed: int = 1,
+        lam_at: Optional[int] = 12,
+    ) -> None:
         super().__init__(lam_at)
-        self.greatest = 2**width - 1
+        self.greatest = (1 << width) - 1
         self.pedestal, self.peak, self.spread, self.hits = pedestal, peak, spread, hits
         self.random = random.Random(seed)
         self.words = [0] * channels
@@ -125,7 +135,7 @@ class Scaler(Module):
     """A scaler. A trigger adds up to `rate` counts to each channel of 24 bits. F0 reads a channel, F2 reads and clears it, F9 clears all,
     F25 counts all up by one."""
 
-    def __init__(self, channels=12, rate=1000, seed=1, lam_at=0) -> None:
+    def __init__(self, channels: int = 12, rate: int = 1000, seed: int = 1, lam_at: Optional[int] = 0) -> None:
         super().__init__(lam_at)
         self.random = random.Random(seed)
         self.rate = rate
@@ -165,9 +175,9 @@ class Register(Module):
     """An output register at sub-address 0. F0 reads it, F16 writes it whole, F18 and F21 set and clear the bits that are 1 in the data,
     F27 answers Q = 1 where it is not 0. It keeps as many bits as it is wide."""
 
-    def __init__(self, width=24, lam_at=None) -> None:
+    def __init__(self, width: int = 24, lam_at: Optional[int] = None) -> None:
         super().__init__(lam_at)
-        self.greatest = 2**width - 1
+        self.greatest = (1 << width) - 1
         self.word = 0
 
     def cycle(self, a: int, f: int, data: Optional[int]) -> Reply:
@@ -183,21 +193,21 @@ class Memory(Module):
     """A memory with an address counter. F16 at sub-address 1 sets the counter. F16 at sub-address 0 writes a word, and F0 there reads one;
     each counts up. Past the last word the answer is Q = 0, which ends a block."""
 
-    def __init__(self, size=1024, lam_at=None) -> None:
+    def __init__(self, size: int = 1024, lam_at: Optional[int] = None) -> None:
         super().__init__(lam_at)
         self.words = [0] * size
         self.at = 0
 
     def cycle(self, a: int, f: int, data: Optional[int]) -> Reply:
         if (a, f) == (1, 16):
-            self.at = data
+            self.at = data or 0
             return Reply()
         if a != 0 or f not in (0, 16):
             return super().cycle(a, f, data)
         if self.at >= len(self.words):
             return Reply(q=0)
         if f == 16:
-            self.words[self.at] = data
+            self.words[self.at] = data or 0
         self.at += 1
         return Reply(word=self.words[self.at - 1] if f == 0 else 0)
 
@@ -206,7 +216,7 @@ class Auxiliary:
     """The auxiliary controllers of a crate: before each of our cycles they take up to `greatest` (0 to 15) of their own. They keep the
     lockout, unless `ignores_lockout`."""
 
-    def __init__(self, greatest: int, seed=1, ignores_lockout=False) -> None:
+    def __init__(self, greatest: int, seed: int = 1, ignores_lockout: bool = False) -> None:
         self.greatest, self.ignores_lockout = greatest, ignores_lockout
         self.random = random.Random(seed)
 
@@ -239,9 +249,9 @@ class MockBranch:
         self.modules, self.gl = dict(modules), dict(gl)
         self.triggers = iter(triggers)
         self.auxiliaries: Dict[int, Auxiliary] = dict(auxiliaries or {})
-        self.locked: set = set()
-        self.inhibited: set = set()
-        self.silent: set = set()
+        self.locked: Set[int] = set()
+        self.inhibited: Set[int] = set()
+        self.silent: Set[int] = set()
 
     @classmethod
     def of_plan(
@@ -322,7 +332,7 @@ class MockBranch:
         self.locked.remove(c)
 
 
-def _put(crate: int, crates: set, is_in: bool) -> None:
+def _put(crate: int, crates: Set[int], is_in: bool) -> None:
     """Puts a crate into a set, or takes it out."""
     if is_in:
         crates.add(crate)

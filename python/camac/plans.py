@@ -2,7 +2,7 @@
 from typing import Dict, Iterator, List, NamedTuple, Optional, Tuple
 
 from camac.drive import File
-from camac.program import knows_option, output_of
+from camac.program import knows_option, output_of, shown
 
 
 class Declaration(NamedTuple):
@@ -76,8 +76,10 @@ def plan(path: File, program: Optional[File] = None) -> Plan:
 
 def parse_plan(printed: str) -> Plan:
     """Reads what `camac plan` prints, with `--commands` or without."""
-    buffer, types, crates = 0, {}, []
-    name, stations = "", []
+    buffer, name = 0, ""
+    types: Dict[str, ModuleType] = {}
+    crates: List[Tuple[int, int, List[Station]]] = []
+    stations: List[Station] = []
     for line in printed.splitlines():
         kind, *words = line.split(" ")
         if kind == "buffer":
@@ -93,7 +95,7 @@ def parse_plan(printed: str) -> Plan:
         elif kind == "station":
             stations.append(Station(int(words[0]), words[1], None if words[3] == "-" else int(words[3])))
         else:
-            raise ValueError(f"no line of a plan: {line}")
+            raise ValueError(f"no line of a plan: {shown(line)}")
     return Plan(buffer, types, tuple(Crate(number, waits, tuple(its)) for number, waits, its in crates))
 
 

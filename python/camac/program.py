@@ -1,14 +1,45 @@
-"""What the program camac prints, as text: it is called with the words of a subcommand, and its statuses become exceptions."""
+"""What the program camac prints, as text: it is called with the words of a subcommand, and its statuses become exceptions.
+
+Where no program is there, the library for C answers in this process what it can (`camac.library.COMMANDS`). So it does where `@library` is
+named as the program."""
 import functools
 import os
 import re
 import subprocess
 import tempfile
-from typing import Iterator, List, Optional, Tuple
+from typing import Iterator, Optional, Tuple
 
+from camac import library
 from camac.drive import File, ProgramFault, Refused, UsageFault, find_program
+from camac.texts import plan_text
 
 REFUSED, USAGE = 1, 2
+IN_PROCESS = "@library"
+
+
+def quickest() -> Optional[File]:
+    """The library, where it is there and no program is named: what is judged by it costs no other process."""
+    return None if os.environ.get("CAMAC_PROGRAM") or not library.is_there() else IN_PROCESS
+
+
+def _find(command: str, program: Optional[File]) -> str:
+    """The program that answers a command, or `IN_PROCESS`. Raises FileNotFoundError where there is none of both."""
+    try:
+        return os.fsdecode(find_program(program))
+    except FileNotFoundError:
+        if command in library.COMMANDS and library.is_there():
+            return IN_PROCESS
+        raise
+
+
+def _told(*words: File) -> library.Verdict:
+    """What the library tells in the program's place. Before the files there may stand "--"."""
+    command, *files = map(os.fsdecode, words)
+    if files[:1] == ["--"]:
+        files = files[1:]
+    if command not in library.COMMANDS:
+        raise UsageFault(f"the library has no `{command}`", USAGE)
+    return library.told(command, *files)
 
 
 def output_of(*words: File, program: Optional[File] = None) -> str:
@@ -16,9 +47,12 @@ def output_of(*words: File, program: Optional[File] = None) -> str:
 
     Raises Refused where it refuses (status 1), UsageFault where it does not understand the words (status 2), ProgramFault at every other
     status, and OSError where it cannot be started."""
-    done = subprocess.run(
-        [find_program(program), *words], stdin=subprocess.DEVNULL, stdout=subprocess.PIPE, stderr=subprocess.PIPE, check=False
-    )
+    found = _find(os.fsdecode(words[0]), program)
+    if found == IN_PROCESS:
+        verdict = _told(*words)
+        _judge(0 if verdict.accepted else REFUSED, verdict.text, "")
+        return verdict.text
+    done = subprocess.run([found, *words], stdin=subprocess.DEVNULL, stdout=subprocess.PIPE, stderr=subprocess.PIPE, check=False)
     printed = _text(done.stdout)
     _judge(done.returncode, printed, _text(done.stderr))
     return printed
@@ -29,10 +63,13 @@ def lines_of(*words: File, program: Optional[File] = None) -> Iterator[str]:
     tells it. The program is ended with the generator.
 
     Raises UsageFault, ProgramFault and OSError as `output_of`, behind the last line."""
+    found = _find(os.fsdecode(words[0]), program)
+    if found == IN_PROCESS:
+        yield from _told(*words).text.splitlines()
+        return
     with tempfile.TemporaryFile() as errors:
-        with subprocess.Popen(
-            [find_program(program), *words], stdin=subprocess.DEVNULL, stdout=subprocess.PIPE, stderr=errors, bufsize=1 << 16
-        ) as started:
+        with subprocess.Popen([found, *words], stdin=subprocess.DEVNULL, stdout=subprocess.PIPE, stderr=errors, bufsize=1 << 16) as started:
+            assert started.stdout
             try:
                 for line in started.stdout:
                     yield line.decode("utf-8", "replace").rstrip("\n")
@@ -58,26 +95,47 @@ def _judge(status: int, printed: str, errors: str) -> None:
         raise ProgramFault(errors.rstrip("\n"), status)
 
 
+def shown(line: str) -> str:
+    """A line as a fault tells it: it may be of any length, and hold anything."""
+    return repr(line if len(line) <= 80 else f"{line[:80]}..")
+
+
 def version(program: Optional[File] = None) -> str:
     """The version as the program tells it: "camac 0.2.0"."""
+    if _find("check", program) == IN_PROCESS:
+        return f"camac {library.version()}"
     return output_of("--version", program=program).rstrip("\n")
 
 
+def accepts(plan: File, script: bytes, program: Optional[File] = None) -> bool:
+    """Whether a script is accepted that is given as its text. Raises ProgramFault and OSError as `output_of`."""
+    if _find("check", program) == IN_PROCESS:
+        return library.check(plan_text(plan), script).accepted
+    with tempfile.TemporaryDirectory(prefix="camac-") as room:
+        file = os.path.join(room, "script")
+        with open(file, "wb") as out:
+            out.write(script)
+        try:
+            output_of("check", "--", plan, file, program=program)
+        except Refused:
+            return False
+    return True
+
+
 @functools.lru_cache(maxsize=None)
-def _help(program: File, words: Tuple[str, ...]) -> str:
+def _help(program: str, words: Tuple[str, ...]) -> str:
     return output_of(*words, program=program)
 
 
 def knows_command(command: str, program: Optional[File] = None) -> bool:
     """Whether the program has this subcommand. Its help is asked once."""
-    return re.search(rf"^  {command}\b", _help(find_program(program), ("--help",)), re.M) is not None
+    found = _find(command, program)
+    return command in library.COMMANDS if found == IN_PROCESS else re.search(rf"^  {command}\b", _help(found, ("--help",)), re.M) is not None
 
 
 def knows_option(command: str, option: str, program: Optional[File] = None) -> bool:
     """Whether a subcommand of the program has this option. Its help is asked once."""
-    return option in _help(find_program(program), ("help", command)).split()
+    found = _find(command, program)
+    return found != IN_PROCESS and option in _help(found, ("help", command)).split()
 
 
-def is_standard_input(names: List[File]) -> bool:
-    """Whether one of these names stands for standard input, which can be read once alone."""
-    return any(os.fspath(name) in ("@in", b"@in") for name in names)

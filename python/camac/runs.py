@@ -1,4 +1,5 @@
 """What a run did, in numbers of a fixed size: from the listing of `camac run` and its event file, or from an event file alone."""
+import dataclasses
 import enum
 import tempfile
 from array import array
@@ -52,7 +53,8 @@ class Kept(NamedTuple):
     more: int
 
 
-class Seen(NamedTuple):
+@dataclasses.dataclass(frozen=True)
+class Seen:
     """What was seen of a number in so many services."""
 
     count: int
@@ -211,19 +213,18 @@ class _Collector:
         service = InProgress(0)
         commands = self.run.commands
         for item in items:
-            kind = type(item)
-            if kind is Cycle:
+            if isinstance(item, Cycle):
                 sent = commands.get(item.command)
                 if sent is None:
                     sent = commands[item.command] = Sent(self.plan.width(*item.command))
                 _take_cycle(service, sent, item)
-            elif kind is Lock:
+            elif isinstance(item, Lock):
                 service.cycles += item.wait
                 service.waits += item.wait
                 service.locks += 1
-            elif kind is Unlock:
+            elif isinstance(item, Unlock):
                 service.locks -= 1
-            elif kind is Demand:
+            elif isinstance(item, Demand):
                 self.close()
                 service = InProgress(self.bits.get(item.service or "", 0))
                 self.open = service if item.service else None

@@ -3,7 +3,7 @@ import re
 from typing import List, Mapping, NamedTuple, Optional
 
 from camac.drive import File
-from camac.program import output_of
+from camac.program import output_of, shown
 
 VERDICT = re.compile(r"service (\w+) gl (\d+) cycles (\d+) of (\d+) words (\d+) of (\d+) steps (\d+)")
 HEADING = re.compile(r"(?:service (\w+)|proc (\w+)\(.*\)) within (\d+) cycles event (\d+) words(?: steps (\d+))?")
@@ -65,8 +65,8 @@ def check(plan: File, script: File, program: Optional[File] = None) -> List[Serv
 
 def parse_verdict(printed: str) -> List[Service]:
     """Reads what `camac check` prints of an accepted script."""
-    found = [(line, VERDICT.fullmatch(line)) for line in printed.splitlines()[1:]]
-    return [Service(_read(line, it)[1], *map(int, it.groups()[1:])) for line, it in found]
+    found = [_read(line, VERDICT.fullmatch(line)) for line in printed.splitlines()[1:]]
+    return [Service(it[1], *map(int, it.groups()[1:])) for it in found]
 
 
 def bounds(plan: File, script: File, program: Optional[File] = None) -> List[Heading]:
@@ -106,7 +106,7 @@ def parse_response(printed: str) -> List[Response]:
 
 def _read(line: str, found: "Optional[re.Match[str]]") -> "re.Match[str]":
     if found is None:
-        raise ValueError(f"no line of this kind: {line}")
+        raise ValueError(f"no line of this kind: {shown(line)}")
     return found
 
 

@@ -1,13 +1,11 @@
 """What the checker accepts and what is hardly meant: warnings about an accepted script. docs/WARNINGS.md has each with an example."""
 import enum
-import os
 import re
-import tempfile
 from typing import Dict, Iterator, List, NamedTuple, Optional, Set, Tuple
 
 from camac.bodies import Body, costs
-from camac.drive import File, Refused
-from camac.program import knows_command
+from camac.drive import File
+from camac.program import accepts, knows_command
 from camac.scripts import Service, check
 
 
@@ -41,11 +39,10 @@ class Token(NamedTuple):
 
 TOKEN = re.compile(rb"#[^\n]*|([A-Za-z][A-Za-z0-9_]*|[0-9]+|->|<-|\.\.|<=|>=|==|!=|[-{}()+*/%=,<>])")
 READS_OR_CLEARS = frozenset([*range(8), 9, 10, 11])
+TRANSFERS = frozenset(("cfsa", "cssa", "cfubc", "cfubr", "cfmad"))
 # A service of so many cycles or fewer is a short one.
 SHORT = 10
 Place = Tuple[int, int]
-# An address of which the crate or the station is computed.
-ANYWHERE = None
 
 
 def warnings(plan: File, script: File, program: Optional[File] = None) -> List[Warned]:
@@ -58,7 +55,7 @@ def warnings(plan: File, script: File, program: Optional[File] = None) -> List[W
         text = file.read()
     if not services:
         return [Warned(1, Code.NO_SERVICE, "this script has no service, so a run of it makes no cycle")]
-    tokens = _tokens(text)
+    tokens = tokens_of(text)
     found = [*_left_calling(tokens), *_held_up(tokens, services), *_unused_keeps(plan, text, program)]
     if looks_for_all(program):
         found += _of_costs(costs(plan, script, program))
@@ -70,7 +67,8 @@ def looks_for_all(program: Optional[File] = None) -> bool:
     return knows_command("costs", program)
 
 
-def _tokens(text: bytes) -> List[Token]:
+def tokens_of(text: bytes) -> List[Token]:
+    """The tokens of a script that is no refused text."""
     line, last, found = 1, 0, []
     for it in TOKEN.finditer(text):
         line += text.count(b"\n", last, it.start())
@@ -115,10 +113,15 @@ def _bodies(tokens: List[Token], word: str) -> Iterator[_Text]:
 def _left_calling(tokens: List[Token]) -> Iterator[Warned]:
     """Services that neither read nor clear the module of their look-at-me."""
     lams = {tokens[k + 1].text: (int(tokens[k + 3].text), int(tokens[k + 4].text)) for k, it in enumerate(tokens) if it.text == "cdlam"}
-    procedures = {it.name: it.tokens for it in _bodies(tokens, "proc")}
-    for service in _bodies(tokens, "service"):
+    services = list(_bodies(tokens, "service"))
+    places = {lams[it.name] for it in services}
+    touched: Dict[str, Set[Place]] = {}
+    # A body calls procedures that end before it, so each is looked at once.
+    for it in [*_bodies(tokens, "proc"), *services]:
+        touched[it.name] = _touched([token.text for token in it.tokens], places, lams, touched)
+    for service in services:
         crate, station = lams[service.name]
-        if not _touches(service.tokens, (crate, station), lams, procedures):
+        if (crate, station) not in touched[service.name]:
             yield Warned(
                 service.line,
                 Code.LEFT_CALLING,
@@ -126,37 +129,35 @@ def _left_calling(tokens: List[Token]) -> Iterator[Warned]:
             )
 
 
-def _touches(tokens: List[Token], place: Place, lams: Dict[str, Place], procedures: Dict[str, List[Token]]) -> bool:
-    """Whether statements may read or clear the module at a place, or silence its look-at-me."""
-    words = [it.text for it in tokens]
-    registers: Dict[str, List[Optional[Place]]] = {}
+def _touched(words: List[str], places: Set[Place], lams: Dict[str, Place], before: Dict[str, Set[Place]]) -> Set[Place]:
+    """The places of modules that statements may read or clear, or whose look-at-me they may silence: all of `places` where one is computed.
+    `before` has those of procedures."""
+    registers: Dict[str, Set[Place]] = {}
+    computed: Set[str] = set()
     for at, word in enumerate(words):
         if word == "cdreg":
             crate, after = _number(words, at + 3)
             station, _ = _number(words, after)
-            registers.setdefault(words[at + 1], []).append(ANYWHERE if crate is None or station is None else (crate, station))
+            its = registers.setdefault(words[at + 1], set())
+            if crate is None or station is None:
+                computed.add(words[at + 1])
+            else:
+                its.add((crate, station))
+    found: Set[Place] = set()
     for at, word in enumerate(words):
         if word in ("cccz", "cccc"):
-            return True
+            return places
         if word == "cclc" or word == "cclm" and words[at + 2] == "off":
-            if lams[words[at + 1]] == place:
-                return True
-        if word == "call" and _touches(procedures[words[at + 1]], place, lams, procedures):
-            return True
-        if word in ("cfsa", "cssa", "cfubc", "cfubr") and int(words[at + 1]) in READS_OR_CLEARS:
-            if any(it in (ANYWHERE, place) for it in registers[words[at + 2]]):
-                return True
-        if word == "cfmad" and int(words[at + 1]) in READS_OR_CLEARS:
-            if _spans(registers[words[at + 2]], registers[words[at + 3]], place):
-                return True
-    return False
-
-
-def _spans(first: List[Optional[Place]], last: List[Optional[Place]], place: Place) -> bool:
-    """Whether a scan may come to a place."""
-    if ANYWHERE in first + last:
-        return True
-    return min(first) <= place <= max(last)
+            found.add(lams[words[at + 1]])
+        elif word == "call":
+            found |= before[words[at + 1]]
+        elif word in TRANSFERS and int(words[at + 1]) in READS_OR_CLEARS:
+            names = words[at + 2 : at + 4] if word == "cfmad" else words[at + 2 : at + 3]
+            if computed.intersection(names):
+                return places
+            first, last = min(registers[names[0]]), max(registers[names[-1]])
+            found |= {it for it in places if first <= it <= last} if word == "cfmad" else registers[names[0]]
+    return found
 
 
 def _number(words: List[str], at: int) -> Tuple[Optional[int], int]:
@@ -187,10 +188,10 @@ def _held_up(tokens: List[Token], services: List[Service]) -> Iterator[Warned]:
 
 def _unused_keeps(plan: File, text: bytes, program: Optional[File]) -> Iterator[Warned]:
     """Bounds that a loop keeps, and without which the script is accepted, too."""
-    tokens = _tokens(text)
+    tokens = tokens_of(text)
     for name, start, end, line in _keeps(tokens):
         without = text[:start] + re.sub(rb"[^\n]", b" ", text[start:end]) + text[end:]
-        if _is_accepted(plan, without, program):
+        if accepts(plan, without, program):
             yield Warned(line, Code.UNUSED_KEEP, f"this kept bound of `{name}` is not needed: the script is accepted without it")
 
 
@@ -211,15 +212,3 @@ def _keeps(tokens: List[Token]) -> Iterator[Tuple[str, int, int, int]]:
             else:
                 start = tokens[item - 1].start
             yield name.text, start, end, name.line
-
-
-def _is_accepted(plan: File, text: bytes, program: Optional[File]) -> bool:
-    with tempfile.TemporaryDirectory(prefix="camac-") as room:
-        script = os.path.join(room, "script")
-        with open(script, "wb") as file:
-            file.write(text)
-        try:
-            check(plan, script, program)
-        except Refused:
-            return False
-    return True

@@ -23,7 +23,7 @@ def draw_bounds(services: Sequence[Service], run: Optional[Run] = None) -> Canva
         canvas.text(0, y + 14, f"GL {it.gl}", "mute s11")
         canvas.text(44, y + 14, cut(it.name, 14), "b")
         here = seen.get(it.gl)
-        _draw_bar(canvas, y, CYCLES, "ours", (it.cycles, it.annotated_cycles), here.cycles if here and run.has_cycles else None)
+        _draw_bar(canvas, y, CYCLES, "ours", (it.cycles, it.annotated_cycles), here.cycles if here and run and run.has_cycles else None)
         _draw_bar(canvas, y, WORDS, "control", (it.words, it.annotated_words), here.words if here else None)
         y += 32 if run else 24
     if any(it.cycles < it.annotated_cycles or it.words < it.annotated_words for it in services):

@@ -62,7 +62,7 @@ def draw_places(run: Run, service: Service) -> Canvas:
 def _grid(words: Sequence[Tuple[int, Histogram]]) -> Grid:
     per = -(-(words[-1][0] + 1) // COLUMNS)
     columns = words[-1][0] // per + 1
-    most, size = max(it.greatest for _, it in words), 1
+    most, size = max(it.greatest or 0 for _, it in words), 1
     while most // size >= ROWS:
         size *= 2
     return Grid(per, columns, min((WIDTH - LEFT - 12) / columns, WIDEST_CELL), size, most // size + 1)

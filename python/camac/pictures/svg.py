@@ -1,7 +1,6 @@
 """SVG as text: the colours of both themes, texts that may hold anything, and a canvas."""
 import re
 from typing import Callable, Dict, List, Optional, Sequence, Tuple, Union
-from xml.sax.saxutils import escape as escape_xml
 
 WIDTH = 960
 # Of each name the colour in the light and in the dark theme. What is told by text has a contrast of 4.5 or more (WCAG 2).
@@ -32,6 +31,7 @@ MONO_11, SANS_11, BOLD_12 = 6.7, 6.8, 8.2
 NO_POINTER = ' style="pointer-events:none"'
 # What no XML may hold, what moves the cursor of a terminal, and halves of characters.
 FORBIDDEN = re.compile("[\x00-\x08\x0b\x0c\x0e-\x1f\x7f-\x9f\ud800-\udfff\ufffe\uffff]")
+ENTITIES = str.maketrans({"&": "&amp;", "<": "&lt;", ">": "&gt;", '"': "&quot;"})
 Box = Tuple[float, float, float, float]
 
 
@@ -42,7 +42,7 @@ def clean(text: object) -> str:
 
 def escape(text: object) -> str:
     """The text between tags or, quotes too, as the value of an attribute."""
-    return escape_xml(clean(text), {'"': "&quot;"})
+    return clean(text).translate(ENTITIES)
 
 
 def number(value: float) -> str:
@@ -110,7 +110,7 @@ def page_style() -> str:
 
 def picture_style() -> str:
     """The style of a picture that stands alone, by plain colours, which every reader of SVG knows."""
-    light, dark = (_colour_rules(lambda name, theme=theme: COLOURS[name][theme]) for theme in (LIGHT, DARK))
+    light, dark = _colour_rules(lambda name: COLOURS[name][LIGHT]), _colour_rules(lambda name: COLOURS[name][DARK])
     return f"{light}@media (prefers-color-scheme:dark){{{dark}}}{_form_rules()}"
 
 

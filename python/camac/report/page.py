@@ -1,7 +1,7 @@
 """HTML: the frame of a page, its style, its script, and tables that can be sorted."""
 import base64
 import hashlib
-from typing import List, NamedTuple, Sequence, Union
+from typing import List, NamedTuple, Sequence
 
 from camac.pictures.svg import DARK, LIGHT, MONO, SANS, Canvas, escape, page_style, variables
 
@@ -108,7 +108,8 @@ class Cell(NamedTuple):
     text: str
 
 
-Row = Sequence[Union[str, int, float, Cell]]
+# Texts, numbers and cells.
+Row = Sequence[object]
 
 
 def table(columns: Sequence[Column], rows: Sequence[Row]) -> str:
@@ -122,7 +123,7 @@ def _kind(column: Column) -> str:
     return ' class="t"' if column.is_text else ""
 
 
-def _cell(column: Column, cell: Union[str, int, float, Cell]) -> str:
+def _cell(column: Column, cell: object) -> str:
     if isinstance(cell, int):
         cell = Cell(cell, f"{cell:,}")
     elif isinstance(cell, float):

@@ -5,7 +5,7 @@ import os
 from typing import Dict, List, NamedTuple, Optional, Sequence, Tuple, Union
 
 from camac import functions
-from camac.bodies import Body, Kind
+from camac.bodies import Body
 from camac.drive import Ending, File
 from camac.pictures import draw_bounds, draw_costs, draw_events, draw_places, draw_plan, draw_response, draw_run, draw_strip, draw_words
 from camac.pictures.svg import count, escape, share
@@ -175,7 +175,7 @@ def cost(facts: Facts) -> str:
     out.append("<p>Where the cycles of the bound come from. A dead time is the cycles times what one takes on your branch.</p>")
     seen = facts.run.seen if facts.run.has_cycles else {}
     for body in facts.bodies:
-        its = seen.get(body.gl) if body.kind is Kind.SERVICE else None
+        its = seen.get(body.gl) if body.gl else None
         out.append(figure(draw_costs(body, facts.source, its.cycles if its else None), is_long=True))
     return "".join(out)
 
@@ -215,7 +215,7 @@ OF_LISTINGS = ("waits mean", "waits", "in a lock", "Q = 0")
 OF_CYCLES = ("cycles least", "mean", "most", "cycles", "of bound", "X = 0")
 
 
-def _known_table(run: Run, columns: List[Column], rows: Sequence[Sequence]) -> str:
+def _known_table(run: Run, columns: List[Column], rows: Sequence[Row]) -> str:
     """The table without the columns of which nothing is known."""
     unknown = (() if run.has_listing else OF_LISTINGS) + (() if run.has_cycles else OF_CYCLES)
     kept = [k for k, it in enumerate(columns) if it.title not in unknown]
