@@ -30,16 +30,23 @@ def setUpModule():
     global ROOM, COPY
     ROOM = tempfile.TemporaryDirectory(prefix="camac-launcher-")
     COPY = pathlib.Path(ROOM.name) / "a copy"
-    COPY.mkdir()
-    for name in TAKEN:
-        if (TOP / name).is_dir():
-            shutil.copytree(TOP / name, COPY / name, ignore=shutil.ignore_patterns("out", "__pycache__"))
-        elif (TOP / name).exists():
-            shutil.copy2(TOP / name, COPY / name)
+    copy(COPY)
 
 
 def tearDownModule():
     ROOM.cleanup()
+
+
+def copy(folder, linked=()):
+    """Copies the repository, but for these names, which become links."""
+    folder.mkdir()
+    for name in TAKEN:
+        if name in linked:
+            (folder / name).symlink_to(TOP / name)
+        elif (TOP / name).is_dir():
+            shutil.copytree(TOP / name, folder / name, ignore=shutil.ignore_patterns("out", "__pycache__"))
+        else:
+            shutil.copy2(TOP / name, folder / name)
 
 
 def start(*words, **how):
@@ -203,10 +210,14 @@ class Launcher(unittest.TestCase):
         self.assertEqual((status, out, err.splitlines(True)[-1]), (3, "", said))
 
 
+def stand_in(folder, name, line):
+    """Makes a stand-in for a command, which does this line of sh."""
+    (folder / name).write_text(f"#!/bin/sh\n{line}\n")
+    (folder / name).chmod(0o755)
+
+
 def toolchain(folder, line):
-    """Makes a stand-in for the command rt, which does this line of sh."""
-    (folder / "rt").write_text(f"#!/bin/sh\n{line}\n")
-    (folder / "rt").chmod(0o755)
+    stand_in(folder, "rt", line)
 
 
 class Proved(unittest.TestCase):
@@ -294,7 +305,7 @@ class Proved(unittest.TestCase):
         library.parent.mkdir()
         self.addCleanup(shutil.rmtree, library.parent)
         self.addCleanup((COPY / "out/proved_library").unlink)
-        library.touch()
+        library.write_text("a stand-in")
         self.assertFalse(self.library_taken(), "no gate ran")
         time.sleep(0.05)
         (COPY / ".git/rt-ci.lock").touch()

@@ -1,0 +1,149 @@
+#!/usr/bin/env python3
+"""Tries ./camac and ./install where something is missing or named wrongly, and what ./install says and makes for other programs.
+
+usage: tests/install_test.py [-v] [TEST ..]     from any folder; takes some ten seconds
+
+Nothing is built: the program is crates/camac/out/camac, or what the environment variable CAMAC_PROGRAM names. It stands in a copy of the
+repository where a build keeps it.
+"""
+import os
+import pathlib
+import shutil
+import sys
+import tempfile
+import unittest
+
+import launcher_test
+from launcher_test import TOP, call
+
+PROGRAM = os.path.abspath(os.environ.get("CAMAC_PROGRAM") or TOP / "crates/camac/out/camac")
+# What ./camac calls, and ./install besides.
+OF_LAUNCHER = "find sort xargs sha256sum stat mkdir mv rm".split()
+OF_INSTALLER = "cat grep cmp cp chmod ln mktemp rmdir realpath python3".split()
+OF_ARCHIVES = "tar gzip".split()
+ROOM = None
+COPY = None
+
+
+def setUpModule():
+    global ROOM, COPY
+    ROOM = tempfile.TemporaryDirectory(prefix="camac-install-")
+    COPY = pathlib.Path(ROOM.name) / "a copy"
+    launcher_test.copy(COPY, linked=("crates",))
+    keep("camac.{}", PROGRAM, "crates/*/src")
+
+
+def tearDownModule():
+    ROOM.cleanup()
+
+
+def keep(name, file, texts):
+    """Puts a file where a build of these sources keeps what it makes of these texts."""
+    line = f'top=$1; source "$top/tools/program.bash"; cd "$top" && texts_of {texts} && echo "$(rt version | sha256sum)"'
+    texts, kit = call("bash", "-c", line, "bash", COPY)[1].splitlines()
+    place = COPY / "out" / name.format(f"{texts}.{kit[:16]}")
+    place.parent.mkdir(exist_ok=True)
+    shutil.copy(file, place)
+    place.chmod(0o755)
+
+
+class Case(unittest.TestCase):
+    folder = launcher_test.Launcher.folder
+
+    def files(self, folder):
+        return [it for it in folder.rglob("*") if not it.is_dir()]
+
+    def path(self, *tools):
+        """An environment in which these tools alone are found, and what a script of bash begins with."""
+        folder = self.folder()
+        for name in ("bash", "env", "readlink", *tools):
+            (folder / name).symlink_to(sys.executable if name == "python3" else shutil.which(name))
+        return {"PATH": str(folder), "HOME": "/nowhere"}
+
+
+class Lacking(Case):
+    """Each tool that is called is missing in turn: it is named, and nothing is made."""
+
+    def but(self, missing, *tools):
+        return self.path(*(it for it in tools if it != missing))
+
+    def test_launcher(self):
+        (COPY / "out/found").unlink(missing_ok=True)
+        before = self.files(COPY / "out")
+        for tool in OF_LAUNCHER:
+            said = f"camac: {tool} is not here, and is needed\n"
+            self.assertEqual(call(COPY / "camac", "--version", env=self.but(tool, *OF_LAUNCHER)), (3, "", said))
+        self.assertEqual(self.files(COPY / "out"), before)
+        self.assertEqual(call(COPY / "camac", "--version", env=self.path(*OF_LAUNCHER)), (0, "camac 0.2.0\n", ""))
+
+    def test_launcher_without_readlink(self):
+        env = self.path(*OF_LAUNCHER)
+        (pathlib.Path(env["PATH"]) / "readlink").unlink()
+        status, out, err = call(COPY / "camac", "--version", env=env)
+        self.assertEqual((status, out, err.count("\n")), (3, "", 1))
+        self.assertIn("readlink: command not found", err)
+
+    def test_tool_that_fails(self):
+        """No program is kept, or taken, under the sum of no text."""
+        (COPY / "out/found").unlink(missing_ok=True)
+        before = self.files(COPY / "out")
+        for tool, why in (("find", "listed"), ("sort", "listed"), ("sha256sum", "listed"), ("xargs", "read")):
+            env = self.but(tool, *OF_LAUNCHER)
+            launcher_test.stand_in(pathlib.Path(env["PATH"]), tool, "exit 1")
+            self.assertEqual(call(COPY / "camac", "--version", env=env), (3, "", f"camac: the sources cannot be {why}\n"))
+        env = self.path(*OF_LAUNCHER)
+        launcher_test.toolchain(pathlib.Path(env["PATH"]), "exit 1")
+        said = "camac: the toolchain's command rt does not tell its version\n"
+        self.assertEqual(call(COPY / "camac", "--version", env=env), (3, "", said))
+        self.assertEqual(self.files(COPY / "out"), before)
+
+    def test_installer(self):
+        tools = [*OF_LAUNCHER, *OF_INSTALLER]
+        for tool in tools:
+            place = self.folder()
+            said = f"camac: {tool} is not here, and is needed\n"
+            self.assertEqual(call(COPY / "install", place, env=self.but(tool, *tools)), (1, "", said))
+            self.assertEqual(self.files(place), [])
+        place = self.folder()
+        status, out, err = call(COPY / "install", place, env=self.path(*tools))
+        self.assertEqual((status, err), (0, ""))
+        self.assertIn("install: no library for C: gcc is not here\n", out)
+        self.assertTrue(os.access(place / "bin/camac", os.X_OK))
+        self.assertEqual(call(COPY / "install", "--remove", place, env=self.path(*tools))[::2], (0, ""))
+        self.assertEqual(self.files(place), [])
+
+    def test_archive(self):
+        tools = [*OF_LAUNCHER, *OF_INSTALLER, *OF_ARCHIVES]
+        place = self.folder()
+        for tool in OF_ARCHIVES:
+            said = f"camac: {tool} is not here, and is needed\n"
+            self.assertEqual(call(COPY / "install", "--pack", place, env=self.but(tool, *tools)), (1, "", said))
+        self.assertEqual(self.files(place), [])
+        self.assertEqual(call(COPY / "install", "--pack", place, env=self.path(*tools))[::2], (0, ""))
+
+
+class Named(Case):
+    """The folder to install into."""
+
+    def refuse(self, said, *words, **how):
+        self.assertEqual(call(COPY / "install", *words, **how), (1, "", f"install: {said}\n"))
+
+    def test_no_folder(self):
+        bare = {it: value for it, value in os.environ.items() if it != "HOME"}
+        for env in (bare, {**bare, "HOME": ""}):
+            self.refuse("HOME is not set: name the folder", env=env)
+        self.refuse("the name of the folder is empty", "")
+        env = {**bare, **self.path(*OF_LAUNCHER, *(it for it in OF_INSTALLER if it != "realpath"))}
+        for line in ("exit 1", "exit 0"):
+            launcher_test.stand_in(pathlib.Path(env["PATH"]), "realpath", line)
+            self.refuse("the folder has no path", "place", env=env)
+
+    def test_help_that_cannot_be_written(self):
+        with open("/dev/full", "w", encoding="utf-8") as full:
+            ran = launcher_test.start(COPY / "install", "--help", cwd=self.folder(), stdout=full)
+            ran.communicate()
+        self.assertEqual(ran.returncode, 1)
+
+
+if __name__ == "__main__":
+    unittest.main()
