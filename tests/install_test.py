@@ -11,6 +11,7 @@ import pathlib
 import shutil
 import sys
 import tempfile
+import time
 import unittest
 
 import launcher_test
@@ -21,6 +22,8 @@ PROGRAM = os.path.abspath(os.environ.get("CAMAC_PROGRAM") or TOP / "crates/camac
 OF_LAUNCHER = "find sort xargs sha256sum stat mkdir mv rm".split()
 OF_INSTALLER = "cat grep cmp cp chmod ln mktemp rmdir realpath python3".split()
 OF_ARCHIVES = "tar gzip".split()
+# Waits for a file of this name for 20 seconds at most.
+WAIT = "n=0; until [ -e {} ]; do sleep 0.1; n=$((n + 1)); [ $n -lt 200 ] || exit 3; done"
 ROOM = None
 COPY = None
 
@@ -120,6 +123,44 @@ class Lacking(Case):
             self.assertEqual(call(COPY / "install", "--pack", place, env=self.but(tool, *tools)), (1, "", said))
         self.assertEqual(self.files(place), [])
         self.assertEqual(call(COPY / "install", "--pack", place, env=self.path(*tools))[::2], (0, ""))
+
+
+class Beside(Case):
+    """The library is built beside the program where processors are idle. What builds them are stand-ins, which wait for each other."""
+
+    def find(self, is_idle, program, library):
+        """Status and standard error of what finds both; and the room in which the stand-ins do these lines."""
+        room, tools = self.folder(), self.path(*OF_LAUNCHER, "python3", "sh", "sleep", "touch", "cp")
+        copy = room / "copy"
+        launcher_test.copy(copy, linked=[it for it in launcher_test.TAKEN if it != "tools"])
+        launcher_test.toolchain(pathlib.Path(tools["PATH"]), "echo a kit")
+        launcher_test.stand_in(copy / "tools", "quick_build", f"cd {room}; {program}")
+        launcher_test.stand_in(copy / "tools", "quick_library", f"cd {room}; touch begun; {library}")
+        (copy / "out").mkdir()
+        line = 'top=$1; source "$top/tools/program.bash"; trap end_library EXIT; with_library=yes; '
+        line += f"is_idle() {{ {is_idle}; }}; find_program && find_library"
+        return call("bash", "-c", line, "bash", copy, env=tools)[::2], room
+
+    def test_idle(self):
+        build = f'{WAIT.format("begun")}; touch built; cp "$0" "$1"'
+        (status, err), room = self.find("true", build, f'{WAIT.format("built")}; cp "$0" "$1"')
+        self.assertEqual((status, err), (0, "camac: the library for C is built beside the program\n"))
+        self.assertEqual(len([*room.glob("copy/out/libcamac.*.a")]), 1)
+
+    def test_busy(self):
+        (status, err), _ = self.find("false", '[ ! -e begun ] && cp "$0" "$1"', 'cp "$0" "$1"')
+        self.assertEqual((status, err), (0, ""))
+
+    def test_program_that_fails(self):
+        """The build of the library is ended, too."""
+        library = f"trap 'touch ended; exit' TERM; {WAIT.format('never')}"
+        (status, _), room = self.find("true", f"{WAIT.format('begun')}; exit 3", library)
+        self.assertEqual(status, 3)
+        for _ in range(100):
+            if (room / "ended").exists():
+                break
+            time.sleep(0.1)
+        self.assertTrue((room / "ended").exists())
 
 
 class Named(Case):

@@ -1,6 +1,7 @@
 # Finds the program of these sources, for scripts of bash. They set `top`, the top of the repository, and call `find_program`. It sets
 # `program`, a file to be run, and `is_proved`, yes or no. Where there is none it says why, and answers 3. `find_library` does the same with
-# the archive of the library for C: it sets `library` and `is_library_proved`.
+# the archive of the library for C: it sets `library` and `is_library_proved`. Scripts that want both set `with_library`, and call `end_library`
+# when they end.
 #
 # The proved program is crates/camac/out/camac, as `rt run` or `rt ci` leaves it, where it stands for these sources. Else it is one that
 # tools/quick_build made of them, which is kept in out/. What was found stands in out/found, with a sum of names, sizes and times, so that
@@ -98,6 +99,7 @@ find_kept() {
   kept=$top/out/$begin.$texts.${kit:0:16}$end
   [ -x "$kept" ] && return
   need python3 || return
+  [ "$tool" = quick_library ] || begin_library
   "$top/tools/$tool" "$kept" </dev/null >/dev/null
   status=$?
   [ "$status" -lt 128 ] || exit "$status"
@@ -106,6 +108,28 @@ find_kept() {
     rm -f "$kept"
     refuse "the sources were changed while they were built: call again"
   fi
+}
+
+# Whether a second build may run beside the first. A build takes up to two processors and 2.5 GB of memory.
+is_idle() {
+  local processors load name free
+  processors=$(nproc) && read -r load _ </proc/loadavg || return
+  while read -r name free _ && [ "$name" != MemAvailable: ]; do :; done </proc/meminfo
+  [ $((processors - ${load%.*})) -ge 3 ] && [ "${free:-0}" -ge 6000000 ]
+} 2>/dev/null
+
+# Builds the library beside the program, in a group of processes of its own.
+begin_library() {
+  [ -n "${with_library-}" ] && is_idle || return
+  echo "camac: the library for C is built beside the program" >&2
+  set -m
+  (find_library) </dev/null >/dev/null 2>&1 &
+  beside=$!
+  set +m
+}
+
+end_library() {
+  [ -z "${beside-}" ] || kill -- "-$beside" 2>/dev/null
 }
 
 find_program() {
