@@ -13,8 +13,8 @@ Each fenced block of a page is of one of these kinds, and is tried:
   ```output                   right after a script: all that `check` prints
   ```python FILE, ```toml FILE, ```sh FILE, ```c FILE    a file that a later command of the page uses, or a part of an example of that name
 
-A console block is left out where its first line calls a compiler (cc, c++) that is not here, or asks for the library for C (by pkg-config, or
-by a program in Python named in_this_process.py) and that is not here (tests/of_c.py).
+A console block is left out where it calls a compiler (cc, c++) that is not here, or asks for the library for C (by pkg-config, or by a program
+in Python named in_this_process.py) and that is not here (tests/of_c.py).
 
 A page of `KEPT` has a folder in examples. Each file there has to be what a block or a command of the page made of that name, to the byte;
 pictures, too. `tests/documents_test.py --keep` writes them anew, to be looked at before they are committed.
@@ -52,7 +52,7 @@ STATEMENT = re.compile(r"^(?:cdlam|cdreg|cfsa|cssa|service|proc) (?!.*\b[A-Z]{2,
 FILE = re.compile(r"(?:python|toml(?! P\d)|sh|c|cpp|camac (?:accepted|\w+ line \d+)) (\S+)(?: on \S+)?")
 # Pages whose files stand in a folder of examples, too, and where the page makes them.
 KEPT = {"TUTORIAL.md": ("tutorial", "."), "BENCHES.md": ("benches", "benches")}
-COMPILER = re.compile(r"\$ (?:cc|c\+\+) ")
+COMPILER = re.compile(r"^\$ (?:cc|c\+\+) ", re.M)
 LIBRARY = re.compile(r"pkg-config|in_this_process\.py")
 CELL = re.compile(r"^\|(?:[^|\n]*\|)*([^|\n]*)\|$")
 # What a piece of a script may be: a statement, its begin, a condition, the end of one, an expression, the end of one.
@@ -82,10 +82,9 @@ def run(command, room, given=b""):
 
 def is_left_out(text):
     """Whether a console block needs a compiler or the library for C where there is none."""
-    first = text.partition("\n")[0]
     lacks_compiler = not (shutil.which("cc") and shutil.which("c++"))
     lacks_library = bool(of_c.lacking()) or not shutil.which("pkg-config")
-    return bool(COMPILER.match(first) and lacks_compiler or LIBRARY.search(first) and lacks_library)
+    return bool(COMPILER.search(text) and lacks_compiler or LIBRARY.search(text) and lacks_library)
 
 
 def compare(what, wanted, found):

@@ -8,6 +8,7 @@ repository where a build keeps it.
 """
 import os
 import pathlib
+import re
 import shutil
 import sys
 import tempfile
@@ -15,6 +16,7 @@ import time
 import unittest
 
 import launcher_test
+import of_c
 from launcher_test import TOP, call
 
 PROGRAM = os.path.abspath(os.environ.get("CAMAC_PROGRAM") or TOP / "crates/camac/out/camac")
@@ -184,6 +186,36 @@ class Named(Case):
             ran = launcher_test.start(COPY / "install", "--help", cwd=self.folder(), stdout=full)
             ran.communicate()
         self.assertEqual(ran.returncode, 1)
+
+
+@unittest.skipIf(of_c.lacking() or not shutil.which("pkg-config"), "no library for C, or no pkg-config")
+class BlockOfC(Case):
+    """The block of README for programs in C, in a shell in which nothing else is set, after ./install into the home folder."""
+
+    @classmethod
+    def setUpClass(cls):
+        keep("libcamac.{}.a", of_c.ARCHIVE, "crates/*/src tools/library_main.text")
+        cls.home = pathlib.Path(ROOM.name) / "home"
+        cls.bare = {"HOME": str(cls.home), "PATH": os.environ["PATH"]}
+        cls.told = call(COPY / "install", env=cls.bare)[1]
+        block = re.search(r"```console\n(\$ export PKG_CONFIG_PATH.*?)```", (TOP / "README.md").read_text(), re.S)[1]
+        cls.commands = re.findall(r"(?m)^\$ (.*)$", block)
+        cls.shown = re.sub(r"(?m)^\$ .*\n", "", block)
+
+    def run_block(self, commands):
+        room = self.home / ".local/share/doc/camac"
+        return call("bash", "-c", "set -e\n" + "\n".join(commands), cwd=room, env=self.bare)
+
+    def test_as_it_stands(self):
+        self.assertEqual(self.run_block(self.commands), (0, self.shown, ""))
+
+    def test_lines_that_are_told(self):
+        lines = re.findall(r"does not look into .*/lib(?:/pkgconfig)?\. A line for ~/\.profile: (export .*)", self.told)
+        self.assertEqual(len(lines), 2)
+        self.assertEqual(self.run_block([*lines, *self.commands[1:]]), (0, self.shown, ""))
+        lib = self.home / ".local/lib"
+        again = call(COPY / "install", env={**self.bare, "PKG_CONFIG_PATH": f"{lib}/pkgconfig", "LD_LIBRARY_PATH": str(lib)})[1]
+        self.assertNotRegex(again, "pkg-config|LD_LIBRARY_PATH")
 
 
 if __name__ == "__main__":
