@@ -206,6 +206,10 @@ def compare_kept(folder, room):
     return len(kept)
 
 
+def git(room, *words):
+    return subprocess.run(["git", *words], cwd=room, capture_output=True, text=True, check=True, timeout=WAIT).stdout
+
+
 def anchors(text):
     """The names by which links lead to the headings of a page."""
     headings = re.findall(r"^#+ (.*)$", BLOCK.sub("", text), re.M)
@@ -250,7 +254,7 @@ class Documents(unittest.TestCase):
         self.assertGreater(tried, 50)
 
     def test_links(self):
-        for page in [*PAGES, TOP / "CHANGELOG.md", *sorted((TOP / "editors").glob("*.md"))]:
+        for page in sorted({*PAGES, *TOP.glob("*.md"), *TOP.glob("editors/*.md")}):
             self.assertEqual(lost_links(page), [], page.name)
         page = self.room / "page.md"
         page.write_text("# A page\n\n[a](#a-page) [b](page.md#a-page) [c](examples) [d](#b-page) [e](none.md) [f](page.md#none)\n")
@@ -261,6 +265,15 @@ class Documents(unittest.TestCase):
         page = (TOP / "docs/LIVE.md").read_text()
         lost = [it.name for it in (TOP / "examples/live").iterdir() if it.is_file() and f"(../examples/live/{it.name})" not in page]
         self.assertEqual(lost, [])
+
+    def test_what_README_leaves(self):
+        """The repository ignores it."""
+        shutil.copy(TOP / ".gitignore", self.room)
+        git(self.room, "init", "-q")
+        git(self.room, "add", "-A")
+        try_page((TOP / "README.md").read_text(), self.room)
+        self.assertTrue((self.room / "run.events").exists())
+        self.assertNotIn("?", git(self.room, "status", "--porcelain", "--untracked-files=all"))
 
     def test_manual_page(self):
         shutil.copy(self.room / "examples/straight_line.script", self.room / "readout.script")
