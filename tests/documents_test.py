@@ -1,5 +1,5 @@
 #!/usr/bin/env python3
-"""Runs what README.md, docs/*.md and the examples of man/camac.1 show, and compares it with what they say comes of it; follows their links. Checks
+"""Runs what README.md, docs/*.md and the examples of man/ show, and compares it with what they say comes of it; follows their links. Checks
 that docs/first_task.diff applies.
 
 usage: tests/documents_test.py [-v] [TEST ..]     from any folder; takes a few seconds
@@ -275,13 +275,15 @@ class Documents(unittest.TestCase):
         self.assertTrue((self.room / "run.events").exists())
         self.assertNotIn("?", git(self.room, "status", "--porcelain", "--untracked-files=all"))
 
-    def test_manual_page(self):
-        shutil.copy(self.room / "examples/straight_line.script", self.room / "readout.script")
-        examples = (TOP / "man/camac.1").read_text().partition(".Sh EXAMPLES\n")[2].partition("\n.Sh ")[0]
-        self.assertNotIn(".Dl", examples)
-        blocks = re.findall(r"^\.Bd [^\n]*\n(.*?)^\.Ed$", examples, re.M | re.S)
-        tried = sum(try_console(it.replace("\\e", "\\"), self.room) for it in blocks)
-        self.assertEqual(tried, examples.count("camac "))
+    def test_manual_pages(self):
+        for page in sorted((TOP / "man").iterdir()):
+            self.enter_room()
+            shutil.copy(self.room / "examples/straight_line.script", self.room / "readout.script")
+            examples = page.read_text().partition(".Sh EXAMPLES\n")[2].partition("\n.Sh ")[0]
+            self.assertNotIn(".Dl", examples)
+            blocks = re.findall(r"^\.Bd [^\n]*\n(.*?)^\.Ed$", examples, re.M | re.S)
+            tried = sum(try_console(it.replace("\\e", "\\"), self.room) for it in blocks)
+            self.assertEqual(tried, len(re.findall(r"^\$ ", examples, re.M)), page.name)
 
     def refuse(self, text):
         with self.subTest(text=text), self.assertRaises(Wrong):
