@@ -23,7 +23,7 @@ PROGRAM = os.path.abspath(os.environ.get("CAMAC_PROGRAM") or TOP / "crates/camac
 # What ./camac calls, and ./install besides.
 OF_LAUNCHER = "find sort xargs sha256sum stat mkdir mv rm".split()
 OF_INSTALLER = "cat grep cmp cp chmod ln mktemp rmdir realpath python3".split()
-OF_ARCHIVES = "tar gzip".split()
+OF_ARCHIVES = {"--pack": "tar gzip".split(), "--deb": "dpkg-deb gzip strip md5sum sed date touch".split()}
 # Waits for a file of this name for 20 seconds at most.
 WAIT = "n=0; until [ -e {} ]; do sleep 0.1; n=$((n + 1)); [ $n -lt 200 ] || exit 3; done"
 ROOM = None
@@ -36,6 +36,8 @@ def setUpModule():
     COPY = pathlib.Path(ROOM.name) / "a copy"
     launcher_test.copy(COPY, linked=("crates",))
     keep("camac.{}", PROGRAM, "crates/*/src")
+    if not of_c.lacking():
+        keep("libcamac.{}.a", of_c.ARCHIVE, "crates/*/src tools/library_main.text")
 
 
 def tearDownModule():
@@ -117,14 +119,44 @@ class Lacking(Case):
         self.assertEqual(call(COPY / "install", "--remove", place, env=self.path(*tools))[::2], (0, ""))
         self.assertEqual(self.files(place), [])
 
-    def test_archive(self):
-        tools = [*OF_LAUNCHER, *OF_INSTALLER, *OF_ARCHIVES]
-        place = self.folder()
-        for tool in OF_ARCHIVES:
-            said = f"camac: {tool} is not here, and is needed\n"
-            self.assertEqual(call(COPY / "install", "--pack", place, env=self.but(tool, *tools)), (1, "", said))
-        self.assertEqual(self.files(place), [])
-        self.assertEqual(call(COPY / "install", "--pack", place, env=self.path(*tools))[::2], (0, ""))
+    def test_archives(self):
+        for option, its in OF_ARCHIVES.items():
+            tools = [*OF_LAUNCHER, *OF_INSTALLER, *its]
+            place = self.folder()
+            for tool in its if all(map(shutil.which, its)) else ():
+                said = f"camac: {tool} is not here, and is needed\n"
+                self.assertEqual(call(COPY / "install", option, place, env=self.but(tool, *tools)), (1, "", said))
+            self.assertEqual(self.files(place), [])
+        self.assertEqual(call(COPY / "install", "--pack", place, env=self.path(*OF_LAUNCHER, *OF_INSTALLER, *OF_ARCHIVES["--pack"]))[::2], (0, ""))
+
+
+@unittest.skipUnless(all(map(shutil.which, OF_ARCHIVES["--deb"])), "no tools of Debian")
+class DebianPackage(Case):
+    """It has the library where that is here to be put in."""
+
+    def make(self, place, umask):
+        tools = self.path(*OF_LAUNCHER, *OF_INSTALLER, *OF_ARCHIVES["--deb"], "tar")
+        env = {**(tools if of_c.lacking() else os.environ), "SOURCE_DATE_EPOCH": "1795737600", "TMPDIR": str(place)}
+        line = f'umask {umask} && "$0" --deb "$1"'
+        status, out, _ = call("bash", "-c", line, COPY / "install", place, env=env)
+        self.assertEqual((status, out.splitlines()[0]), (0, f"{place}/camac_0.2.0-0camac1_amd64.deb"))
+        self.assertEqual([it.name for it in place.iterdir()], ["camac_0.2.0-0camac1_amd64.deb"])
+        return place / "camac_0.2.0-0camac1_amd64.deb"
+
+    def test_package(self):
+        place, room = self.folder(), self.folder()
+        package = self.make(place, "022")
+        self.assertEqual(self.make(self.folder(), "077").read_bytes(), package.read_bytes())
+        rows = [it.split() for it in call("dpkg-deb", "-c", package, env={**os.environ, "TZ": "UTC"})[1].splitlines()]
+        self.assertEqual({tuple(it[1:5:2] + [it[4]]) for it in rows}, {("root/root", "2026-11-27", "00:00")})
+        call("dpkg-deb", "-x", package, room)
+        self.assertEqual(call(room / "usr/bin/camac", "--version"), (0, "camac 0.2.0\n", ""))
+        wanted = "bin/camac-report lib/python3/dist-packages/camac/__init__.py share/man/man1/camac.1.gz share/man/man5/camac-plan.5.gz"
+        wanted += " share/doc/camac/copyright share/doc/camac/changelog.gz share/doc/camac/changelog.Debian.gz share/doc/camac/docs/REFUSALS.md"
+        wanted += "" if of_c.lacking() else " include/camac.h lib/x86_64-linux-gnu/libcamac.so.0 lib/x86_64-linux-gnu/pkgconfig/camac.pc"
+        self.assertEqual([it for it in wanted.split() if not (room / "usr" / it).is_file()], [])
+        if shutil.which("lintian"):
+            self.assertEqual(call("lintian", "--allow-root", "--fail-on", "error,warning", package)[:2], (0, ""))
 
 
 class Beside(Case):
@@ -194,7 +226,6 @@ class BlockOfC(Case):
 
     @classmethod
     def setUpClass(cls):
-        keep("libcamac.{}.a", of_c.ARCHIVE, "crates/*/src tools/library_main.text")
         cls.home = pathlib.Path(ROOM.name) / "home"
         cls.bare = {"HOME": str(cls.home), "PATH": os.environ["PATH"]}
         cls.told = call(COPY / "install", env=cls.bare)[1]
