@@ -105,5 +105,5 @@ make_package() {
   debian_control >DEBIAN/control && debian_script py3compile >DEBIAN/postinst && debian_script py3clean >DEBIAN/prerm && chmod 755 DEBIAN/p* &&
     find usr -type f -print0 | LC_ALL=C sort -z | xargs -0 md5sum >DEBIAN/md5sums &&
     find . -exec touch -hd "@$SOURCE_DATE_EPOCH" {} + &&
-    dpkg-deb -Zxz --root-owner-group --build . "$room/package.deb" >&2
+    dpkg-deb -Zxz --root-owner-group --build . "$room/package.deb" >/dev/null
 }
