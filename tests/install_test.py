@@ -1,7 +1,7 @@
 #!/usr/bin/env python3
 """Tries ./camac and ./install where something is missing or named wrongly, and what ./install says and makes for other programs.
 
-usage: tests/install_test.py [-v] [TEST ..]     from any folder; takes some ten seconds
+usage: tests/install_test.py [-v] [TEST ..]     from any folder; takes half a minute
 
 Nothing is built: the program is crates/camac/out/camac, or what the environment variable CAMAC_PROGRAM names. It stands in a copy of the
 repository where a build keeps it.
@@ -34,7 +34,7 @@ def setUpModule():
     global ROOM, COPY
     ROOM = tempfile.TemporaryDirectory(prefix="camac-install-")
     COPY = pathlib.Path(ROOM.name) / "a copy"
-    launcher_test.copy(COPY, linked=("crates",))
+    launcher_test.copy(COPY)
     keep("camac.{}", PROGRAM, "crates/*/src")
     if not of_c.lacking():
         keep("libcamac.{}.a", of_c.ARCHIVE, "crates/*/src tools/library_main.text")
@@ -61,11 +61,11 @@ class Case(unittest.TestCase):
         return [it for it in folder.rglob("*") if not it.is_dir()]
 
     def path(self, *tools):
-        """An environment in which these tools alone are found, and what a script of bash begins with."""
+        """An environment without HOME, in which these tools alone are found, and what a script of bash begins with."""
         folder = self.folder()
         for name in ("bash", "env", "readlink", *tools):
             (folder / name).symlink_to(sys.executable if name == "python3" else shutil.which(name))
-        return {"PATH": str(folder), "HOME": "/nowhere"}
+        return {"PATH": str(folder)}
 
 
 class Lacking(Case):
@@ -116,6 +116,8 @@ class Lacking(Case):
         self.assertEqual((status, err), (0, ""))
         self.assertIn("install: no library for C: gcc is not here\n", out)
         self.assertTrue(os.access(place / "bin/camac", os.X_OK))
+        for name in ("man/man5/camac-plan.5", "man/man5/camac-script.5", "man/man5/camac-events.5", "camac/plan.schema.json"):
+            self.assertIn(f"{place}/share/{name}\n", out)
         self.assertEqual(call(COPY / "install", "--remove", place, env=self.path(*tools))[::2], (0, ""))
         self.assertEqual(self.files(place), [])
 
@@ -166,7 +168,9 @@ class Beside(Case):
         """Status and standard error of what finds both; and the room in which the stand-ins do these lines."""
         room, tools = self.folder(), self.path(*OF_LAUNCHER, "python3", "sh", "sleep", "touch", "cp")
         copy = room / "copy"
-        launcher_test.copy(copy, linked=[it for it in launcher_test.TAKEN if it != "tools"])
+        shutil.copytree(TOP / "tools", copy / "tools")
+        for name in ("crates", "crates.txt"):
+            (copy / name).symlink_to(COPY / name)
         launcher_test.toolchain(pathlib.Path(tools["PATH"]), "echo a kit")
         launcher_test.stand_in(copy / "tools", "quick_build", f"cd {room}; {program}")
         launcher_test.stand_in(copy / "tools", "quick_library", f"cd {room}; touch begun; {library}")
