@@ -1,6 +1,6 @@
 #!/usr/bin/env python3
-"""Runs what README.md, docs/*.md and the examples of man/camac.1 show, and compares it with what they say comes of it; follows their links. Checks
-that docs/first_task.diff applies.
+"""Runs what README.md, docs/*.md and the examples of man/camac.1 and man/*.5 show, and compares it with what they say comes of it; follows
+their links. Checks that docs/first_task.diff applies.
 
 usage: tests/documents_test.py [-v] [TEST ..]     from any folder; takes a few seconds
 
@@ -13,8 +13,8 @@ Each fenced block of a page is of one of these kinds, and is tried:
   ```output                   right after a script: all that `check` prints
   ```python FILE, ```toml FILE, ```sh FILE, ```c FILE    a file that a later command of the page uses, or a part of an example of that name
 
-A console block is left out where its first line calls a compiler (cc, c++) that is not here, or asks for the library for C (by pkg-config, or
-by a program in Python named in_this_process.py) and that is not here (tests/of_c.py).
+A console block is left out where it calls a compiler (cc, c++) that is not here, or asks for the library for C (by pkg-config, or by a program
+in Python named in_this_process.py) and that is not here (tests/of_c.py).
 
 A page of `KEPT` has a folder in examples. Each file there has to be what a block or a command of the page made of that name, to the byte;
 pictures, too. `tests/documents_test.py --keep` writes them anew, to be looked at before they are committed.
@@ -52,7 +52,7 @@ STATEMENT = re.compile(r"^(?:cdlam|cdreg|cfsa|cssa|service|proc) (?!.*\b[A-Z]{2,
 FILE = re.compile(r"(?:python|toml(?! P\d)|sh|c|cpp|camac (?:accepted|\w+ line \d+)) (\S+)(?: on \S+)?")
 # Pages whose files stand in a folder of examples, too, and where the page makes them.
 KEPT = {"TUTORIAL.md": ("tutorial", "."), "BENCHES.md": ("benches", "benches")}
-COMPILER = re.compile(r"\$ (?:cc|c\+\+) ")
+COMPILER = re.compile(r"^\$ (?:cc|c\+\+) ", re.M)
 LIBRARY = re.compile(r"pkg-config|in_this_process\.py")
 CELL = re.compile(r"^\|(?:[^|\n]*\|)*([^|\n]*)\|$")
 # What a piece of a script may be: a statement, its begin, a condition, the end of one, an expression, the end of one.
@@ -82,10 +82,9 @@ def run(command, room, given=b""):
 
 def is_left_out(text):
     """Whether a console block needs a compiler or the library for C where there is none."""
-    first = text.partition("\n")[0]
     lacks_compiler = not (shutil.which("cc") and shutil.which("c++"))
     lacks_library = bool(of_c.lacking()) or not shutil.which("pkg-config")
-    return bool(COMPILER.match(first) and lacks_compiler or LIBRARY.search(first) and lacks_library)
+    return bool(COMPILER.search(text) and lacks_compiler or LIBRARY.search(text) and lacks_library)
 
 
 def compare(what, wanted, found):
@@ -207,6 +206,10 @@ def compare_kept(folder, room):
     return len(kept)
 
 
+def git(room, *words):
+    return subprocess.run(["git", *words], cwd=room, capture_output=True, text=True, check=True, timeout=WAIT).stdout
+
+
 def anchors(text):
     """The names by which links lead to the headings of a page."""
     headings = re.findall(r"^#+ (.*)$", BLOCK.sub("", text), re.M)
@@ -252,7 +255,7 @@ class Documents(unittest.TestCase):
         self.assertGreater(tried, 50)
 
     def test_links(self):
-        for page in [*PAGES, TOP / "CHANGELOG.md", *sorted((TOP / "editors").glob("*.md"))]:
+        for page in sorted({*PAGES, *TOP.glob("*.md"), *TOP.glob("editors/*.md")}):
             self.assertEqual(lost_links(page), [], page.name)
         page = self.room / "page.md"
         page.write_text("# A page\n\n[a](#a-page) [b](page.md#a-page) [c](examples) [d](#b-page) [e](none.md) [f](page.md#none)\n")
@@ -264,13 +267,25 @@ class Documents(unittest.TestCase):
         lost = [it.name for it in (TOP / "examples/live").iterdir() if it.is_file() and f"(../examples/live/{it.name})" not in page]
         self.assertEqual(lost, [])
 
-    def test_manual_page(self):
-        shutil.copy(self.room / "examples/straight_line.script", self.room / "readout.script")
-        examples = (TOP / "man/camac.1").read_text().partition(".Sh EXAMPLES\n")[2].partition("\n.Sh ")[0]
-        self.assertNotIn(".Dl", examples)
-        blocks = re.findall(r"^\.Bd [^\n]*\n(.*?)^\.Ed$", examples, re.M | re.S)
-        tried = sum(try_console(it.replace("\\e", "\\"), self.room) for it in blocks)
-        self.assertEqual(tried, examples.count("camac "))
+    def test_what_README_leaves(self):
+        """The repository ignores it."""
+        shutil.copy(TOP / ".gitignore", self.room)
+        git(self.room, "init", "-q")
+        git(self.room, "add", "-A")
+        try_page((TOP / "README.md").read_text(), self.room)
+        self.assertTrue((self.room / "run.events").exists())
+        left = git(self.room, "status", "--porcelain", "--untracked-files=all").splitlines()
+        self.assertEqual([it for it in left if it.startswith("??")], [])
+
+    def test_manual_pages(self):
+        for page in (TOP / "man/camac.1", *sorted((TOP / "man").glob("*.5"))):
+            self.enter_room()
+            shutil.copy(self.room / "examples/straight_line.script", self.room / "readout.script")
+            examples = page.read_text().partition(".Sh EXAMPLES\n")[2].partition("\n.Sh ")[0]
+            self.assertNotIn(".Dl", examples)
+            blocks = re.findall(r"^\.Bd [^\n]*\n(.*?)^\.Ed$", examples, re.M | re.S)
+            tried = sum(try_console(it.replace("\\e", "\\"), self.room) for it in blocks)
+            self.assertEqual(tried, len(re.findall(r"^\$ ", examples, re.M)), page.name)
 
     def refuse(self, text):
         with self.subTest(text=text), self.assertRaises(Wrong):

@@ -5,14 +5,18 @@ usage: tests/launcher_test.py [-v] [TEST ..]     from any folder
 
 It needs the kit's command rt. It builds the program once and tries to build a broken one, and takes two to three minutes on four cores.
 """
+import contextlib
 import hashlib
 import os
 import pathlib
+import pty
+import re
 import select
 import shutil
 import signal
 import subprocess
 import tempfile
+import threading
 import time
 import unittest
 
@@ -26,20 +30,25 @@ COPY = None
 
 
 def setUpModule():
-    """Copies the repository, and builds its program by two calls at once."""
+    """Copies the repository."""
     global ROOM, COPY
     ROOM = tempfile.TemporaryDirectory(prefix="camac-launcher-")
     COPY = pathlib.Path(ROOM.name) / "a copy"
-    COPY.mkdir()
-    for name in TAKEN:
-        if (TOP / name).is_dir():
-            shutil.copytree(TOP / name, COPY / name, ignore=shutil.ignore_patterns("out", "__pycache__"))
-        elif (TOP / name).exists():
-            shutil.copy2(TOP / name, COPY / name)
+    copy(COPY)
 
 
 def tearDownModule():
     ROOM.cleanup()
+
+
+def copy(folder):
+    """Copies the repository, without what was built."""
+    folder.mkdir()
+    for name in TAKEN:
+        if (TOP / name).is_dir():
+            shutil.copytree(TOP / name, folder / name, ignore=shutil.ignore_patterns("out", "__pycache__"))
+        else:
+            shutil.copy2(TOP / name, folder / name)
 
 
 def start(*words, **how):
@@ -52,6 +61,28 @@ def call(*words, given="", **how):
     ran = start(*words, **how)
     out, err = ran.communicate(given)
     return ran.returncode, out, err
+
+
+class Terminal:
+    """A terminal that keeps what is said to it."""
+
+    def __init__(self):
+        self.taken, self.given = pty.openpty()
+        self.said = ""
+        self.reader = threading.Thread(target=self.read)
+        self.reader.start()
+
+    def read(self):
+        # (a terminal that nobody writes to any more is an error to read)
+        with contextlib.suppress(OSError):
+            while True:
+                self.said += os.read(self.taken, 65536).decode()
+
+    def close(self):
+        os.close(self.given)
+        self.reader.join()
+        os.close(self.taken)
+        return self.said
 
 
 def processor_time():
@@ -97,24 +128,34 @@ class Launcher(unittest.TestCase):
         self.assertEqual(ran.returncode, 130)
         self.assertEqual(kept(), [])
         self.assertEqual([*room.iterdir()], [])
-        self.assertEqual([it.name for it in (COPY / "out").iterdir()], ["lock"])
+        self.assertEqual([it.name for it in (COPY / "out").iterdir()], ["program.lock"])
 
-    def test_2_two_first_calls_at_once(self):
+    def test_2_first_calls_at_once(self):
+        """The second and third begin while the first builds. The first two have terminals."""
         began = time.monotonic()
-        both = [start(self.launcher, "check", "@sample", "@in") for _ in range(2)]
-        for it in both:
-            it.stdin.write(self.script)
-            it.stdin.close()
-        said = []
-        for it in both:
+        words = (self.launcher, "check", "@sample", "@in")
+        terminals, calls = [Terminal(), Terminal()], []
+        for it in (*terminals, None):
+            calls.append(start(*words, stderr=it.given if it else subprocess.PIPE))
+            calls[-1].stdin.write(self.script)
+            calls[-1].stdin.close()
+            while "reading the sources" not in terminals[0].said and calls[0].poll() is None:
+                time.sleep(0.1)
+        self.assertEqual(calls[2].stderr.read(), "camac: the program is being built already\n")
+        for it in calls:
             with it:
-                said.append((it.stdout.read(), it.stderr.read(), it.wait()))
+                self.assertEqual((it.stdout.read(), it.wait()), (VERDICT, 0))
         print(f"\nthe first call took {time.monotonic() - began:.0f} s", flush=True)
-        self.assertEqual([(out, status) for out, _, status in said], [(VERDICT, 0)] * 2)
-        texts = sorted((err for _, err, _ in said), key=len)
-        self.assertEqual(texts[0], "camac: another call builds the program: waiting for it\n")
-        self.assertTrue(texts[1].startswith("camac: the program is built now, once, in about a minute\n"), texts[1])
-        self.assertTrue(texts[1].endswith(NOT_PROVED), texts[1])
+        first, second = (it.close() for it in terminals)
+        self.assertTrue(first.startswith("camac: the program is built now, once, in about a minute\r\n"), first)
+        self.assertTrue(first.endswith(NOT_PROVED.replace("\n", "\r\n")), first)
+        for said in (first, second):
+            told = [tuple(map(int, it)) for it in re.findall(r"compiling, (\d+) of (\d+) crates", said)]
+            self.assertEqual(told, sorted(told))
+            self.assertEqual(told[-1][0], told[-1][1])
+            self.assertGreater(len({*told}), 5)
+            self.assertLessEqual(max(map(len, re.split(r"\r\x1b\[K|\r\n", said.partition("built in")[0]))), 80)
+        self.assertIn("the program is being built already, compiling", second)
         self.assertEqual(len(kept()), 1)
 
     def test_3_later_calls_are_fast_and_silent(self):
@@ -203,10 +244,14 @@ class Launcher(unittest.TestCase):
         self.assertEqual((status, out, err.splitlines(True)[-1]), (3, "", said))
 
 
+def stand_in(folder, name, line):
+    """Makes a stand-in for a command, which does this line of sh."""
+    (folder / name).write_text(f"#!/bin/sh\n{line}\n")
+    (folder / name).chmod(0o755)
+
+
 def toolchain(folder, line):
-    """Makes a stand-in for the command rt, which does this line of sh."""
-    (folder / "rt").write_text(f"#!/bin/sh\n{line}\n")
-    (folder / "rt").chmod(0o755)
+    stand_in(folder, "rt", line)
 
 
 class Proved(unittest.TestCase):
@@ -294,7 +339,7 @@ class Proved(unittest.TestCase):
         library.parent.mkdir()
         self.addCleanup(shutil.rmtree, library.parent)
         self.addCleanup((COPY / "out/proved_library").unlink)
-        library.touch()
+        library.write_text("a stand-in")
         self.assertFalse(self.library_taken(), "no gate ran")
         time.sleep(0.05)
         (COPY / ".git/rt-ci.lock").touch()
@@ -398,7 +443,7 @@ class Install(unittest.TestCase):
         ran = call("bash", "-c", f"{line}; python3 -c 'import camac; print(camac.__file__)'", env={**os.environ, "PYTHONPATH": ""})
         self.assertTrue(ran[1].startswith(f"{place}/lib/"), ran)
         again = call(COPY / "install", place, env={**os.environ, "PYTHONPATH": str(pathlib.Path(ran[1].strip()).parent.parent)})[1]
-        self.assertNotIn("does not look into", again)
+        self.assertNotIn("python3 does not look into", again)
 
     def test_file_of_another(self):
         place = self.folder()

@@ -1,6 +1,7 @@
 # Finds the program of these sources, for scripts of bash. They set `top`, the top of the repository, and call `find_program`. It sets
 # `program`, a file to be run, and `is_proved`, yes or no. Where there is none it says why, and answers 3. `find_library` does the same with
-# the archive of the library for C: it sets `library` and `is_library_proved`.
+# the archive of the library for C: it sets `library` and `is_library_proved`. Scripts that want both set `with_library`, and call `end_library`
+# when they end.
 #
 # The proved program is crates/camac/out/camac, as `rt run` or `rt ci` leaves it, where it stands for these sources. Else it is one that
 # tools/quick_build made of them, which is kept in out/. What was found stands in out/found, with a sum of names, sizes and times, so that
@@ -9,16 +10,31 @@
 
 proved_program=crates/camac/out/camac
 proved_library=crates/camac_c/out/libcamac_c.a
+called='find sort xargs sha256sum stat mkdir mv rm'
 
-say() {
+# Says why there is no program or library, and answers 3.
+refuse() {
   echo "camac: $1" >&2
+  return 3
+}
+
+# Refuses where one of these tools is not here.
+need() {
+  local tool
+  for tool in "$@"; do
+    type -P "$tool" >/dev/null || refuse "$tool is not here, and is needed" || return
+  done
+}
+
+# The sum of a text. An empty one has none: what had to write it has failed.
+sum_of_text() {
+  local sum
+  sum=$(sha256sum) && [[ $sum != e3b0c44298fc1c149afbf4c8996fb924* ]] && echo "${sum%% *}"
 }
 
 # A sum of the names, sizes and times of all that a program is made of, and of what the proved program is known by.
 touched() {
-  local sum
-  sum=$(cd "$top" && LC_ALL=C find crates.txt crates/*/{src,specs,proofs} $proved_program{,.stamp} .git/rt-ci.lock -printf '%p %s %T@ %C@\n' 2>/dev/null | LC_ALL=C sort | sha256sum)
-  echo "${sum%% *}"
+  cd "$top" && LC_ALL=C find crates.txt crates/*/{src,specs,proofs} $proved_program{,.stamp} .git/rt-ci.lock -printf '%p %s %T@ %C@\n' 2>/dev/null | LC_ALL=C sort | sum_of_text
 }
 
 # Size and times of the toolchain's command, or `none`.
@@ -34,9 +50,8 @@ toolchain_touched() {
 # A sum of the names and texts of crates.txt and of the files below these folders. What editors leave beside a file is no part of it.
 texts_of() {
   local sum
-  sum=$(cd "$top" && LC_ALL=C find crates.txt "$@" -type f ! -name '.*' ! -name '*~' ! -name '#*' -print0 2>/dev/null |
-    LC_ALL=C sort -z | xargs -0 sha256sum | sha256sum)
-  echo "${sum:0:32}"
+  sum=$(set -o pipefail && cd "$top" && LC_ALL=C find crates.txt "$@" -type f ! -name '.*' ! -name '*~' ! -name '#*' -print0 |
+    LC_ALL=C sort -z | xargs -0 sha256sum | sum_of_text) && echo "${sum:0:32}"
 }
 
 # Writes a line into a file of out/ in one step. Where out/ cannot be written, the next call looks again.
@@ -46,8 +61,8 @@ write_down() {
 
 # A sum of all texts that are proved, and one of what was made of them.
 proof_of() {
-  local sum
-  sum=$(sha256sum <"$top/$1") && echo "$(cd "$top" && texts_of crates/*/{src,specs,proofs}) ${sum%% *}"
+  local texts sum
+  texts=$(cd "$top" && texts_of crates/*/{src,specs,proofs}) && sum=$(sum_of_text <"$top/$1") && echo "$texts $sum"
 }
 
 # Whether what was proved, the program or the library, stands for these sources: none of them was touched since its proof began. `rt run`
@@ -55,7 +70,7 @@ proof_of() {
 # it begins, and sets aside what was built before. (Of that time whole seconds count, since clocks of files are coarse.) What was found to be
 # proved is written down in a file of out/, since times also change where texts do not.
 stands_proved() {
-  local made=$1 note=$2 proof known= since
+  local made=$1 note=$2 proof known= since younger
   [ -r "$top/$made" ] && proof=$(proof_of "$made") || return
   [ -r "$top/out/$note" ] && IFS= read -r known <"$top/out/$note"
   [ "$known" = "$proof" ] && return
@@ -64,8 +79,8 @@ stands_proved() {
     since=$top/.git/rt-ci.lock
     [ -e "$since" ] && [ "$top/$made" -nt "$since" ] || return
   fi
-  since=$(stat -c @%Y "$since")
-  [ -z "$(cd "$top" && find crates.txt crates/*/{src,specs,proofs} \( -newermt "$since" -o -newerct "$since" \) -print -quit 2>/dev/null)" ] || return
+  since=$(stat -c @%Y "$since") || return
+  younger=$(cd "$top" && find crates.txt crates/*/{src,specs,proofs} \( -newermt "$since" -o -newerct "$since" \) -print -quit) && [ -z "$younger" ] || return
   write_down "$note" "$proof"
 }
 
@@ -73,31 +88,54 @@ stands_proved() {
 find_kept() {
   local tool=$1 begin=$2 end=$3 texts kit status
   shift 3
-  texts=$(cd "$top" && texts_of "$@")
+  texts=$(cd "$top" && texts_of "$@") || refuse "the sources cannot be read" || return
   if [ "$toolchain" = none ]; then
     for kept in "$top/out/$begin.$texts."????????????????"$end"; do
       [ -x "$kept" ] && return
     done
-    say "the toolchain's command rt is not here: README.md says what is needed"
-    return 3
+    refuse "the toolchain's command rt is not here: README.md says what is needed" || return
   fi
-  kit=$(rt version | sha256sum)
+  kit=$(set -o pipefail && rt version | sum_of_text) || refuse "the toolchain's command rt does not tell its version" || return
   kept=$top/out/$begin.$texts.${kit:0:16}$end
   [ -x "$kept" ] && return
+  need python3 || return
+  [ "$tool" = quick_library ] || begin_library
   "$top/tools/$tool" "$kept" </dev/null >/dev/null
   status=$?
   [ "$status" -lt 128 ] || exit "$status"
   [ "$status" -eq 0 ] || return 3
   if [ "$(cd "$top" && texts_of "$@")" != "$texts" ]; then
     rm -f "$kept"
-    say "the sources were changed while they were built: call again"
-    return 3
+    refuse "the sources were changed while they were built: call again"
   fi
+}
+
+# Whether a second build may run beside the first. A build takes up to two processors and 2.5 GB of memory.
+is_idle() {
+  local processors load name free
+  processors=$(nproc) && read -r load _ </proc/loadavg || return
+  while read -r name free _ && [ "$name" != MemAvailable: ]; do :; done </proc/meminfo
+  [ $((processors - ${load%.*})) -ge 3 ] && [ "${free:-0}" -ge 6000000 ]
+} 2>/dev/null
+
+# Builds the library beside the program, in a group of processes of its own.
+begin_library() {
+  [ -n "${with_library-}" ] && is_idle || return
+  echo "camac: the library for C is built beside the program" >&2
+  set -m
+  (find_library) </dev/null >/dev/null 2>&1 &
+  beside=$!
+  set +m
+}
+
+end_library() {
+  [ -z "${beside-}" ] || kill -- "-$beside" 2>/dev/null
 }
 
 find_program() {
   local seen toolchain known_seen= known_toolchain= name=
-  seen=$(touched)
+  need $called || return
+  seen=$(touched) || refuse "the sources cannot be listed" || return
   toolchain=$(toolchain_touched)
   [ -r "$top/out/found" ] && read -r known_seen known_toolchain is_proved name <"$top/out/found"
   program=$top/$name

@@ -5,7 +5,7 @@
 
 ;;; Commentary:
 
-;; Colours the scripts of camac: files whose names end in .script or .camac.
+;; Colours and indents the scripts of camac: files whose names end in .script or .camac.  `compile' judges them by camac-check.
 
 ;;; Code:
 
@@ -49,11 +49,45 @@
     table)
   "Syntax table of `camac-mode'.")
 
+(defgroup camac nil
+  "CAMAC readout scripts."
+  :group 'languages)
+
+(defcustom camac-indent-offset 2
+  "How many columns a block stands further in."
+  :type 'integer
+  :safe #'integerp)
+
+(defcustom camac-plan "plan.toml"
+  "The plan on which `compile' judges a script."
+  :type 'file
+  :safe #'stringp)
+
+(defun camac-indentation ()
+  "Return the column of the line at point: one step for each brace that is open."
+  (save-excursion
+    (back-to-indentation)
+    (skip-chars-forward "} \t" (line-end-position))
+    (* camac-indent-offset (car (syntax-ppss)))))
+
+(defun camac-indent-line ()
+  "Indent the line at point."
+  (let ((is-before (<= (current-column) (current-indentation))))
+    (save-excursion (indent-line-to (camac-indentation)))
+    (when is-before (back-to-indentation))))
+
 ;;;###autoload
 (define-derived-mode camac-mode prog-mode "CAMAC"
   "Major mode for CAMAC readout scripts."
   (setq-local comment-start "# ")
   (setq-local comment-end "")
+  (setq-local indent-line-function #'camac-indent-line)
+  (setq-local indent-tabs-mode nil)
+  (setq-local electric-indent-chars '(?{ ?} ?\n))
+  (when buffer-file-name
+    (setq-local compile-command
+                (format "camac-check %s %s" (shell-quote-argument camac-plan)
+                        (shell-quote-argument (file-name-nondirectory buffer-file-name)))))
   (setq-local font-lock-defaults '(camac-font-lock-keywords)))
 
 ;;;###autoload

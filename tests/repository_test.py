@@ -1,0 +1,211 @@
+#!/usr/bin/env python3
+"""Compares what tells the formats once more, the manual pages of section 5 and the JSON Schema of plans, with the pages and with plans. Tries the files for
+editors in those that are here, and reads the files that tell of the repository.
+
+usage: tests/repository_test.py [-v] [TEST ..]     from any folder; takes a few seconds
+"""
+import json
+import pathlib
+import re
+import shutil
+import subprocess
+import sys
+import tempfile
+import unittest
+
+import explain_test
+import program_test
+import rows_test
+
+TOP = pathlib.Path(__file__).resolve().parent.parent
+SCHEMA = json.loads((TOP / "editors/plan.schema.json").read_text())
+SCRIPTS = sorted((TOP / "examples").rglob("*.script"))
+# The tables of PLANS, in their order.
+TABLES = [SCHEMA, *(SCHEMA["definitions"][it] for it in ("type", "command", "crate", "station"))]
+# Which of the plans on standard input, a list in JSON, are of the schema; None of a text that is no TOML 1.0.
+JUDGE = """
+import json, sys, tomllib, jsonschema
+
+def judge(text):
+    try:
+        return validator.is_valid(tomllib.loads(text))
+    except tomllib.TOMLDecodeError:
+        return None
+
+schema = json.load(open(sys.argv[1], encoding="utf-8"))
+jsonschema.Draft7Validator.check_schema(schema)
+validator = jsonschema.Draft7Validator(schema)
+json.dump([judge(it) for it in json.load(sys.stdin)], sys.stdout)
+"""
+
+
+def page(name):
+    return (TOP / name).read_text()
+
+
+def rows(text, heading):
+    """The rows of the first table behind a heading, as lists of cells."""
+    table = re.search(r"(?:^\|.*\|\n)+", text.partition(heading)[2], re.M)[0]
+    return [[it.strip() for it in row.strip("|").split("|")] for row in table.splitlines()[2:]]
+
+
+def is_backwards(plan):
+    """Whether a range of a plan ends before it begins: a schema does not compare two values."""
+    return any(int(to) < int(a) for a, to in re.findall(r"a = (\d+), to = (\d+)", plan))
+
+
+def run(*words, **how):
+    return subprocess.run([str(it) for it in words], capture_output=True, text=True, timeout=60, **how)
+
+
+class Plans(unittest.TestCase):
+    def test_schema_has_the_keys_of_the_page(self):
+        tables = re.findall(r"(?:^\|.*\|\n)+", page("docs/PLANS.md"), re.M)
+        self.assertEqual(len(tables), len(TABLES))
+        for text, its in zip(tables, TABLES):
+            found = re.findall(r"^\| `(\w+)` \| (.*) \| (.*) \|$", text, re.M)
+            self.assertEqual([key for key, *_ in found], [*its["properties"]])
+            self.assertEqual([key for key, _, missing in found if missing == "refused"], its.get("required", []))
+            for key, value, missing in found:
+                kind = its["properties"][key]
+                if kind["type"] == "integer":
+                    least, greatest = re.search(r"(\d+|`a`) to (\d+)", value).groups()
+                    self.assertEqual((kind["minimum"], kind["maximum"]), (0 if least == "`a`" else int(least), int(greatest)), key)
+                    self.assertEqual(str(kind.get("default", missing)), missing)
+
+    def test_manual_page(self):
+        text = " ".join(page("man/camac-plan.5").split())
+        for its in TABLES:
+            for key, kind in its["properties"].items():
+                told = [it for it in re.findall(rf"\.It Cm {key} (.*?)(?= \.It | \.El )", text)]
+                self.assertTrue(told, key)
+                if kind["type"] == "integer" and key != "to":
+                    self.assertTrue(any(f"{kind['minimum']} to {kind['maximum']}" in it for it in told), key)
+                if key in its.get("required", []):
+                    self.assertTrue(any(it.endswith("Required.") for it in told), key)
+
+    def test_plans(self):
+        """All plans of the repository are of the schema. Wrong ones are not, where a key or a value by itself is wrong."""
+        python = next((it for it in (sys.executable, "/usr/bin/python3") if shutil.which(it) and not run(it, "-c", "import tomllib, jsonschema").returncode), None)
+        if not python:
+            self.skipTest("python3 with jsonschema and tomllib is not here")
+        right = [it.read_text() for it in sorted((TOP / "examples").rglob("*.toml"))]
+        wrong = [text for _, text, code, _ in explain_test.PLANS if code in ("P2", "P3", "P4")]
+        for old, new, said in (*rows_test.TABLES, *rows_test.FIELDS):
+            wrong += [rows_test.SAMPLE.decode().replace(old, new)] * (said[:2] in ("P2", "P3", "P4"))
+        for case in (it for its in rows_test.ROWS.values() for row in its.values() for it in row if "PLAN" in it.inputs):
+            code = re.match(rb"refused (P[234])", case.printed)
+            if code or not case.printed.startswith(b"refused P"):
+                (wrong if code else right).append(case.inputs["PLAN"].decode())
+        wrong += re.findall(r"```toml P[234]\n(.*?)```", page("docs/REFUSALS.md"), re.S)
+        judged = json.loads(run(python, "-c", JUDGE, TOP / "editors/plan.schema.json", input=json.dumps([*right, *wrong])).stdout)
+        self.assertGreater(len(right), 40)
+        self.assertGreater(len(wrong), 20)
+        self.assertEqual([text for text, it in zip(right, judged) if not it], [])
+        unseen = [text for text, it in zip(wrong, judged[len(right) :]) if it is not False]
+        self.assertEqual([it for it in unseen if not is_backwards(it)], [])
+
+
+class ManualPages(unittest.TestCase):
+    """The pages of section 5, compared with those that have each rule."""
+
+    def test_script(self):
+        text = page("man/camac-script.5")
+        forms = " ".join(re.findall(r"(?m)^\.(?:It )?Cm (.*)$", text)).split()
+        self.assertEqual([it for it in program_test.keywords() if it not in forms], [])
+        its = [(most, what.replace("`", "")) for what, most in rows(page("docs/LANGUAGE.md"), "## Limits")]
+        found = re.findall(r"(?m)^\.It (.*)\n(.*)$", text.partition(".Ss Limits")[2].partition(".El")[0])
+        self.assertEqual(found[:-1], its[:-1])
+        self.assertEqual(found[-1][1], its[-1][1])
+        self.assertTrue(its[-1][0].startswith(found[-1][0]))
+
+    def test_events(self):
+        lines = re.findall(r"(?m)^\.It (\d.*) Ta (.*) Ta (.*)$", page("man/camac-events.5"))
+        wanted = [row[:2] for row in rows(page("docs/RUNNING.md"), "Each event is a record:")]
+        self.assertEqual([[size, number.replace(" (hexadecimal)", "").strip('"')] for size, number, _ in lines], [[it.strip("`") for it in row] for row in wanted])
+
+    def test_version_and_form(self):
+        version = re.search(r"(?m)^## (\S+) \((.*)\)$", page("CHANGELOG.md"))
+        for it in sorted((TOP / "man").iterdir()):
+            self.assertIn(f"\n.Os camac {version[1]}\n", it.read_text(), it.name)
+        if shutil.which("mandoc"):
+            said = run("mandoc", "-T", "lint", "-W", "warning", *sorted((TOP / "man").iterdir()))
+            self.assertEqual(said.stdout, "")
+
+
+class Citation(unittest.TestCase):
+    def test_what_is_cited(self):
+        """The keys that the format (version 1.2.0) requires, and the version and date of CHANGELOG."""
+        keys = dict(re.findall(r"(?m)^([a-z-]+):[ \n]*(.*)$", page("CITATION.cff")))
+        version, date = re.search(r"(?m)^## (\S+) \((.*)\)$", page("CHANGELOG.md")).groups()
+        self.assertLessEqual({"cff-version", "message", "title", "authors"}, {*keys})
+        self.assertEqual((keys["cff-version"], keys["version"], keys["date-released"]), ("1.2.0", version, f'"{date}"'))
+
+
+class Editors(unittest.TestCase):
+    """Without a blank at its begin, each script of the examples is indented as it stands there. What camac-check says is a list of places."""
+
+    said = "a.script:4:3: refused E12: more cycles than annotated\na.script:5: warning W4: this kept bound is not needed\nb.script: fault: No such file or directory\n"
+
+    def setUp(self):
+        room = tempfile.TemporaryDirectory(prefix="camac-editors-")
+        self.addCleanup(room.cleanup)
+        self.room = pathlib.Path(room.name)
+        for number, it in enumerate(SCRIPTS):
+            (self.room / f"{number}.script").write_text(re.sub(r"(?m)^ +", "", it.read_text()))
+        (self.room / "said").write_text(self.said)
+
+    def expect_indented(self):
+        for number, it in enumerate(SCRIPTS):
+            self.assertEqual((self.room / f"{number}.script").read_text(), it.read_text(), it)
+
+    def try_vim(self, *words):
+        start = f"set nocompatible rtp^={TOP}/editors/vim | filetype plugin indent on | syntax on\n"
+        work = "execute 'normal! gg=G' | update | compiler camac | cgetfile said | redir! > found | silent clist! | redir END\n"
+        work += "set nomore | redir! > options | silent set commentstring? makeprg? syntax? | redir END\n"
+        (self.room / "start.vim").write_text(start)
+        for number in range(len(SCRIPTS)):
+            work += f"edit {number}.script | execute 'normal! gg=G' | update\n"
+        (self.room / "work.vim").write_text(f"{work}qall!\n")
+        run(*words, "-u", "start.vim", "-i", "NONE", "0.script", "-S", "work.vim", cwd=self.room, stdin=subprocess.DEVNULL)
+        self.expect_indented()
+        options = (self.room / "options").read_text().split("\n")
+        self.assertEqual([it.strip() for it in options if it], ["commentstring=# %s", "makeprg=camac-check 'plan.toml' %:S", "syntax=camac"])
+        found = [it.strip() for it in (self.room / "found").read_text().split("\n") if it]
+        self.assertEqual(found, ["1 a.script:4 col 3: refused E12: more cycles than annotated", "2 a.script:5 warning: W4: this kept bound is not needed", "3 b.script: No such file or directory"])
+
+    @unittest.skipUnless(shutil.which("vim"), "vim is not here")
+    def test_vim(self):
+        self.try_vim("vim", "-es")
+
+    @unittest.skipUnless(shutil.which("nvim"), "nvim is not here")
+    def test_nvim(self):
+        self.try_vim("nvim", "--headless")
+
+    @unittest.skipUnless(shutil.which("emacs"), "emacs is not here")
+    def test_emacs(self):
+        work = """(require 'camac-mode)
+          (dolist (file (directory-files "." nil "script$"))
+            (with-current-buffer (find-file-noselect file)
+              (indent-region (point-min) (point-max))
+              (princ (list major-mode comment-start compile-command))
+              (save-buffer)))
+          (require 'compile)
+          (with-temp-buffer
+            (insert "\n")
+            (insert-file-contents "said")
+            (goto-char (point-min))
+            (compilation-mode)
+            (dotimes (_ 2)
+              (compilation-next-error 1)
+              (let ((place (compilation--message->loc (get-text-property (point) 'compilation-message))))
+                (princ (list (caar (compilation--loc->file-struct place)) (compilation--loc->line place) (compilation--loc->col place))))))"""
+        (self.room / "work.el").write_text(work)
+        ran = run("emacs", "-Q", "--batch", "-L", TOP / "editors/emacs", "-l", "work.el", cwd=self.room)
+        self.expect_indented()
+        self.assertIn("(camac-mode #  camac-check plan.toml 0.script)", ran.stdout, ran.stderr)
+        self.assertTrue(ran.stdout.endswith("(a.script 4 3)(a.script 5 nil)"), ran.stdout + ran.stderr)
+
+
+if __name__ == "__main__":
+    unittest.main()
