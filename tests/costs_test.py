@@ -171,14 +171,14 @@ class Streams(Costs):
         printed = self.call("costs", inputs)[1].encode()
         for words in ("script", "@in <script", "@in < <(cat script)", "<(cat script)", "script | cat"):
             self.assertEqual(self.shell(f'set -o pipefail; "$camac" costs @sample {words}'), (0, printed, b""), words)
-        self.assertEqual(self.shell('"$camac" costs @sample script >/dev/full'), (3, b"", b"fault write\n"))
-        self.assertEqual(self.shell('"$camac" costs @sample script >&-'), (3, b"", b"fault write\n"))
-        self.assertEqual(self.shell('"$camac" costs @sample @in <&-'), (3, b"", b"fault read\n"))
+        self.assertEqual(self.shell('"$camac" costs @sample script >/dev/full'), (3, b"", b"fault write\n  standard output: No space left on device\n"))
+        self.assertEqual(self.shell('"$camac" costs @sample script >&-'), (3, b"", b"fault write\n  standard output: Bad file descriptor\n"))
+        self.assertEqual(self.shell('"$camac" costs @sample @in <&-'), (3, b"", b"fault read\n  @in: it is closed, or a folder\n"))
 
     def test_a_reader_that_is_gone(self):
         (self.room / "script").write_bytes(largest()["4,096 long statements"].script)
         line = '{ "$camac" costs @sample script; echo $? >status; } | head -n 1'
-        self.assertEqual(self.shell(line)[2], b"fault write\n")
+        self.assertEqual(self.shell(line)[2], b"")
         self.assertEqual((self.room / "status").read_bytes(), b"3\n")
 
 

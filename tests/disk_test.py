@@ -6,17 +6,20 @@ usage: tests/disk_test.py [-v] [TEST ..]     from any folder; takes some seconds
 The program is crates/camac/out/camac (cd crates/camac && rt run makes it), or what the environment variable CAMAC_PROGRAM names. A small disk is
 mounted for one process alone, where the system lets us.
 """
+import errno
 import os
 import resource
 import signal
 import subprocess
 import unittest
 
-from program_test import ANSWERS, EVENT_FILE, LISTING, PROGRAM, REQUESTS, VERDICT, WRITE, Case
+from program_test import ANSWERS, EVENT_FILE, FULL, LISTING, PROGRAM, REQUESTS, VERDICT, Case, unwritten
 
 HEADER, RECORD = 8, len(EVENT_FILE) - 8
 # What is written before the answers' end: the lines of the demand and the cycle, and the requests for them.
 LISTED, ASKED = 55, 24
+# What is told where standard output may not grow, and where EVENTS may not.
+OUT, EVENTS = (unwritten(errno.EFBIG, name) for name in ("standard output", "e"))
 
 
 class Grown(Case):
@@ -45,7 +48,7 @@ class Grown(Case):
             with self.subTest(most=most):
                 out = b"" if most < HEADER else LISTING[:most]
                 events = EVENT_FILE[:HEADER] if HEADER <= most < LISTED else EVENT_FILE[:most]
-                wanted = (3, WRITE) if most < len(LISTING) else (0, b"")
+                wanted = (3, EVENTS if most < HEADER else OUT) if most < len(LISTING) else (0, b"")
                 self.assertEqual(self.limited("run plan.toml straight.script answers e", most), (*wanted, out, events))
 
     def test_live_runs(self):
@@ -54,7 +57,8 @@ class Grown(Case):
             with self.subTest(most=most):
                 out = b"" if most < HEADER else REQUESTS[: min(most, ASKED if most < len(EVENT_FILE) else most)]
                 events = EVENT_FILE[:HEADER] if HEADER <= most < ASKED else EVENT_FILE[:most]
-                wanted = (3, WRITE) if most < len(REQUESTS) else (0, b"")
+                is_record = ASKED <= most < len(EVENT_FILE)
+                wanted = (3, EVENTS if most < HEADER or is_record else OUT) if most < len(REQUESTS) else (0, b"")
                 self.assertEqual(self.limited("drive plan.toml straight.script e", most, ANSWERS), (*wanted, out, events))
 
     def test_verdicts(self):
@@ -63,7 +67,7 @@ class Grown(Case):
         for line in (*lines, "plan plan.toml", "events one.events"):
             whole = self.limited(line, resource.RLIM_INFINITY)[2]
             for most in range(len(whole) + 1):
-                wanted = (3, WRITE) if most < len(whole) else (0, b"")
+                wanted = (3, OUT) if most < len(whole) else (0, b"")
                 self.assertEqual(self.limited(line, most), (*wanted, whole[:most], None), (line, most))
         self.assertEqual(self.limited("check plan.toml straight.script", 1000)[2], VERDICT)
 
@@ -71,7 +75,7 @@ class Grown(Case):
         """Where the signal is not ignored it may end the program. What is left is a prefix all the same."""
         for most in range(0, len(LISTING) + 2, 3):
             status, told, out, events = self.limited("run plan.toml straight.script answers e", most, how=signal.SIG_DFL)
-            self.assertIn((status, told), ((-signal.SIGXFSZ, b""), (3, WRITE)) if most < len(LISTING) else ((0, b""),))
+            self.assertIn((status, told), ((-signal.SIGXFSZ, b""), (3, OUT), (3, EVENTS)) if most < len(LISTING) else ((0, b""),))
             self.assertTrue(LISTING.startswith(out) and EVENT_FILE.startswith(events))
 
 
@@ -107,7 +111,7 @@ class Full(Case):
     def test_events(self):
         listing, events = self.whole()
         status, out, told = self.apart_shell('"$camac" run plan.toml straight.script answers small/e')
-        self.assertEqual((status, told), (3, WRITE))
+        self.assertEqual((status, told), (3, unwritten(errno.ENOSPC, "small/e")))
         left = self.file("kept/e")
         self.assertEqual(len(left), 65_536)
         self.assertTrue(listing.startswith(out) and events.startswith(left))
@@ -116,7 +120,7 @@ class Full(Case):
     def test_live_events(self):
         _, events = self.whole()
         status, out, told = self.apart_shell('"$camac" drive plan.toml straight.script small/e <answers')
-        self.assertEqual((status, told), (3, WRITE))
+        self.assertEqual((status, told), (3, unwritten(errno.ENOSPC, "small/e")))
         left = self.file("kept/e")
         self.assertEqual(len(left), 65_536)
         self.assertTrue(events.startswith(left))
@@ -126,14 +130,15 @@ class Full(Case):
     def test_listing(self):
         listing, events = self.whole()
         status, _, told = self.apart_shell('"$camac" run plan.toml straight.script answers e >small/out')
-        self.assertEqual((status, told), (3, WRITE))
+        self.assertEqual((status, told), (3, FULL))
         left = self.file("kept/out")
         self.assertEqual(len(left), 65_536)
         self.assertTrue(listing.startswith(left) and events.startswith(self.file("e")))
 
     def test_no_room_at_all(self):
         """Not even the header has room."""
-        self.assertEqual(self.apart_shell('head -c 65536 /dev/zero >small/full; "$camac" run plan.toml straight.script answers small/e')[::2], (3, WRITE))
+        status, _, told = self.apart_shell('head -c 65536 /dev/zero >small/full; "$camac" run plan.toml straight.script answers small/e')
+        self.assertEqual((status, told), (3, unwritten(errno.ENOSPC, "small/e")))
         self.assertEqual(self.file("kept/e"), b"")
 
 

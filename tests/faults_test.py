@@ -14,7 +14,7 @@ import sys
 import tempfile
 import unittest
 
-from program_test import ANSWERS, DEMAND, EVENT_FILE, LISTING, PROGRAM, READ, REQUESTS, STRAIGHT_LINE, TWICE, WRITE, Case
+from program_test import ANSWERS, DEMAND, EVENT_FILE, LISTING, PROGRAM, REQUESTS, STRAIGHT_LINE, TWICE, Case, fault, lacks, unwritten
 
 # FAILING_TURN is the number of the call that fails, and FAILING_ERROR its error, 0 for a write that takes nothing, or SHORT for a read or
 # write that moves one byte. With FAILING_LATER each later call of this name on this file fails too. PIECE is how many bytes a read or a
@@ -220,6 +220,13 @@ def is_reading(line, call):
     return call.name == "read" or call.name == "open" and (command not in ("run", "drive") or call.place != output)
 
 
+def told(line, call, error):
+    """What is told where this call fails."""
+    streams = {"in": "@in", "/proc/self/fd/0": "@in", "out": "standard output"}
+    names = {**streams, **{os.path.basename(word): word for word in line.split()}}
+    return fault("read" if is_reading(line, call) else "write", names.get(call.place, call.place), error or "it takes no bytes")
+
+
 class InTurn(Logged):
     """The order of the reads and writes of a run, in one log."""
 
@@ -323,7 +330,7 @@ class Fails(Logged):
                             self.expect_whole(ran, whole)
                         else:
                             self.expect_calls(ran, wanted)
-                            self.assertEqual((ran.status, ran.err), (3, READ if is_reading(line, call) else WRITE))
+                            self.assertEqual((ran.status, ran.err), (3, told(line, call, error)))
                             self.expect_left(ran, there)
                         is_good = True
                     if not is_good:
@@ -406,6 +413,7 @@ class Fails(Logged):
         for name in ("check", "explain"):
             self.expect_each(f"{name} plan.toml refused.script", status=1)
         self.expect_each("run plan.toml refused.script answers e", status=1)
+        self.expect_each("run plan.toml refused.script answers e", there=b"of an earlier run", status=1)
         (self.room / "cut.events").write_bytes(EVENT_FILE[:-1])
         self.expect_each("events cut.events", status=1)
 
@@ -416,7 +424,7 @@ class Fails(Logged):
             whole = self.ran(line, given)
             self.assertEqual((whole.status, [it.name for it in whole.calls[-2:]]), (1, ["statx", "fsync"]))
             ran = self.ran(line, given, whole.turns[-1], EIO)
-            self.assertEqual((ran.status, ran.out, ran.err, ran.events), (3, whole.out, WRITE, whole.events))
+            self.assertEqual((ran.status, ran.out, ran.err, ran.events), (3, whole.out, unwritten(EIO, "e"), whole.events))
 
     def test_device_in_the_place_of_events(self):
         """What is no file is not waited for."""
@@ -440,12 +448,12 @@ class Told(Logged):
             for place, (turn, call) in enumerate(zip(whole.turns, whole.calls)):
                 if call.name == "write":
                     ran = self.ran(line, turn=turn, error=EIO)
-                    self.assertEqual((ran.status, ran.err), (3, WRITE), line)
+                    self.assertEqual((ran.status, ran.err), (3, unwritten(EIO)), line)
                     self.assertEqual(ran.calls, whole.calls[:place] + [call._replace(answer=-EIO, bytes=b"")])
 
     def test_lines_on_standard_error(self):
-        """The line of a fault; where standard error does not take it, the status tells it alone."""
-        for line, status, told in (("plan none", 3, READ), ("check @in @in", 2, TWICE)):
+        """The lines of a fault; where standard error does not take it, the status tells it alone."""
+        for line, status, told in (("plan none", 3, lacks("none")), ("check @in @in", 2, TWICE)):
             last = len(self.ran(line).calls) + 1
             self.assertEqual(self.answer(line, last, EINTR), (status, b"", told))
             self.assertEqual(self.answer(line, last, EIO)[:2], (status, b""))

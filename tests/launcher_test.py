@@ -179,7 +179,7 @@ class Launcher(unittest.TestCase):
         self.assertEqual(call("bash", "-c", line, cwd=folder, env=path), (0, VERDICT, ""))
         self.assertEqual(call("camac", "check", "@sample", "@in", given="!", cwd=folder, env=path), (1, "refused S1 line 1: bad byte\n", ""))
         self.assertEqual(call("camac", "check", "@in", "@in", cwd=folder, env=path), (2, "", "fault @in twice\n"))
-        self.assertEqual(call("camac", "plan", "none", cwd=folder, env=path), (3, "", "fault read\n"))
+        self.assertEqual(call("camac", "plan", "none", cwd=folder, env=path), (3, "", "fault read\n  none: No such file or directory\n"))
 
     def test_5_program_by_the_launcher(self):
         """All that is tried of the program holds of the launcher: closed streams, pipes, full devices, statuses."""

@@ -27,6 +27,8 @@ WAIT_0, WAIT_1, WAIT_2 = (f"0 0 000000 {wait} 000000" for wait in range(3))
 HEADER = b"CAMACEV2"
 EVENT_FILE = bytes.fromhex("43414d4143455632 ca4d 0003 00000001 00000003 0000 0001 00000fff")
 REQUESTS = (b"demand", b"cycle", b"lock")
+HOLDS_BYTES = b"fault write\n  night: it holds bytes; a live run needs a file of its own\n"
+CLOSED = b"fault read\n  @in: it is closed, or a folder\n"
 # A driver that waits for ever in a cycle of its second service.
 INTERRUPTED = """import sys, time
 sys.path.insert(0, sys.argv[1])
@@ -195,7 +197,7 @@ class Rows(Case):
         for there in (b"\n", EVENT_FILE):
             (self.room / "night").write_bytes(there)
             done = subprocess.run([*words, "night"], input=given, capture_output=True, cwd=self.room)
-            self.assertEqual((done.returncode, done.stdout, done.stderr), (3, b"", b"fault write\n"))
+            self.assertEqual((done.returncode, done.stdout, done.stderr), (3, b"", HOLDS_BYTES))
             self.assertEqual(self.file("night"), there)
         (self.room / "night").write_bytes(b"")
         self.assertEqual(subprocess.run([*words, "night"], input=given, capture_output=True, cwd=self.room).returncode, 0)
@@ -218,23 +220,23 @@ class Rows(Case):
         self.write("script", STRAIGHT_LINE)
         how = {"stdout": subprocess.PIPE, "stderr": subprocess.PIPE, "cwd": self.room}
         done = subprocess.run([PROGRAM, "drive", "none.toml", "script", "e"], input=b"", **how)
-        self.assertEqual((done.returncode, done.stdout, done.stderr), (3, b"", b"fault read\n"))
+        self.assertEqual((done.returncode, done.stdout, done.stderr), (3, b"", b"fault read\n  none.toml: No such file or directory\n"))
         done = subprocess.run([PROGRAM, "drive", "@sample", "script", "script"], input=b"", **how)
-        self.assertEqual((done.returncode, done.stdout, done.stderr), (3, b"", b"fault write\n"))
+        self.assertEqual((done.returncode, done.stdout, done.stderr), (3, b"", b"fault write\n  script: it is an input\n"))
         self.assertEqual(self.file("script"), STRAIGHT_LINE.encode())
         folder = os.open(self.room, os.O_RDONLY)
         self.addCleanup(os.close, folder)
         done = subprocess.run([PROGRAM, "drive", "@sample", "script", "e"], stdin=folder, **how)
-        self.assertEqual((done.returncode, done.stdout, done.stderr), (3, b"demand\n", b"fault read\n"))
+        self.assertEqual((done.returncode, done.stdout, done.stderr), (3, b"demand\n", CLOSED))
         self.assertEqual(self.file("e"), HEADER)
 
     def test_streams_that_are_closed_or_full(self):
         self.write("script", STRAIGHT_LINE)
         for ending, output, errors, events in [
-            (f"echo '{DEMAND}' | $camac drive @sample script e >/dev/full", b"", b"fault write\n", HEADER),
-            ("$camac drive @sample script e <&-", b"demand\n", b"fault read\n", HEADER),
-            ("$camac drive @sample script e >&- </dev/null", b"", b"fault write\n", HEADER),
-            ("$camac drive @sample script /dev/full </dev/null", b"", b"fault write\n", None),
+            (f"echo '{DEMAND}' | $camac drive @sample script e >/dev/full", b"", b"fault write\n  standard output: No space left on device\n", HEADER),
+            ("$camac drive @sample script e <&-", b"demand\n", CLOSED, HEADER),
+            ("$camac drive @sample script e >&- </dev/null", b"", b"fault write\n  standard output: Bad file descriptor\n", HEADER),
+            ("$camac drive @sample script /dev/full </dev/null", b"", b"fault write\n  /dev/full: No space left on device\n", None),
         ]:
             with self.subTest(ending):
                 how = {"stdin": subprocess.DEVNULL, "capture_output": True, "cwd": self.room, "env": {**os.environ, "camac": PROGRAM}}
@@ -248,7 +250,7 @@ class Rows(Case):
             self.assertEqual(pipes.requests(), b"demand\n")
             pipes.process.stdout.close()
             pipes.answer(DEMAND)
-            self.assertEqual((pipes.process.wait(PATIENCE), pipes.process.stderr.read()), (3, b"fault write\n"))
+            self.assertEqual((pipes.process.wait(PATIENCE), pipes.process.stderr.read()), (3, b""))
         self.assertEqual(self.file("e"), HEADER)
 
     def test_each_request_comes_alone(self):
@@ -314,7 +316,7 @@ class Driver(Case):
         self.assertEqual((raised.exception.code, raised.exception.line), ("P1", None))
         with self.assertRaises(camac.ProgramFault) as raised:
             self.drive(STRAIGHT_LINE, Listed(), self.room / "none.toml")
-        self.assertEqual((raised.exception.text, raised.exception.status), ("fault read", 3))
+        self.assertEqual((raised.exception.text, raised.exception.status), (f"fault read\n  {self.room / 'none.toml'}: No such file or directory", 3))
         with self.assertRaises(camac.UsageFault) as raised:
             self.drive(STRAIGHT_LINE, Listed(), "@in")
         self.assertEqual((raised.exception.text, raised.exception.status), ("fault @in twice", 2))
@@ -352,7 +354,7 @@ class Driver(Case):
         path = self.write("script", STRAIGHT_LINE)
         with self.assertRaises(camac.ProgramFault) as raised:
             camac.drive("@sample", path, Listed(), "/dev/full", program=PROGRAM, timeout=PATIENCE)
-        self.assertEqual((raised.exception.text, raised.exception.end), ("fault write", None))
+        self.assertEqual((raised.exception.text, raised.exception.end), ("fault write\n  /dev/full: No space left on device", None))
 
 
 class ShellDriver(Case):

@@ -5,6 +5,7 @@ usage: tests/program_test.py [-v] [TEST ..]     from any folder; takes a few sec
 
 The program is crates/camac/out/camac (cd crates/camac && rt run makes it), or what the environment variable CAMAC_PROGRAM names.
 """
+import errno
 import glob
 import json
 import os
@@ -37,7 +38,24 @@ EVENT_FILE_ONE = bytes.fromhex("43414d4143455631 ca4d 0003 00000001 0001 00000ff
 WORDS = {"plan": ["PLAN"], "check": ["PLAN", "SCRIPT"], "explain": ["PLAN", "[SCRIPT]"], "bounds": ["PLAN", "SCRIPT"], "costs": ["PLAN", "SCRIPT"], "run": ["PLAN", "SCRIPT", "ANSWERS", "EVENTS"], "drive": ["PLAN", "SCRIPT", "EVENTS"], "events": ["FILE"]}
 # The options of a command but those of help.
 OPTIONS = {"plan": ["commands"]}
-READ, WRITE, TOO_LONG, TWICE = (f"fault {it}\n".encode() for it in ("read", "write", "input too long", "@in twice"))
+TOO_LONG, TWICE = b"fault input too long\n", b"fault @in twice\n"
+CLOSED = "it is closed, or a folder"
+
+
+def fault(kind, name, why):
+    """What is told of a file, or of a standard stream: `why` is an error of the system, or words of the program's own."""
+    return f"fault {kind}\n  {name}: {why if isinstance(why, str) else os.strerror(why)}\n".encode()
+
+
+def lacks(name):
+    return fault("read", name, errno.ENOENT)
+
+
+def unwritten(why, name="standard output"):
+    return fault("write", name, why)
+
+
+FULL = unwritten(errno.ENOSPC)
 
 
 class Case(unittest.TestCase):
@@ -140,13 +158,13 @@ class Usage(Case):
         """These words are a job, which ends as its files do. The last word of run and drive is the name of an output."""
         for words in ("plan @in", "plan @in --commands", "explain @in", "check @in none", "check none @in", "run @in none none e", "run none @in none e", "run none none @in e", "run none none none @in", "run none none @in @in", "drive none none @in", "events @in"):
             status, _, err = self.call(*words.split())
-            self.assertIn((status, err), [(0, b""), (1, b""), (3, READ)], words)
+            self.assertIn((status, err), [(0, b""), (1, b""), (3, lacks("none"))], words)
 
     def test_words_of_outputs_are_file_names(self):
         self.assertEqual(self.call("run", "@sample", "straight.script", "@in", "@in", given=ANSWERS), (0, LISTING, b""))
         self.assertEqual(self.file("@in"), EVENT_FILE)
-        self.assertEqual(self.call("check", "@sample", "@sample"), (3, b"", READ))
-        self.assertEqual(self.call("events", "@sample"), (3, b"", READ))
+        self.assertEqual(self.call("check", "@sample", "@sample"), (3, b"", lacks("@sample")))
+        self.assertEqual(self.call("events", "@sample"), (3, b"", lacks("@sample")))
 
     def test_arguments_that_are_no_text(self):
         status, out, err = self.call(b"plan", b"\xff\xfe")
@@ -181,7 +199,7 @@ class Help(Case):
         self.assertIn("'x q word wait gl'", text)
         self.assertIn("one hexadecimal digit", text)
         self.assertIn("six hexadecimal digits", text)
-        self.assertIn("emptied before anything is read", text)
+        self.assertIn("created anew once plan and script are accepted", text)
         self.assertIn("nothing is sent to any hardware", text)
 
     def test_the_program(self):
@@ -214,26 +232,33 @@ class Files(Case):
 
     def test_inputs_that_lack(self):
         for words in (["plan", "none"], ["check", "none", "straight.script"], ["check", "@sample", "none"], ["events", "none"]):
-            self.assertEqual(self.call(*words), (3, b"", READ), words)
+            self.assertEqual(self.call(*words), (3, b"", lacks("none")), words)
         for words in (["none", "straight.script", "answers"], ["@sample", "none", "answers"], ["@sample", "straight.script", "none"]):
-            self.assertEqual(self.call("run", *words, "e"), (3, b"", READ), words)
+            self.assertEqual(self.call("run", *words, "e"), (3, b"", lacks("none")), words)
             self.assertFalse((self.room / "e").exists(), words)
 
     def test_events_that_cannot_be_made(self):
-        for name in ("none/e", ".", "straight.script/e"):
-            self.assertEqual(self.call("run", "@sample", "straight.script", "answers", name), (3, b"", WRITE), name)
+        for name, why in (("none/e", errno.ENOENT), (".", errno.EISDIR), ("straight.script/e", errno.ENOTDIR)):
+            self.assertEqual(self.call("run", "@sample", "straight.script", "answers", name), (3, b"", unwritten(why, name)), name)
 
     def test_folders_as_inputs(self):
-        self.assertEqual(self.call("plan", "."), (3, b"", READ))
-        self.assertEqual(self.call("check", "@sample", "."), (3, b"", READ))
-        self.assertEqual(self.call("events", "."), (3, b"", READ))
-        self.assertEqual(self.call("run", "@sample", "straight.script", ".", "e"), (3, b"", READ))
+        told = fault("read", ".", errno.EISDIR)
+        for words in (["plan", "."], ["check", "@sample", "."], ["events", "."], ["run", "@sample", "straight.script", ".", "e"]):
+            self.assertEqual(self.call(*words), (3, b"", told), words)
         self.assertEqual(self.file("e"), b"CAMACEV2")
 
-    def test_events_is_emptied_first(self):
+    def test_events_is_made_once_plan_and_script_are_accepted(self):
+        """Where one of them is refused, an earlier file is as it was, and none is made."""
+        refused = (["@in", "straight.script"], b"buffer = 0", b"refused P4: value out of range\n"), (["@sample", "@in"], b"!", b"refused S1 line 1: bad byte\n")
+        for words, given, line in refused:
+            self.assertEqual(self.call("run", *words, "answers", "e", given=given), (1, line, b""))
+            self.assertFalse((self.room / "e").exists())
         (self.room / "e").write_bytes(b"of an earlier run")
-        self.assertEqual(self.call("run", "@sample", "@in", "answers", "e", given=b"!")[:2], (1, b"refused S1 line 1: bad byte\n"))
-        self.assertEqual(self.file("e"), b"")
+        for words, given, line in refused:
+            self.assertEqual(self.call("run", *words, "answers", "e", given=given), (1, line, b""))
+            self.assertEqual(self.file("e"), b"of an earlier run")
+        self.assertEqual(self.call("run", "@sample", "straight.script", "@in", "e", given=b"!"), (1, b"refused A1 line 1: line shape\n", b""))
+        self.assertEqual(self.file("e"), b"CAMACEV2")
 
     def test_inputs_that_are_too_long(self):
         text = b" " * 1_048_577
@@ -243,7 +268,7 @@ class Files(Case):
         self.assertEqual(self.call("plan", "@in", given=text[1:]), self.call("plan", "@in"))
         for words in (["@in", "straight.script", "answers"], ["@sample", "@in", "answers"]):
             self.assertEqual(self.call("run", *words, "e", given=text), (3, b"", TOO_LONG))
-            self.assertEqual(self.file("e"), b"")
+            self.assertFalse((self.room / "e").exists())
         self.assertEqual(self.call("events", "@in", given=EVENT_FILE + bytes(16_777_217 - 28)), (3, b"", TOO_LONG))
         given = EVENT_FILE + bytes(16_777_216 - 28)
         self.assertEqual(self.call("events", "@in", given=given), (1, b"refused V2 byte 28: marker\n", b""))
@@ -256,7 +281,6 @@ class Files(Case):
                 ran.stdin.write(b" " * (limit + 1))
                 ran.stdin.flush()
                 self.assertEqual((ran.wait(60), ran.stdout.read(), ran.stderr.read()), (3, b"", TOO_LONG), words)
-        self.assertEqual(self.file("e"), b"")
 
     def test_endless_answers(self):
         (self.room / "answers").write_bytes(b"0 0 000000 0 000000\n" * 1_000_001)
@@ -275,20 +299,21 @@ class Streams(Case):
     """Streams that are closed or full, and pipes."""
 
     def test_closed_streams(self):
-        self.assertEqual(self.shell('"$camac" check @sample @in <&-'), (3, b"", READ))
-        self.assertEqual(self.shell('"$camac" plan @sample >&-'), (3, b"", WRITE))
+        self.assertEqual(self.shell('"$camac" check @sample @in <&-'), (3, b"", fault("read", "@in", CLOSED)))
+        self.assertEqual(self.shell('"$camac" plan @sample >&-'), (3, b"", unwritten(errno.EBADF)))
         self.assertEqual(self.shell('"$camac" plan @in 2>&- <&-'), (3, b"", b""))
         self.assertEqual(self.shell('"$camac" 2>&-'), (2, b"", b""))
         self.assertEqual(self.shell('"$camac" plan @sample <&- >&- 2>&-'), (3, b"", b""))
         self.assertEqual(self.shell('"$camac" check @sample straight.script <&-'), (0, VERDICT, b""))
 
     def test_no_file_takes_the_place_of_a_closed_stream(self):
-        self.assertEqual(self.shell('"$camac" check plan.toml @in <&-'), (3, b"", READ))
-        self.assertEqual(self.shell('"$camac" run plan.toml @in answers e <&-'), (3, b"", READ))
-        self.assertEqual(self.file("e"), b"")
-        self.assertEqual(self.shell('"$camac" run plan.toml straight.script @in e <&-'), (3, b"", READ))
+        closed = (3, b"", fault("read", "@in", CLOSED))
+        self.assertEqual(self.shell('"$camac" check plan.toml @in <&-'), closed)
+        self.assertEqual(self.shell('"$camac" run plan.toml @in answers e <&-'), closed)
+        self.assertFalse((self.room / "e").exists())
+        self.assertEqual(self.shell('"$camac" run plan.toml straight.script @in e <&-'), closed)
         self.assertEqual(self.file("e"), b"CAMACEV2")
-        self.assertEqual(self.shell('"$camac" run plan.toml straight.script answers e >&-'), (3, b"", WRITE))
+        self.assertEqual(self.shell('"$camac" run plan.toml straight.script answers e >&-'), (3, b"", unwritten(errno.EBADF)))
         self.assertEqual(self.file("e"), b"CAMACEV2")
         for streams in ("2>&-", "<&- 2>&-", ">&- 2>&-", "<&- >&- 2>&-"):
             self.assertEqual(self.shell(f'"$camac" run plan.toml straight.script . e {streams}')[0], 3)
@@ -299,22 +324,27 @@ class Streams(Case):
 
     def test_help_that_cannot_be_written(self):
         for words in ("--help", "-h", "help", "plan --help", "check --help", "explain --help", "bounds --help", "costs --help", "run --help", "events --help", "--version"):
-            self.assertEqual(self.shell(f'"$camac" {words} >/dev/full'), (3, b"", WRITE), words)
-            self.assertEqual(self.shell(f'"$camac" {words} >&-'), (3, b"", WRITE), words)
+            self.assertEqual(self.shell(f'"$camac" {words} >/dev/full'), (3, b"", FULL), words)
+            self.assertEqual(self.shell(f'"$camac" {words} >&-'), (3, b"", unwritten(errno.EBADF)), words)
         self.assertEqual(self.shell('"$camac" --frob 2>/dev/full'), (2, b"", b""))
 
     def test_full_device(self):
         (self.room / "one.events").write_bytes(EVENT_FILE)
         for words in ("plan @sample", "check @sample straight.script", "costs @sample straight.script", "events @in <<<x", "events @in <one.events", "run @sample straight.script answers e"):
-            self.assertEqual(self.shell(f'"$camac" {words} >/dev/full'), (3, b"", WRITE), words)
+            self.assertEqual(self.shell(f'"$camac" {words} >/dev/full'), (3, b"", FULL), words)
         self.assertEqual(self.file("e"), b"CAMACEV2")
-        self.assertEqual(self.call("run", "@sample", "straight.script", "answers", "/dev/full"), (3, b"", WRITE))
+        self.assertEqual(self.call("run", "@sample", "straight.script", "answers", "/dev/full"), (3, b"", unwritten(errno.ENOSPC, "/dev/full")))
 
-    def test_reader_of_the_listing_is_gone(self):
+    def test_reader_of_a_pipe_is_gone(self):
+        """That is no fault to speak of."""
+        self.assertEqual(self.shell('{ sleep 0.1; "$camac" --help; echo $? >status; } | true'), (0, b"", b""))
+        self.assertEqual(self.file("status"), b"3\n")
         run = '{ "$camac" run @sample straight.script @in e; echo $? >status; }'
         line = f'yes "1 1 000001 0 000004" | head -n 100000 | {run} | head -n 1'
-        self.assertEqual(self.shell(line)[1:], (b"demand 000004 adc\n", WRITE))
+        self.assertEqual(self.shell(line)[1:], (b"demand 000004 adc\n", b""))
         self.assertEqual(self.file("status"), b"3\n")
+        line = 'mkfifo p; head -c 8 p >header & yes "1 1 000001 0 000004" | head -n 100000 | "$camac" run @sample straight.script @in p >listing'
+        self.assertEqual(self.shell(line), (3, b"", b""))
 
     def test_lines_come_before_the_next_answer(self):
         words = [PROGRAM, "run", "@sample", "straight.script", "@in", "e"]
@@ -369,21 +399,21 @@ class Streams(Case):
             self.assertEqual(ran.stdout.readline(), LISTING.splitlines(True)[0])
             ran.stdout.close()
             ran.stdin.write(rest)
-            self.assertEqual((ran.wait(10), ran.stderr.read()), (3, WRITE))
+            self.assertEqual((ran.wait(10), ran.stderr.read()), (3, b""))
         self.assertEqual(self.file("e"), b"CAMACEV2")
         with open("/dev/full", "wb") as full, subprocess.Popen([*words, "e"], stdout=full, **piped) as ran:
             ran.stdin.write(first)
-            self.assertEqual((ran.wait(10), ran.stderr.read()), (3, WRITE))
+            self.assertEqual((ran.wait(10), ran.stderr.read()), (3, FULL))
         self.assertEqual(self.file("e"), b"CAMACEV2")
         with subprocess.Popen([*words, "/dev/full"], stdout=subprocess.PIPE, **piped) as ran:
-            self.assertEqual((ran.wait(10), ran.stdout.read(), ran.stderr.read()), (3, b"", WRITE))
+            self.assertEqual((ran.wait(10), ran.stdout.read(), ran.stderr.read()), (3, b"", unwritten(errno.ENOSPC, "/dev/full")))
 
     def test_an_output_fails_at_the_end(self):
         words = '"$camac" run @sample'
         (self.room / "bad.script").write_bytes(b"!")
-        self.assertEqual(self.shell(f"{words} bad.script answers e >/dev/full"), (3, b"", WRITE))
-        self.assertEqual(self.file("e"), b"")
-        self.assertEqual(self.shell(f'{words} straight.script /dev/null e >/dev/full'), (3, b"", WRITE))
+        self.assertEqual(self.shell(f"{words} bad.script answers e >/dev/full"), (3, b"", FULL))
+        self.assertFalse((self.room / "e").exists())
+        self.assertEqual(self.shell(f'{words} straight.script /dev/null e >/dev/full'), (3, b"", FULL))
         self.assertEqual(self.file("e"), b"CAMACEV2")
 
 
@@ -393,7 +423,7 @@ class Kept(Case):
     def refused(self, words, **how):
         """Where EVENTS is one of these, nothing is written anywhere."""
         before = {it.name: it.read_bytes() for it in self.room.iterdir()}
-        self.assertEqual(self.call("run", *words, **how), (3, b"", WRITE), words)
+        self.assertEqual(self.call("run", *words, **how), (3, b"", unwritten("it is an input", words[-1])), words)
         self.assertEqual({it.name: it.read_bytes() for it in self.room.iterdir()}, before, words)
 
     def test_events_is_an_input(self):
@@ -413,9 +443,9 @@ class Kept(Case):
     def test_events_of_a_live_run_is_an_input(self):
         before = {it.name: it.read_bytes() for it in self.room.iterdir()}
         for events in ("plan.toml", "straight.script"):
-            self.assertEqual(self.call("drive", "plan.toml", "straight.script", events, given=ANSWERS), (3, b"", WRITE), events)
+            self.assertEqual(self.call("drive", "plan.toml", "straight.script", events, given=ANSWERS), (3, b"", unwritten("it is an input", events)), events)
         with open(self.room / "answers", "rb") as file:
-            self.assertEqual(self.call("drive", "plan.toml", "straight.script", "answers", given=None, stdin=file), (3, b"", WRITE))
+            self.assertEqual(self.call("drive", "plan.toml", "straight.script", "answers", given=None, stdin=file), (3, b"", unwritten("it is an input", "answers")))
         self.assertEqual({it.name: it.read_bytes() for it in self.room.iterdir()}, before)
 
     def test_events_is_standard_output(self):
@@ -423,7 +453,7 @@ class Kept(Case):
         for name in ("e", "soft", "/dev/stdout", "/proc/self/fd/1"):
             line = f'"$camac" run plan.toml straight.script answers {name} >>e'
             (self.room / "e").write_bytes(b"of an earlier run")
-            self.assertEqual(self.shell(line), (3, b"", WRITE), name)
+            self.assertEqual(self.shell(line), (3, b"", unwritten("it is standard output", name)), name)
             self.assertEqual(self.file("e"), b"of an earlier run", name)
 
     def test_events_is_standard_error(self):
@@ -434,7 +464,7 @@ class Kept(Case):
                 (self.room / "soft").symlink_to(self.room / "e")
                 (self.room / "e").write_bytes(there)
                 self.assertEqual(self.shell(f'"$camac" {command} {name} 2>>e <answers'), (3, b"", b""), (command, name))
-                self.assertEqual(self.file("e"), there + WRITE, (command, name))
+                self.assertEqual(self.file("e"), there + unwritten("it is standard error", name), (command, name))
 
     def test_events_of_a_live_run_is_a_standard_stream(self):
         """An empty file is taken, but not where a standard stream is it."""
@@ -443,7 +473,7 @@ class Kept(Case):
             self.assertEqual(self.shell(f'"$camac" drive plan.toml straight.script e {redirect} <answers')[0], 3, redirect)
         (self.room / "none").write_bytes(b"")
         with open(self.room / "none", "rb") as file:
-            self.assertEqual(self.call("drive", "plan.toml", "straight.script", "none", given=None, stdin=file), (3, b"", WRITE))
+            self.assertEqual(self.call("drive", "plan.toml", "straight.script", "none", given=None, stdin=file), (3, b"", unwritten("it is an input", "none")))
 
     def test_events_that_is_no_file(self):
         self.assertEqual(self.call("run", "@sample", "straight.script", "answers", "/dev/null"), (0, LISTING, b""))
@@ -572,7 +602,7 @@ class RunningPage(Case):
         line = """trap '' XFSZ; ulimit -f 64; yes '1 1 000001 0 000004' | head -n 20000 | "$camac" run @sample straight.script @in run.events | tail -n 1
           exit "${PIPESTATUS[2]}" """
         status, out, err = self.shell(line)
-        self.assertEqual((status, err), (3, WRITE))
+        self.assertEqual((status, err), (3, unwritten(errno.EFBIG, "run.events")))
         self.assertNotIn(b"ended", out)
         self.assertEqual(len(self.file("run.events")), 65_536)
         status, out, err = self.call("events", "run.events")

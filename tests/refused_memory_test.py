@@ -156,7 +156,7 @@ class RefusedMemory(unittest.TestCase):
         told = self.room / "calls"
         ample = self.ended(words.split(), given, TELL_CALLS=str(told))
         self.assertNotEqual(ample[0], MEMORY)
-        calls, made = int(told.read_text()), ample[1] is not None
+        calls = int(told.read_text())
         refused = 0
         for number in range(1, calls + 1):
             for more in ({}, {"REFUSED_LATER": "1"}):
@@ -164,14 +164,14 @@ class RefusedMemory(unittest.TestCase):
                     ended, events = self.ended(words.split(), given, REFUSED_CALL=str(number), **more)
                     if (ended, events) != ample:
                         refused += 1
-                        self.assertEqual(ended, MEMORY)
-                        # EVENTS of `run` is made before anything is judged, and stays empty; that of `drive` is not made.
-                        self.assertIn(events, (None, b"") if made else (None,))
+                        # EVENTS is not made, since memory is taken before the run begins
+                        self.assertEqual((ended, events), (MEMORY, None))
         self.assertGreater(refused, 0)
 
     def test_plan(self):
         self.refuse_each("plan @sample")
         self.refuse_each("plan @in", SAMPLE_PLAN)
+        self.refuse_each("plan none")
 
     def test_check(self):
         for script in (STRAIGHT_LINE, REFUSED, UNREAD, LOCKED):

@@ -24,7 +24,6 @@ EVENT = re.compile(r"gl (\d+) cycles (\d+) missed (\d+) words((?: [0-9a-f]{6})*)
 NO_EVENTS = b"CAMACEV2"
 # Where there is no event file; what a row says of an event file without a byte.
 NOT_MADE = b"no file"
-NOTHING = {"EVENTS none": b"", "EVENTS not made": NOT_MADE}
 
 
 class Wrong(Exception):
@@ -65,8 +64,8 @@ def read_cases(text):
             cases.append(Case(played[1], int(played[2]), body.encode(), inputs, None))
         elif head == "EVENTS" and before in ("run", "drive"):
             cases[-1] = cases[-1]._replace(events=event_file(body.splitlines()))
-        elif head in NOTHING and before in ("run", "drive") and not body:
-            cases[-1] = cases[-1]._replace(events=NOTHING[head])
+        elif head == "EVENTS not made" and before in ("run", "drive") and not body:
+            cases[-1] = cases[-1]._replace(events=NOT_MADE)
         else:
             raise Wrong(f"-- {head} may not stand here")
         before = head.partition(" ")[0]
@@ -163,7 +162,7 @@ class Rows(Playing):
             "-- SCRIPT\n-- check 0\n-- EVENTS\n",
             "-- SCRIPT\n-- run 0\n-- EVENTS\n-- EVENTS\n",
             "-- SCRIPT\n-- run 0\n-- EVENTS\nevent 1\n",
-            "-- SCRIPT\n-- run 0\n-- EVENTS none\ngl 3 cycles 0 missed 0 words\n",
+            "-- SCRIPT\n-- run 0\n-- EVENTS not made\ngl 3 cycles 0 missed 0 words\n",
         ):
             with self.subTest(row=row):
                 self.assertRaises(Wrong, read_rows, "a.rows", f"== a\n{row}")

@@ -160,7 +160,7 @@ class Values(Case):
             self.assertEqual((str(raised.exception), raised.exception.code, raised.exception.line), ("refused S2 line 1: unexpected token", "S2", 1))
             with self.assertRaises(camac.ProgramFault) as raised:
                 call("@sample", self.room / "none")
-            self.assertEqual((raised.exception.text, raised.exception.status), ("fault read", 3))
+            self.assertEqual((raised.exception.text, raised.exception.status), (f"fault read\n  {self.room / 'none'}: No such file or directory", 3))
         with self.assertRaises(camac.Refused):
             list(camac.run("@sample", bad, bad, self.room / "events"))
         with self.assertRaises(camac.ProgramFault):

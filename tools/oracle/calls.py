@@ -45,8 +45,7 @@ class Program:
     def call(self, command: str, inputs: Inputs) -> Told:
         words = self.words(command, inputs)
         events = self.room / "EVENTS"
-        if command in ("run", "drive") and events.exists():
-            events.unlink()
+        events.unlink(missing_ok=True)
         given = self.room / "answers" if command == "drive" else "/dev/null"
         out, err = self.room / "out", self.room / "err"
         anew = os.O_WRONLY | os.O_CREAT | os.O_TRUNC

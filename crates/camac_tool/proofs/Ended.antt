@@ -1,6 +1,7 @@
 -- The exit status of what was done.
-use Rattle.std.proofs.Common.{◌≡◌, ℕ, refl, inl, inr, subst, sym}
+use Rattle.std.proofs.Common.{◌≡◌, ℕ, List, Bor, refl, inl, inr, subst, sym}
 use Rattle.std.specs.Prelude.{Result, Ok, Err}
+use Rattle.std.specs.Global.{Vec}
 use Rattle.clap.specs.declared.error.kind.ErrorKind.{ErrorKind}
 use Rattle.clap.specs.declared.error.kind.ErrorKind.TheVariants as kind
 use Rattle.camac_tool_check.specs.Engine.{status_of}
@@ -40,3 +41,6 @@ stopped_ends s e = inr (inr (inr e))
 
 pub usage_ends : (k : ErrorKind) (s : ℕ) → k ≡ kind.ValueValidation → EndsUsage k s → EndsResponse s
 usage_ends k s e h = inl (subst (λ l. EndsUsage l s) e h)
+
+pub response_job : (j : Job) (plan script : Bor (List ℕ)) (every within : Vec (Bor (List ℕ))) (s : ℕ) → j ≡ job.Response plan script every within → EndsResponse s → EndsJob j s
+response_job j plan script every within s is e = subst (λ k. EndsJob k s) (sym is) e

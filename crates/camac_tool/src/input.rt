@@ -7,9 +7,10 @@ ghost use Rattle.std.specs.Str.{bytes_eq};
 ghost use Rattle.camac_tool.specs.Input.{is_standard, left_in};
 ghost use Rattle.camac_tool_check.specs.declared.fault.ToolFault.TheVariants.{Read as read-fault};
 
+use crate::failure::{Failure, Named};
 use camac_tool_check::ToolFault;
 use std::fs::Files;
-use std::io::{Input as StandardInput, Read};
+use std::io::{Error, ErrorKind, Input as StandardInput, Read};
 use std::{fs, io};
 
 /// An input of the program.
@@ -20,19 +21,20 @@ pub enum Input<S: Drop, F: Drop> {
 }
 
 /// The input that a word names: `@in` is standard input, and any other word a file.
-pub fn open<R: Files + StandardInput>(
+pub fn open<'a, R: Files + StandardInput>(
     rt: &R,
-    word: &str,
-) -> Result<Input<R::Reader, R::File>, ToolFault>
-    ensures which { IfOk result (λ input. is_standard input ≡ bytes_eq word.now (codes "@in")) }
+    failure: &'a Failure<'a>,
+    word: &'a str,
+) -> Result<Named<'a, Input<R::Reader, R::File>>, ToolFault>
+    ensures which { IfOk result (λ input. is_standard input.device ≡ bytes_eq word.now (codes "@in")) }
     ensures fault { IfErr result (λ fault. fault ≡ read-fault) }
 {
     if word == "@in" {
-        return Ok(Input::Standard(rt.reader()));
+        return Ok(Named::new(Input::Standard(rt.reader()), word, failure));
     }
     match fs::open(rt, word) {
-        Ok(file) => Ok(Input::File(file)),
-        Err(_) => Err(ToolFault::Read),
+        Ok(file) => Ok(Named::new(Input::File(file), word, failure)),
+        Err(why) => Err(failure.read(word, why)),
     }
 }
 
@@ -44,7 +46,13 @@ impl<S: Read + Drop, F: Read + Drop> Read for Input<S, F> {
         ensures bytes { ReadConsumes (left_in S.remaining F.remaining self.old) (left_in S.remaining F.remaining self.new) result buf.new }
     {
         match self {
-            Input::Standard(reader) => reader.read(buf),
+            Input::Standard(reader) => match reader.read(buf) {
+                // the place of a closed stream is held by a folder
+                Err(why) if why.kind() == ErrorKind::IsADirectory => {
+                    Err(Error::new(why.kind(), "it is closed, or a folder"))
+                }
+                result => result,
+            },
             Input::File(reader) => reader.read(buf),
         }
     }

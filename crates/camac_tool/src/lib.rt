@@ -2,6 +2,7 @@
 #![tactic(auto)]
 
 mod ahead;
+mod failure;
 mod gathered;
 mod input;
 mod launch;

@@ -10,6 +10,7 @@ ghost use Rattle.camac_tool.specs.declared.launch.ArgumentsFault.TheVariants.{Me
 ghost use Rattle.camac_tool.specs.Gathered.{has_stopped, held_in};
 
 use crate::ahead::Ahead;
+use crate::failure::{Failure, Named};
 use crate::gathered::Gathered;
 use crate::input::{Input, open};
 use crate::launch::ArgumentsFault;
@@ -17,7 +18,7 @@ use crate::places::hold_places;
 use crate::running::{engine_drive, engine_run};
 use crate::shared::{FromAnswers, ToListing, ToRecords};
 use crate::streams::Streams;
-use crate::target::{NewFile, create, keep_apart, settle};
+use crate::target::{Earlier, NewFile, keep_apart, settle};
 use camac_response::Misuse;
 use camac_tool_check::{
     Outcome, PlanSource, Responded, ToolFault, engine_bounds, engine_check, engine_commands,
@@ -32,11 +33,13 @@ use std::alloc::Global;
 use std::cell::RefCell;
 use std::fs::Files;
 use std::io;
-use std::io::{Input as StandardInput, Read, Write};
+use std::io::{Input as StandardInput, Print, Printer, Read, Write};
 use std::rt::Runtime;
 
 /// The status of a usage fault.
 const USAGE: u8 = 2;
+
+const STANDARD_OUTPUT: &str = "standard output";
 
 /// How many bytes of the answers are asked for at a time.
 const AHEAD: usize = 32_768;
@@ -46,13 +49,15 @@ const AHEAD: usize = 32_768;
 pub fn exit_status<R: Runtime + AllocGlobal>(rt: &R, words: &[String]) -> u8
     ensures { Ends (map string_bytes words.now) result }
 {
-    let Ok(_places) = hold_places(rt) else {
-        return stopped(rt, ToolFault::Read);
+    let failure = Failure::none();
+    let _places = match hold_places(rt) {
+        Ok(places) => places,
+        Err(why) => return stopped(rt, &failure, failure.read("/", why)),
     };
     match read_words(rt.alloc(), words) {
-        Ok(job) => serve(rt, job),
+        Ok(job) => serve(rt, &failure, job),
         Err(JobFault::InTwice) => misused(rt, "fault @in twice"),
-        Err(JobFault::Usage(error)) => print_usage(rt, error),
+        Err(JobFault::Usage(error)) => print_usage(rt, &failure, error),
     }
 }
 
@@ -68,119 +73,144 @@ pub fn unread_status<R: Runtime>(rt: &R, fault: ArgumentsFault) -> u8
     }
 }
 
-#[tactic(auto, using(crate::proofs::Ended::engine_ends))]
-fn serve<R: Runtime + AllocGlobal>(rt: &R, job: Job<'_>) -> u8
+#[tactic(auto, using(crate::proofs::Ended::engine_ends, crate::proofs::Ended::response_job))]
+fn serve<'a, R: Runtime + AllocGlobal>(rt: &R, failure: &'a Failure<'a>, job: Job<'a>) -> u8
     ensures { EndsJob job result }
 {
-    match job {
-        Job::Plan(plan) => finished(rt, show_plan(rt, plan)),
-        Job::Commands(plan) => finished(rt, show_commands(rt, plan)),
-        Job::Check(plan, script) => finished(rt, check(rt, plan, script)),
-        Job::Explain(plan, script) => finished(rt, explain(rt, plan, script)),
-        Job::ExplainPlan(plan) => finished(rt, explain_plan(rt, plan)),
-        Job::Bounds(plan, script) => finished(rt, show_bounds(rt, plan, script)),
-        Job::Costs(plan, script) => finished(rt, show_costs(rt, plan, script)),
+    let answer = match job {
+        Job::Plan(plan) => show_plan(rt, failure, plan),
+        Job::Commands(plan) => show_commands(rt, failure, plan),
+        Job::Check(plan, script) => check(rt, failure, plan, script),
+        Job::Explain(plan, script) => explain(rt, failure, plan, script),
+        Job::ExplainPlan(plan) => explain_plan(rt, failure, plan),
+        Job::Bounds(plan, script) => show_bounds(rt, failure, plan, script),
+        Job::Costs(plan, script) => show_costs(rt, failure, plan, script),
         Job::Response(plan, script, every, within) => {
-            responded(rt, show_responses(rt, plan, script, &every, &within))
+            let answer = show_responses(rt, failure, plan, script, &every, &within);
+            return responded(rt, failure, answer);
         }
-        Job::Events(file) => finished(rt, show_events(rt, file)),
+        Job::Events(file) => show_events(rt, failure, file),
         Job::Run(plan, script, answers, events) => {
-            finished(rt, run(rt, plan, script, answers, events))
+            run(rt, failure, plan, script, answers, events)
         }
-        Job::Drive(plan, script, events) => finished(rt, drive(rt, plan, script, events)),
-    }
+        Job::Drive(plan, script, events) => drive(rt, failure, plan, script, events),
+    };
+    finished(rt, failure, answer)
 }
 
-fn show_plan<R: Runtime + AllocGlobal>(rt: &R, plan: &str) -> Result<Outcome, ToolFault> {
-    let mut plan = source_of(plan_input(rt, plan)?);
-    let mut out = Watched::new(Gathered::new(rt.alloc(), io::writer(rt))?);
+fn show_plan<'a, R: Runtime + AllocGlobal>(
+    rt: &R,
+    failure: &'a Failure<'a>,
+    plan: &'a str,
+) -> Result<Outcome, ToolFault> {
+    let mut plan = source_of(plan_input(rt, failure, plan)?);
+    let mut out = Watched::new(Gathered::new(rt.alloc(), output(rt, failure))?);
     let outcome = engine_plan(rt.alloc(), &mut plan, &mut out)?;
     handed_on(&mut out.into_inner(), outcome)
 }
 
-fn show_commands<R: Runtime + AllocGlobal>(rt: &R, plan: &str) -> Result<Outcome, ToolFault> {
-    let mut plan = source_of(plan_input(rt, plan)?);
-    let mut out = Watched::new(Gathered::new(rt.alloc(), io::writer(rt))?);
+fn show_commands<'a, R: Runtime + AllocGlobal>(
+    rt: &R,
+    failure: &'a Failure<'a>,
+    plan: &'a str,
+) -> Result<Outcome, ToolFault> {
+    let mut plan = source_of(plan_input(rt, failure, plan)?);
+    let mut out = Watched::new(Gathered::new(rt.alloc(), output(rt, failure))?);
     let outcome = engine_commands(rt.alloc(), &mut plan, &mut out)?;
     handed_on(&mut out.into_inner(), outcome)
 }
 
-fn check<R: Runtime + AllocGlobal>(rt: &R, plan: &str, script: &str) -> Result<Outcome, ToolFault> {
-    let mut plan = source_of(plan_input(rt, plan)?);
-    let mut script = Watched::new(open(rt, script)?);
-    let mut out = Watched::new(io::writer(rt));
+fn check<'a, R: Runtime + AllocGlobal>(
+    rt: &R,
+    failure: &'a Failure<'a>,
+    plan: &'a str,
+    script: &'a str,
+) -> Result<Outcome, ToolFault> {
+    let mut plan = source_of(plan_input(rt, failure, plan)?);
+    let mut script = Watched::new(open(rt, failure, script)?);
+    let mut out = Watched::new(output(rt, failure));
     engine_check(rt.alloc(), &mut plan, &mut script, &mut out)
 }
 
-fn explain<R: Runtime + AllocGlobal>(
+fn explain<'a, R: Runtime + AllocGlobal>(
     rt: &R,
-    plan: &str,
-    script: &str,
+    failure: &'a Failure<'a>,
+    plan: &'a str,
+    script: &'a str,
 ) -> Result<Outcome, ToolFault> {
-    let mut plan = source_of(plan_input(rt, plan)?);
-    let mut script = Watched::new(open(rt, script)?);
-    let mut out = Watched::new(io::writer(rt));
+    let mut plan = source_of(plan_input(rt, failure, plan)?);
+    let mut script = Watched::new(open(rt, failure, script)?);
+    let mut out = Watched::new(output(rt, failure));
     engine_explain(rt.alloc(), &mut plan, &mut script, &mut out)
 }
 
-fn explain_plan<R: Runtime + AllocGlobal>(rt: &R, plan: &str) -> Result<Outcome, ToolFault> {
-    let mut plan = source_of(plan_input(rt, plan)?);
-    let mut out = Watched::new(Gathered::new(rt.alloc(), io::writer(rt))?);
+fn explain_plan<'a, R: Runtime + AllocGlobal>(
+    rt: &R,
+    failure: &'a Failure<'a>,
+    plan: &'a str,
+) -> Result<Outcome, ToolFault> {
+    let mut plan = source_of(plan_input(rt, failure, plan)?);
+    let mut out = Watched::new(Gathered::new(rt.alloc(), output(rt, failure))?);
     let outcome = engine_explain_plan(rt.alloc(), &mut plan, &mut out)?;
     handed_on(&mut out.into_inner(), outcome)
 }
 
-fn show_bounds<R: Runtime + AllocGlobal>(
+fn show_bounds<'a, R: Runtime + AllocGlobal>(
     rt: &R,
-    plan: &str,
-    script: &str,
+    failure: &'a Failure<'a>,
+    plan: &'a str,
+    script: &'a str,
 ) -> Result<Outcome, ToolFault> {
-    let mut plan = source_of(plan_input(rt, plan)?);
-    let mut script = Watched::new(open(rt, script)?);
-    let mut out = Watched::new(io::writer(rt));
+    let mut plan = source_of(plan_input(rt, failure, plan)?);
+    let mut script = Watched::new(open(rt, failure, script)?);
+    let mut out = Watched::new(output(rt, failure));
     engine_bounds(rt.alloc(), &mut plan, &mut script, &mut out)
 }
 
-fn show_costs<R: Runtime + AllocGlobal>(
+fn show_costs<'a, R: Runtime + AllocGlobal>(
     rt: &R,
-    plan: &str,
-    script: &str,
+    failure: &'a Failure<'a>,
+    plan: &'a str,
+    script: &'a str,
 ) -> Result<Outcome, ToolFault> {
-    let mut plan = source_of(plan_input(rt, plan)?);
-    let mut script = Watched::new(open(rt, script)?);
-    let mut out = Watched::new(Gathered::new(rt.alloc(), io::writer(rt))?);
+    let mut plan = source_of(plan_input(rt, failure, plan)?);
+    let mut script = Watched::new(open(rt, failure, script)?);
+    let mut out = Watched::new(Gathered::new(rt.alloc(), output(rt, failure))?);
     let outcome = engine_costs(rt.alloc(), &mut plan, &mut script, &mut out)?;
     handed_on(&mut out.into_inner(), outcome)
 }
 
 fn show_responses<'a, R: Runtime + AllocGlobal>(
     rt: &R,
-    plan: &str,
-    script: &str,
+    failure: &'a Failure<'a>,
+    plan: &'a str,
+    script: &'a str,
     every: &[&'a str],
     within: &[&'a str],
 ) -> Result<Responded<'a>, ToolFault> {
-    let mut plan = source_of(plan_input(rt, plan)?);
-    let mut script = Watched::new(open(rt, script)?);
-    let mut out = Watched::new(io::writer(rt));
+    let mut plan = source_of(plan_input(rt, failure, plan)?);
+    let mut script = Watched::new(open(rt, failure, script)?);
+    let mut out = Watched::new(output(rt, failure));
     engine_response(rt.alloc(), &mut plan, &mut script, every, within, &mut out)
 }
 
 // What it tells is gathered, and handed on before each read of the answers and at the end. An output that fails, also before a read, is a
 // write fault.
-fn run<R: Runtime + AllocGlobal>(
+fn run<'a, R: Runtime + AllocGlobal>(
     rt: &R,
-    plan: &str,
-    script: &str,
-    answers: &str,
-    events: &str,
+    failure: &'a Failure<'a>,
+    plan: &'a str,
+    script: &'a str,
+    answers: &'a str,
+    events: &'a str,
 ) -> Result<Outcome, ToolFault> {
-    let plan = plan_input(rt, plan)?;
-    let script = open(rt, script)?;
-    let answers = open(rt, answers)?;
-    keep_apart(rt, events, plan.as_ref(), &script, &answers)?;
-    let file = create(rt, events)?;
-    let streams = RefCell::new(Streams::new(rt.alloc(), answers, io::writer(rt), file)?);
+    let plan = plan_input(rt, failure, plan)?;
+    let script = open(rt, failure, script)?;
+    let answers = open(rt, failure, answers)?;
+    keep_apart(rt, failure, events, plan.as_ref(), &script, &answers)?;
+    let file = NewFile::named(rt, events, Earlier::Emptied);
+    let file = Named::new(file, events, failure);
+    let streams = RefCell::new(Streams::new(rt.alloc(), answers, output(rt, failure), file)?);
     let outcome = run_on_streams(rt.alloc(), plan, script, &streams);
     let (listing, file) = streams.into_inner().finish();
     if listing.failed() || file.failed() {
@@ -211,38 +241,45 @@ fn run_on_streams<I: Read + Drop, W: Write + Drop, E: Write + Drop>(
     )
 }
 
-// A request goes out in one write to a writer that keeps nothing back, and no answer is read ahead of its request. EVENTS is opened where the
-// header is written, so that a script that is refused does not touch it.
-fn drive<R: Runtime + AllocGlobal>(
+// A request goes out in one write to a writer that keeps nothing back, and no answer is read ahead of its request.
+fn drive<'a, R: Runtime + AllocGlobal>(
     rt: &R,
-    plan: &str,
-    script: &str,
-    events: &str,
+    failure: &'a Failure<'a>,
+    plan: &'a str,
+    script: &'a str,
+    events: &'a str,
 ) -> Result<Outcome, ToolFault> {
-    let plan = plan_input(rt, plan)?;
-    let script = open(rt, script)?;
-    let answers = Input::Standard(rt.reader());
-    keep_apart(rt, events, plan.as_ref(), &script, &answers)?;
-    let mut events = Watched::new(NewFile::named(rt, events));
+    let plan = plan_input(rt, failure, plan)?;
+    let script = open(rt, failure, script)?;
+    let answers = open(rt, failure, "@in")?;
+    keep_apart(rt, failure, events, plan.as_ref(), &script, &answers)?;
+    let file = NewFile::named(rt, events, Earlier::Refused);
+    let mut file = Watched::new(Named::new(file, events, failure));
     let outcome = engine_drive(
         rt.alloc(),
         &mut source_of(plan),
         &mut Watched::new(script),
         &mut Watched::new(answers),
-        &mut Watched::new(io::writer(rt)),
-        &mut events,
+        &mut Watched::new(output(rt, failure)),
+        &mut file,
     )?;
-    if let Some(file) = events.into_inner().into_file() {
-        settle(&file)?;
-    }
+    settle(&file.into_inner())?;
     Ok(outcome)
 }
 
-fn show_events<R: Runtime + AllocGlobal>(rt: &R, file: &str) -> Result<Outcome, ToolFault> {
-    let mut input = Watched::new(open(rt, file)?);
-    let mut out = Watched::new(Gathered::new(rt.alloc(), io::writer(rt))?);
+fn show_events<'a, R: Runtime + AllocGlobal>(
+    rt: &R,
+    failure: &'a Failure<'a>,
+    file: &'a str,
+) -> Result<Outcome, ToolFault> {
+    let mut input = Watched::new(open(rt, failure, file)?);
+    let mut out = Watched::new(Gathered::new(rt.alloc(), output(rt, failure))?);
     let outcome = engine_events(rt.alloc(), &mut input, &mut out)?;
     handed_on(&mut out.into_inner(), outcome)
+}
+
+fn output<'r, 'a, R: Print>(rt: &'r R, failure: &'a Failure<'a>) -> Named<'a, Printer<'r, R>> {
+    Named::new(io::writer(rt), STANDARD_OUTPUT, failure)
 }
 
 // The lines of a plan, of events and of costs are many, so they are gathered before they go out.
@@ -259,17 +296,18 @@ fn handed_on<W: Write + Drop>(out: &mut Gathered<W>, outcome: Outcome) -> Result
 }
 
 // The input that a plan is read from; the sample plan is read from none.
-fn plan_input<R: Files + StandardInput>(
+fn plan_input<'a, R: Files + StandardInput>(
     rt: &R,
-    word: &str,
-) -> Result<Option<Input<R::Reader, R::File>>, ToolFault>
+    failure: &'a Failure<'a>,
+    word: &'a str,
+) -> Result<Option<Named<'a, Input<R::Reader, R::File>>>, ToolFault>
     ensures which { IfOk result (λ input. is_none input ≡ bytes_eq word.now (codes "@sample")) }
     ensures fault { IfErr result (λ fault. fault ≡ read-fault) }
 {
     if word == "@sample" {
         return Ok(None);
     }
-    Ok(Some(open(rt, word)?))
+    Ok(Some(open(rt, failure, word)?))
 }
 
 fn source_of<I: Drop>(input: Option<I>) -> PlanSource<I> {
@@ -281,29 +319,33 @@ fn source_of<I: Drop>(input: Option<I>) -> PlanSource<I> {
 
 // What standard error does not take is lost: there is no other place to tell it.
 
-fn finished<R: Runtime>(rt: &R, answer: Result<Outcome, ToolFault>) -> u8
+fn finished<R: Runtime>(rt: &R, failure: &Failure<'_>, answer: Result<Outcome, ToolFault>) -> u8
     ensures { result ≡ status_of answer }
 {
     if let Err(fault) = &answer {
-        let _ = eprintln!(rt; "{fault}");
+        failure.tell(rt, *fault);
     }
     status(&answer)
 }
 
 // Of `response`, whose words may be wrong.
 #[tactic(auto, using(crate::proofs::Ended::response_ends, crate::proofs::Ended::stopped_ends))]
-fn responded<R: Runtime + AllocGlobal>(rt: &R, answer: Result<Responded<'_>, ToolFault>) -> u8
+fn responded<R: Runtime + AllocGlobal>(
+    rt: &R,
+    failure: &Failure<'_>,
+    answer: Result<Responded<'_>, ToolFault>,
+) -> u8
     ensures { EndsResponse result }
 {
     match answer {
-        Ok(Responded::Told(outcome)) => finished(rt, Ok(outcome)),
-        Ok(Responded::Misused(misuse)) => misused_words(rt, misuse),
-        Err(fault) => stopped(rt, fault),
+        Ok(Responded::Told(outcome)) => finished(rt, failure, Ok(outcome)),
+        Ok(Responded::Misused(misuse)) => misused_words(rt, failure, misuse),
+        Err(fault) => stopped(rt, failure, fault),
     }
 }
 
 #[tactic(auto, using(crate::proofs::Ended::usage_ends, crate::proofs::Ended::stopped_ends))]
-fn misused_words<R: Runtime + AllocGlobal>(rt: &R, misuse: Misuse<'_>) -> u8
+fn misused_words<R: Runtime + AllocGlobal>(rt: &R, failure: &Failure<'_>, misuse: Misuse<'_>) -> u8
     ensures { EndsResponse result }
 {
     let Misuse::Form(option, word) = misuse else {
@@ -311,15 +353,15 @@ fn misused_words<R: Runtime + AllocGlobal>(rt: &R, misuse: Misuse<'_>) -> u8
         return USAGE;
     };
     match setting_error(rt.alloc(), option, word) {
-        Ok(error) => print_usage(rt, error),
-        Err(_) => stopped(rt, ToolFault::Memory),
+        Ok(error) => print_usage(rt, failure, error),
+        Err(_) => stopped(rt, failure, ToolFault::Memory),
     }
 }
 
-fn stopped<R: Runtime>(rt: &R, fault: ToolFault) -> u8
+fn stopped<R: Runtime>(rt: &R, failure: &Failure<'_>, fault: ToolFault) -> u8
     ensures { result ≡ 3 }
 {
-    finished(rt, Err(fault))
+    finished(rt, failure, Err(fault))
 }
 
 fn misused<R: Runtime>(rt: &R, why: &str) -> u8
@@ -330,11 +372,11 @@ fn misused<R: Runtime>(rt: &R, why: &str) -> u8
 }
 
 // The text of `clap`: help, version, or why the words name no job.
-fn print_usage<R: Runtime>(rt: &R, error: Error) -> u8
+fn print_usage<R: Runtime>(rt: &R, failure: &Failure<'_>, error: Error) -> u8
     ensures { EndsUsage (kind_of error) result }
 {
     if error.kind() == ErrorKind::OutOfMemory {
-        return stopped(rt, ToolFault::Memory);
+        return stopped(rt, failure, ToolFault::Memory);
     }
     let printed = error.print(rt);
     if error.use_stderr() {
@@ -342,6 +384,6 @@ fn print_usage<R: Runtime>(rt: &R, error: Error) -> u8
     }
     match printed {
         Ok(()) => 0,
-        Err(_) => stopped(rt, ToolFault::Write),
+        Err(why) => stopped(rt, failure, failure.write(STANDARD_OUTPUT, why)),
     }
 }

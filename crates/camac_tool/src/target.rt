@@ -3,78 +3,75 @@
 ghost use Rattle.std.specs.Prelude.{◌≡◌, ◌&&◌, ◌==◌, None, IfErr};
 ghost use Rattle.camac_tool_check.specs.declared.fault.ToolFault.TheVariants.{Write as write-fault};
 
+use crate::failure::{Failure, Named};
 use crate::input::Input;
 use camac_tool_check::ToolFault;
 use std::fs::{Files, Metadata, OpenFile, OpenOptions};
-use std::io::{ErrorKind, Write};
+use std::io::{Error, ErrorKind, Write};
 use std::os::unix::fs::MetadataExt;
 use std::{fs, io};
 
-/// The names under which the system has the files behind the standard streams.
+/// The names under which the system has the files behind the standard streams, and of the outputs why EVENTS may not be one.
 const STANDARD_INPUT: &str = "/proc/self/fd/0";
 
-const STANDARD_OUTPUTS: [&str; 2] = ["/proc/self/fd/1", "/proc/self/fd/2"];
+const STANDARD_OUTPUTS: [(&str, &str); 2] = [
+    ("/proc/self/fd/1", "it is standard output"),
+    ("/proc/self/fd/2", "it is standard error"),
+];
 
 /// Refuses EVENTS where it is the same file as one of the inputs, as standard output or as standard error.
-pub fn keep_apart<R: Files, S: Drop>(
+pub fn keep_apart<'a, R: Files, S: Drop>(
     rt: &R,
-    name: &str,
-    plan: Option<&Input<S, R::File>>,
-    script: &Input<S, R::File>,
-    answers: &Input<S, R::File>,
+    failure: &Failure<'a>,
+    name: &'a str,
+    plan: Option<&Named<'a, Input<S, R::File>>>,
+    script: &Named<'a, Input<S, R::File>>,
+    answers: &Named<'a, Input<S, R::File>>,
 ) -> Result<(), ToolFault>
     ensures { IfErr result (λ fault. fault ≡ write-fault) }
 {
-    let Some(there) = file_at(rt, name)? else {
+    let Some(there) = file_at(rt, failure, name)? else {
         return Ok(());
     };
-    for output in STANDARD_OUTPUTS {
-        if is_same(&there, fs::metadata(rt, output))? {
-            return Err(ToolFault::Write);
+    for (output, refusal) in STANDARD_OUTPUTS {
+        if is_same(&there, failure, output, fs::metadata(rt, output))? {
+            return Err(failure.write(name, Error::other(refusal)));
         }
     }
     for input in [plan, Some(script), Some(answers)].into_iter().flatten() {
-        if is_same(&there, after(rt, input))? {
-            return Err(ToolFault::Write);
+        if is_same(&there, failure, input.name, after(rt, &input.device))? {
+            return Err(failure.write(name, Error::other("it is an input")));
         }
     }
     Ok(())
 }
 
-/// Creates EVENTS anew: an earlier one is lost.
-pub fn create<R: Files>(rt: &R, name: &str) -> Result<R::File, ToolFault>
-    ensures { IfErr result (λ fault. fault ≡ write-fault) }
-{
-    match fs::create(rt, name) {
-        Ok(file) => Ok(file),
-        Err(_) => Err(ToolFault::Write),
-    }
+/// What becomes of an EVENTS that holds bytes.
+#[derive(Clone, Copy)]
+pub enum Earlier {
+    Emptied,
+    Refused,
 }
 
-/// A file that is opened at the first write to it, and then must not hold bytes.
+/// EVENTS, which is opened at the first write to it. That is of the header: plan and script are accepted then.
 #[derive(Drop)]
 pub struct NewFile<'a, R: Files> {
     rt: &'a R,
     name: &'a str,
+    earlier: Earlier,
     file: Option<R::File>,
 }
 
 impl<'a, R: Files> NewFile<'a, R> {
-    pub fn named(rt: &'a R, name: &'a str) -> NewFile<'a, R>
+    pub fn named(rt: &'a R, name: &'a str, earlier: Earlier) -> NewFile<'a, R>
         ensures { result.file ≡ None }
     {
         NewFile {
             rt,
             name,
+            earlier,
             file: None,
         }
-    }
-
-    /// The file, where it was opened.
-    pub fn into_file(self) -> Option<R::File>
-        ensures { result ≡ self.entry.file }
-    {
-        self.file
     }
 }
 
@@ -83,7 +80,10 @@ impl<R: Files> Write for NewFile<'_, R> {
         if let Some(file) = &mut self.file {
             return file.write(buf);
         }
-        let mut file = open_empty(self.rt, self.name)?;
+        let mut file = match self.earlier {
+            Earlier::Emptied => fs::create(self.rt, self.name)?,
+            Earlier::Refused => open_empty(self.rt, self.name)?,
+        };
         let written = file.write(buf);
         self.file = Some(file);
         written
@@ -102,33 +102,44 @@ fn open_empty<R: Files>(rt: &R, name: &str) -> io::Result<R::File> {
     let file = OpenOptions::new().write(true).create(true).open(rt, name)?;
     let about = file.metadata()?;
     if about.is_file() && about.len() > 0 {
-        return Err(io::Error::from(ErrorKind::AlreadyExists));
+        let refusal = "it holds bytes; a live run needs a file of its own";
+        return Err(Error::new(ErrorKind::AlreadyExists, refusal));
     }
     Ok(file)
 }
 
-/// Waits until a regular file is on its disk.
-pub fn settle<F: OpenFile>(file: &F) -> Result<(), ToolFault>
+/// Waits until EVENTS is on its disk, where it was opened and is a regular file.
+pub fn settle<R: Files>(events: &Named<'_, NewFile<'_, R>>) -> Result<(), ToolFault>
     ensures { IfErr result (λ fault. fault ≡ write-fault) }
 {
-    let Ok(about) = file.metadata() else {
-        return Err(ToolFault::Write);
-    };
-    if about.is_file() && file.sync_all().is_err() {
-        return Err(ToolFault::Write);
+    match sync(&events.device) {
+        Ok(()) => Ok(()),
+        Err(why) => Err(events.write_fault(why)),
+    }
+}
+
+fn sync<R: Files>(events: &NewFile<'_, R>) -> io::Result<()> {
+    if let Some(file) = &events.file {
+        if file.metadata()?.is_file() {
+            file.sync_all()?;
+        }
     }
     Ok(())
 }
 
 // The regular file of this name, if there is one.
-fn file_at<R: Files>(rt: &R, name: &str) -> Result<Option<Metadata>, ToolFault>
+fn file_at<'a, R: Files>(
+    rt: &R,
+    failure: &Failure<'a>,
+    name: &'a str,
+) -> Result<Option<Metadata>, ToolFault>
     ensures { IfErr result (λ fault. fault ≡ write-fault) }
 {
     match fs::metadata(rt, name) {
         Ok(about) if about.is_file() => Ok(Some(about)),
         Ok(_) => Ok(None),
-        Err(error) if error.kind() == ErrorKind::NotFound => Ok(None),
-        Err(_) => Err(ToolFault::Write),
+        Err(why) if why.kind() == ErrorKind::NotFound => Ok(None),
+        Err(why) => Err(failure.write(name, why)),
     }
 }
 
@@ -140,12 +151,17 @@ fn after<R: Files, S: Drop>(rt: &R, input: &Input<S, R::File>) -> io::Result<Met
 }
 
 // A file of which the system says nothing may be any file.
-fn is_same(file: &Metadata, other: io::Result<Metadata>) -> Result<bool, ToolFault>
+fn is_same<'a>(
+    file: &Metadata,
+    failure: &Failure<'a>,
+    name: &'a str,
+    other: io::Result<Metadata>,
+) -> Result<bool, ToolFault>
     ensures { IfErr result (λ fault. fault ≡ write-fault) }
 {
     match other {
         Ok(other) => Ok(is_one((file.dev(), file.ino()), (other.dev(), other.ino()))),
-        Err(_) => Err(ToolFault::Write),
+        Err(why) => Err(failure.write(name, why)),
     }
 }
 

@@ -18,7 +18,7 @@ GOOD, REFUSED, MISUSE, FAULT = range(4)
 
 
 class Told(NamedTuple):
-    """A status, what stands on standard output and on standard error, and in EVENTS (None where it is not looked at)."""
+    """A status, what stands on standard output and on standard error, and in EVENTS (None where it is not made)."""
 
     status: int
     out: bytes
@@ -127,11 +127,11 @@ def tell(command: str, inputs: Inputs) -> Told:
     try:
         return TELL[command](inputs)
     except Refused as refused:
-        return told([refused.line()], REFUSED, refused.code, b"" if command == "run" else None)
+        return told([refused.line()], REFUSED, refused.code)
     except WordFault as fault:
         return Told(MISUSE, b"", f"fault {fault}\n".encode(), None, "words")
     except TooLong:
-        return Told(FAULT, b"", b"fault input too long\n", b"" if command == "run" else None, "G4")
+        return Told(FAULT, b"", b"fault input too long\n", reached="G4")
 
 
 def words_of(command: str) -> Tuple[str, ...]:

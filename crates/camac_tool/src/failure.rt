@@ -1,0 +1,119 @@
+// Why a call on a file or a standard stream failed: what stands below the line of a fault.
+
+ghost use Rattle.std.specs.Prelude.{◌≡◌};
+ghost use Rattle.camac_tool_check.specs.declared.fault.ToolFault.TheVariants.{Read as read-fault, Write as write-fault};
+
+use arrayvec::ArrayString;
+use camac_tool_check::ToolFault;
+use std::cell::Cell;
+use std::fmt::Write as TextWrite;
+use std::io;
+use std::io::{Eprint, Error, ErrorKind, Read, Write};
+
+/// What the system adds to its texts of errors.
+const NUMBER: &str = " (os error ";
+
+/// The last call that failed, if any: the name of its file, and why. The readers and the writers of the program share it.
+#[derive(Drop)]
+pub struct Failure<'a>(Cell<Option<(&'a str, Error)>>);
+
+impl<'a> Failure<'a> {
+    pub fn none() -> Failure<'a> {
+        Failure(Cell::new(None))
+    }
+
+    /// Remembers why a file of this name could not be opened or read.
+    pub fn read(&self, name: &'a str, why: Error) -> ToolFault
+        ensures { result ≡ read-fault }
+    {
+        self.0.set(Some((name, why)));
+        ToolFault::Read
+    }
+
+    /// Remembers why a file of this name could not be made, written or waited for.
+    pub fn write(&self, name: &'a str, why: Error) -> ToolFault
+        ensures { result ≡ write-fault }
+    {
+        self.0.set(Some((name, why)));
+        ToolFault::Write
+    }
+
+    /// Tells a fault on standard error, and which file it is of. Of a pipe that its reader closed nothing is told.
+    pub fn tell<R: Eprint>(&self, rt: &R, fault: ToolFault) {
+        let Some((name, why)) = self.0.get() else {
+            let _ = eprintln!(rt; "{fault}");
+            return;
+        };
+        if why.kind() == ErrorKind::BrokenPipe {
+            return;
+        }
+        let mut text = ArrayString::<128>::new();
+        let _ = write!(text, "{why}");
+        let text = text.as_str();
+        let reason = text.rsplit_once(NUMBER).map_or(text, |(reason, _)| reason);
+        let _ = eprintln!(rt; "{fault}\n  {name}: {reason}");
+    }
+}
+
+/// A reader or a writer of the program, under the name by which a fault tells of it.
+#[derive(Drop)]
+pub struct Named<'a, D: Drop> {
+    pub device: D,
+    pub name: &'a str,
+    failure: &'a Failure<'a>,
+}
+
+impl<'a, D: Drop> Named<'a, D> {
+    pub fn new(device: D, name: &'a str, failure: &'a Failure<'a>) -> Named<'a, D>
+        ensures { result.device ≡ device }
+    {
+        Named {
+            device,
+            name,
+            failure,
+        }
+    }
+
+    /// Remembers why a call that writes it failed.
+    pub fn write_fault(&self, why: Error) -> ToolFault
+        ensures { result ≡ write-fault }
+    {
+        self.failure.write(self.name, why)
+    }
+}
+
+impl<R: Read + Drop> Read for Named<'_, R> {
+    ghost remaining = { λ n. R.remaining n.device };
+
+    fn read(&mut self, buf: &mut [u8]) -> io::Result<usize> {
+        let result = self.device.read(buf);
+        if let Err(why) = &result {
+            self.failure.read(self.name, *why);
+        }
+        result
+    }
+}
+
+impl<W: Write + Drop> Write for Named<'_, W> {
+    ghost contents = { λ n. W.contents n.device };
+
+    // A writer that takes nothing fails.
+    fn write(&mut self, buf: &[u8]) -> io::Result<usize> {
+        let result = match self.device.write(buf) {
+            Ok(0) if !buf.is_empty() => Err(Error::new(ErrorKind::WriteZero, "it takes no bytes")),
+            result => result,
+        };
+        if let Err(why) = &result {
+            self.write_fault(*why);
+        }
+        result
+    }
+
+    fn flush(&mut self) -> io::Result<()> {
+        let result = self.device.flush();
+        if let Err(why) = &result {
+            self.write_fault(*why);
+        }
+        result
+    }
+}
