@@ -62,7 +62,7 @@ class CommandLines(unittest.TestCase):
     def test_each(self):
         text = (TOP / "tests/command_lines.text").read_text()
         parts = re.split(r"^(?=\$ camac )", text, flags=re.MULTILINE)[1:]
-        self.assertEqual(len(parts), 55)
+        self.assertEqual(len(parts), 65)
         for part in parts:
             line = part.partition("\n")[0].removeprefix("$ camac ")
             with self.subTest(line):

@@ -34,14 +34,15 @@ class Reader(unittest.TestCase):
     def test_rows(self):
         for file, rows in ROWS.items():
             for name, cases in rows.items():
-                for case in [it for it in cases if it.command in TELL]:
+                for case in [it for it in cases if it.command.split()[0] in TELL and it.command != "plan --commands"]:
                     with self.subTest(file=file, row=name, command=case.command):
                         self.expect(case)
 
     def expect(self, case):
         given = case.inputs
+        command, *words = case.command.split()
         try:
-            told = tell(case.command, Inputs(given.get("PLAN"), given.get("SCRIPT", b""), given.get("ANSWERS", b"")))
+            told = tell(command, Inputs(given.get("PLAN"), given.get("SCRIPT", b""), given.get("ANSWERS", b""), words=" ".join(words).encode()))
         except LeftOut as why:
             self.skipTest(why)
         self.assertEqual((told.status, told.out, told.err), (case.status, case.printed, b""))

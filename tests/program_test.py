@@ -35,9 +35,9 @@ LISTING = b"demand 000004 adc\ncycle 1 5 0 0 in 123fff x1 q1 wait 2\nended event
 REQUESTS = b"demand\ncycle 1 5 0 0 in\ndemand\nended events 1\n"
 EVENT_FILE = bytes.fromhex("43414d4143455632 ca4d 0003 00000001 00000003 0000 0001 00000fff")
 EVENT_FILE_ONE = bytes.fromhex("43414d4143455631 ca4d 0003 00000001 0001 00000fff")
-WORDS = {"plan": ["PLAN"], "check": ["PLAN", "SCRIPT"], "explain": ["PLAN", "[SCRIPT]"], "bounds": ["PLAN", "SCRIPT"], "costs": ["PLAN", "SCRIPT"], "run": ["PLAN", "SCRIPT", "ANSWERS", "EVENTS"], "drive": ["PLAN", "SCRIPT", "EVENTS"], "events": ["FILE"]}
-# The options of a command but those of help.
-OPTIONS = {"plan": ["commands"]}
+WORDS = {"plan": ["PLAN"], "check": ["PLAN", "SCRIPT"], "explain": ["PLAN", "[SCRIPT]"], "bounds": ["PLAN", "SCRIPT"], "costs": ["PLAN", "SCRIPT"], "response": ["PLAN", "SCRIPT"], "run": ["PLAN", "SCRIPT", "ANSWERS", "EVENTS"], "drive": ["PLAN", "SCRIPT", "EVENTS"], "events": ["FILE"]}
+# The options of a command but those of help, with the values that they take.
+OPTIONS = {"plan": {"commands": ""}, "response": {"every": "SERVICE=CYCLES", "within": "SERVICE=CYCLES"}}
 TOO_LONG, TWICE = b"fault input too long\n", b"fault @in twice\n"
 CLOSED = "it is closed, or a folder"
 
@@ -150,9 +150,28 @@ class Usage(Case):
             self.assertIn(b"Usage: camac", err, words)
 
     def test_standard_input_twice(self):
-        for words in ("check @in @in", "explain @in @in", "bounds @in @in", "costs @in @in", "run @in @in a e", "run @in s @in e", "run @sample @in @in e", "run @in @in @in e", "drive @in s e", "drive @sample @in e"):
+        for words in ("check @in @in", "explain @in @in", "bounds @in @in", "costs @in @in", "response @in @in", "run @in @in a e", "run @in s @in e", "run @sample @in @in e", "run @in @in @in e", "drive @in s e", "drive @sample @in e"):
             self.assertEqual(self.call(*words.split()), (2, b"", TWICE), words)
             self.assertFalse((self.room / "e").exists())
+
+    def test_words_of_response(self):
+        """What is wrong with the words is told before a file is read; of a service that is not there, once the script is accepted."""
+        form = b"error: invalid value '%s' for '--%s <SERVICE=CYCLES>'\n"
+        for words, told in [
+            ("none none --every adc", form % (b"adc", b"every")),
+            ("none none --every adc=0", form % (b"adc=0", b"every")),
+            ("none none --within =3", form % (b"=3", b"within")),
+            ("none none --within adc=+3", form % (b"adc=+3", b"within")),
+            ("none none --within adc=4294967296", form % (b"adc=4294967296", b"within")),
+            ("none none --every adc=3=4", form % (b"adc=3=4", b"every")),
+            ("none none --within adc=3 --every adc=3 --within b=1 --within adc=4", b"fault --within adc twice\n"),
+            ("none none --within a=1 --within a=1 --every a=1 --every a=2", b"fault --every a twice\n"),
+            ("@sample straight.script --within adc=3 --within nobody=3", b"fault --within nobody: no such service\n"),
+            ("@sample straight.script --within nobody=3 --every none=3", b"fault --every none: no such service\n"),
+        ]:
+            status, out, err = self.call("response", *words.split())
+            self.assertEqual((status, out, err.startswith(told)), (2, b"", True), (words, err))
+            self.assertTrue(err == told or err.endswith(b"Usage: camac response [OPTIONS] <PLAN> <SCRIPT>\n\nFor more information, try '--help'.\n"), err)
 
     def test_standard_input_once(self):
         """These words are a job, which ends as its files do. The last word of run and drive is the name of an output."""
@@ -187,8 +206,8 @@ class Help(Case):
             self.assertEqual(text, self.help(name, "-h"))
             for word in words:
                 self.assertRegex(text, rf"(?m)^  [<[]{word.strip('[]')}[]>] +[A-Z][^\n]{{10}}", "a word without a text")
-            for option in OPTIONS.get(name, []):
-                self.assertRegex(text, rf"(?m)^ +--{option} +[A-Z][^\n]{{10}}", "an option without a text")
+            for option, value in OPTIONS.get(name, {}).items():
+                self.assertRegex(text, rf"(?m)^ +--{option}{value and f' <{value}>'} +[A-Z][^\n]{{10}}", "an option without a text")
             self.assertEqual("@sample" in text, "PLAN" in words)
             self.assertEqual("@in" in text, name != "drive", "the answers of drive are standard input")
             self.assertIn("Examples:\n", text)
@@ -519,9 +538,10 @@ class Pages(Case):
         for name, said in subcommands(self.help).items():
             if name != "help":
                 words = [f"Op Ar {it[1:-1]}" if it.startswith("[") else f"Ar {it}" for it in WORDS[name]]
-                words += [f"Op Fl -{it}" for it in OPTIONS.get(name, [])]
-                self.assertIn(f"\n.It Cm {name} " + " ".join(words) + "\n", page)
-                self.assertIn(f"\n.Cm {name}\n" + "".join(f".{it}\n" for it in words), page)
+                flags = [f"Fl -{it}{value and f' Ar {value}'}" for it, value in OPTIONS.get(name, {}).items()]
+                inline = [f"Oo {it} Oc" if "Ar" in it else f"Op {it}" for it in flags]
+                self.assertIn(f"\n.It Cm {name} " + " ".join([*words, *inline]) + "\n", page)
+                self.assertIn(f"\n.Cm {name}\n" + "".join(f".{it}\n" for it in [*words, *(f"Op {it}" for it in flags)]), page)
                 self.assertIn(said, plain)
         for short, long in options(self.help):
             self.assertIn(f"\n.It Fl {short} , Fl -{long}\n", page)
@@ -544,7 +564,7 @@ class Pages(Case):
         for name, words in WORDS.items():
             line = re.search(rf"(?m)^    {name}\) _arguments (.*);;$", text)[1]
             self.assertEqual([f"[{it}]" if colon else it for colon, it in re.findall(r"':(:?)([A-Z]+):", line)], words)
-            self.assertEqual(re.findall(r"'--(\w+)\[", line), OPTIONS.get(name, []))
+            self.assertEqual(re.findall(r"'\*?--(\w+)\[", line), [*OPTIONS.get(name, [])])
 
     def test_fish(self):
         text = (TOP / "completions/camac.fish").read_text()
@@ -552,7 +572,7 @@ class Pages(Case):
         found = {(short, long): said for short, long, said in re.findall(r"-s (\w) -l ([\w-]+) -d '(.*)'$", text, re.M)}
         self.assertEqual(found, options(self.help))
         for name, names in OPTIONS.items():
-            self.assertEqual(re.findall(rf"__fish_seen_subcommand_from {name}' -l (\w+) -d ", text), names)
+            self.assertEqual(re.findall(rf"__fish_seen_subcommand_from {name}' -l (\w+) -d ", text), [*names])
         self.assertIn("@sample", text)
         self.assertIn("@in", text)
 

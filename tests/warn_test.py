@@ -123,7 +123,8 @@ class Warnings(Case):
             ([(1, 10), (2, 11)], []),
             ([(1, 12), (2, 11)], []),
             ([(1, 10), (2, 10)], []),
-            ([(7, 1), (9, 0)], [(2, "(bit 9, cycles 0) can be held up by `s7` (bit 7, cycles 1)")]),
+            ([(7, 10), (9, 0)], []),
+            ([(7, 11), (9, 0)], [(2, "(bit 9, cycles 0) can be held up by `s7` (bit 7, cycles 11)")]),
             ([(1, 12), (2, 14), (3, 3), (4, 14), (5, 11)], [(3, "(bit 3, cycles 3) can be held up by `s2` (bit 2, cycles 14)")]),
             ([(4, 14), (2, 14), (5, 9)], [(3, "(bit 5, cycles 9) can be held up by `s2` (bit 2, cycles 14)")]),
         ]:
@@ -153,9 +154,7 @@ class Warnings(Case):
                 with self.subTest(script=it.name):
                     self.assertEqual({its.code for its in camac.warnings(plan, it)} - {Code.LEFT_CALLING}, set())
         for bench in sorted((TOP / "examples/benches").iterdir()):
-            held_up = [(32, Code.HELD_UP), (43, Code.HELD_UP)] if bench.name == "slow_control" else []
-            found = camac.warnings(bench / "plan.toml", bench / "readout.script")
-            self.assertEqual([(it.line, it.code) for it in found], held_up)
+            self.assertEqual(camac.warnings(bench / "plan.toml", bench / "readout.script"), [])
 
     def test_pages(self):
         """The scripts of the pages that are accepted on @sample are meant, but for the examples of the page of warnings."""

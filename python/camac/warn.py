@@ -179,7 +179,7 @@ def _held_up(tokens: List[Token], services: List[Service]) -> Iterator[Warned]:
     """Short services that a longer one on a lower bit can hold up; the longest of those is told."""
     lines = {it.name: it.line for it in _bodies(tokens, "service")}
     for it in services:
-        lower = [other for other in services if other.gl < it.gl and other.cycles > it.cycles]
+        lower = [other for other in services if other.gl < it.gl and other.cycles > SHORT]
         if it.cycles <= SHORT and lower:
             longest = max(lower, key=lambda other: (other.cycles, -other.gl))
             text = f"this service (bit {it.gl}, cycles {it.cycles}) can be held up by `{longest.name}` (bit {longest.gl}, cycles {longest.cycles})"

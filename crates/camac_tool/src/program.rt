@@ -19,7 +19,7 @@ use crate::running::{engine_drive, engine_run};
 use crate::shared::{FromAnswers, ToListing, ToRecords};
 use crate::streams::Streams;
 use crate::target::{Earlier, NewFile, keep_apart, settle};
-use camac_response::Misuse;
+use camac_response::{Misuse, read_settings};
 use camac_tool_check::{
     Outcome, PlanSource, Responded, ToolFault, engine_bounds, engine_check, engine_commands,
     engine_costs, engine_events, engine_explain, engine_explain_plan, engine_plan, engine_response,
@@ -45,7 +45,8 @@ const STANDARD_OUTPUT: &str = "standard output";
 const AHEAD: usize = 32_768;
 
 /// Does what the words after the program's name ask for, and returns the exit status: 0 or 1 by the outcome, 2 where the words
-/// ask for nothing that is there, and 3 for a fault. Help and version print and end with 0. A fault is one line on standard error.
+/// ask for nothing that is there, and 3 for a fault. Help and version print and end with 0. A fault is a line on standard error, and below it its file
+/// and the reason.
 pub fn exit_status<R: Runtime + AllocGlobal>(rt: &R, words: &[String]) -> u8
     ensures { Ends (map string_bytes words.now) result }
 {
@@ -180,6 +181,7 @@ fn show_costs<'a, R: Runtime + AllocGlobal>(
     handed_on(&mut out.into_inner(), outcome)
 }
 
+// Words that are wrong are told before a file is opened.
 fn show_responses<'a, R: Runtime + AllocGlobal>(
     rt: &R,
     failure: &'a Failure<'a>,
@@ -188,6 +190,9 @@ fn show_responses<'a, R: Runtime + AllocGlobal>(
     every: &[&'a str],
     within: &[&'a str],
 ) -> Result<Responded<'a>, ToolFault> {
+    if let Err(misuse) = read_settings(rt.alloc(), every, within)? {
+        return Ok(Responded::Misused(misuse));
+    }
     let mut plan = source_of(plan_input(rt, failure, plan)?);
     let mut script = Watched::new(open(rt, failure, script)?);
     let mut out = Watched::new(output(rt, failure));

@@ -35,11 +35,9 @@ pub const COMMANDS: &str = "Lists the commands of each type, too";
 
 pub const SCRIPT: &str = "A script: a file, or @in, standard input";
 
-pub const EVERY: &str =
-    "The module of the service raises its look-at-me no sooner than so many cycles after the last";
+pub const EVERY: &str = "Its look-at-mes come at least so many cycles apart";
 
-pub const WITHIN: &str =
-    "Asks whether the service has ended so many cycles after its look-at-me (status 1 if not)";
+pub const WITHIN: &str = "Asks whether it has ended so many cycles after its look-at-me";
 
 pub const PLAN_OF_DRIVE: &str = "A plan: a TOML file, or @sample, the built-in plan";
 
@@ -127,11 +125,12 @@ pub const AFTER_RESPONSE: &str =
 rule and the line (status 1):
   service NAME gl G cycles C every T start S end E longest L
   C  the most dataway cycles that the service takes
-  T  the rate that --every tells; 'once' without one: then the line holds while
-     the service is called once at most in a row of look-at-mes up to its bit
+  T  the rate that --every tells; 'once' without one: then the line holds where
+     each such service up to its bit is called at most once while look-at-mes up
+     to this bit are answered without a pause
   S  the most cycles from its look-at-me until it begins
   E  the most cycles from its look-at-me until it has ended
-  L  the longest time for which look-at-mes up to its bit can follow one another
+  L  within so many cycles all look-at-mes up to its bit are answered
 A dash stands where there is no such number. With --within the line has 'end E of
 W', and the status is 1 where E is above W, or a dash. @in stands for one of the
 two files at most.
