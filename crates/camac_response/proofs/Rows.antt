@@ -1,6 +1,6 @@
 -- Worked rows: responses, and a run in which a service is called as late as its response allows.
 use Rattle.std.proofs.Common.{◌≡◌, ℕ, zero, suc, ◌*◌, ◌<◌, ◌≤◌, List, [], ◌∷◌, Option, Some, None, true, false, refl, subst, take, arith}
-use Rattle.std.specs.Prelude.{codes, slice_get}
+use Rattle.std.specs.Prelude.{Ok, codes, slice_get}
 use Rattle.std.proofs.lemmas.Option.{same_Some}
 use Rattle.camac_lang.specs.declared.word.CrateCall.TheVariants as crate_word
 use Rattle.camac_lang.specs.Tree.{number, Statement, crate_call, Script, Lam, Service, next_lam, next_service}
@@ -10,6 +10,8 @@ use Rattle.camac_branch.specs.Plan.{Layout}
 use Rattle.camac_model.specs.Behaviour.{pieces, Piece}
 use Rattle.camac_model.specs.Run.{the_run}
 use Rattle.camac_model.specs.Sample.{gap, adc, reg, answer, demand}
+use Rattle.camac_check_rules.specs.Accept.{accept}
+use Rattle.camac_check_rules.specs.Refusal.{go_on, if_reached, required}
 use Rattle.camac_response_times.specs.declared.source.Source.{Source}
 use Rattle.camac_model.specs.Moments.{Holds}
 use Rattle.camac_response.specs.Stretch.{Stretch, no_stretch, one_more, stretch_after}
@@ -76,6 +78,11 @@ both = record {
       served_by 1 (crate_call 4 crate_word.TestDemand (number 2) ∷ crate_call 4 crate_word.TestInhibit (number 1) ∷ []) ∷
       [];
 }
+
+-- it is accepted, with 4 cycles each
+is_accepted : accept plan both ≡ Ok (record { cycles = 4; words = 0; steps = 2 } ∷ record { cycles = 4; words = 0; steps = 2 } ∷ [])
+unfolding go_on required if_reached
+is_accepted = refl
 
 abbrev of_both : List Source
 of_both = source 3 4 None ∷ source 2 4 (Some 9) ∷ []
