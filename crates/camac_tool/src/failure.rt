@@ -10,7 +10,7 @@ use std::fmt::Write as TextWrite;
 use std::io;
 use std::io::{Eprint, Error, ErrorKind, Read, Write};
 
-/// What the system adds to its texts of errors.
+/// What stands between the system's text of an error and its number, as the kit writes them.
 const NUMBER: &str = " (os error ";
 
 /// The last call that failed, if any: the name of its file, and why. The readers and the writers of the program share it.
@@ -57,14 +57,14 @@ impl<'a> Failure<'a> {
 
 /// A reader or a writer of the program, under the name by which a fault tells of it.
 #[derive(Drop)]
-pub struct Named<'a, D: Drop> {
+pub struct Named<'f, 'a, D: Drop> {
     pub device: D,
     pub name: &'a str,
-    failure: &'a Failure<'a>,
+    failure: &'f Failure<'a>,
 }
 
-impl<'a, D: Drop> Named<'a, D> {
-    pub fn new(device: D, name: &'a str, failure: &'a Failure<'a>) -> Named<'a, D>
+impl<'f, 'a, D: Drop> Named<'f, 'a, D> {
+    pub fn new(device: D, name: &'a str, failure: &'f Failure<'a>) -> Named<'f, 'a, D>
         ensures { result.device ≡ device }
     {
         Named {
@@ -82,7 +82,7 @@ impl<'a, D: Drop> Named<'a, D> {
     }
 }
 
-impl<R: Read + Drop> Read for Named<'_, R> {
+impl<R: Read + Drop> Read for Named<'_, '_, R> {
     ghost remaining = { λ n. R.remaining n.device };
 
     fn read(&mut self, buf: &mut [u8]) -> io::Result<usize> {
@@ -94,7 +94,7 @@ impl<R: Read + Drop> Read for Named<'_, R> {
     }
 }
 
-impl<W: Write + Drop> Write for Named<'_, W> {
+impl<W: Write + Drop> Write for Named<'_, '_, W> {
     ghost contents = { λ n. W.contents n.device };
 
     // A writer that takes nothing fails.

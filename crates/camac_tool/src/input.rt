@@ -21,11 +21,11 @@ pub enum Input<S: Drop, F: Drop> {
 }
 
 /// The input that a word names: `@in` is standard input, and any other word a file.
-pub fn open<'a, R: Files + StandardInput>(
+pub fn open<'f, 'a, R: Files + StandardInput>(
     rt: &R,
-    failure: &'a Failure<'a>,
+    failure: &'f Failure<'a>,
     word: &'a str,
-) -> Result<Named<'a, Input<R::Reader, R::File>>, ToolFault>
+) -> Result<Named<'f, 'a, Input<R::Reader, R::File>>, ToolFault>
     ensures which { IfOk result (λ input. is_standard input.device ≡ bytes_eq word.now (codes "@in")) }
     ensures fault { IfErr result (λ fault. fault ≡ read-fault) }
 {

@@ -75,8 +75,8 @@ pub fn unread_status<R: Runtime>(rt: &R, fault: ArgumentsFault) -> u8
 }
 
 #[tactic(auto, using(crate::proofs::Ended::engine_ends, crate::proofs::Ended::response_job))]
-fn serve<'a, R: Runtime + AllocGlobal>(rt: &R, failure: &'a Failure<'a>, job: Job<'a>) -> u8
-    ensures { EndsJob job result }
+fn serve<'a, R: Runtime + AllocGlobal>(rt: &R, failure: &Failure<'a>, job: Job<'a>) -> u8
+    ensures { EndsJob job.entry result }
 {
     let answer = match job {
         Job::Plan(plan) => show_plan(rt, failure, plan),
@@ -101,7 +101,7 @@ fn serve<'a, R: Runtime + AllocGlobal>(rt: &R, failure: &'a Failure<'a>, job: Jo
 
 fn show_plan<'a, R: Runtime + AllocGlobal>(
     rt: &R,
-    failure: &'a Failure<'a>,
+    failure: &Failure<'a>,
     plan: &'a str,
 ) -> Result<Outcome, ToolFault> {
     let mut plan = source_of(plan_input(rt, failure, plan)?);
@@ -112,7 +112,7 @@ fn show_plan<'a, R: Runtime + AllocGlobal>(
 
 fn show_commands<'a, R: Runtime + AllocGlobal>(
     rt: &R,
-    failure: &'a Failure<'a>,
+    failure: &Failure<'a>,
     plan: &'a str,
 ) -> Result<Outcome, ToolFault> {
     let mut plan = source_of(plan_input(rt, failure, plan)?);
@@ -123,7 +123,7 @@ fn show_commands<'a, R: Runtime + AllocGlobal>(
 
 fn check<'a, R: Runtime + AllocGlobal>(
     rt: &R,
-    failure: &'a Failure<'a>,
+    failure: &Failure<'a>,
     plan: &'a str,
     script: &'a str,
 ) -> Result<Outcome, ToolFault> {
@@ -135,7 +135,7 @@ fn check<'a, R: Runtime + AllocGlobal>(
 
 fn explain<'a, R: Runtime + AllocGlobal>(
     rt: &R,
-    failure: &'a Failure<'a>,
+    failure: &Failure<'a>,
     plan: &'a str,
     script: &'a str,
 ) -> Result<Outcome, ToolFault> {
@@ -147,7 +147,7 @@ fn explain<'a, R: Runtime + AllocGlobal>(
 
 fn explain_plan<'a, R: Runtime + AllocGlobal>(
     rt: &R,
-    failure: &'a Failure<'a>,
+    failure: &Failure<'a>,
     plan: &'a str,
 ) -> Result<Outcome, ToolFault> {
     let mut plan = source_of(plan_input(rt, failure, plan)?);
@@ -158,7 +158,7 @@ fn explain_plan<'a, R: Runtime + AllocGlobal>(
 
 fn show_bounds<'a, R: Runtime + AllocGlobal>(
     rt: &R,
-    failure: &'a Failure<'a>,
+    failure: &Failure<'a>,
     plan: &'a str,
     script: &'a str,
 ) -> Result<Outcome, ToolFault> {
@@ -170,7 +170,7 @@ fn show_bounds<'a, R: Runtime + AllocGlobal>(
 
 fn show_costs<'a, R: Runtime + AllocGlobal>(
     rt: &R,
-    failure: &'a Failure<'a>,
+    failure: &Failure<'a>,
     plan: &'a str,
     script: &'a str,
 ) -> Result<Outcome, ToolFault> {
@@ -184,7 +184,7 @@ fn show_costs<'a, R: Runtime + AllocGlobal>(
 // Words that are wrong are told before a file is opened.
 fn show_responses<'a, R: Runtime + AllocGlobal>(
     rt: &R,
-    failure: &'a Failure<'a>,
+    failure: &Failure<'a>,
     plan: &'a str,
     script: &'a str,
     every: &[&'a str],
@@ -203,7 +203,7 @@ fn show_responses<'a, R: Runtime + AllocGlobal>(
 // write fault.
 fn run<'a, R: Runtime + AllocGlobal>(
     rt: &R,
-    failure: &'a Failure<'a>,
+    failure: &Failure<'a>,
     plan: &'a str,
     script: &'a str,
     answers: &'a str,
@@ -249,7 +249,7 @@ fn run_on_streams<I: Read + Drop, W: Write + Drop, E: Write + Drop>(
 // A request goes out in one write to a writer that keeps nothing back, and no answer is read ahead of its request.
 fn drive<'a, R: Runtime + AllocGlobal>(
     rt: &R,
-    failure: &'a Failure<'a>,
+    failure: &Failure<'a>,
     plan: &'a str,
     script: &'a str,
     events: &'a str,
@@ -274,7 +274,7 @@ fn drive<'a, R: Runtime + AllocGlobal>(
 
 fn show_events<'a, R: Runtime + AllocGlobal>(
     rt: &R,
-    failure: &'a Failure<'a>,
+    failure: &Failure<'a>,
     file: &'a str,
 ) -> Result<Outcome, ToolFault> {
     let mut input = Watched::new(open(rt, failure, file)?);
@@ -283,7 +283,10 @@ fn show_events<'a, R: Runtime + AllocGlobal>(
     handed_on(&mut out.into_inner(), outcome)
 }
 
-fn output<'r, 'a, R: Print>(rt: &'r R, failure: &'a Failure<'a>) -> Named<'a, Printer<'r, R>> {
+fn output<'r, 'f, 'a, R: Print>(
+    rt: &'r R,
+    failure: &'f Failure<'a>,
+) -> Named<'f, 'a, Printer<'r, R>> {
     Named::new(io::writer(rt), STANDARD_OUTPUT, failure)
 }
 
@@ -301,11 +304,11 @@ fn handed_on<W: Write + Drop>(out: &mut Gathered<W>, outcome: Outcome) -> Result
 }
 
 // The input that a plan is read from; the sample plan is read from none.
-fn plan_input<'a, R: Files + StandardInput>(
+fn plan_input<'f, 'a, R: Files + StandardInput>(
     rt: &R,
-    failure: &'a Failure<'a>,
+    failure: &'f Failure<'a>,
     word: &'a str,
-) -> Result<Option<Named<'a, Input<R::Reader, R::File>>>, ToolFault>
+) -> Result<Option<Named<'f, 'a, Input<R::Reader, R::File>>>, ToolFault>
     ensures which { IfOk result (λ input. is_none input ≡ bytes_eq word.now (codes "@sample")) }
     ensures fault { IfErr result (λ fault. fault ≡ read-fault) }
 {

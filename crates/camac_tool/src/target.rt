@@ -24,9 +24,9 @@ pub fn keep_apart<'a, R: Files, S: Drop>(
     rt: &R,
     failure: &Failure<'a>,
     name: &'a str,
-    plan: Option<&Named<'a, Input<S, R::File>>>,
-    script: &Named<'a, Input<S, R::File>>,
-    answers: &Named<'a, Input<S, R::File>>,
+    plan: Option<&Named<'_, 'a, Input<S, R::File>>>,
+    script: &Named<'_, 'a, Input<S, R::File>>,
+    answers: &Named<'_, 'a, Input<S, R::File>>,
 ) -> Result<(), ToolFault>
     ensures { IfErr result (λ fault. fault ≡ write-fault) }
 {
@@ -109,7 +109,7 @@ fn open_empty<R: Files>(rt: &R, name: &str) -> io::Result<R::File> {
 }
 
 /// Waits until EVENTS is on its disk, where it was opened and is a regular file.
-pub fn settle<R: Files>(events: &Named<'_, NewFile<'_, R>>) -> Result<(), ToolFault>
+pub fn settle<R: Files>(events: &Named<'_, '_, NewFile<'_, R>>) -> Result<(), ToolFault>
     ensures { IfErr result (λ fault. fault ≡ write-fault) }
 {
     match sync(&events.device) {

@@ -30,6 +30,7 @@ told_in_part s c ts o p named told part = (responses_text c.script s.within.item
 
 pub told_whole : (s : Settings) (c : CheckedScript) (ts : List Source) (outcome : Outcome) (o p : Option (List ℕ)) → IsNoService c.script s.every.items s.within.items None → AreTold c s.every.items ts
     → SaysKept (AreKept c.script s.within.items ts) outcome → Appends o p (responses_text c.script s.within.items ts) → (text : List ℕ) × IsResponse s c outcome text × Appends o p text
+unfolding text_of
 told_whole s c ts outcome o p named told kept all = (responses_text c.script s.within.items ts, record { is = text_of s c ts named told; kept = kept }, all)
 
 pub responds_found : (every within : List (List ℕ)) {R : Type 0} (left : R → Option (List ℕ)) (plan plan' : PlanSource R) (a b o p : Option (List ℕ)) (s : Settings) (j : Judged) (r : Result Responded ToolFault)
