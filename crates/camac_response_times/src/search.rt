@@ -160,6 +160,8 @@ fn most_calls(every: Option<Rate>, cycles: u32) -> u64
 {
     match every {
         None => 1,
+        // most rates are longer than the cycles that are tried, and a division takes longest
+        Some(period) if cycles < period.get() => 1,
         Some(period) => u64::from(cycles / period.get()) + 1,
     }
 }
