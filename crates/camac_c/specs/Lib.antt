@@ -2,6 +2,7 @@ pub mod Filled
 pub mod Open
 pub mod Owned
 pub mod Plain
+pub mod Response
 pub mod Run
 pub mod Talk
 pub mod Texts

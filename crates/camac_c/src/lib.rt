@@ -10,6 +10,7 @@ mod handle;
 mod loose;
 mod opening;
 mod plain;
+mod response;
 mod session;
 mod texts;
 
