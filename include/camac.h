@@ -56,8 +56,10 @@ extern "C" {
 
 enum camac_code {
     CAMAC_OK = 0,        /* done */
-    CAMAC_REFUSED = 1,   /* a plan, a script, an answer or an event file broke a rule, or a wait was not permitted: the text says which */
-    CAMAC_MISUSE = 2,    /* the session is none; or, of camac_open, it is open, or header and library do not fit */
+    CAMAC_REFUSED = 1,   /* a plan, a script, an answer or an event file broke a rule, a wait was not permitted, or a service may end too late:
+                            the text says which */
+    CAMAC_MISUSE = 2,    /* the session is none; or, of camac_open, it is open, or header and library do not fit; or, of camac_response,
+                            what is told of services is wrong */
     CAMAC_NO_MEMORY = 3, /* malloc or realloc refused */
     CAMAC_OVERRUN = 4,   /* a wait that the plan does not permit: the run stays where it was, for good */
     CAMAC_RANGE = 5,     /* a word or gl above 0xffffff, or a wait above 15 */
@@ -124,6 +126,9 @@ uint32_t camac_raw_bounds(const uint8_t *plan, size_t plan_size, const uint8_t *
                           uint8_t *text, size_t room, size_t *size);
 uint32_t camac_raw_costs(const uint8_t *plan, size_t plan_size, const uint8_t *script, size_t script_size,
                           uint8_t *text, size_t room, size_t *size);
+uint32_t camac_raw_response(const uint8_t *plan, size_t plan_size, const uint8_t *script, size_t script_size,
+                            const uint8_t *every, size_t every_size, const uint8_t *within, size_t within_size,
+                            uint8_t *text, size_t room, size_t *size);
 uint32_t camac_raw_run(const uint8_t *plan, size_t plan_size, const uint8_t *script, size_t script_size,
                        const uint8_t *answers, size_t answers_size, uint8_t *text, size_t room, size_t *size,
                        uint8_t *file, size_t file_room, size_t *file_size);
@@ -180,6 +185,18 @@ CAMAC_CALL int camac_costs(const void *plan, size_t plan_size, const void *scrip
     return (int)camac_raw_costs(CAMAC_IN(plan, plan_size), CAMAC_IN(script, script_size), CAMAC_OUT(text, room, nowhere), size);
 }
 
+/* What `camac response` prints: how long look-at-mes wait for their services. `every` and `within` tell what follows these options, as
+ * adc=200 tick=5000: a service, and a number of dataway cycles up to 4294967295, from 1 on in `every`. White space is between two. NULL: none.
+ * CAMAC_REFUSED: the text says why, or has a service that may end above its number in `within`. CAMAC_MISUSE: `every` or `within` has
+ * another form, a service twice, or, of an accepted script, one that it does not have. */
+CAMAC_CALL int camac_response(const void *plan, size_t plan_size, const void *script, size_t script_size,
+                              const void *every, size_t every_size, const void *within, size_t within_size,
+                              char *text, size_t room, size_t *size) {
+    uint8_t nowhere[1];
+    return (int)camac_raw_response(CAMAC_IN(plan, plan_size), CAMAC_IN(script, script_size), CAMAC_IN(every, every_size),
+                                   CAMAC_IN(within, within_size), CAMAC_OUT(text, room, nowhere), size);
+}
+
 /* What `camac events` prints of an event file in memory. */
 CAMAC_CALL int camac_events(const void *file, size_t file_size, char *text, size_t room, size_t *size) {
     uint8_t nowhere[1];
@@ -231,7 +248,7 @@ CAMAC_PROCEDURE const char *camac_code_text(int code) {
     switch (code) {
     case CAMAC_OK: return "done";
     case CAMAC_REFUSED: return "refused";
-    case CAMAC_MISUSE: return "misuse of a session";
+    case CAMAC_MISUSE: return "misuse";
     case CAMAC_NO_MEMORY: return "no memory";
     case CAMAC_OVERRUN: return "overrun";
     case CAMAC_RANGE: return "a number out of its range";

@@ -92,6 +92,12 @@ inline verdict costs(std::string_view plan, std::string_view script) {
         return camac_costs(plan.data(), plan.size(), script.data(), script.size(), t, room, n);
     });
 }
+inline verdict response(std::string_view plan, std::string_view script, std::string_view every = {}, std::string_view within = {}) {
+    return detail::judged([&](char *t, std::size_t room, std::size_t *n) {
+        return camac_response(plan.data(), plan.size(), script.data(), script.size(), every.data(), every.size(), within.data(), within.size(), t,
+                              room, n);
+    });
+}
 inline verdict events(std::string_view file) {
     return detail::judged([&](char *t, std::size_t room, std::size_t *n) { return camac_events(file.data(), file.size(), t, room, n); });
 }

@@ -57,6 +57,8 @@ static inline void cfsa_by_reference(int f, int *ext, int *data, int *q) { cfsa_
 #define CAMAC_CFSA(f, ext, data, q) cfsa_by_reference(f, ext, data, q)
 #define CAMAC_CTSTAT(k) ctstat_(k)
 """
+# what `response` tells of a script's only service, of 3 cycles: its rate, and what was told of its end
+ONE_SERVICE = "service adc gl 3 cycles 3 {} start 0 end 3 {}longest 3\n"
 DEMAND, CYCLE = Answer(gl=4), Answer(1, 1, 0x123)
 
 
@@ -152,6 +154,11 @@ class Calls(Case):
     def test_codes_sessions_and_threads(self):
         for static in (False, True):
             self.assertEqual(call(self.program("calls", static=static), SAMPLE, EXAMPLES / "straight_line.script", 0), (0, ""))
+
+    def test_response_in_cpp(self):
+        program = of_c.compiled(self.room, "response", HERE / "response.cpp")
+        told = ONE_SERVICE.format("once", "") + ONE_SERVICE.format("every 200", "of 3 ")
+        self.assertEqual(call(program, SAMPLE, EXAMPLES / "straight_line.script"), (library.MISUSE, told))
 
     def test_flat_memory(self):
         its = self.write("short.toml", SHORT_PLAN), self.write("short.script", STRAIGHT_LINE)

@@ -78,6 +78,42 @@ static void texts(void) {
     if (s.camac_private[0]) fail("a text too long opens a session");
 }
 
+#define RESPONSE(code, every, within, wanted) expect_response((code), (every), (within), (wanted), __LINE__)
+static void expect_response(int code, const char *every, const char *within, const char *wanted, int line) {
+    char out[200] = "#";
+    size_t size = 9;
+    expect(code, camac_response(plan.bytes, plan.size, script.bytes, script.size, every, every ? strlen(every) : 9, within,
+                                within ? strlen(within) : 9, out, sizeof out, &size), "camac_response", line);
+    if (size != strlen(wanted) || memcmp(out, size ? wanted : "#", size ? size : 1)) fail("line %d: it tells %.*s", line, (int)size, out);
+}
+
+/* What is told of services, in each form: one of 3 cycles is alone in the script. */
+static void responses(void) {
+    static char long_text[CAMAC_TEXT_BYTES + 1];
+    char out[200] = "#";
+    size_t size = 9;
+    RESPONSE(CAMAC_OK, NULL, NULL, "service adc gl 3 cycles 3 once start 0 end 3 longest 3\n");
+    RESPONSE(CAMAC_OK, "", " \n", "service adc gl 3 cycles 3 once start 0 end 3 longest 3\n");
+    RESPONSE(CAMAC_OK, "\tadc=200\n", "adc=3", "service adc gl 3 cycles 3 every 200 start 0 end 3 of 3 longest 3\n");
+    RESPONSE(CAMAC_OK, "adc=4294967295", NULL, "service adc gl 3 cycles 3 every 4294967295 start 0 end 3 longest 3\n");
+    RESPONSE(CAMAC_OK, "adc=3", NULL, "service adc gl 3 cycles 3 every 3 start - end - longest -\n");
+    RESPONSE(CAMAC_REFUSED, "adc=3", "adc=10", "service adc gl 3 cycles 3 every 3 start - end - of 10 longest -\n");
+    RESPONSE(CAMAC_REFUSED, NULL, "adc=2", "service adc gl 3 cycles 3 once start 0 end 3 of 2 longest 3\n");
+    static const char *const wrong[] = {"adc", "=3", "adc=", "adc=+3", "adc=3x", "adc=4294967296", "adc=3 adc=4", "nobody=3", "adc\xff=3", "adc = 3"};
+    for (size_t i = 0; i < sizeof wrong / sizeof *wrong; i++) {
+        RESPONSE(CAMAC_MISUSE, wrong[i], NULL, "");
+        RESPONSE(CAMAC_MISUSE, "adc=200", wrong[i], "");
+    }
+    RESPONSE(CAMAC_MISUSE, "adc=0", NULL, "");
+    RESPONSE(CAMAC_REFUSED, NULL, "adc=0", "service adc gl 3 cycles 3 once start 0 end 3 of 0 longest 3\n");
+    EXPECT(CAMAC_REFUSED, camac_response(plan.bytes, plan.size, "!", 1, "nobody=3", 8, NULL, 0, out, sizeof out, &size));
+    if (size < 27 || memcmp(out, "refused S1 line 1: bad byte", 27)) fail("a refusal says otherwise");
+    memset(long_text, ' ', sizeof long_text);
+    out[0] = '#';
+    EXPECT(CAMAC_LONG, camac_response(plan.bytes, plan.size, long_text, sizeof long_text, NULL, 0, NULL, 0, out, sizeof out, &size));
+    if (size || out[0] != '#') fail("a text too long has a result");
+}
+
 /* An open session: what is refused leaves it as it was. */
 static void open_once(void) {
     camac_session s = CAMAC_NONE;
@@ -265,6 +301,7 @@ static void openings(long many) {
 static void *all_calls(void *none_more) {
     none();
     texts();
+    responses();
     deep();
     open_once();
     spent();

@@ -10,12 +10,14 @@ void __libc_free(void *block);
 
 static long left = -1; /* how many are granted before one is refused; -1: all are granted */
 static int is_alone;   /* whether those after it are granted again */
+static long refusals;  /* how many were refused */
 static long blocks;    /* how many are held */
 
 static int is_refused(void) {
     if (left > 0) left--;
     else if (left == 0) {
         if (is_alone) left = -1;
+        refusals++;
         return 1;
     }
     return 0;
@@ -43,6 +45,8 @@ static const char answers[] = "0 0 000000 0 000004\n1 1 123fff 0 000000\n";
 static char out[65536], file[65536];
 static camac_session s = CAMAC_NONE;
 
+enum { RESPONSE = 8 };
+
 static int call(int which) {
     size_t size = 9, file_size = 9;
     int code;
@@ -59,6 +63,9 @@ static int call(int which) {
         break;
     case 6: code = camac_costs(plan.bytes, plan.size, script.bytes, script.size, out, sizeof out, &size); break;
     case 7: code = camac_events("CAMACEV2", 8, out, sizeof out, &size); break;
+    case RESPONSE:
+        code = camac_response(plan.bytes, plan.size, script.bytes, script.size, "adc=200", 7, "adc=3", 5, out, sizeof out, &size);
+        break;
     default: code = camac_open(&s, plan.bytes, plan.size, script.bytes, script.size, out, sizeof out, &size); break;
     }
     if (code == CAMAC_NO_MEMORY && size) fail("call %d has a text without memory", which);
@@ -70,10 +77,15 @@ static long refuse_each(int which) {
     for (long granted = 0;; granted++) {
         const long before = blocks;
         left = granted;
+        refusals = 0;
         const int code = call(which);
         left = -1;
-        if (code == CAMAC_OK) return granted;
-        EXPECT(CAMAC_NO_MEMORY, code);
+        if (!refusals) {
+            EXPECT(CAMAC_OK, code);
+            return granted;
+        }
+        /* where room for many words is refused, there may be room for each */
+        if (which != RESPONSE || !is_alone || code != CAMAC_OK) EXPECT(CAMAC_NO_MEMORY, code);
         if (blocks != before || s.camac_private[0]) fail("call %d loses %ld blocks at allocation %ld", which, blocks - before, granted);
     }
 }
@@ -84,7 +96,7 @@ int main(int count, char **words) {
     if (count != 3) return 2;
     plan = read_file(words[1]);
     script = read_file(words[2]);
-    for (int which = 0; which <= 8; which++) {
+    for (int which = 0; which <= 9; which++) {
         is_alone = 1;
         const long alone = refuse_each(which);
         camac_close(&s);
