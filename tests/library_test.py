@@ -203,7 +203,7 @@ class Python(Case):
 
     def test_texts(self):
         for its in (EXAMPLES / "straight_line.script", EXAMPLES / "too_few_cycles.script"):
-            for name in ("check", "explain", "bounds", "costs"):
+            for name in ("check", "explain", "bounds", "costs", "response"):
                 verdict = getattr(library, name)(self.sample(), its.read_text())
                 self.assertEqual((0 if verdict.accepted else 1, verdict.text), call(PROGRAM, name, SAMPLE, its))
         for name, of_program in (("plan", "plan"), ("explain_plan", "explain")):
@@ -243,6 +243,16 @@ class Python(Case):
             for form in judge.FORMATS:
                 with self.subTest(script=its, form=form):
                     self.assertEqual(*(judge.told(it, form) for it in judged))
+
+    def test_response(self):
+        its = self.sample(), (EXAMPLES / "straight_line.script").read_text()
+        told = library.response(*its, every={"adc": 200}, within={"adc": 3})
+        self.assertEqual(told, (True, ONE_SERVICE.format("every 200", "of 3 ")))
+        self.assertEqual(library.response(*its, within={"adc": 2}), (False, ONE_SERVICE.format("once", "of 2 ")))
+        for wrong in ({"adc": 0}, {"adc": 1 << 32}, {"adc": -1}, {"nobody": 3}, {"": 3}, {"adc=3 nobody": 3}, {"adc ": 3}):
+            with self.subTest(wrong), self.assertRaises(UsageFault) as found:
+                library.response(*its, every=wrong)
+            self.assertEqual(found.exception.status, 2)
 
     def test_run_and_events(self):
         answers = EXAMPLES / "three_modules.answers"

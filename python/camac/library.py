@@ -12,7 +12,7 @@ import os
 import pathlib
 import stat
 from ctypes import POINTER, byref, c_char_p, c_size_t, c_uint8, c_uint16, c_uint32
-from typing import Any, BinaryIO, Iterator, List, NamedTuple, Optional, Tuple, Union
+from typing import Any, BinaryIO, Iterator, List, Mapping, NamedTuple, Optional, Tuple, Union
 
 from camac.drive import Answer, Branch, Ending, File, Lockouts, ProgramFault, Refused, RunEnd, UsageFault, file_fault
 from camac.events import NEW_FILE, Event, record
@@ -99,6 +99,7 @@ def _library() -> ctypes.CDLL:
         "version": [],
         **{name: [*text, *buffer] for name in ("plan", "explain_plan", "events")},
         **{name: [*text, *text, *buffer] for name in ("check", "explain", "bounds", "costs")},
+        "response": [*text, *text, *text, *text, *buffer],
         "run": [*text, *text, *text, *buffer, *buffer],
         "open": [session, *text, *text, *buffer],
         "wants": [session, POINTER(Want)],
@@ -133,6 +134,10 @@ def _fault(code: int) -> Exception:
     return RuntimeError(f"the library answers the code {code}")
 
 
+def _misuse() -> UsageFault:
+    return UsageFault("a number is out of range, or it is told of no service", 2)
+
+
 def _given(*texts: Text) -> List[Any]:
     """Each text as its bytes and their number."""
     found: List[Any] = []
@@ -163,6 +168,8 @@ def _filled(call: Any, *given: Any, buffers: int = 1) -> Tuple[int, List[bytes]]
     its = [_Buffer() for _ in range(buffers)]
     while True:
         code = call(*given, *(word for it in its for word in it.words()))
+        if code == MISUSE:
+            raise _misuse()
         if code not in (OK, REFUSED):
             raise _fault(code)
         if all(it.is_whole() for it in its):
@@ -209,6 +216,20 @@ def bounds(plan: Text, script: Text) -> Verdict:
 def costs(plan: Text, script: Text) -> Verdict:
     """What `camac costs` prints."""
     return _judged("costs", plan, script)
+
+
+def response(plan: Text, script: Text, every: Optional[Mapping[str, int]] = None, within: Optional[Mapping[str, int]] = None) -> Verdict:
+    """What `camac response` prints. `every` and `within` have the numbers of dataway cycles that follow these options, by service. It is not
+    accepted, too, where a service may end above its number in `within`. Raises UsageFault where a number is out of range (0 to 4,294,967,295,
+    from 1 on in `every`), or the accepted script does not have the service."""
+    return _judged("response", plan, script, _settings(every), _settings(within))
+
+
+def _settings(told: Optional[Mapping[str, int]]) -> str:
+    words = [f"{service}={cycles}" for service, cycles in (told or {}).items()]
+    if any(it.split() != [it] for it in words):
+        raise _misuse()
+    return " ".join(words)
 
 
 def events(file: bytes) -> Verdict:
