@@ -388,7 +388,8 @@ class Package(Case):
         broken.chmod(0o755)
         self.assertEqual(call(*calls, "check", "@sample", few, env={**env, "PATH": f"{self.room}/bin:{env['PATH']}"}), refused)
         self.assertEqual(call(*calls, "check", "@sample", few, env={**env, "CAMAC_PROGRAM": str(broken)})[0], 3)
-        for words in (["draw", "costs", "@sample", its], ["draw", "plan", "@sample", its], ["report", "@sample", its, event_file]):
+        late = ["draw", "response", "@sample", its, "--every", "adc=100"]
+        for words in (["draw", "costs", "@sample", its], ["draw", "plan", "@sample", its], late, ["report", "@sample", its, event_file]):
             self.assertEqual(call(*calls, *words, "-o", self.room / "it.svg", env=env), (0, ""))
         status, told = call(*calls, "report", "@sample", its, self.write("answers", ""), "-o", self.room / "it.html", env=env)
         self.assertEqual((status, told), (3, "camac: the program camac is not in PATH, and CAMAC_PROGRAM is not set\n"))

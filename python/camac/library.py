@@ -12,7 +12,7 @@ import os
 import pathlib
 import stat
 from ctypes import POINTER, byref, c_char_p, c_size_t, c_uint8, c_uint16, c_uint32
-from typing import Any, BinaryIO, Iterator, List, Mapping, NamedTuple, Optional, Tuple, Union
+from typing import Any, BinaryIO, Iterable, Iterator, List, Mapping, NamedTuple, Optional, Tuple, Union
 
 from camac.drive import Answer, Branch, Ending, File, Lockouts, ProgramFault, Refused, RunEnd, UsageFault, file_fault
 from camac.events import NEW_FILE, Event, record
@@ -30,7 +30,7 @@ ROOM = 4096
 # What the program says at the codes that it knows, with its status.
 FAULTS = {NO_MEMORY: ("fault memory", 3), LONG: ("fault input too long", 3)}
 # The subcommands of the program that the library can stand in for.
-COMMANDS = frozenset(("plan", "check", "explain", "bounds", "costs"))
+COMMANDS = frozenset(("plan", "check", "explain", "bounds", "costs", "response"))
 SPENT_LINE = "refused A4 line 4294967296: too many answers"
 
 
@@ -182,10 +182,12 @@ def _judged(name: str, *texts: Text) -> Verdict:
     return Verdict(code == OK, text.decode("utf-8", "replace"))
 
 
-def told(command: str, plan: File, *script: File) -> Verdict:
-    """What the program prints when it is called with one of `COMMANDS` and these files. Raises as the program fails: ProgramFault, UsageFault."""
+def told(command: str, plan: File, *script: File, every: Iterable[str] = ()) -> Verdict:
+    """What the program prints when it is called with one of `COMMANDS` and these files. `every` has the words that follow this option of
+    `response`, as NAME=CYCLES. Raises as the program fails: ProgramFault, UsageFault."""
     name = command if script or command == "plan" else f"{command}_plan"
-    return _judged(name, plan_text(plan), *map(script_text, script))
+    options = [_settings(every), ""] if command == "response" else []
+    return _judged(name, plan_text(plan), *map(script_text, script), *options)
 
 
 def plan(plan: Text) -> Verdict:
@@ -222,11 +224,16 @@ def response(plan: Text, script: Text, every: Optional[Mapping[str, int]] = None
     """What `camac response` prints. `every` and `within` have the numbers of dataway cycles that follow these options, by service. It is not
     accepted, too, where a service may end above its number in `within`. Raises UsageFault where a number is out of range (0 to 4,294,967,295,
     from 1 on in `every`), or the accepted script does not have the service."""
-    return _judged("response", plan, script, _settings(every), _settings(within))
+    return _judged("response", plan, script, _settings(settings(every)), _settings(settings(within)))
 
 
-def _settings(told: Optional[Mapping[str, int]]) -> str:
-    words = [f"{service}={cycles}" for service, cycles in (told or {}).items()]
+def settings(told: Optional[Mapping[str, int]]) -> List[str]:
+    """The words that follow an option of `response`: NAME=CYCLES for each service."""
+    return [f"{service}={cycles}" for service, cycles in (told or {}).items()]
+
+
+def _settings(words: Iterable[str]) -> str:
+    words = list(words)
     if any(it.split() != [it] for it in words):
         raise _misuse()
     return " ".join(words)

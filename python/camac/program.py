@@ -3,6 +3,7 @@
 Where no program is there, the library for C answers in this process what it can (`camac.library.COMMANDS`). So it does where `@library` is
 named as the program."""
 import functools
+import itertools
 import os
 import re
 import subprocess
@@ -15,6 +16,7 @@ from camac.texts import plan_text
 
 REFUSED, USAGE = 1, 2
 IN_PROCESS = "@library"
+EVERY = "--every="
 
 
 def quickest() -> Optional[File]:
@@ -33,13 +35,15 @@ def _find(command: str, program: Optional[File]) -> str:
 
 
 def _told(*words: File) -> library.Verdict:
-    """What the library tells in the program's place. Before the files there may stand "--"."""
+    """What the library tells in the program's place. Before the files there may stand the options `--every=NAME=CYCLES`, and "--"."""
     command, *files = map(os.fsdecode, words)
+    every = list(itertools.takewhile(lambda it: it.startswith(EVERY), files))
+    files = files[len(every) :]
     if files[:1] == ["--"]:
         files = files[1:]
     if command not in library.COMMANDS:
         raise UsageFault(f"the library has no `{command}`", USAGE)
-    return library.told(command, *files)
+    return library.told(command, *files, every=[it[len(EVERY) :] for it in every])
 
 
 def output_of(*words: File, program: Optional[File] = None) -> str:

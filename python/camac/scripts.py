@@ -3,7 +3,8 @@ import re
 from typing import List, Mapping, NamedTuple, Optional
 
 from camac.drive import File
-from camac.program import output_of, shown
+from camac.library import settings
+from camac.program import EVERY, output_of, shown
 
 VERDICT = re.compile(r"service (\w+) gl (\d+) cycles (\d+) of (\d+) words (\d+) of (\d+) steps (\d+)")
 HEADING = re.compile(r"(?:service (\w+)|proc (\w+)\(.*\)) within (\d+) cycles event (\d+) words(?: steps (\d+))?")
@@ -91,7 +92,7 @@ def response(
     name, how many cycles pass at least until its module raises its look-at-me again (1 to 4,294,967,295).
 
     Raises as `check`, and UsageFault where the program has no `response`, or a rate is none of a service of the script."""
-    rates = [f"--every={name}={cycles}" for name, cycles in (every or {}).items()]
+    rates = [f"{EVERY}{it}" for it in settings(every)]
     return parse_response(output_of("response", *rates, "--", plan, script, program=program))
 
 
