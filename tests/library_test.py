@@ -220,7 +220,7 @@ class Python(Case):
         odd.write_bytes(STRAIGHT_LINE.replace("within 3 cycles", "within 0 cycles").replace("{", "{ # \xe9", 1).encode("latin-1"))
         plan = self.write("bad.toml", "[[types]]\n")
         its = [*pairs(), ("@sample", EXAMPLES / "too_few_cycles.script"), ("@sample", odd), (plan, odd), ("@sample", self.write("none.script", ""))]
-        words = [(command, "--", *it) for it in its for command in ("check", "explain", "bounds", "costs")]
+        words = [(command, "--", *it) for it in its for command in ("check", "explain", "bounds", "costs", "response")]
         for it in [*words, ("explain", "--", plan), ("plan", "--", plan), ("plan", "--", "@sample")]:
             with self.subTest(it):
                 self.assertEqual(*(list(lines_of(*it, program=program)) for program in (PROGRAM, "@library")))
@@ -300,6 +300,9 @@ class Python(Case):
         told = f"fault write\n  {events}: it holds bytes; a live run needs a file of its own"
         self.assertEqual((str(found.exception), found.exception.status, events.read_bytes()), (told, 3, b"of the night before"))
         self.assertEqual(self.branch_asked.asked, [])
+        with self.assertRaises(ProgramFault) as found:
+            self.play(STRAIGHT_LINE, DEMAND, events="/dev/full")
+        self.assertEqual(str(found.exception), "fault write\n  /dev/full: No space left on device")
         with self.assertRaises(ProgramFault) as found:
             camac.play(self.room / "none", self.room / "none", None)
         self.assertEqual((str(found.exception), found.exception.status), (f"fault read\n  {self.room}/none: No such file or directory", 3))

@@ -12,7 +12,8 @@ import os
 import pathlib
 import stat
 from ctypes import POINTER, byref, c_char_p, c_size_t, c_uint8, c_uint16, c_uint32
-from typing import Any, BinaryIO, Iterable, Iterator, List, Mapping, NamedTuple, Optional, Tuple, Union
+from io import FileIO
+from typing import Any, Iterable, Iterator, List, Mapping, NamedTuple, Optional, Tuple, Union
 
 from camac.drive import Answer, Branch, Ending, File, Lockouts, ProgramFault, Refused, RunEnd, UsageFault, file_fault
 from camac.events import NEW_FILE, Event, record
@@ -332,7 +333,7 @@ def play(
 class _Game:
     """A run in progress: the session, the branch, the crates whose lockout is held, and the event file."""
 
-    def __init__(self, session: Session, branch: Branch, file: Optional[BinaryIO]) -> None:
+    def __init__(self, session: Session, branch: Branch, file: Optional[FileIO]) -> None:
         self.session, self.branch, self.file, self.lockouts = session, branch, file, Lockouts(branch)
         self.events = 0
 
@@ -385,20 +386,21 @@ def _writes(path: File) -> Iterator[None]:
         raise file_fault("write", path, why) from why
 
 
-def _write(file: BinaryIO, data: bytes) -> None:
+def _write(file: FileIO, data: bytes) -> None:
+    left = memoryview(data)
     with _writes(file.name):
-        file.write(data)
-        file.flush()
+        while left:
+            left = left[file.write(left) :]
 
 
 @contextlib.contextmanager
-def _event_file(path: Optional[File]) -> Iterator[Optional[BinaryIO]]:
+def _event_file(path: Optional[File]) -> Iterator[Optional[FileIO]]:
     """An event file with its header. What holds bytes is refused, as the program refuses it. At the end its bytes are on the disk."""
     if path is None:
         yield None
         return
     with _writes(path):
-        file = open(path, "ab")
+        file = open(path, "ab", buffering=0)
     with file:
         its = os.fstat(file.fileno())
         is_file = stat.S_ISREG(its.st_mode)
