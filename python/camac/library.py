@@ -13,7 +13,7 @@ import pathlib
 import stat
 from ctypes import POINTER, byref, c_char_p, c_size_t, c_uint8, c_uint16, c_uint32
 from io import FileIO
-from typing import Any, Iterable, Iterator, List, Mapping, NamedTuple, Optional, Tuple, Union
+from typing import Any, Callable, Iterable, Iterator, List, Mapping, NamedTuple, Optional, Tuple, Union
 
 from camac.drive import Answer, Branch, Ending, File, Lockouts, ProgramFault, Refused, RunEnd, UsageFault, file_fault
 from camac.events import NEW_FILE, Event, record
@@ -319,8 +319,8 @@ def play(
 
     Returns how the run ended, and raises what `camac.drive` raises, with the texts of the program: what the branch raises, Refused,
     ProgramFault. The lockouts that are held then are released by `branch.unlock`, however the run ends."""
-    with Session(plan_text(plan), script_text(script)) as session, _event_file(events) as file:
-        game = _Game(session, branch, file)
+    with Session(plan_text(plan), script_text(script)) as session, _event_file(events) as write:
+        game = _Game(session, branch, write)
         try:
             end = game.serve()
             game.lockouts.release()
@@ -331,10 +331,10 @@ def play(
 
 
 class _Game:
-    """A run in progress: the session, the branch, the crates whose lockout is held, and the event file."""
+    """A run in progress: the session, the branch, the crates whose lockout is held, and what writes into the event file."""
 
-    def __init__(self, session: Session, branch: Branch, file: Optional[FileIO]) -> None:
-        self.session, self.branch, self.file, self.lockouts = session, branch, file, Lockouts(branch)
+    def __init__(self, session: Session, branch: Branch, write: Optional[Callable[[bytes], None]]) -> None:
+        self.session, self.branch, self.write, self.lockouts = session, branch, write, Lockouts(branch)
         self.events = 0
 
     def serve(self) -> RunEnd:
@@ -372,9 +372,9 @@ class _Game:
                 self.lockouts.unlock(crate)
         if progress.event:
             self.events = progress.event
-            if self.file:
+            if self.write:
                 its = (progress.event, progress.event_gl, progress.event_cycles, progress.event_missed)
-                _write(self.file, record(Event(*its, self.session.words())))
+                self.write(record(Event(*its, self.session.words())))
 
 
 @contextlib.contextmanager
@@ -386,16 +386,17 @@ def _writes(path: File) -> Iterator[None]:
         raise file_fault("write", path, why) from why
 
 
-def _write(file: FileIO, data: bytes) -> None:
+def _write(path: File, file: FileIO, data: bytes) -> None:
     left = memoryview(data)
-    with _writes(file.name):
+    with _writes(path):
         while left:
             left = left[file.write(left) :]
 
 
 @contextlib.contextmanager
-def _event_file(path: Optional[File]) -> Iterator[Optional[FileIO]]:
-    """An event file with its header. What holds bytes is refused, as the program refuses it. At the end its bytes are on the disk."""
+def _event_file(path: Optional[File]) -> Iterator[Optional[Callable[[bytes], None]]]:
+    """What writes into an event file, which has its header. What holds bytes is refused, as the program refuses it. At the end its bytes are on
+    the disk."""
     if path is None:
         yield None
         return
@@ -406,8 +407,9 @@ def _event_file(path: Optional[File]) -> Iterator[Optional[FileIO]]:
         is_file = stat.S_ISREG(its.st_mode)
         if is_file and its.st_size:
             raise file_fault("write", path, "it holds bytes; a live run needs a file of its own")
-        _write(file, NEW_FILE)
-        yield file
+        write = functools.partial(_write, path, file)
+        write(NEW_FILE)
+        yield write
         if is_file:
             with _writes(path):
                 os.fsync(file.fileno())
