@@ -2,7 +2,7 @@
  *
  *     library PLAN SCRIPT ANSWERS */
 #define _POSIX_C_SOURCE 200809L
-#include <camac.h>
+#include <camac/camac.h>
 #include <stdio.h>
 #include <stdlib.h>
 #include <time.h>
@@ -25,10 +25,12 @@ static double now(void) {
 /* Every demand calls, and every cycle has X and Q. */
 static long play(camac_session *s, long answers) {
     static uint32_t words[CAMAC_EVENT_WORDS];
-    const camac_answer demand = {0, 4, 0, 0, 0, 0}, cycle = {0x123, 0, 1, 1, 0, 0};
-    camac_want want;
-    camac_progress did;
+    camac_answer demand = CAMAC_ANSWER, cycle = CAMAC_ANSWER;
+    camac_want want = CAMAC_WANT;
+    camac_progress did = CAMAC_PROGRESS;
     long count = 0;
+    demand.gl = 4;
+    cycle.word = 0x123, cycle.x = cycle.q = 1;
     for (long i = 0; i < answers; i++) {
         if (camac_wants(s, &want) || camac_next(s, want.kind == CAMAC_DEMAND ? &demand : &cycle, &did)) return -1;
         if (did.event) count += (long)camac_words(s, words, CAMAC_EVENT_WORDS);

@@ -15,6 +15,8 @@ import re
 import shutil
 import subprocess
 import sys
+import threading
+import time
 import unittest
 import zipfile
 
@@ -91,18 +93,26 @@ class Headers(Case):
     def test_without_a_warning(self):
         end = "int main(void) { return (int)camac_version() / 10000; }\n"
         for name, head in (("a.c", "camac.h"), ("b.cpp", "camac.h"), ("c.cpp", "camac.hpp")):
-            self.compile(name, f"#include <{head}>\n#include <{head}>\n{end}")
+            self.compile(name, f"#include <camac/{head}>\n#include <camac/{head}>\n{end}")
         for name, begin in (("d.c", ESONE), ("e.cpp", f'extern "C" {{ {ESONE} }}'), ("f.c", BY_REFERENCE)):
-            self.compile(name, f"{begin}\n#include <camac_esone.h>\n{end}")
+            self.compile(name, f"{begin}\n#include <camac/camac_esone.h>\n{end}")
 
     def test_no_name_but_its_own(self):
-        text = "\n".join((TOP / "include" / name).read_text() for name in ("camac.h", "camac_esone.h"))
+        text = "\n".join((TOP / "include/camac" / name).read_text() for name in ("camac.h", "camac_esone.h"))
         code = re.sub(r"/\*.*?\*/", "", text, flags=re.S)
         self.assertEqual([it for it in re.findall(r"#define (\w+)", code) if not it.startswith("CAMAC_")], [])
         self.assertEqual([it for it in re.findall(r"^\w[\w *]*?(\w+)\(", code, re.M) if not re.match("camac_|CAMAC_", it)], [])
-        exported = set(re.findall(r"\b(camac_raw_\w+)\(", code))
-        self.assertEqual(names("-D", "--defined-only", of_c.prefix() / "lib/libcamac.so.0"), exported)
-        self.assertEqual(names("-g", "--defined-only", of_c.prefix() / "lib/libcamac.a"), exported)
+        calls = set(re.findall(r"^(?:CAMAC_CALL|[\w ]+[ *])(camac_\w+)\([^;]*?\);$", code, re.M))
+        self.assertGreater(len(calls), 15)
+        so, archive = of_c.prefix() / "lib/libcamac.so.0", of_c.prefix() / "lib/libcamac.a"
+        node = "CAMAC_" + library.version().rpartition(".")[0]
+        self.assertEqual(names("-D", "--defined-only", "--with-symbol-versions", so), {node, *(f"{it}@@{node}" for it in calls)})
+        self.assertEqual(names("-g", "--defined-only", archive), calls)
+        # what links the archive in does not show its calls to others
+        source = self.write("plug_in.c", "#include <camac/camac.h>\nuint32_t its_version(void) { return camac_version(); }\n")
+        words = ["gcc", "-shared", "-fPIC", "-I", TOP / "include", source, archive, "-o", self.room / "plug_in.so"]
+        self.assertEqual(call(*words), (0, ""))
+        self.assertEqual(names("-D", "--defined-only", self.room / "plug_in.so"), {"its_version"})
 
     def test_archive(self):
         archive = of_c.prefix() / "lib/libcamac.a"
@@ -111,20 +121,21 @@ class Headers(Case):
         self.assertLessEqual(archive.stat().st_size, ARCHIVE_BYTES)
 
     def test_one_list_of_what_c_keeps(self):
-        header = (TOP / "include/camac.h").read_text().partition("YOU KEEP")[2].partition("*/")[0].replace(" *", "")
+        header = (TOP / "include/camac/camac.h").read_text().partition("YOU KEEP")[2].partition("*/")[0].replace(" *", "")
         page = (TOP / "docs/C.md").read_text().partition("## What C has to keep")[2].partition("\n\nWhat the driver")[0].replace("`", "")
         items = [[" ".join(it.split()) for it in re.split(r"\n\s*\d\. ", text)[1:]] for text in (header, page)]
         self.assertEqual(items[0], items[1])
         self.assertEqual(len(items[0]), 5)
 
     def test_one_version(self):
-        header = (TOP / "include/camac.h").read_text()
+        header = (TOP / "include/camac/camac.h").read_text()
         text = re.search(r'CAMAC_VERSION "([\d.]+)"', header)[1]
         first, second, third = map(int, text.split("."))
         self.assertEqual(int(re.search(r"CAMAC_VERSION_NUMBER (\d+)u", header)[1]), 10_000 * first + 100 * second + third)
         self.assertEqual(library.version(), text)
+        self.assertIn(f"PACKAGE_VERSION {text})", (TOP / "library/camac-config-version.cmake").read_text())
         self.assertEqual(call(PROGRAM, "--version"), (0, f"camac {text}\n"))
-        self.assertIn(f"Version: {text}\n", (TOP / "tools/camac.pc").read_text())
+        self.assertIn(f"Version: {text}\n", (TOP / "library/camac.pc").read_text())
         self.assertIn(f'version = "{text}"\n', (TOP / "python/pyproject.toml").read_text())
 
 
@@ -186,15 +197,17 @@ class Calls(Case):
 class Examples(Case):
     def test_readouts(self):
         folder = EXAMPLES / "c"
-        events = "".join(f"event {number} gl 3 cycles 1 words 000100\n" for number in (1, 2, 3))
+        wanted = "".join(f"event {number} gl 3 cycles 1 words 000100\n" for number in (1, 2, 3))
         verdict = call(PROGRAM, "check", SAMPLE, EXAMPLES / "straight_line.script")[1]
-        for name, wanted in (("readout.c", events), ("readout.cpp", events.replace(" gl 3 cycles 1", ""))):
+        for name in ("readout.c", "readout.cpp"):
             program = of_c.compiled(self.room, name + ".program", folder / name, folder / "branch.c")
             self.assertEqual(call(program, SAMPLE, EXAMPLES / "straight_line.script"), (0, verdict + wanted))
             status, told = call(program, SAMPLE, EXAMPLES / "lockout.script")
             self.assertEqual((status, told.count("event")), (0, 3), told)
             status, told = call(program, SAMPLE, EXAMPLES / "too_few_cycles.script")
-            self.assertEqual((status, told.splitlines()[0]), (1, "refused E12 line 4: more cycles than annotated"))
+            self.assertEqual((status, told), (1, "refused E12 line 4: more cycles than annotated\n"))
+            status, told = call(program, self.room, self.room)
+            self.assertEqual((status, "accepted" in told), (3, False), told)
 
 
 class Python(Case):
@@ -282,6 +295,79 @@ class Python(Case):
             self.assertEqual(ends[0], ends[1])
             self.assertEqual(ends[0][0].events, 200)
 
+    def asked_and_left(self, by, plan, its, branch):
+        """What a run asks of the branch, what it raises, and its event file."""
+        events = self.room / "its.events"
+        events.unlink(missing_ok=True)
+        raised = None
+        try:
+            by(plan, its, branch, events, program=PROGRAM, timeout=60)
+        except Broken as why:
+            raised = why
+        return branch.asked, raised, events.read_bytes()
+
+    def test_nested_locks_are_released_in_the_order_of_drive(self):
+        text = "cdlam charge 1 1 1 0\nservice charge within 200 cycles event 0 words {\n  lock 1 {\n    lock 2 { cclc charge }\n  }\n}\n"
+        its, answers = self.write("nested.script", text), (Answer(gl=1), Answer(), Answer(), CYCLE)
+        runs = [self.asked_and_left(by, EXAMPLES / "three_crates.toml", its, Listed(*answers)) for by in (camac.drive, camac.play)]
+        self.assertEqual(*runs)
+        self.assertEqual(runs[0][0][-3:], [("unlock", 2), ("unlock", 1), ("demand",)])
+
+    def test_the_event_of_a_service_whose_unlock_fails(self):
+        for failing in (1, 2):
+            runs = []
+            for by in (camac.drive, camac.play):
+                branch, count = Listed(*[DEMAND, Answer(), *[CYCLE] * 4] * 3), 0
+
+                def unlock(_crate):
+                    nonlocal count
+                    count += 1
+                    if count == failing:
+                        raise Broken
+
+                branch.unlock = unlock
+                runs.append(self.asked_and_left(by, "@sample", EXAMPLES / "lockout.script", branch))
+            self.assertEqual([it[::2] for it in runs[:1]], [it[::2] for it in runs[1:]])
+            self.assertIsInstance(runs[1][1], Broken)
+            self.assertEqual(library.events(runs[1][2]).text.splitlines()[-1], f"events {failing}")
+
+    def test_threads(self):
+        """A session that another thread closes is closed, and one that is open is never told to be closed."""
+        self.addCleanup(sys.setswitchinterval, sys.getswitchinterval())
+        sys.setswitchinterval(1e-5)
+        for _ in range(100):
+            session, ended = library.Session(self.sample(), STRAIGHT_LINE), []
+
+            def play(session=session, ended=ended):
+                try:
+                    while True:
+                        session.next(DEMAND)
+                except UsageFault as why:
+                    ended.append(why)
+
+            thread = threading.Thread(target=play, daemon=True)
+            thread.start()
+            time.sleep(0.0005)
+            session.close()
+            thread.join(20)
+            self.assertEqual(len(ended), 1)
+        with library.Session(self.sample(), STRAIGHT_LINE) as session, concurrent.futures.ThreadPoolExecutor(4) as pool:
+            list(pool.map(lambda _: session.next(DEMAND), range(4000)))
+
+    def test_a_library_that_does_not_fit(self):
+        """The version is looked at before all else."""
+        code = "import camac.native as it\ntry:\n    it.load()\nexcept OSError as why:\n    print(why)\n"
+        for text, told in (("", "is an older library of camac, or none"), ("unsigned camac_version(void) { return 199; }", "has the version 0.1.99, which does not fit 0.2.0")):
+            so = self.room / "libcamac.so.0"
+            subprocess.run(["gcc", "-shared", "-x", "c", "-", "-o", so], input=text, text=True, check=True)
+            env = {**os.environ, "CAMAC_LIBRARY": str(so), "PYTHONPATH": str(TOP / "python")}
+            self.assertEqual(call(sys.executable, "-c", code, env=env), (0, f"{so} {told}\n"))
+
+    def test_what_is_no_text(self):
+        for wrong in (5, None, ["a"]):
+            with self.assertRaises(TypeError):
+                library.check(self.sample(), wrong)
+
     def play(self, text, *answers, **how):
         self.branch_asked = Listed(*answers)
         return camac.play(SAMPLE, self.write("its.script", text), self.branch_asked, **how)
@@ -348,6 +434,7 @@ class Python(Case):
             self.assertEqual((want.kind, want.c, want.n, want.a, want.f, want.data), (library.CYCLE, 1, 5, 0, 0, library.READ))
             did = session.next(Answer(1, 1, 0x123FFF))
             self.assertEqual((did.event, did.event_gl, did.event_words, session.words()), (1, 3, 1, (0xFFF,)))
+            self.assertEqual((did.x, did.q, did.word, did.unlocked), (1, 1, 0x123FFF, ()))
             session.next(DEMAND)
             self.assertEqual(session.next(Answer(wait=15)).kind, library.STOPPED)
             self.assertIsNone(session.wants())

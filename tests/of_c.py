@@ -11,7 +11,7 @@ import tempfile
 
 TOP = pathlib.Path(__file__).resolve().parent.parent
 ARCHIVE = pathlib.Path(os.environ.get("CAMAC_ARCHIVE") or TOP / "crates/camac_c/out/libcamac_c.a").absolute()
-TOOLS = ("gcc", "ld", "ar", "objcopy")
+TOOLS = ("gcc", "ld", "ar", "nm", "objcopy")
 WARNINGS = ("-Wall", "-Wextra", "-Wpedantic", "-Wconversion", "-Werror")
 STANDARD = {".c": ("gcc", "-std=c99"), ".cpp": ("g++", "-std=c++17")}
 
@@ -28,14 +28,16 @@ def lacking():
 
 @functools.lru_cache(maxsize=None)
 def prefix():
-    """A folder in which header, library and pkg-config file stand as ./install puts them."""
+    """A folder in which headers, library and the files for pkg-config and CMake stand as ./install puts them."""
     room = tempfile.TemporaryDirectory(prefix="camac-library-")
     atexit.register(room.cleanup)
     folder = pathlib.Path(room.name)
     subprocess.run([TOP / "tools/library", ARCHIVE, folder / "lib"], check=True)
     shutil.copytree(TOP / "include", folder / "include")
-    (folder / "lib/pkgconfig").mkdir()
-    shutil.copy(TOP / "tools/camac.pc", folder / "lib/pkgconfig")
+    for place, names in (("pkgconfig", ("camac.pc",)), ("cmake/camac", ("camac-config.cmake", "camac-config-version.cmake"))):
+        (folder / "lib" / place).mkdir(parents=True)
+        for name in names:
+            shutil.copy(TOP / "library" / name, folder / "lib" / place)
     return folder
 
 

@@ -319,7 +319,7 @@ class Pages(unittest.TestCase):
         return re.findall(r"^  (?:-(\w)(?: [A-Z]+)?, )?--(\w+)", told, re.M)
 
     def test_manual_pages(self):
-        for command, count in (("check", 5), ("report", 3)):
+        for command, count in (("check", 6), ("report", 3)):
             page = (TOP / f"man/camac-{command}.1").read_text()
             self.assertEqual(len(self.options(command)), count)
             for short, long in self.options(command):

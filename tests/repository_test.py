@@ -133,6 +133,13 @@ class ManualPages(unittest.TestCase):
             self.assertEqual(said.stdout, "")
 
 
+class Sum(unittest.TestCase):
+    def test_of_the_sources(self):
+        """A program that is built of sources with this sum has no tests of its arithmetic, so the sum has to be that of what the gate passes."""
+        ran = run(TOP / "tools/sources_sum.py")
+        self.assertEqual((ran.returncode, ran.stdout), (0, "crates.sum is that of these sources\n"))
+
+
 class Citation(unittest.TestCase):
     def test_what_is_cited(self):
         """The keys that the format (version 1.2.0) requires, and the version and date of CHANGELOG."""

@@ -62,14 +62,14 @@ line 22 depth 3 if times 12 cycles 0 words 1 steps 2 share 0 0 12
 line 22 depth 4 put times 12 cycles 0 words 1 steps 1 share 0 12 12
 line 24 depth 2 cdreg times 1 cycles 0 words 0 steps 1 share 0 0 1
 line 25 depth 2 cdreg times 1 cycles 0 words 0 steps 1 share 0 0 1
-line 26 depth 2 cfmad times 1 cycles 8 words 8 steps 9 share 8 8 9 at 1 7 0
+line 26 depth 2 cfmad times 1 cycles 8 words 8 steps 9 share 8 8 9 at 1 7 0 to 1 7 7
 line 28 depth 1 put times 1 cycles 0 words 1 steps 1 share 0 1 1
 line 29 depth 1 cfsa times 1 cycles 3 words 0 steps 1 share 3 0 1 at 1 11 0
 line 30 depth 1 cclc times 1 cycles 3 words 0 steps 1 share 3 0 1 at 1 5 12
 service tick line 33 gl 5 at 2 2 0 cycles 26 of 28 words 12 of 12 steps 63
 line 34 depth 1 for times 1 cycles 24 words 12 steps 61 share 0 0 13 turns 12
 line 34 depth 2 call times 12 cycles 2 words 1 steps 4 share 24 12 48 proc scaler
-line 35 depth 1 ccci times 1 cycles 1 words 0 steps 1 share 1 0 1
+line 35 depth 1 ccci times 1 cycles 1 words 0 steps 1 share 1 0 1 crate 2
 line 36 depth 1 cclc times 1 cycles 1 words 0 steps 1 share 1 0 1 at 2 2 0
 """
 # Three services by hand. For veto the 7 cycles of spill may be in progress. Call 1 of strip begins at 7 + 5 = 12; call 2, whose look-at-me

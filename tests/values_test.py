@@ -42,7 +42,7 @@ service adc line 9 gl 3 at 1 5 12 cycles 20 of 24 words 5 of 5 steps 50
 line 10 depth 1 for times 1 cycles 16 words 4 steps 41 share 0 0 5 turns 4
 line 11 depth 2 call times 4 cycles 4 words 1 steps 9 share 16 4 36 proc read
 line 12 depth 1 lock times 1 cycles 3 words 0 steps 2 share 3 0 2 crate 1
-line 13 depth 1 cfmad times 1 cycles 9 words 3 steps 4 share 9 3 4 at 1 5..7 0
+line 13 depth 1 cfmad times 1 cycles 9 words 3 steps 4 share 9 3 4 at 1 5 0 to 1 7 15
 line 14 depth 1 if times 0 cycles 0 words 0 steps 0 share 0 0 0
 line 14 depth 1 else times 0 cycles 0 words 0 steps 0 share 0 0 0
 """
@@ -95,7 +95,7 @@ class Values(Case):
         self.assertEqual((read.kind, read.name, read.line, read.most, read.annotated), (Kind.PROCEDURE, "read", 4, Cost(3, 1, 3), (4, 1, 8)))
         self.assertEqual((adc.kind, adc.gl, adc.most, adc.annotated), (Kind.SERVICE, 3, Cost(20, 5, 50), (24, 5, None)))
         self.assertEqual([row.word for row in adc.rows], ["for", "call", "lock", "cfmad", "if", "else"])
-        self.assertEqual([row.about for row in adc.rows], ["turns 4", "proc read", "crate 1", "at 1 5..7 0", "", ""])
+        self.assertEqual([row.about for row in adc.rows], ["turns 4", "proc read", "crate 1", "at 1 5 0 to 1 7 15", "", ""])
         # Two of the three cycles of the read may be waited for; a call costs 4 and needs 3; a lock is waited for; a scan of 3 costs 9.
         self.assertEqual([(row.waits, row.slack) for row in read.rows], [(2, 0)])
         self.assertEqual([(row.waits, row.slack) for row in adc.rows], [(0, 0), (8, 4), (3, 0), (6, 0), (0, 0), (0, 0)])

@@ -97,18 +97,64 @@ class Warnings(Case):
         self.assertEqual(self.codes(text), [(16, "W3")])
         self.assertLess(time.process_time() - began, 1)
 
-    def test_unused_keep(self):
+    def test_unused_and_wide_keep(self):
         loop = "for i = 0 to 3 keep {} {{ {} }}"
         for keep, body, after, wanted in [
             ("k in 0..9", "k = 1", "put v", [(4, "W4")]),
-            ("k in 0..9", "k = 1", "put k", []),
-            ("k in 0..9, v in 0..9", "k = 1 v = 2", "put k", [(4, "W4")]),
-            ("v in 0..9, k in 0..9", "k = 1 v = 2", "put k", [(4, "W4")]),
-            ("v in 0..9,\n t in 0..9, k in 0..9", "k = 1 v = 2 t = 3", "put k", [(4, "W4"), (5, "W4")]),
-            ("k in 0..9, v in 0..9", "k = 1 v = 2", "put k + v", []),
+            ("k in 0..1", "k = 1", "put k", []),
+            ("k in 0..9", "k = 1", "put k", [(4, "W8")]),
+            ("k in 0..1, v in 0..9", "k = 1 v = 2", "put k", [(4, "W4")]),
+            ("v in 0..9, k in 0..1", "k = 1 v = 2", "put k", [(4, "W4")]),
+            ("v in 0..9,\n t in 0..3, k in 0..9", "k = 1 v = 2 t = 3", "put k", [(4, "W4"), (5, "W4"), (5, "W8")]),
+            ("k in 0..1,\n v in 0..2", "k = 1 v = 2", "put k + v", []),
+            ("k in 0..9,\n v in 0..9", "k = 1 v = 2", "put k + v", [(4, "W8"), (5, "W8")]),
+            # the least ranges of two that go round together
+            ("k in 0..9,\n v in 0..9", "t = k k = v v = t", "put k + v", [(4, "W8"), (5, "W8")]),
+            # what is too wide because of a bound that is not needed is not told while that stands there
+            ("k in 0..4095,\n v in 0..4095", "if k < v { k = k + 1 }", "put k", [(5, "W4")]),
+            ("k in 0..16777215", "if k < 100 { k = k + 7 }", "put k", [(4, "W8")]),
+            ("k in 0..106", "if k < 100 { k = k + 7 }", "put k", []),
         ]:
-            with self.subTest(keep=keep, after=after):
+            with self.subTest(keep=keep, body=body, after=after):
                 self.assertEqual(self.codes(script([loop.format(keep, body), after, "cclc adc"])), wanted)
+
+    def test_least_ranges_are_told(self):
+        text = script(["for i = 0 to 11", "keep k in 0..16777215 {", *READ.split("\n"), "if v > k { k = v } }", "put k"])
+        (found,) = camac.warnings("@sample", self.write("a.script", text))
+        self.assertEqual((found.line, found.text), (5, "this kept bound of `k` is wider than it has to be: `k in 0..4095` is accepted, too"))
+
+    def test_split(self):
+        """Conditions on a loop's own variable: as two loops, or three, it pays for less. Each is told as its starts, and what is less."""
+        read = "cfsa 0 r -> v"
+        for head, block, wanted in [
+            ("for i = 0 to 15", f"put i if i < 8 {{ {read} }}", ("8", "24 cycles in place of 48")),
+            ("for i = 0 to 15", f"if i >= 12 {{ {read} put v }}", ("12", "12 cycles in place of 48 and 5 words in place of 17")),
+            ("for i = 0 to 15", f"if not 3 < i {{ {read} }}", ("4", "12 cycles in place of 48")),
+            ("for i = 0 to 15", f"if i == 0 {{ {read} }} else {{ put 1 }}", ("1", "3 cycles in place of 48 and 16 words in place of 17")),
+            ("for i = 2 to 5", f"if i == 3 {{ {read} }}", ("3 and 4", "3 cycles in place of 12")),
+            ("for i = 0 to 15", f"if q {{ if i < 8 {{ {read} }} }}", ("8", "24 cycles in place of 48")),
+            ("for i = 0 to 15", f"if i < 8 {{ {read} }} if i < 4 {{ k = 1 }}", ("8", "24 cycles in place of 48")),
+            ("for i = 0 to 3 keep k in 0..4", f"if i < 2 {{ {read} if k < 4 {{ k = k + 1 }} }}", ("2", "6 cycles in place of 12")),
+            # nothing is less, or it is not known where to split
+            ("for i = 0 to 15", f"if i < 8 {{ {read} }} else {{ cfsa 0 r -> k }}", None),
+            ("for i = 0 to 7", f"if i < 8 {{ {read} }} if i >= 0 {{ k = 2 }}", None),
+            ("for i = 0 to 15", f"if i % 2 == 0 {{ {read} }}", None),
+            ("for i = 0 to k", f"if i < 8 {{ {read} }}", None),
+            ("for i = 0 to 15", f"if i < k {{ {read} }}", None),
+            ("for i = 0 to 15", f"{read} if v < 8 {{ put 1 }}", None),
+        ]:
+            with self.subTest(head=head, block=block):
+                text = script(["cdreg r 1 1 5 0", f"{head} {{ {block} }}", "put k" if "keep" in head else "put 1"])
+                found = [it.text for it in camac.warnings("@sample", self.write("a.script", text)) if it.code is Code.SPLIT]
+                told = "split at {}, this loop has a lower bound: `adc` then takes {}"
+                self.assertEqual(found, [told.format(*wanted)] if wanted else [])
+
+    def test_split_of_a_procedure(self):
+        body = "for s = 0 to 11 { if s < 4 { cdreg r 1 1 5 s cfsa 0 r -> v put v } }"
+        procedure = f"proc get(s in 0..0, v in 0..0) within 36 cycles event 12 words steps 85 {{\n{body}\n}}\n"
+        text = f"cdlam adc 1 1 5 12\n{procedure}service adc within 36 cycles event 12 words {{ call get(0, 0) }}\n"
+        found = [(it.line, it.text) for it in camac.warnings("@sample", self.write("a.script", text)) if it.code is Code.SPLIT]
+        self.assertEqual(found, [(3, "split at 4, this loop has a lower bound: `get` then takes 12 cycles in place of 36 and 4 words in place of 12")])
 
     def test_no_service(self):
         for text in ("", "# nothing\n", "cdlam adc 1 1 5 12\nvar v\n", script(["cclc adc"]).replace("\n", "\r").replace("cdlam", "#\rcdlam")):

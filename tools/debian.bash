@@ -92,6 +92,8 @@ debian_library() {
   local lib=$folder/$libraries
   strip --strip-unneeded --remove-section=.comment --enable-deterministic-archives "$lib/libcamac.so.0" "$lib/libcamac.a" &&
     sed -i "s,^prefix=.*,prefix=/usr,; s,^libdir=.*,libdir=/usr/$libraries," "$lib/pkgconfig/camac.pc" &&
+    sed -i "s,^get_filename_component.*,set(camac_prefix /usr),; s,^set(camac_libraries .*,set(camac_libraries /usr/$libraries)," \
+      "$lib/cmake/camac/camac-config.cmake" &&
     mkdir -p "$folder/share/lintian/overrides" && debian_overrides >"$folder/share/lintian/overrides/camac" &&
     echo "libcamac 0 camac (>= $version)" >"$room/root/DEBIAN/shlibs" &&
     echo 'activate-noawait ldconfig' >"$room/root/DEBIAN/triggers"

@@ -4,9 +4,9 @@
 # when they end.
 #
 # The proved program is crates/camac/out/camac, as `rt run` or `rt ci` leaves it, where it stands for these sources. Else it is one that
-# tools/quick_build made of them, which is kept in out/. What was found stands in out/found, with a sum of names, sizes and times, so that
-# the next call only has to see that nothing was touched. The library is found so, too: proved by `.ci/run` or ./install --prove, else made by
-# tools/quick_library and kept.
+# tools/quick_build made of them, which is kept in out/. What was found stands in out/found, with the second of the look at it, so that the next
+# call only has to see that nothing was touched since then. The library is found so, too: proved by `.ci/run` or ./install --prove,
+# else made by tools/quick_library and kept.
 
 proved_program=crates/camac/out/camac
 proved_library=crates/camac_c/out/libcamac_c.a
@@ -32,20 +32,16 @@ sum_of_text() {
   sum=$(sha256sum) && [[ $sum != e3b0c44298fc1c149afbf4c8996fb924* ]] && echo "${sum%% *}"
 }
 
-# A sum of the names, sizes and times of all that a program is made of, and of what the proved program is known by.
-touched() {
-  cd "$top" && LC_ALL=C find crates.txt crates/*/{src,specs,proofs} $proved_program{,.stamp} .git/rt-ci.lock -printf '%p %s %T@ %C@\n' 2>/dev/null | LC_ALL=C sort | sum_of_text
-}
-
-# Size and times of the toolchain's command, or `none`.
-toolchain_touched() {
-  local rt
-  if rt=$(type -P rt); then
-    find -H "$rt" -printf '%s:%T@:%C@'
-  else
-    echo none
-  fi
-}
+# Whether a program was found with this command of the toolchain, and nothing that it is made of was touched since then. Names that came or went
+# show by their folders. Files of proofs do not count: what was proved stays so. It sets `is_proved` and `program`.
+is_untouched() {
+  local rt=$1 since found_with name touched
+  { read -r since is_proved name && read -r found_with; } <"$top/out/found" && [ "$found_with" = "$rt" ] || return
+  program=$top/$name
+  [ -f "$program" ] && [ -x "$program" ] || return
+  touched=$(cd "$top" && shopt -s nullglob && exec find -H crates.txt crates/*/src ${proved_program%c}[c]{,.stamp} .git/[r]t-ci.lock ${rt:+"$rt"} \
+    \( -newermt "@$since" -o -newerct "@$since" \) -print -quit) && [ -z "$touched" ]
+} 2>/dev/null
 
 # A sum of the names and texts of crates.txt and of the files below these folders. What editors leave beside a file is no part of it.
 texts_of() {
@@ -89,7 +85,7 @@ find_kept() {
   local tool=$1 begin=$2 end=$3 texts kit status
   shift 3
   texts=$(cd "$top" && texts_of "$@") || refuse "the sources cannot be read" || return
-  if [ "$toolchain" = none ]; then
+  if ! type -P rt >/dev/null; then
     for kept in "$top/out/$begin.$texts."????????????????"$end"; do
       [ -x "$kept" ] && return
     done
@@ -133,15 +129,11 @@ end_library() {
 }
 
 find_program() {
-  local seen toolchain known_seen= known_toolchain= name=
+  local rt since
+  rt=$(type -P rt)
+  is_untouched "$rt" && return
   need $called || return
-  seen=$(touched) || refuse "the sources cannot be listed" || return
-  toolchain=$(toolchain_touched)
-  [ -r "$top/out/found" ] && read -r known_seen known_toolchain is_proved name <"$top/out/found"
-  program=$top/$name
-  if [ "$seen" = "$known_seen" ] && [ "$toolchain" = "$known_toolchain" ] && [ -f "$program" ] && [ -x "$program" ]; then
-    return
-  fi
+  printf -v since '%(%s)T' -1
   if [ -x "$top/$proved_program" ] && stands_proved $proved_program proved; then
     is_proved=yes
     program=$top/$proved_program
@@ -150,12 +142,10 @@ find_program() {
     find_kept quick_build camac '' $(cd "$top" && echo crates/*/src) || return
     program=$kept
   fi
-  write_down found "$seen $toolchain $is_proved ${program#"$top"/}"
+  write_down found "$since $is_proved ${program#"$top"/}"$'\n'"$rt"
 }
 
 find_library() {
-  local toolchain
-  toolchain=$(toolchain_touched)
   if stands_proved $proved_library proved_library; then
     is_library_proved=yes
     library=$top/$proved_library

@@ -176,7 +176,7 @@ def open_listing(name: str) -> TextIO:
 
 def judge_scripts(args: argparse.Namespace) -> int:
     program = quickest()
-    judged = judge.judge(args.plan, args.scripts, program, args.write)
+    judged = judge.judge(args.plan, args.scripts, program, args.write, args.keeps)
     say(judge.told(judged, args.format))
     note = judge.note(program)
     if note and args.format != "json":
@@ -194,7 +194,9 @@ def parser() -> argparse.ArgumentParser:
     it.add_argument("--format", choices=judge.FORMATS, default="text", metavar="FORMAT", help="text: lines FILE:LINE: TEXT; json; github: annotations")
     it.add_argument("--json", action="store_const", const="json", dest="format", help="--format json")
     it.add_argument("--strict", action="store_true", help="a warning is status 1, too")
-    it.add_argument("--write", action="store_true", help="first puts the least headings that are accepted into each script")
+    it.add_argument("--keeps", action="store_true", help="proposes what the loops of a refused script have to keep")
+    write = "first puts the least headings that are accepted into each script, with --keeps what loops have to keep, too"
+    it.add_argument("--write", action="store_true", help=write)
     it.set_defaults(do=judge_scripts, out=None)
     it = commands.add_parser("draw", help="Draws a picture", epilog=DRAW, formatter_class=raw)
     it.add_argument("picture", choices=PICTURES, metavar="PICTURE", help="plan, bounds, response, costs, run or words")

@@ -30,7 +30,7 @@ class Row(NamedTuple):
     times         the most times that one service or call makes it
     each          what one time costs at most, with what stands in its block
     share         its part of the body's bound, without what stands in its block
-    about         what the program says of its place: "at 1 5 0..15", "turns 4", "crate 1", "proc NAME", or ""
+    about         what the program says of its place: "at 1 5 0..15", "at 1 5 0 to 1 6 3", "turns 4", "crate 1", "proc NAME", or ""
     waits, slack  of the cycles of its share: those that auxiliary controllers may take, and those that the headings of procedures promise
                   and their bodies do not need"""
 
@@ -68,7 +68,7 @@ SERVICE = re.compile(r"service (\w+) line (\d+) gl (\d+) at \d+ \d+ \d+ cycles (
 PROCEDURE = re.compile(r"proc (\w+) line (\d+) cycles (\d+) of (\d+) words (\d+) of (\d+) steps (\d+) of (\d+)")
 ROW = re.compile(
     r"line (\d+) depth (\d+) (\S+) times (\d+) cycles (\d+) words (\d+) steps (\d+) share (\d+) (\d+) (\d+)"
-    r"(?: (at \S+ \S+ \S+|turns \d+|crate \d+|proc \w+))?"
+    r"(?: (at \S+ \S+ \S+(?: to \S+ \S+ \S+)?|turns \d+|crate \S+|proc \w+))?"
 )
 CYCLES = frozenset("cfsa cssa cccz cccc ctci ctcd ctgl ccci cccd cclm cclc ctlm".split())
 TRANSFERS = frozenset("cfmad cfubc cfubr".split())

@@ -2,16 +2,18 @@
 from typing import List, NamedTuple, Optional, Sequence, Tuple
 
 from camac.drive import File
+from camac.edits import Edit, edited
 from camac.output import bytes_output
+from camac.reader import read_script
 from camac.scripts import Heading, bounds
-from camac.warn import tokens_of
 
 
 class Written(NamedTuple):
-    """A heading that was changed: its line in the script, and what it says now."""
+    """A heading that changes: its line in the script, what it says then, and the numbers that change."""
 
     line: int
     heading: str
+    edits: Tuple[Edit, ...]
 
 
 def write_headings(plan: File, script: str, program: Optional[File] = None) -> List[Written]:
@@ -21,32 +23,24 @@ def write_headings(plan: File, script: str, program: Optional[File] = None) -> L
     Raises as `camac.bounds`, with nothing written, and OSError where the file cannot be read or written."""
     with open(script, "rb") as file:
         text = file.read()
-    new, written = with_least(text, bounds(plan, script, program))
+    written = least_headings(text, bounds(plan, script, program))
     if written:
         with bytes_output(script) as out:
-            out.write(new)
+            out.write(edited(text, [edit for it in written for edit in it.edits]))
     return written
 
 
-def with_least(text: bytes, least: Sequence[Heading]) -> Tuple[bytes, List[Written]]:
-    """The text of a script with its least headings, which are given in its order, and those of them that changed.
+def least_headings(text: bytes, least: Sequence[Heading]) -> List[Written]:
+    """The headings of a script that change where all get their least numbers, which are given in its order.
 
     Raises ValueError where they are those of another text."""
-    tokens = tokens_of(text)
-    names = [(it, tokens[at + 1].text) for at, it in enumerate(tokens) if it.text in ("service", "proc")]
-    places = [at for at, it in enumerate(tokens) if it.text == "within"]
-    if [name for _, name in names] != [it.name for it in least]:
+    bodies = read_script(text).bodies
+    if [it.name for it in bodies] != [it.name for it in least]:
         raise ValueError("the script changed while it was judged")
-    parts: List[bytes] = []
     written: List[Written] = []
-    last = 0
-    for (begin, _), at, heading in zip(names, places, least):
-        # within 3 cycles event 1 words steps 3
+    for body, heading in zip(bodies, least):
         numbers = [heading.cycles, heading.words] + ([] if heading.steps is None else [heading.steps])
-        changed = [(it, number) for it, number in zip(tokens[at + 1 : at + 8 : 3], numbers) if int(it.text) != number]
-        for it, number in changed:
-            parts += [text[last : it.start], str(number).encode()]
-            last = it.end
+        changed = [Edit(it.start, it.end, str(number)) for it, number in zip(body.numbers, numbers) if it.value != number]
         if changed:
-            written.append(Written(begin.line, heading.line))
-    return b"".join([*parts, text[last:]]), written
+            written.append(Written(body.line, heading.line, tuple(changed)))
+    return written

@@ -4,6 +4,7 @@ from typing import Callable, Dict, List, NamedTuple, Optional, Sequence, Tuple
 
 from camac.drive import File, ProgramFault, Refused, UsageFault, one_line
 from camac.headings import write_headings
+from camac.loops import Proposal, propose, write_keeps
 from camac.plans import plan as read_plan
 from camac.program import lines_of
 from camac.scripts import Service, check
@@ -12,14 +13,15 @@ from camac.warn import looks_for_all, warnings
 
 ACCEPTED, REFUSED, FAULT = 0, 1, 3
 FORMATS = ("text", "json", "github")
-LEVELS = {"refused": "error", "fault": "error", "warning": "warning", "written": "notice"}
+LEVELS = {"refused": "error", "fault": "error", "warning": "warning", "written": "notice", "proposed": "notice", "remaining": "error"}
 # What GitHub wants to be escaped in a message, and in a property.
 MESSAGE, PROPERTY = "%\r\n", "%\r\n:,"
 
 
 class Found(NamedTuple):
-    """What was found in a file: `kind` is "refused", "warning", "written" (a heading that was changed) or "fault"; `line` and `code` are None
-    where there is none. `explanation` has what `camac explain` says of a refusal, by lines."""
+    """What was found in a file: `kind` is "refused", "warning", "fault", "written" (a heading or a loop that was changed), "proposed" (a change that
+    helps) or "remaining" (what refuses it with all that is proposed). `line` and `code` are None where there is none. `explanation` has what `camac
+    explain` says of a refusal, by lines."""
 
     kind: str
     line: Optional[int]
@@ -70,13 +72,14 @@ class Judged(NamedTuple):
         }
 
 
-def judge(plan: str, scripts: Sequence[str], program: Optional[File] = None, writes: bool = False) -> List[Judged]:
-    """Judges scripts on a plan; where `writes`, the least headings are put into each before. A plan that is refused or cannot be read is told
-    alone, since no script can be judged then."""
+def judge(plan: str, scripts: Sequence[str], program: Optional[File] = None, writes: bool = False, keeps: bool = False) -> List[Judged]:
+    """Judges scripts on a plan. If `keeps`, what helps the loops of a refused script is proposed; if `writes`, the least headings are put into each
+    script before, and with `keeps` what its loops have to keep. A plan that is refused or cannot be read is told alone, since no script can be
+    judged then."""
     found = _faults(lambda: _look_at_plan(plan, program), [plan], program)
     if found:
         return [Judged(plan, found, [])]
-    return [_judge_script(plan, it, program, writes) for it in scripts]
+    return [_judge_script(plan, it, program, writes, keeps) for it in scripts]
 
 
 def _look_at_plan(plan: str, program: Optional[File]) -> List[Found]:
@@ -92,16 +95,37 @@ def _open(file: str) -> None:
         pass
 
 
-def _judge_script(plan: str, script: str, program: Optional[File], writes: bool) -> Judged:
+def _judge_script(plan: str, script: str, program: Optional[File], writes: bool, keeps: bool) -> Judged:
     services: List[Service] = []
+    written: List[Found] = []
+
+    def write() -> List[Found]:
+        _open(script)
+        if writes and keeps:
+            written.extend(_changes("written", write_keeps(plan, script, program)))
+        if writes:
+            written.extend(Found("written", it.line, None, it.heading) for it in write_headings(plan, script, program))
+        return []
 
     def look() -> List[Found]:
-        _open(script)
-        found = [Found("written", it.line, None, it.heading) for it in write_headings(plan, script, program)] if writes else []
         services.extend(check(plan, script, program))
-        return found + [Found("warning", it.line, it.code.value, it.text) for it in warnings(plan, script, program)]
+        return [Found("warning", it.line, it.code.value, it.text) for it in warnings(plan, script, program)]
 
-    return Judged(script, _faults(look, [plan, script], program), services)
+    files = [plan, script]
+    found = _faults(write, files, program) or _faults(look, files, program)
+    proposed = _faults(lambda: _proposed(plan, script, program), files, program) if keeps and any(it.kind == "refused" for it in found) else []
+    return Judged(script, [*written, *found, *proposed], services)
+
+
+def _proposed(plan: str, script: str, program: Optional[File]) -> List[Found]:
+    with open(script, "rb") as file:
+        found = propose(plan, file.read(), program)
+    left = found.remaining if found.proposals else None
+    return _changes("proposed", found.proposals) + ([Found("remaining", left.line, left.code, left.text)] if left else [])
+
+
+def _changes(kind: str, proposals: Sequence[Proposal]) -> List[Found]:
+    return [Found(kind, it.line, None, it.text) for it in proposals]
 
 
 def _faults(look: Callable[[], List[Found]], files: List[str], program: Optional[File]) -> List[Found]:

@@ -1,60 +1,48 @@
 """The checker and the runner of camac in this process, over the library for C, with no second program.
 
 `check` and its like judge texts, `Session` is a run that takes an answer at a time, and `play` does what `camac.drive` does. docs/C.md says
-what each call of the library does.
-
-The library is `libcamac.so.0`: the one that the environment variable CAMAC_LIBRARY names, else the one in this package or in the folder where
-./install put both, else the system's."""
+what each call of the library does. `camac.native` says where the library is looked for."""
 import contextlib
 import ctypes
 import functools
 import os
-import pathlib
 import stat
-from ctypes import POINTER, byref, c_char_p, c_size_t, c_uint8, c_uint16, c_uint32
+from ctypes import byref, c_size_t, c_uint32
 from io import FileIO
 from typing import Any, Callable, Iterable, Iterator, List, Mapping, NamedTuple, Optional, Tuple, Union
 
+from camac import native
 from camac.drive import Answer, Branch, Ending, File, Lockouts, ProgramFault, Refused, RunEnd, UsageFault, file_fault
 from camac.events import NEW_FILE, Event, record
+from camac.native import (
+    CYCLE as CYCLE,
+    DEMAND as DEMAND,
+    EVENT_WORDS,
+    LOCK as LOCK,
+    LONG,
+    MISUSE,
+    NO_DATA as NO_DATA,
+    NO_MEMORY,
+    OK,
+    OVERRUN,
+    READ as READ,
+    REFUSED,
+    SPENT,
+    STOPPED,
+    WRITE,
+    Progress,
+    Want,
+    is_there as is_there,
+)
 from camac.texts import plan_text, script_text
 
-Text = Union[bytes, str]
-NAME = "libcamac.so.0"
-# The first number of the library's version that this file knows.
-FIRST_NUMBER = 0
-OK, REFUSED, MISUSE, NO_MEMORY, OVERRUN, RANGE, SPENT, LONG = range(8)
-DEMAND, CYCLE, LOCK, STOPPED = range(1, 5)
-NO_DATA, READ, WRITE = range(3)
-EVENT_WORDS = 4096
+Text = Union[bytes, bytearray, memoryview, str]
 ROOM = 4096
 # What the program says at the codes that it knows, with its status.
 FAULTS = {NO_MEMORY: ("fault memory", 3), LONG: ("fault input too long", 3)}
 # The subcommands of the program that the library can stand in for.
 COMMANDS = frozenset(("plan", "check", "explain", "bounds", "costs", "response"))
 SPENT_LINE = "refused A4 line 4294967296: too many answers"
-
-
-class _Session(ctypes.Structure):
-    _fields_ = [("private", ctypes.c_void_p * 2)]
-
-
-class Want(ctypes.Structure):
-    """What the next answer is for: `kind`, and of a CYCLE `c`, `n`, `a`, `f`, `data` and the `word` to write, of a LOCK `c`."""
-
-    _fields_ = [(name, c_uint8) for name in ("kind", "c", "n", "a", "f", "data")] + [("unused", c_uint16), ("word", c_uint32)]
-
-
-class _Answer(ctypes.Structure):
-    _fields_ = [("word", c_uint32), ("gl", c_uint32)] + [(name, c_uint8) for name in ("x", "q", "wait", "unused")]
-
-
-class Progress(ctypes.Structure):
-    """What an answer did, as camac.h tells it. Of an overrun `kind` is STOPPED, with its crate `c` and its `wait`."""
-
-    _fields_ = [(name, c_uint8) for name in ("kind", "c", "wait", "unlocked")] + [
-        (name, c_uint32) for name in ("pattern", "service", "event", "event_gl", "event_words", "event_cycles", "event_missed")
-    ]
 
 
 class Verdict(NamedTuple):
@@ -64,67 +52,9 @@ class Verdict(NamedTuple):
     text: str
 
 
-def find_library() -> str:
-    """The file of the library; its name alone where the system has to find it."""
-    named = os.environ.get("CAMAC_LIBRARY")
-    if named:
-        return named
-    here = pathlib.Path(__file__).resolve()
-    for folder in (here.parent, *here.parents[3:4]):
-        if (folder / NAME).is_file():
-            return str(folder / NAME)
-    return NAME
-
-
-def is_there() -> bool:
-    """Whether the library can be loaded."""
-    try:
-        _library()
-    except (OSError, AttributeError):
-        return False
-    return True
-
-
-@functools.lru_cache(maxsize=None)
-def _library() -> ctypes.CDLL:
-    """The library, with the types of its calls. Raises OSError where it cannot be loaded, or is of a version that does not fit."""
-    found = find_library()
-    try:
-        library = ctypes.CDLL(found)
-    except OSError as why:
-        if found != NAME:
-            raise
-        raise FileNotFoundError(f"{NAME} is nowhere to be found: ./install puts it in place, and CAMAC_LIBRARY may name it") from why
-    text, buffer, size, session = [c_char_p, c_size_t], [c_char_p, c_size_t, POINTER(c_size_t)], c_uint32, POINTER(_Session)
-    forms = {
-        "version": [],
-        **{name: [*text, *buffer] for name in ("plan", "explain_plan", "events")},
-        **{name: [*text, *text, *buffer] for name in ("check", "explain", "bounds", "costs")},
-        "response": [*text, *text, *text, *text, *buffer],
-        "run": [*text, *text, *text, *buffer, *buffer],
-        "open": [session, *text, *text, *buffer],
-        "wants": [session, POINTER(Want)],
-        "next": [session, POINTER(_Answer), POINTER(Progress)],
-        "words": [session, POINTER(c_uint32), c_size_t],
-        "close": [session],
-    }
-    for name, form in forms.items():
-        call = getattr(library, f"camac_raw_{name}")
-        call.argtypes, call.restype = form, {"words": c_size_t, "close": None}.get(name, size)
-    number = library.camac_raw_version()
-    if number // 10_000 != FIRST_NUMBER:
-        raise OSError(f"{NAME} has the version {version_text(number)}, which does not fit")
-    return library
-
-
-def version_text(number: int) -> str:
-    """The number of a version, as 200, in the form 0.2.0."""
-    return f"{number // 10_000}.{number // 100 % 100}.{number % 100}"
-
-
 def version() -> str:
     """The version of the library."""
-    return version_text(_library().camac_raw_version())
+    return native.version_text(native.load().texts.camac_version())
 
 
 def _fault(code: int) -> Exception:
@@ -140,11 +70,11 @@ def _misuse() -> UsageFault:
 
 
 def _given(*texts: Text) -> List[Any]:
-    """Each text as its bytes and their number."""
+    """Each text as its bytes and their number. Raises TypeError for what is no text and no bytes."""
     found: List[Any] = []
     for it in texts:
-        it = it.encode() if isinstance(it, str) else bytes(it)
-        found += [it, len(it)]
+        data = it.encode() if isinstance(it, str) else memoryview(it).tobytes()
+        found += [data, len(data)]
     return found
 
 
@@ -179,7 +109,7 @@ def _filled(call: Any, *given: Any, buffers: int = 1) -> Tuple[int, List[bytes]]
 
 
 def _judged(name: str, *texts: Text) -> Verdict:
-    code, (text,) = _filled(getattr(_library(), f"camac_raw_{name}"), *_given(*texts))
+    code, (text,) = _filled(getattr(native.load().texts, f"camac_{name}"), *_given(*texts))
     return Verdict(code == OK, text.decode("utf-8", "replace"))
 
 
@@ -247,23 +177,27 @@ def events(file: bytes) -> Verdict:
 
 def run(plan: Text, script: Text, answers: Text) -> Tuple[Verdict, bytes]:
     """What `camac run` prints of the text of all answers, and the bytes of its event file."""
-    code, (listing, file) = _filled(_library().camac_raw_run, *_given(plan, script, answers), buffers=2)
+    code, (listing, file) = _filled(native.load().texts.camac_run, *_given(plan, script, answers), buffers=2)
     return Verdict(code == OK, listing.decode("utf-8", "replace")), file
 
 
 class Session:
     """A run of an accepted script, an answer at a time. It is closed by `close`, at the end of a `with`, or when nothing refers to it.
 
-    Raises Refused where plan or script is refused, and ProgramFault as `check` does. After `close`, a call raises UsageFault."""
+    Raises Refused where plan or script is refused, and ProgramFault as `check` does. After `close`, a call raises UsageFault.
+
+    Each thread may have sessions of its own. A session may be closed by any thread at any time; its other calls have to come one after another,
+    since what they return is filled again by the next one."""
 
     def __init__(self, plan: Text, script: Text) -> None:
-        self._library, self._session = _library(), _Session()
-        self._want, self._answer, self._progress, self._words = Want(), _Answer(), Progress(), (c_uint32 * EVENT_WORDS)()
+        calls = native.load()
+        self._calls, self._session = calls.sessions, native.SessionStruct()
+        self._want, self._answer, self._progress, self._words = Want(), native.AnswerStruct(), Progress(), (c_uint32 * EVENT_WORDS)()
         # what ctypes hands on at each call, made once
         self._at, self._to_want = byref(self._session), byref(self._want)
         self._to_answer, self._to_progress = byref(self._answer), byref(self._progress)
         buffer = _Buffer()
-        code = self._library.camac_raw_open(self._at, *_given(plan, script), *buffer.words())
+        code = calls.texts.camac_open(self._at, *_given(plan, script), *buffer.words())
         if code == REFUSED:
             raise Refused(buffer.text().decode().partition("\n")[0])
         if code != OK:
@@ -271,7 +205,7 @@ class Session:
 
     def wants(self) -> Optional[Want]:
         """What the next answer is for; None where the run is over, by an overrun. The next call fills the same object again."""
-        code = self._library.camac_raw_wants(self._at, self._to_want)
+        code = self._calls.camac_wants(self._at, self._to_want)
         if code == OVERRUN:
             return None
         if code != OK:
@@ -283,7 +217,7 @@ class Session:
         4,294,967,295 answers."""
         to = self._answer
         to.word, to.gl, to.x, to.q, to.wait = answer.word, answer.gl, answer.x, answer.q, answer.wait
-        code = self._library.camac_raw_next(self._at, self._to_answer, self._to_progress)
+        code = self._calls.camac_next(self._at, self._to_answer, self._to_progress)
         if code == SPENT:
             raise OverflowError(SPENT_LINE)
         if code not in (OK, OVERRUN):
@@ -292,12 +226,12 @@ class Session:
 
     def words(self) -> Tuple[int, ...]:
         """The words of the event that the last answer left; none where it left none."""
-        count = self._library.camac_raw_words(self._at, self._words, EVENT_WORDS)
+        count = self._calls.camac_words(self._at, self._words, EVENT_WORDS)
         return tuple(self._words[:count])
 
     def close(self) -> None:
         """Frees the run. To close twice is harmless."""
-        self._library.camac_raw_close(self._at)
+        self._calls.camac_close(self._at)
 
     def __enter__(self) -> "Session":
         return self
@@ -366,15 +300,15 @@ class _Game:
         raise TypeError(f"the branch has to answer an operation with an Answer, not {answer!r}")
 
     def settle(self, progress: Progress) -> None:
-        """Does what an answer calls for: lockouts are released, then an event is written."""
-        for crate in range(1, 8):
-            if progress.unlocked >> crate & 1:
-                self.lockouts.unlock(crate)
+        """Does what an answer calls for: an event is written, so that it is there whatever comes, and lockouts are released."""
         if progress.event:
             self.events = progress.event
             if self.write:
                 its = (progress.event, progress.event_gl, progress.event_cycles, progress.event_missed)
                 self.write(record(Event(*its, self.session.words())))
+        if progress.first_unlocked:
+            for crate in progress.unlocked:
+                self.lockouts.unlock(crate)
 
 
 @contextlib.contextmanager

@@ -111,19 +111,26 @@ def version(program: Optional[File] = None) -> str:
     return output_of("--version", program=program).rstrip("\n")
 
 
-def accepts(plan: File, script: bytes, program: Optional[File] = None) -> bool:
-    """Whether a script is accepted that is given as its text. Raises ProgramFault and OSError as `output_of`."""
-    if _find("check", program) == IN_PROCESS:
-        return library.check(plan_text(plan), script).accepted
+def verdict(command: str, plan: File, script: bytes, program: Optional[File] = None) -> library.Verdict:
+    """What the program tells of a script that is given as its text; of a refusal its line. `command` judges: "check", "bounds" or "explain".
+
+    Raises ProgramFault and OSError as `output_of`."""
+    if _find(command, program) == IN_PROCESS:
+        judge = {"check": library.check, "bounds": library.bounds, "explain": library.explain}[command]
+        return judge(plan_text(plan), script)
     with tempfile.TemporaryDirectory(prefix="camac-") as room:
         file = os.path.join(room, "script")
         with open(file, "wb") as out:
             out.write(script)
         try:
-            output_of("check", "--", plan, file, program=program)
-        except Refused:
-            return False
-    return True
+            return library.Verdict(True, output_of(command, "--", plan, file, program=program))
+        except Refused as refusal:
+            return library.Verdict(False, str(refusal))
+
+
+def accepts(plan: File, script: bytes, program: Optional[File] = None) -> bool:
+    """Whether a script is accepted that is given as its text. Raises ProgramFault and OSError as `output_of`."""
+    return verdict("check", plan, script, program).accepted
 
 
 @functools.lru_cache(maxsize=None)

@@ -7,28 +7,118 @@
 #include <malloc.h>
 #include <pthread.h>
 
+#define MOST_BYTES 4096u /* of a struct, in any version */
+
 static text plan, script;
-static const camac_want no_want;
-static const camac_progress no_progress;
+static const camac_want no_want = CAMAC_WANT;
+static const camac_progress no_progress = CAMAC_PROGRESS;
+static const camac_answer no_answer = CAMAC_ANSWER;
 
 static void expect_zeros(const void *found, const void *zeros, size_t size, int line) {
     if (memcmp(found, zeros, size)) fail("line %d: what is no result is not zeros", line);
 }
 
+/* Fills a struct with what is no result, but for its size. */
+static void spoil(void *its, uint32_t size) {
+    memset(its, 9, size);
+    memcpy(its, &size, sizeof size);
+}
+
 /* A none: every call of a session is misuse, but close, which is harmless. */
 static void none(void) {
     camac_session s = CAMAC_NONE;
-    camac_want want = {9, 9, 9, 9, 9, 9, 9, 9};
+    camac_want want;
     camac_progress did;
-    const camac_answer answer = {0, 0, 0, 0, 0, 0};
     uint32_t words[1] = {7};
-    memset(&did, 9, sizeof did);
+    spoil(&want, sizeof want), spoil(&did, sizeof did);
     EXPECT(CAMAC_MISUSE, camac_wants(&s, &want));
     expect_zeros(&want, &no_want, sizeof want, __LINE__);
-    EXPECT(CAMAC_MISUSE, camac_next(&s, &answer, &did));
+    EXPECT(CAMAC_MISUSE, camac_next(&s, &no_answer, &did));
     expect_zeros(&did, &no_progress, sizeof did, __LINE__);
     if (camac_words(&s, words, 1) != 0 || words[0] != 7) fail("a none has words");
     camac_close(&s);
+    camac_close(&s);
+}
+
+/* What C hands in, and no proof sees: NULL with a length, structs of another size, another version, spare bytes. */
+static void handed_in(void) {
+    char out[8] = "#", file[8] = "#";
+    size_t size = 9, file_size = 9;
+    camac_session s = CAMAC_NONE, older = CAMAC_NONE;
+    camac_want want = CAMAC_WANT;
+    camac_progress did = CAMAC_PROGRESS;
+    camac_answer answer = CAMAC_ANSWER;
+    uint32_t words[1];
+#define IS_MISUSE(call) size = file_size = 9; EXPECT(CAMAC_MISUSE, call); if (size || file_size % 9 || out[0] != '#' || file[0] != '#') fail("line %d: misuse has a result", __LINE__)
+#define TEXTS plan.bytes, plan.size, script.bytes, script.size
+#define NO_PLAN NULL, 1, script.bytes, script.size
+#define NO_SCRIPT plan.bytes, plan.size, NULL, 1
+    IS_MISUSE(camac_plan(NULL, 1, out, sizeof out, &size));
+    IS_MISUSE(camac_plan(plan.bytes, plan.size, NULL, 1, &size));
+    IS_MISUSE(camac_explain_plan(NULL, 1, out, sizeof out, &size));
+    IS_MISUSE(camac_events(NULL, 1, out, sizeof out, &size));
+    IS_MISUSE(camac_check(NO_PLAN, out, sizeof out, &size));
+    IS_MISUSE(camac_check(NO_SCRIPT, out, sizeof out, &size));
+    IS_MISUSE(camac_check(TEXTS, NULL, 1, &size));
+    IS_MISUSE(camac_explain(NO_SCRIPT, out, sizeof out, &size));
+    IS_MISUSE(camac_bounds(NO_PLAN, out, sizeof out, &size));
+    IS_MISUSE(camac_costs(NO_SCRIPT, out, sizeof out, &size));
+    IS_MISUSE(camac_response(TEXTS, NULL, 1, NULL, 0, out, sizeof out, &size));
+    IS_MISUSE(camac_response(TEXTS, NULL, 0, NULL, 1, out, sizeof out, &size));
+    IS_MISUSE(camac_run(TEXTS, NULL, 1, out, sizeof out, &size, file, sizeof file, &file_size));
+    IS_MISUSE(camac_run(TEXTS, NULL, 0, out, sizeof out, &size, NULL, 1, &file_size));
+    IS_MISUSE(camac_open(&s, NO_PLAN, out, sizeof out, &size));
+    IS_MISUSE(camac_open(NULL, TEXTS, out, sizeof out, &size));
+    older.version = CAMAC_VERSION_NUMBER - 100;
+    IS_MISUSE(camac_open(&older, TEXTS, out, sizeof out, &size));
+    older.version = CAMAC_VERSION_NUMBER + 99 - CAMAC_VERSION_NUMBER % 100;
+    older.size--;
+    IS_MISUSE(camac_open(&older, TEXTS, out, sizeof out, &size));
+    older.size++;
+    EXPECT(CAMAC_OK, camac_open(&older, TEXTS, NULL, 0, NULL));
+    older.version = CAMAC_VERSION_NUMBER + 100;
+    spoil(&want, sizeof want), spoil(&did, sizeof did);
+    EXPECT(CAMAC_MISUSE, camac_wants(&older, &want));
+    expect_zeros(&want, &no_want, sizeof want, __LINE__);
+    EXPECT(CAMAC_MISUSE, camac_next(&older, &answer, &did));
+    expect_zeros(&did, &no_progress, sizeof did, __LINE__);
+    if (camac_words(&older, words, 1)) fail("another version has words");
+    camac_close(&older);
+    if (!older.camac_private[0]) fail("another version is closed");
+    older.version = CAMAC_VERSION_NUMBER;
+    want.size--, did.size = MOST_BYTES + 1;
+    EXPECT(CAMAC_MISUSE, camac_wants(&older, &want));
+    EXPECT(CAMAC_MISUSE, camac_next(&older, &answer, &did));
+    want.size++, did.size = sizeof did, answer.size = 0;
+    EXPECT(CAMAC_MISUSE, camac_next(&older, &answer, &did));
+    answer.size = sizeof answer, answer.spare[3] = 1;
+    EXPECT(CAMAC_MISUSE, camac_next(&older, &answer, &did));
+    answer.spare[3] = 0, answer.unused = 1;
+    EXPECT(CAMAC_MISUSE, camac_next(&older, &answer, &did));
+    answer.unused = 0;
+    EXPECT(CAMAC_OK, camac_next(&older, &answer, &did));
+    camac_close(&older);
+    camac_close(NULL);
+}
+
+/* The structs of a later version are larger: what this one does not know is 0. */
+static void of_a_later_version(void) {
+    struct { camac_want its; char more[5]; } want;
+    struct { camac_progress its; char more[5]; } did;
+    struct { camac_answer its; char more[5]; } answer = {CAMAC_ANSWER, {0}};
+    const char zeros[5] = {0};
+    camac_session s = CAMAC_NONE;
+    open_session(&s, &plan, &script);
+    spoil(&want, sizeof want.its + 4), spoil(&did, sizeof did.its + 4);
+    want.more[4] = did.more[4] = 9;
+    answer.its.size = sizeof answer.its + 4;
+    EXPECT(CAMAC_OK, camac_wants(&s, &want.its));
+    EXPECT(CAMAC_OK, camac_next(&s, &answer.its, &did.its));
+    if (want.its.kind != CAMAC_DEMAND || did.its.kind != CAMAC_DEMAND) fail("a larger struct is not filled");
+    if (memcmp(want.more, zeros, 4) || memcmp(did.more, zeros, 4)) fail("what is not known is not 0");
+    if (want.more[4] != 9 || did.more[4] != 9) fail("a struct is written past its end");
+    answer.more[3] = 1;
+    EXPECT(CAMAC_MISUSE, camac_next(&s, &answer.its, &did.its));
     camac_close(&s);
 }
 
@@ -43,7 +133,8 @@ static void texts(void) {
         const size_t there = room < size ? room : size;
         if (part != size || memcmp(cut, out, there) || cut[there] != '#') fail("a cut text differs at room %zu", room);
     }
-    EXPECT(CAMAC_OK, camac_check(plan.bytes, plan.size, script.bytes, script.size, NULL, 9, &part));
+    EXPECT(CAMAC_OK, camac_check(plan.bytes, plan.size, script.bytes, script.size, NULL, 0, NULL));
+    EXPECT(CAMAC_OK, camac_check(plan.bytes, plan.size, script.bytes, script.size, NULL, 0, &part));
     if (part != size) fail("the length without a buffer is %zu, not %zu", part, size);
     EXPECT(CAMAC_OK, camac_plan(plan.bytes, plan.size, out, sizeof out, &size));
     EXPECT(CAMAC_OK, camac_explain_plan(plan.bytes, plan.size, out, sizeof out, &size));
@@ -82,8 +173,8 @@ static void texts(void) {
 static void expect_response(int code, const char *every, const char *within, const char *wanted, int line) {
     char out[200] = "#";
     size_t size = 9;
-    expect(code, camac_response(plan.bytes, plan.size, script.bytes, script.size, every, every ? strlen(every) : 9, within,
-                                within ? strlen(within) : 9, out, sizeof out, &size), "camac_response", line);
+    expect(code, camac_response(plan.bytes, plan.size, script.bytes, script.size, every, every ? strlen(every) : 0, within,
+                                within ? strlen(within) : 0, out, sizeof out, &size), "camac_response", line);
     if (size != strlen(wanted) || memcmp(out, size ? wanted : "#", size ? size : 1)) fail("line %d: it tells %.*s", line, (int)size, out);
 }
 
@@ -117,9 +208,9 @@ static void responses(void) {
 /* An open session: what is refused leaves it as it was. */
 static void open_once(void) {
     camac_session s = CAMAC_NONE;
-    camac_want want, before;
+    camac_want want = CAMAC_WANT, before = CAMAC_WANT;
     camac_progress did;
-    camac_answer answer = {0, 4, 0, 0, 0, 0};
+    camac_answer answer = CAMAC_ANSWER, wrong[3] = {CAMAC_ANSWER, CAMAC_ANSWER, CAMAC_ANSWER};
     uint32_t seed = 1;
     size_t size = 9;
     char out[8] = "#";
@@ -130,9 +221,10 @@ static void open_once(void) {
     EXPECT(CAMAC_OK, camac_wants(&s, &before));
     EXPECT(CAMAC_MISUSE, camac_open(&s, plan.bytes, plan.size, script.bytes, script.size, out, sizeof out, &size));
     if (size || out[0] != '#') fail("an opening over an open session has a text");
-    const camac_answer wrong[] = {{1u << 24, 0, 0, 0, 0, 0}, {0, 1u << 24, 0, 0, 0, 0}, {0, 0, 0, 0, 16, 0}};
+    wrong[0].word = wrong[1].gl = 1u << 24;
+    wrong[2].wait = 16;
     for (int i = 0; i < 3; i++) {
-        memset(&did, 9, sizeof did);
+        spoil(&did, sizeof did);
         EXPECT(CAMAC_RANGE, camac_next(&s, &wrong[i], &did));
         expect_zeros(&did, &no_progress, sizeof did, __LINE__);
         EXPECT(CAMAC_OK, camac_wants(&s, &want));
@@ -140,6 +232,7 @@ static void open_once(void) {
     }
     camac_close(&s);
     open_session(&s, &plan, &script);
+    answer.gl = 4;
     EXPECT(CAMAC_OK, camac_next(&s, &answer, &did));
     answer.wait = 15;
     for (int i = 0; i < 2; i++) {
@@ -187,7 +280,7 @@ static void deep(void) {
 /* All answers spent. To give them takes a quarter of an hour, so the run's count of them is found in its memory and set: no user may do that. */
 static void spent(void) {
     camac_session s = CAMAC_NONE;
-    camac_progress did;
+    camac_progress did = CAMAC_PROGRESS;
     uint32_t seed = 5, now;
     open_session(&s, &plan, &script);
     play_some(&s, &seed, 100003);
@@ -203,14 +296,13 @@ static void spent(void) {
         if (then == 100003 && now == 100004) at = i, found++;
     }
     if (found != 1) fail("the count of answers stands in %zu places", found);
-    const camac_answer answer = {0, 0, 0, 0, 0, 0};
     for (now = 0xfffffffe;;) {
         memcpy(run + at, &now, 4);
-        EXPECT(now == 0xffffffff ? CAMAC_SPENT : CAMAC_OK, camac_next(&s, &answer, &did));
+        EXPECT(now == 0xffffffff ? CAMAC_SPENT : CAMAC_OK, camac_next(&s, &no_answer, &did));
         if (now++ == 0xffffffff) break;
     }
     expect_zeros(&did, &no_progress, sizeof did, __LINE__);
-    camac_want want;
+    camac_want want = CAMAC_WANT;
     EXPECT(CAMAC_OK, camac_wants(&s, &want));
     free(before);
     camac_close(&s);
@@ -300,6 +392,8 @@ static void openings(long many) {
 
 static void *all_calls(void *none_more) {
     none();
+    handed_in();
+    of_a_later_version();
     texts();
     responses();
     deep();

@@ -2,7 +2,7 @@
 #ifndef COMMON_H
 #define COMMON_H
 
-#include <camac.h>
+#include <camac/camac.h>
 #include <stdarg.h>
 #include <stdio.h>
 #include <stdlib.h>
@@ -50,7 +50,7 @@ static inline uint32_t chance(uint32_t *seed, uint32_t below) {
 /* Any answer: X and Q now and then 0, a wait that is seldom too great, a pattern of any kind. */
 static inline camac_answer any_answer(uint32_t *seed) {
     static const uint32_t words[4] = {0, 1, 0xffffff, 0x123fff};
-    camac_answer its = {0, 0, 0, 0, 0, 0};
+    camac_answer its = CAMAC_ANSWER;
     const uint32_t which = chance(seed, 8), pattern = chance(seed, 4);
     its.x = chance(seed, 10) > 0;
     its.q = chance(seed, 10) > 1;
@@ -67,11 +67,12 @@ static inline void open_session(camac_session *s, const text *plan, const text *
 
 /* Plays so many answers, and sums up all that they did. */
 static inline uint64_t play_some(camac_session *s, uint32_t *seed, long answers) {
-    static const camac_answer demand = {0, 4, 0, 0, 0, 0};
+    camac_answer demand = CAMAC_ANSWER;
     uint64_t sum = 0;
     uint32_t words[8];
-    camac_want want;
-    camac_progress did;
+    camac_want want = CAMAC_WANT;
+    camac_progress did = CAMAC_PROGRESS;
+    demand.gl = 4;
     for (long i = 0; i < answers; i++) {
         camac_answer answer = any_answer(seed);
         EXPECT(CAMAC_OK, camac_wants(s, &want));

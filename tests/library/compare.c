@@ -37,8 +37,8 @@ static void put_event(events *to, camac_session *s, const camac_progress *did) {
 /* Plays a list by a session, to its end or to an overrun. */
 static void play(events *to, const text *plan, const text *script, const camac_answer *answers, size_t count) {
     camac_session s = CAMAC_NONE;
-    camac_want want;
-    camac_progress did;
+    camac_want want = CAMAC_WANT;
+    camac_progress did = CAMAC_PROGRESS;
     to->size = 0;
     memcpy(to->bytes, "CAMACEV2", to->size = 8);
     open_session(&s, plan, script);

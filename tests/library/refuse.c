@@ -1,8 +1,10 @@
 /* refuse.c: refuses each allocation of each call in turn, alone and with all after it. Nothing may be lost, and between open and close none may
- * be asked for.
+ * be asked for. What asks for memory can be found, up to `main`.
  *
  *     refuse PLAN SCRIPT     tells how many allocations there were */
 #include "common.h"
+
+#include <execinfo.h>
 
 void *__libc_malloc(size_t size);
 void *__libc_realloc(void *block, size_t size);
@@ -12,6 +14,9 @@ static long left = -1; /* how many are granted before one is refused; -1: all ar
 static int is_alone;   /* whether those after it are granted again */
 static long refusals;  /* how many were refused */
 static long blocks;    /* how many are held */
+static int looks;      /* whether the next call tells by which calls it came */
+static void *callers[64];
+static int callers_count;
 
 static int is_refused(void) {
     if (left > 0) left--;
@@ -24,6 +29,7 @@ static int is_refused(void) {
 }
 
 void *malloc(size_t size) {
+    if (looks) looks = 0, callers_count = backtrace(callers, 64);
     void *its = is_refused() ? NULL : __libc_malloc(size);
     blocks += its != NULL;
     return its;
@@ -90,12 +96,24 @@ static long refuse_each(int which) {
     }
 }
 
+/* A debugger, a profiler or what looks for lost memory sees through the calls of the library. */
+static void callers_are_found(void) {
+    void *here[64];
+    const int frames = backtrace(here, 64);
+    looks = 1;
+    EXPECT(CAMAC_OK, call(2));
+    if (callers_count < frames + 2 || callers[callers_count - 1] != here[frames - 1]) fail("the callers end after %d", callers_count);
+}
+
 int main(int count, char **words) {
     long refused = 0;
     uint32_t seed = 3;
     if (count != 3) return 2;
+    backtrace(callers, 64); /* which asks for memory of its own, the first time */
+    blocks = 0;
     plan = read_file(words[1]);
     script = read_file(words[2]);
+    callers_are_found();
     for (int which = 0; which <= 9; which++) {
         is_alone = 1;
         const long alone = refuse_each(which);

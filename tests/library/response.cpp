@@ -1,7 +1,7 @@
 // response.cpp: what camac::response tells with what is told of services and without, and its misuse, which is the status.
 //
 //     response PLAN SCRIPT
-#include <camac.hpp>
+#include <camac/camac.hpp>
 
 #include <fstream>
 #include <iostream>

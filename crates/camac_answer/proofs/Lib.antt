@@ -1,6 +1,6 @@
 pub mod Texts
 pub mod Readings
-pub mod Standing
+pub mod Few
 pub mod Filled
 pub mod Digits
 pub mod Spelled

@@ -1,17 +1,14 @@
 -- What one call reads of a text.
-use Rattle.std.proofs.Common.{◌≡◌, ℕ, ◌+◌, ◌≤◌, ◌<◌, Bool, true, false, ◌==◌, cond, nat_le, nat_lt, List, [], ◌∷◌, ◌++◌, length, drop, Option, Some, None, Result, Ok, Err, refl, sym, ap, ◌∙◌, append-nil, length-append, drop_of_length-le, length-take-le, take, arith, inl, inr}
+use Rattle.std.proofs.Common.{◌≡◌, ℕ, ◌+◌, ◌≤◌, ◌<◌, Bool, true, false, ◌==◌, cond, nat_le, nat_lt, List, [], ◌∷◌, ◌++◌, length, drop, Option, Some, None, Result, Ok, Err, refl, sym, ap, subst, ◌∙◌, append-nil, length-append, drop_of_length-le, length-take-le, take, arith, inl, inr}
 use Rattle.std.proofs.lemmas.Bool.{cases_lt, ne_eqb, eqb-true, and_parts, le-leb, lt-ltb}
 use Rattle.std.proofs.lemmas.List.{drop_at}
 use Rattle.std.specs.Io.KnownBytes.{Consumes, IsAtEnd}
 use Rattle.camac_branch.specs.Branch.{Answer}
-use Rattle.camac_answer.specs.declared.answers.Stage.TheVariants.{Running, Faulted}
 use Rattle.camac_answer.specs.declared.fault.AnswerRule.{AnswerRule}
 use Rattle.camac_answer.specs.declared.fault.AnswerRule.TheVariants.{LineShape, TooMany}
-use Rattle.camac_answer.specs.declared.fault.AnswerFault.{AnswerFault}
-use Rattle.camac_answer.specs.declared.fault.AnswerFault.TheVariants as fault
 use Rattle.camac_answer.specs.Lines.{lines, first_line, has_shape, fields_answer, line_answer}
-use Rattle.camac_answer.specs.Reading.{Reading, no_more, with_line, reading_from, result_at, after}
-use Rattle.camac_answer.specs.Answers.{left_in, Steps, judged, next_answer, window}
+use Rattle.camac_answer.specs.Reading.{Reading, Answered, broken, no_more, with_line, reading_from}
+use Rattle.camac_answer.specs.Answers.{left_in, IsNext, judged, next_answer, window}
 use Rattle.camac_answer.proofs.Texts.{after_line, line_ends, line_goes_on, whole_line, lines_first}
 
 shapeless : (line : List ℕ) → (length line ≡ 19 → ⊥) → line_answer line ≡ Err LineShape
@@ -52,7 +49,7 @@ module _ (limit : ℕ) where
   window_to true = omega arith
   window_to false = omega arith
 
-  too_many : (n b : ℕ) (text : List ℕ) → limit ≤ n → next_answer limit n (b ∷ text) ≡ Err (fault.Broken TooMany (limit + 1))
+  too_many : (n b : ℕ) (text : List ℕ) → limit ≤ n → next_answer limit n (b ∷ text) ≡ Err (broken TooMany (limit + 1))
   too_many n b text h = rw (le-leb limit n h) refl
 
   -- they decide the result
@@ -62,12 +59,12 @@ module _ (limit : ℕ) where
       elim (cases_lt n limit) [
         | inl less ↦
             let size = window_is n less in
-            ap (λ (r : Result Answer AnswerRule). cond (nat_le limit n) (Err (fault.Broken TooMany (limit + 1))) (judged n r))
+            ap (λ (r : Result Answer AnswerRule). cond (nat_le limit n) (Err (broken TooMany (limit + 1))) (judged n r))
             (line_decides (b ∷ w) rest (rw size at most) (rw size at short))
         | inr more ↦ too_many n b (w ++ rest) more ∙ sym (too_many n b w more)
       ]
 
-  chosen : (c : Bool) (n : ℕ) (r : Result Answer AnswerRule) (a : Answer) → cond c (Err (fault.Broken TooMany (limit + 1))) (judged n r) ≡ Ok (Some a) → r ≡ Ok a
+  chosen : (c : Bool) (n : ℕ) (r : Result Answer AnswerRule) (a : Answer) → cond c (Err (broken TooMany (limit + 1))) (judged n r) ≡ Ok (Some a) → r ≡ Ok a
   chosen true n r a e = absurd cc
   chosen false n (Ok x) a e = cc
   chosen false n (Err f) a e = absurd cc
@@ -90,82 +87,49 @@ module _ (limit : ℕ) where
             none ∙ sym (ap after_line whole ∙ drop_of_length-le (b ∷ w) {i = length (first_line (b ∷ w)) + 1} (omega (arith, on)))
       ]
 
-  shown : (c : Bool) (n : ℕ) (r : Result Answer AnswerRule) (rest : Reading)
-      → result_at (cond c (no_more (Some (fault.Broken TooMany (limit + 1)))) (with_line n r rest)) 0 ≡ cond c (Err (fault.Broken TooMany (limit + 1))) (judged n r)
-  shown true n r rest = refl
-  shown false n (Ok a) rest = refl
-  shown false n (Err rule) rest = refl
+  next_by : (c : Bool) (n : ℕ) (q : Result Answer AnswerRule) (rest : Reading) (r : Answered) → r ≡ cond c (Err (broken TooMany (limit + 1))) (judged n q)
+      → IsNext (Some (cond c (no_more (Some (broken TooMany (limit + 1)))) (with_line n q rest))) r (Some rest)
+  next_by true n q rest r e = rw e refl
+  next_by false n (Ok a) rest r e = rw e (rest, refl, refl)
+  next_by false n (Err rule) rest r e = rw e refl
 
-  -- the first result of a reading is that of the first line
-  pub first_result : (n : ℕ) (text : List ℕ) → result_at (reading_from limit n (lines text)) 0 ≡ next_answer limit n text
-  first_result n [] = refl
-  first_result n (b ∷ text) =
-      ap (λ (ls : List (List ℕ)). result_at (reading_from limit n ls) 0) (lines_first b text)
-      ∙ shown (nat_le limit n) n (line_answer (first_line (b ∷ text))) (reading_from limit (n + 1) (lines (after_line (b ∷ text))))
+  -- the first line of a text gives the next result, and what follows it is left
+  line_is_next : (n : ℕ) (text : List ℕ) (r : Answered) → r ≡ next_answer limit n text → IsNext (left_in limit n (Some text)) r (left_in limit (n + 1) (Some (after_line text)))
+  line_is_next n [] r e = rw e refl
+  line_is_next n (b ∷ text) r e =
+      subst (λ (ls : List (List ℕ)). IsNext (Some (reading_from limit n ls)) r (left_in limit (n + 1) (Some (after_line (b ∷ text))))) (sym (lines_first b text))
+      (next_by (nat_le limit n) n (line_answer (first_line (b ∷ text))) (reading_from limit (n + 1) (lines (after_line (b ∷ text)))) r e)
 
-  left_after : (c : Bool) (n : ℕ) (r : Result Answer AnswerRule) (rest : Reading) (a : Answer) → cond c (Err (fault.Broken TooMany (limit + 1))) (judged n r) ≡ Ok (Some a)
-      → after 1 (cond c (no_more (Some (fault.Broken TooMany (limit + 1)))) (with_line n r rest)) ≡ rest
-  left_after true n r rest a e = absurd cc
-  left_after false n (Ok x) rest a e = refl
-  left_after false n (Err rule) rest a e = absurd cc
+  -- only behind an answer it matters what is left
+  leaves : (old : Reading) (r : Answered) (a b : List ℕ) (n : ℕ) → ((x : Answer) → r ≡ Ok (Some x) → b ≡ a) → IsNext (Some old) r (left_in limit n (Some a)) → IsNext (Some old) r (left_in limit n (Some b))
+  leaves old (Ok (Some x)) a b n same h = subst (λ (t : List ℕ). IsNext (Some old) (Ok (Some x)) (left_in limit n (Some t))) (sym (same x refl)) h
+  leaves old (Ok None) a b n same h = h
+  leaves old (Err f) a b n same h = h
 
-  -- after an answer the reading of what follows is left
-  pub answer_left : (n : ℕ) (text : List ℕ) (a : Answer) → next_answer limit n text ≡ Ok (Some a) → after 1 (reading_from limit n (lines text)) ≡ reading_from limit (n + 1) (lines (after_line text))
-  answer_left n [] a e = absurd cc
-  answer_left n (b ∷ text) a e =
-      ap (λ (ls : List (List ℕ)). after 1 (reading_from limit n ls)) (lines_first b text)
-      ∙ left_after (nat_le limit n) n (line_answer (first_line (b ∷ text))) (reading_from limit (n + 1) (lines (after_line (b ∷ text)))) a e
+  -- an answer comes only where one more may
+  may_come : (n : ℕ) (w : List ℕ) (a : Answer) → next_answer limit n w ≡ Ok (Some a) → n < limit
+  may_come n [] a e = absurd cc
+  may_come n (b ∷ w) a e =
+      elim (cases_lt n limit) [
+        | inl less ↦ less
+        | inr more ↦ let no = sym (too_many n b w more) ∙ e in absurd cc
+      ]
 
-  fault_after : (c : Bool) (n : ℕ) (r : Result Answer AnswerRule) (rest : Reading) (f : AnswerFault) → cond c (Err (fault.Broken TooMany (limit + 1))) (judged n r) ≡ Err f
-      → cond c (no_more (Some (fault.Broken TooMany (limit + 1)))) (with_line n r rest) ≡ no_more (Some f)
-  fault_after true n r rest f e = cc
-  fault_after false n (Ok x) rest f e = absurd cc
-  fault_after false n (Err rule) rest f e = cc
-
-  -- a fault ends the reading
-  pub fault_left : (n : ℕ) (text : List ℕ) (f : AnswerFault) → next_answer limit n text ≡ Err f → reading_from limit n (lines text) ≡ no_more (Some f)
-  fault_left n [] f e = absurd cc
-  fault_left n (b ∷ text) f e =
-      ap (reading_from limit n) (lines_first b text)
-      ∙ fault_after (nat_le limit n) n (line_answer (first_line (b ∷ text))) (reading_from limit (n + 1) (lines (after_line (b ∷ text)))) f e
-
-  -- one call that gave an answer
-  steps-answer : (n : ℕ) (old new : Option (List ℕ)) (w : List ℕ) (a : Answer) → n < limit → Consumes old new w → length w ≤ window limit n
-      → (length w < window limit n → length w ≤ length (first_line w) → IsAtEnd new) → Ok (Some a) ≡ next_answer limit n w → Steps (left_in limit Running n old) (Ok (Some a)) (left_in limit Running (n + 1) new)
-  steps-answer n None new w a few given most short e = tt
-  steps-answer n (Some text) None w a few given most short e = absurd given
-  steps-answer n (Some text) (Some rest) w a few given most short e =
-      let same : Ok (Some a) ≡ next_answer limit n text = e ∙ sym (bytes_decide n w rest most short) ∙ ap (next_answer limit n) (sym given) in
-      let follows : rest ≡ after_line text = answer_leaves n w rest a few most short (sym e) ∙ ap after_line (sym given) in (
-        same ∙ sym (first_result n text),
-        ap (λ (t : List ℕ). Some (reading_from limit (n + 1) (lines t))) follows ∙ ap Some (sym (answer_left n text a (sym same))),
-      )
-
-  -- one call that gave a fault
-  steps-fault : (n : ℕ) (old new : Option (List ℕ)) (w : List ℕ) (f : AnswerFault) → Consumes old new w → length w ≤ window limit n
-      → (length w < window limit n → length w ≤ length (first_line w) → IsAtEnd new) → Err f ≡ next_answer limit n w → Steps (left_in limit Running n old) (Err f) (left_in limit (Faulted f) n new)
-  steps-fault n None new w f given most short e = tt
-  steps-fault n (Some text) None w f given most short e = absurd given
-  steps-fault n (Some text) (Some rest) w fault.Read given most short e = tt
-  steps-fault n (Some text) (Some rest) w fault.OutOfMemory given most short e =
-      let same : Err fault.OutOfMemory ≡ next_answer limit n text = e ∙ sym (bytes_decide n w rest most short) ∙ ap (next_answer limit n) (sym given) in
-      (same ∙ sym (first_result n text), ap (λ (r : Reading). Some (after 1 r)) (sym (fault_left n text fault.OutOfMemory (sym same))))
-  steps-fault n (Some text) (Some rest) w (fault.Broken rule line) given most short e =
-      let same : Err (fault.Broken rule line) ≡ next_answer limit n text = e ∙ sym (bytes_decide n w rest most short) ∙ ap (next_answer limit n) (sym given) in
-      (same ∙ sym (first_result n text), ap (λ (r : Reading). Some (after 1 r)) (sym (fault_left n text (fault.Broken rule line) (sym same))))
+  bytes_are_next : (n : ℕ) (old new : Option (List ℕ)) (w : List ℕ) (r : Answered) → Consumes old new w → length w ≤ window limit n
+      → (length w < window limit n → length w ≤ length (first_line w) → IsAtEnd new) → r ≡ next_answer limit n w → IsNext (left_in limit n old) r (left_in limit (n + 1) new)
+  bytes_are_next n None new w r given most short e = tt
+  bytes_are_next n (Some text) None w r given most short e = absurd given
+  bytes_are_next n (Some text) (Some rest) w r given most short e =
+      let same : r ≡ next_answer limit n text = e ∙ sym (bytes_decide n w rest most short) ∙ ap (next_answer limit n) (sym given) in
+      leaves (reading_from limit n (lines text)) r (after_line text) rest (n + 1)
+      (λ a is. answer_leaves n w rest a (may_come n w a (sym e ∙ is)) most short (sym e ∙ is) ∙ ap after_line (sym given)) (line_is_next n text r same)
 
   -- the same of the first bytes of a line with room for all that judge it
-  pub read-answer : (n : ℕ) (old new : Option (List ℕ)) (line : List ℕ) (len : ℕ) (a : Answer) → n < limit → Consumes old new (take len line) → length line ≡ window limit n → len ≤ length line
-      → (len < length line → len ≤ length (first_line (take len line)) → IsAtEnd new) → Ok (Some a) ≡ next_answer limit n (take len line) → Steps (left_in limit Running n old) (Ok (Some a)) (left_in limit Running (n + 1) new)
-  read-answer n old new line len a few given room within short e =
+  pub read_is_next : (n : ℕ) (old new : Option (List ℕ)) (line : List ℕ) (len : ℕ) (r : Answered) → Consumes old new (take len line) → length line ≡ window limit n → len ≤ length line
+      → (len < length line → len ≤ length (first_line (take len line)) → IsAtEnd new) → r ≡ next_answer limit n (take len line) → IsNext (left_in limit n old) r (left_in limit (n + 1) new)
+  read_is_next n old new line len r given room within short e =
       let long = length-take-le len line within in
-      steps-answer n old new (take len line) a few given (omega (arith, long, room, within)) (λ less on. short (omega (arith, long, room, less)) (omega (arith, long, on))) e
-
-  pub read-fault : (n : ℕ) (old new : Option (List ℕ)) (line : List ℕ) (len : ℕ) (f : AnswerFault) → Consumes old new (take len line) → length line ≡ window limit n → len ≤ length line
-      → (len < length line → len ≤ length (first_line (take len line)) → IsAtEnd new) → Err f ≡ next_answer limit n (take len line) → Steps (left_in limit Running n old) (Err f) (left_in limit (Faulted f) n new)
-  read-fault n old new line len f given room within short e =
-      let long = length-take-le len line within in
-      steps-fault n old new (take len line) f given (omega (arith, long, room, within)) (λ less on. short (omega (arith, long, room, less)) (omega (arith, long, on))) e
+      bytes_are_next n old new (take len line) r given (omega (arith, long, room, within)) (λ less on. short (omega (arith, long, room, less)) (omega (arith, long, on))) e
 
   -- a line with as much room as judges it
   pub room_for : (n w : ℕ) (room : List ℕ) → length room ≡ 20 → w ≡ window limit n → length (take w room) ≡ window limit n

@@ -1,10 +1,9 @@
 -- What an answer text gives: the answers of its lines up to the first fault, and that fault or none.
-use Rattle.std.specs.Prelude.{ℕ, ◌+◌, nat_le, List, [], ◌∷◌, drop, Option, Some, None, Result, Ok, Err, slice_get, if◌then◌else◌}
+use Rattle.std.specs.Prelude.{ℕ, ◌+◌, nat_le, List, [], ◌∷◌, Option, Some, None, Result, Ok, Err, if◌then◌else◌}
 use Rattle.camac_branch.specs.Branch.{Answer}
 use Rattle.camac_answer.specs.declared.fault.AnswerRule.{AnswerRule}
 use Rattle.camac_answer.specs.declared.fault.AnswerRule.TheVariants.{TooMany}
 use Rattle.camac_answer.specs.declared.fault.AnswerFault.{AnswerFault}
-use Rattle.camac_answer.specs.declared.fault.AnswerFault.TheVariants.{Broken}
 use Rattle.camac_answer.specs.Lines.{lines, line_answer}
 
 pub record Reading : Type 0 where
@@ -15,36 +14,26 @@ pub record Reading : Type 0 where
 abbrev pub no_more : Option AnswerFault → Reading
 no_more f = record { answers = []; fault = f }
 
+abbrev pub with_answer : Answer → Reading → Reading
+with_answer a rest = record rest { answers = a ∷ rest.answers }
+
+abbrev pub broken : AnswerRule → (line : ℕ) → AnswerFault
+broken rule line = record { rule = rule; line = line }
+
 -- a line after n others, and what the lines after it give
 abbrev pub with_line : ℕ → Result Answer AnswerRule → Reading → Reading
-with_line n (Ok a) rest = record rest { answers = a ∷ rest.answers }
-with_line n (Err rule) rest = no_more (Some (Broken rule (n + 1)))
+with_line n (Ok a) rest = with_answer a rest
+with_line n (Err rule) rest = no_more (Some (broken rule (n + 1)))
 
 -- lines after n others, where a text may give so many answers; a line beyond that is one too many, whatever it holds
 abbrev pub reading_from : (limit : ℕ) → ℕ → List (List ℕ) → Reading
 reading_from limit n [] = no_more None
 reading_from limit n (line ∷ rest) =
-    if nat_le limit n then no_more (Some (Broken TooMany (limit + 1))) else with_line n (line_answer line) (reading_from limit (n + 1) rest)
+    if nat_le limit n then no_more (Some (broken TooMany (limit + 1))) else with_line n (line_answer line) (reading_from limit (n + 1) rest)
 
 abbrev pub reading : (limit : ℕ) → List ℕ → Reading
 reading limit text = reading_from limit 0 (lines text)
 
--- the results of a call
+-- the next answer, or none at the end, or the fault of its line
 abbrev pub Answered : Type 0
 Answered = Result (Option Answer) AnswerFault
-
-abbrev pub ended : Option AnswerFault → Answered
-ended None = Ok None
-ended (Some f) = Err f
-
-abbrev pub given_or : Option Answer → Option AnswerFault → Answered
-given_or (Some a) f = Ok (Some a)
-given_or None f = ended f
-
--- the result of call number i, from 0: the answers in turn, and then the fault or the end again and again
-abbrev pub result_at : Reading → ℕ → Answered
-result_at r i = given_or (slice_get r.answers i) r.fault
-
--- what is left after so many calls
-abbrev pub after : ℕ → Reading → Reading
-after k r = record r { answers = drop k r.answers }

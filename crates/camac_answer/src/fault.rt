@@ -1,6 +1,4 @@
-// Why there is no next answer.
-
-use thiserror::Error;
+// Why a line is no answer.
 
 /// A rule of answer texts (own).
 #[derive(Clone, Copy, Debug, PartialEq, Eq)]
@@ -13,13 +11,9 @@ pub enum AnswerRule {
     TooMany,
 }
 
-/// The first rule that is broken, at its line from 1; or A3, a read fault; or A5, out of memory.
-#[derive(Clone, Copy, Debug, PartialEq, Eq, Error)]
-pub enum AnswerFault {
-    #[error("memory")]
-    OutOfMemory,
-    #[error("read")]
-    Read,
-    #[error("line {line}: {rule:?}")]
-    Broken { rule: AnswerRule, line: u64 },
+/// The first rule that a line breaks, and its number from 1.
+#[derive(Clone, Copy, Debug, PartialEq, Eq)]
+pub struct AnswerFault {
+    pub rule: AnswerRule,
+    pub line: u64,
 }

@@ -1,34 +1,62 @@
 // Reading no further than a line.
 
-ghost use Rattle.std.specs.Prelude.{◌≡◌, ◌≤◌, ◌<◌, ◌||◌, length, take, is_err, IfOk, OnErr};
-ghost use Rattle.std.specs.Io.KnownBytes.{Consumes, IsAtEnd};
+ghost use Rattle.std.specs.Prelude.{◌≡◌, ◌≤◌, ◌<◌, ◌||◌, ℕ, Bool, List, Option, length, take, is_err, IfOk, OnErr};
+ghost use Rattle.std.specs.Io.{ReadsAtMost};
+ghost use Rattle.std.specs.Io.KnownBytes.{Consumes, IsAtEnd, ReadConsumes};
 ghost use Rattle.camac_word.specs.Watched.{inner_of, has_failed};
 ghost use Rattle.camac_answer.specs.Answers.{IsOpen};
 ghost use Rattle.camac_answer.specs.Lines.{first_line};
 
 use crate::line::line_length;
 use camac_word::Watched;
+use std::io;
 use std::io::Read;
 
-// A reader answered an error.
+/// A reader answered an error.
 #[derive(Clone, Copy, Debug, PartialEq, Eq)]
-pub(crate) struct ReadFailed;
+pub struct ReadFailed;
+
+/// A reader that remembers whether one of its calls has failed: any watched reader, or one that reads ahead.
+pub trait AnswerReader {
+    /// The bytes that it has left, where they are known.
+    ghost remaining: { Self → Option (List ℕ) };
+
+    /// Whether a call has failed so far.
+    ghost failed: { Self → Bool };
+
+    /// Reads what comes next, as far as there is room for it; nothing at the end.
+    fn read_piece(&mut self, buf: &mut [u8]) -> io::Result<usize>
+        ensures bound { ReadsAtMost result buf.new }
+        ensures bytes { ReadConsumes (remaining self.old) (remaining self.new) result buf.new }
+        ensures failed { failed self.new ≡ (failed self.old || is_err result) };
+}
+
+impl<R: Read> AnswerReader for Watched<R> {
+    ghost remaining = { λ w. R.remaining (inner_of w) };
+
+    ghost failed = { λ w. has_failed w };
+
+    #[inline(always)]
+    fn read_piece(&mut self, buf: &mut [u8]) -> io::Result<usize> {
+        self.read(buf)
+    }
+}
 
 /// How many bytes an answer's line has with its LF (own). Any line that is longer is wrong, whatever else it holds.
 pub const LINE: usize = 20;
 
-// Fills the line with so many bytes as it has, or those up to the piece that has an LF, or all that are left, and tells how many they are.
-pub(crate) fn fill<R: Read>(reader: &mut Watched<R>, line: &mut [u8]) -> Result<usize, ReadFailed>
+/// Fills the line with so many bytes as it has, or those up to the piece that has an LF, or all that are left, and tells how many they are.
+pub fn fill<R: AnswerReader>(reader: &mut R, line: &mut [u8]) -> Result<usize, ReadFailed>
     ensures within { IfOk result (λ n. n ≤ length line.old) }
     ensures len { length line.new ≡ length line.old }
-    ensures bytes { IfOk result (λ n. Consumes (R.remaining (inner_of reader.old)) (R.remaining (inner_of reader.new)) (take n line.new)) }
-    ensures short { IfOk result (λ n. n < length line.old → n ≤ length (first_line (take n line.new)) → IsAtEnd (R.remaining (inner_of reader.new))) }
-    ensures open { OnErr result (IsOpen (length line.old) (R.remaining (inner_of reader.old)) (R.remaining (inner_of reader.new))) }
-    ensures failed { has_failed reader.new ≡ (has_failed reader.old || is_err result) }
+    ensures bytes { IfOk result (λ n. Consumes (R.remaining reader.old) (R.remaining reader.new) (take n line.new)) }
+    ensures short { IfOk result (λ n. n < length line.old → n ≤ length (first_line (take n line.new)) → IsAtEnd (R.remaining reader.new)) }
+    ensures open { OnErr result (IsOpen (length line.old) (R.remaining reader.old) (R.remaining reader.new)) }
+    ensures failed { R.failed reader.new ≡ (R.failed reader.old || is_err result) }
 {
     let mut len = 0;
     'pieces: while len < line.len() && (len == 0 || line_length(&line[..len]) >= len) {
-        let Ok(taken) = reader.read(&mut line[len..]) else {
+        let Ok(taken) = reader.read_piece(&mut line[len..]) else {
             return Err(ReadFailed);
         };
         if taken == 0 {

@@ -1,4 +1,4 @@
-//! Answers of a simulated branch, read from a text line by line.
+//! Answers of a branch, read from a text line by line.
 #![tactic(auto)]
 
 mod answers;
@@ -6,6 +6,6 @@ mod fault;
 mod filling;
 mod line;
 
-pub use answers::{Answers, FILE_ANSWERS, LIVE_ANSWERS, answers_are_few};
+pub use answers::{FILE_ANSWERS, LIVE_ANSWERS, answers_are_few, judge, judged_by};
 pub use fault::{AnswerFault, AnswerRule};
-pub use filling::LINE;
+pub use filling::{AnswerReader, LINE, ReadFailed, fill};

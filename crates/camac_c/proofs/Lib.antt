@@ -1,6 +1,7 @@
 pub mod Answered
 pub mod Calls
 pub mod Found
+pub mod Over
 pub mod Ran
 pub mod Read
 pub mod Responded

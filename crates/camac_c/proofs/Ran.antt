@@ -1,5 +1,5 @@
 -- What the engine of a run says of readers and writers, as what the call on texts says.
-use Rattle.std.proofs.Common.{◌≡◌, ℕ, List, [], refl, subst, inl, inr}
+use Rattle.std.proofs.Common.{◌≡◌, ℕ, false, List, [], refl, subst, inl, inr}
 use Rattle.std.specs.Prelude.{Option, Some, Result, Ok, Err}
 use Rattle.camac_plan.specs.Reading.{reading}
 use Rattle.camac_tool.specs.Headline.{JudgedKeeps}
@@ -24,7 +24,7 @@ both a b = record { listing = a; events = b }
 pub held : {a b : Option (List ℕ)} {listing events : List ℕ} → a ≡ Some listing → b ≡ Some events → both a b ≡ holding listing events
 held x y = λ i. both (x i) (y i)
 
-module _ {R : Type 0} (w w' : World R) (p s u : List ℕ) (is : IsText w.left w.plan p) (script : w.script ≡ Some s) (answers : w.answers ≡ Some u) (listing events : List ℕ)
+module _ {R : Type 0} (w w' : World R) (p s u : List ℕ) (is : IsText w.left w.plan p) (script : w.script ≡ Some s) (answers : w.answers ≡ Some u) (direct : w.gathers ≡ false) (listing events : List ℕ)
     (before : w.outputs ≡ holding [] []) (after : w'.outputs ≡ holding listing events) where
   judged : (j : Judged) → HasJudged w.left w.plan w'.plan w.script w'.script j → IsFound (reading p) s j
   judged j h = found w.left w.plan w'.plan p s is w'.script j (subst (λ (o : Option (List ℕ)). HasJudged w.left w.plan w'.plan o w'.script j) script h)
@@ -35,9 +35,10 @@ module _ {R : Type 0} (w w' : World R) (p s u : List ℕ) (is : IsText w.left w.
       r.0,
       w'.answers,
       judged r.0 r.1,
-      subst (λ (b : Outputs). RunsJudged Listing r.0 (Some u) w'.answers (holding [] []) b (Ok outcome)) after
-          (subst (λ (a : Outputs). RunsJudged Listing r.0 (Some u) w'.answers a w'.outputs (Ok outcome)) before
-          (subst (λ (o : Option (List ℕ)). RunsJudged Listing r.0 o w'.answers w.outputs w'.outputs (Ok outcome)) answers r.2)),
+      subst (λ (b : Outputs). RunsJudged false Listing r.0 (Some u) w'.answers (holding [] []) b (Ok outcome)) after
+          (subst (λ (a : Outputs). RunsJudged false Listing r.0 (Some u) w'.answers a w'.outputs (Ok outcome)) before
+          (subst (λ (o : Option (List ℕ)). RunsJudged false Listing r.0 o w'.answers w.outputs w'.outputs (Ok outcome)) answers
+          (subst (λ x. RunsJudged x Listing r.0 w.answers w'.answers w.outputs w'.outputs (Ok outcome)) direct r.2))),
     );
     headline = (
       k.0,

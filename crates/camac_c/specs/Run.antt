@@ -1,5 +1,5 @@
 -- What a run on texts answers.
-use Rattle.std.specs.Prelude.{◌≡◌, ◌⊎◌, ℕ, List, [], Option, Some, Ok}
+use Rattle.std.specs.Prelude.{◌≡◌, ◌⊎◌, ℕ, false, List, [], Option, Some, Ok}
 use Rattle.camac_plan.specs.Reading.{reading}
 use Rattle.camac_tool.specs.Headline.{JudgedKeeps}
 use Rattle.camac_tool.specs.Run.{RunsJudged}
@@ -16,7 +16,7 @@ holding listing file = record { listing = Some listing; events = Some file }
 
 -- What is found is run on the answers, and this listing and this event file are all that it sends. The headline is true of them.
 pub record RunSays (plan script answers : List ℕ) (outcome : Outcome) (listing file : List ℕ) : Type 0 where
-  pub runs : (j : Judged) × (left : Option (List ℕ)) × IsFound (reading plan) script j × RunsJudged Listing j (Some answers) left (holding [] []) (holding listing file) (Ok outcome)
+  pub runs : (j : Judged) × (left : Option (List ℕ)) × IsFound (reading plan) script j × RunsJudged false Listing j (Some answers) left (holding [] []) (holding listing file) (Ok outcome)
   pub headline : (j : Judged) × IsFound (reading plan) script j × JudgedKeeps Listing j (Some answers) (Some []) (Some file) (Ok outcome)
 
 -- a call on texts with two buffers, as `Answers`

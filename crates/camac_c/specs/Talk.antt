@@ -1,14 +1,15 @@
 -- What the calls of a session say.
-use Rattle.std.specs.Prelude.{◌≡◌, ◌<◌, ◌≤◌, ℕ, List, [], length, Option, None, Some}
+use Rattle.std.specs.Prelude.{◌≡◌, ◌<◌, ◌≤◌, ℕ, List, [], length, Option, None, Some, IfSome}
 use Rattle.camac_branch.specs.Branch.{Answer}
 use Rattle.camac_check_result.specs.Checked.{CheckedScript}
 use Rattle.camac_model.specs.Run.{the_run}
 use Rattle.camac_run.specs.Holds.{HoldsAfter}
-use Rattle.camac_run.specs.Operation.{Wants, CanLock}
+use Rattle.camac_run.specs.Operation.{Wants}
+use Rattle.camac_run.specs.Requested.{IsSafeRequest, held_in}
 use Rattle.camac_run.specs.Runner.{rest, last_words_in, Progresses}
 use Rattle.camac_run.specs.declared.progress.Progress.{Progress}
 use Rattle.camac_run.specs.declared.progress.Wanted.{Wanted}
-use Rattle.camac_c.specs.Filled.{filled}
+use Rattle.camac_c.specs.Filled.{filled_words}
 use Rattle.camac_c.specs.Plain.{only_code}
 use Rattle.camac_c.specs.Told.{InRange, answer_in, asked, did}
 use Rattle.camac_c.specs.declared.plain.Ask.{Ask}
@@ -22,16 +23,18 @@ use Rattle.camac_c.specs.declared.session.Session.{Session}
 -- at the beginning of the run of this script: no answer was used, and no event left
 pub record StartsOn (c : CheckedScript) (s : Session) : Type 0 where
   pub runs : (answers : List Answer) → rest s.runner answers ≡ the_run c.plan c.script answers
-  pub holds : HoldsAfter c.plan c.script [] s.runner
+  pub holds : HoldsAfter c.plan c.script [] [] s.runner
   pub checked : s.runner.checked ≡ c
   pub fed : s.runner.fed ≡ 0
   pub events : s.runner.events ≡ 0
   pub overrun : s.runner.overrun ≡ None
   pub quiet : last_words_in s.runner ≡ []
 
--- what the run wants its next answer for; nothing changes
+-- what the run wants its next answer for, which may be made; nothing changes
 abbrev pub TellsWant : Session → Session → Told → Type 0
-TellsWant s after told = (after ≡ s) × ((wanted : Option Wanted) × Wants s.runner wanted × CanLock s.runner wanted × (told ≡ asked wanted))
+TellsWant s after told =
+    (after ≡ s)
+    × ((wanted : Option Wanted) × Wants s.runner wanted × IfSome wanted (IsSafeRequest s.runner.checked.plan (held_in s.runner)) × (told ≡ asked wanted))
 
 -- an answer is not taken, and nothing changes
 abbrev pub Declines : ℕ → Session → Session → Told → Type 0
@@ -50,7 +53,7 @@ pub record TellsNext (a : CamacAnswer) (s after : Session) (told : Told) : Type 
 -- the words of the event that the last answer left; nothing changes
 abbrev pub TellsWords : Session → Session → (old new : List ℕ) → Told → Type 0
 TellsWords s after old new told =
-    (after ≡ s) × (new ≡ filled (last_words_in s.runner) old) × (told ≡ record (only_code 0) { words = length (last_words_in s.runner) })
+    (after ≡ s) × (new ≡ filled_words (last_words_in s.runner) old) × (told ≡ record (only_code 0) { words = length (last_words_in s.runner) })
 
 -- words are written where they are asked for
 abbrev pub Steps : Session → Ask → Session → (old new : List ℕ) → Told → Type 0

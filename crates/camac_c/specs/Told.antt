@@ -1,6 +1,7 @@
 -- What C is told, in numbers.
-use Rattle.std.specs.Prelude.{ℕ, ◌+◌, ◌^◌, ◌<◌, ◌≤◌, min, List, [], ◌∷◌, Option, None, Some, not, nat_eq, bit_or}
+use Rattle.std.specs.Prelude.{ℕ, ◌+◌, ◌^◌, ◌<◌, ◌≤◌, min, List, replicate, Bool, true, false, Option, None, Some, not, nat_eq}
 use Rattle.camac_branch.specs.Branch.{Answer}
+use Rattle.camac_branch.specs.declared.answer.CycleDone.{CycleDone}
 use Rattle.camac_func.specs.declared.data.DataMove.{DataMove}
 use Rattle.camac_func.specs.declared.data.DataMove.TheVariants as moves
 use Rattle.camac_run_machine.specs.MachineState.{Left}
@@ -10,6 +11,7 @@ use Rattle.camac_run.specs.declared.progress.Progress.{Progress}
 use Rattle.camac_run.specs.declared.progress.Progress.TheVariants.{Went, Overrun}
 use Rattle.camac_run.specs.declared.progress.Wanted.{Wanted}
 use Rattle.camac_run.specs.declared.progress.Wanted.TheVariants.{Demand, Cycle, Lock}
+use Rattle.camac_c.specs.Filled.{filled}
 use Rattle.camac_c.specs.Plain.{no_want, no_progress, only_code}
 use Rattle.camac_c.specs.declared.plain.CamacAnswer.{CamacAnswer}
 use Rattle.camac_c.specs.declared.plain.CamacWant.{CamacWant}
@@ -47,20 +49,32 @@ abbrev pub asked : Option Wanted → Told
 asked (Some wanted) = record (only_code 0) { want = want_in wanted }
 asked None = only_code 4
 
--- bit c of the crate c
-abbrev pub crates_in : List ℕ → ℕ
-crates_in [] = 0
-crates_in (c ∷ cs) = bit_or (2 ^ c) (crates_in cs)
+-- crates in their order, and zeros behind them: there are seven at most
+abbrev pub crates_in : List ℕ → List ℕ
+crates_in crates = filled crates (replicate 8 0)
 
 -- the number of a service, from 1 in text order; 0 where none was called
 abbrev pub service_in : Option ℕ → ℕ
 service_in None = 0
 service_in (Some number) = min number 4294967294 + 1
 
+abbrev pub flag_in : Bool → ℕ
+flag_in true = 1
+flag_in false = 0
+
+-- the word that a cycle read
+abbrev pub read_in : DataMove → ℕ → ℕ
+read_in moves.None word = 0
+read_in moves.In word = word
+read_in (moves.Out written) word = 0
+
+abbrev pub word_in : CycleDone → ℕ
+word_in done = read_in done.command.mv done.reply.word
+
 -- what an answer was used for: 1 a demand, 2 a cycle, 3 a lock
 abbrev pub item_in : Item → CamacProgress
 item_in (item.Demand pattern service) = record no_progress { kind = 1; pattern = pattern; service = service_in service }
-item_in (item.Cycle done) = record no_progress { kind = 2; wait = done.wait }
+item_in (item.Cycle done) = record no_progress { kind = 2; wait = done.wait; x = flag_in done.reply.x; q = flag_in done.reply.q; word = word_in done }
 item_in (item.Lock c wait) = record no_progress { kind = 3; c = c; wait = wait }
 item_in (item.Unlock c) = no_progress
 

@@ -63,10 +63,10 @@ impl Handle {
         }
     }
 
-    /// Asks the run, which writes words to `words` where it is asked for them. Where there is none, `none` is told.
+    /// Asks the run, which writes to `bytes` where it is asked for that. Where there is none, `none` is told.
     #[inline(always)]
-    pub fn talk(self, ask: Ask, none: Told, words: &mut [u32]) -> (Handle, Told)
-        ensures { Talks self.value ask none result.0.value words.old words.new result.1 }
+    pub fn talk(self, ask: Ask, none: Told, bytes: &mut [u8]) -> (Handle, Told)
+        ensures { Talks self.value ask none result.0.value bytes.old bytes.new result.1 }
     {
         let Handle { run, script, alloc } = self;
         if run.is_null() {
@@ -78,7 +78,7 @@ impl Handle {
                     alloc,
                 },
                 ask,
-                words,
+                bytes,
             );
             let Loose { at, alloc } = run;
             (

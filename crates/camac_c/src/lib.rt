@@ -98,14 +98,15 @@ pub extern "C" fn camac_raw_next(
     told.code
 }
 
-/// The words of the event that the last answer left, as many as there is room for; the number of all, 0 where it left none.
+/// The words of the event that the last answer left, as many as there is room for, the least byte of each first; the number of all, 0 where
+/// it left none.
 #[tactic(auto, using(crate::proofs::Calls::words_answers))]
 #[unsafe(no_mangle)]
-pub extern "C" fn camac_raw_words(alloc: Global, handle: &mut Handle, words: &mut [u32]) -> usize
-    ensures { AnswersWords handle.old.value handle.new.value words.old words.new result }
+pub extern "C" fn camac_raw_words(alloc: Global, handle: &mut Handle, bytes: &mut [u8]) -> usize
+    ensures { AnswersWords handle.old.value handle.new.value bytes.old bytes.new result }
 {
     let held = std::mem::replace(handle, Handle::none(alloc));
-    let (after, told) = held.talk(Ask::Words, only_code(MISUSE), words);
+    let (after, told) = held.talk(Ask::Words, only_code(MISUSE), bytes);
     *handle = after;
     told.words
 }

@@ -36,7 +36,12 @@ pub struct CamacProgress {
     pub kind: u8,
     pub c: u8,
     pub wait: u8,
-    pub unlocked: u8,
+    pub x: u8,
+    pub q: u8,
+    pub unused: [u8; 3],
+    /// The crates to be released, in this order; zeros behind them.
+    pub unlocked: [u8; 8],
+    pub word: u32,
     pub pattern: u32,
     pub service: u32,
     pub event: u32,
@@ -63,6 +68,7 @@ pub struct Told {
     pub code: u32,
     pub want: CamacWant,
     pub progress: CamacProgress,
+    /// How many words the event has.
     pub words: usize,
 }
 
@@ -115,7 +121,11 @@ pub const NO_PROGRESS: CamacProgress = CamacProgress {
     kind: 0,
     c: 0,
     wait: 0,
-    unlocked: 0,
+    x: 0,
+    q: 0,
+    unused: [0; 3],
+    unlocked: [0; 8],
+    word: 0,
     pattern: 0,
     service: 0,
     event: 0,

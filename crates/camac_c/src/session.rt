@@ -1,17 +1,18 @@
 // A run in progress: what is asked of it, and what it tells.
 
-ghost use Rattle.std.specs.Prelude.{◌≡◌, ◌↔◌, ◌^◌, length, IfOk, IfSome, IsSome};
+ghost use Rattle.std.specs.Prelude.{◌≡◌, ◌↔◌, length, IfOk, IfSome, IsSome};
 ghost use Rattle.camac_run.specs.Runner.{last_words_in};
-ghost use Rattle.camac_c.specs.Filled.{filled};
+ghost use Rattle.camac_c.specs.Filled.{filled_words};
 ghost use Rattle.camac_c.specs.Talk.{StartsOn, Steps, TellsNext, TellsWant};
-ghost use Rattle.camac_c.specs.Told.{InRange, answer_in, crates_in, did, event_in, item_in, movement_in, service_in, want_in, written_in};
+ghost use Rattle.camac_c.specs.Told.{InRange, answer_in, crates_in, did, event_in, flag_in, item_in, movement_in, service_in, want_in, word_in, written_in};
 
 use crate::loose::Loose;
 use crate::plain::{
     Ask, CYCLE, CamacAnswer, CamacProgress, CamacWant, DEMAND, LOCK, NO_PROGRESS, NO_WANT, OK,
     OVERRUN, RANGE, SPENT, STOPPED, Told, only_code,
 };
-use camac_branch::{Answer, Command};
+use byteorder::{ByteOrder, LittleEndian};
+use camac_branch::{Answer, Command, CycleDone};
 use camac_check_result::Checked;
 use camac_event::Usage;
 use camac_func::DataMove;
@@ -50,16 +51,16 @@ pub fn start<'a>(alloc: Global, checked: &'a Checked) -> Result<Loose<Session<'a
 pub fn step<'a>(
     run: Loose<Session<'a>, Global>,
     ask: Ask,
-    words: &mut [u32],
+    bytes: &mut [u8],
 ) -> (Loose<Session<'a>, Global>, Told)
-    ensures { Steps run.entry.value ask result.0.value words.old words.new result.1 }
+    ensures { Steps run.entry.value ask result.0.value bytes.old bytes.new result.1 }
 {
     let mut session = run.into_box();
     let told = match ask {
         Ask::Wants => wants(&session),
         Ask::Next(answer) => next(&mut session, answer),
         Ask::Words => Told {
-            words: write_words(session.runner.last_words(), words),
+            words: write_words(session.runner.last_words(), bytes),
             ..only_code(OK)
         },
     };
@@ -208,6 +209,9 @@ fn item_of(item: &Item) -> CamacProgress
         Item::Cycle(done) => CamacProgress {
             kind: CYCLE,
             wait: done.wait,
+            x: flag_of(done.reply.x),
+            q: flag_of(done.reply.q),
+            word: word_of(done),
             ..NO_PROGRESS
         },
         Item::Lock(c, wait) => CamacProgress {
@@ -217,6 +221,22 @@ fn item_of(item: &Item) -> CamacProgress
             ..NO_PROGRESS
         },
         Item::Unlock(_) => NO_PROGRESS,
+    }
+}
+
+fn flag_of(is_so: bool) -> u8
+    ensures { result ≡ flag_in is_so }
+{
+    if is_so { 1 } else { 0 }
+}
+
+// The word that a cycle read.
+fn word_of(done: &CycleDone) -> u32
+    ensures { result ≡ word_in done.now }
+{
+    match done.command.mv {
+        DataMove::In => done.reply.word.get(),
+        _ => 0,
     }
 }
 
@@ -246,29 +266,25 @@ fn with_event(told: CamacProgress, event: &Option<(u32, GlBit, Usage)>, words: u
     }
 }
 
-fn crates_of(crates: &[CrateNo]) -> u8
+fn crates_of(crates: &[CrateNo]) -> [u8; 8]
     ensures { result ≡ crates_in crates.now }
 {
-    match crates {
-        [] => 0,
-        [first, rest @ ..] => bit_of(*first) | crates_of(rest),
-    }
-}
-
-fn bit_of(c: CrateNo) -> u8
-    ensures { result ≡ 2 ^ c }
-{
-    1 << c.get()
-}
-
-// As many words as there is room for; returns the number of all.
-fn write_words(held: &[Word24], words: &mut [u32]) -> usize
-    ensures all { result ≡ length held.now }
-    ensures written { words.new ≡ filled held.now words.old }
-{
-    let n = held.len().min(words.len());
+    let mut listed = [0; 8];
+    let n = crates.len().min(listed.len());
     for i in 0..n {
-        words[i] = held[i].get();
+        listed[i] = crates[i].get() as u8;
+    }
+    listed
+}
+
+// As many words as there is room for, the least byte of each first; returns the number of all.
+fn write_words(held: &[Word24], bytes: &mut [u8]) -> usize
+    ensures all { result ≡ length held.now }
+    ensures written { bytes.new ≡ filled_words held.now bytes.old }
+{
+    let n = held.len().min(bytes.len() / 4);
+    for i in 0..n {
+        LittleEndian::write_u32(&mut bytes[4 * i..], held[i].get());
     }
     held.len()
 }

@@ -28,7 +28,7 @@ use Rattle.camac_check_rules.specs.Conditions.{split}
 use Rattle.camac_check_rules.specs.Costs.{costs, no_costs, plus, choice_costs, lock_costs, loop_costs, Verdict, verdict, unreached}
 use Rattle.camac_check_rules.specs.Capped.{capped}
 use Rattle.camac_check_rules.specs.Addresses.{command_widths}
-use Rattle.camac_check_rules.specs.Cycles.{Around, alone_in, with_locked, may_write, same_class, single_rule}
+use Rattle.camac_check_rules.specs.Cycles.{Context, Around, alone_in, with_locked, may_write, same_class, single_rule}
 use Rattle.camac_check_rules.specs.Loops.{with_fixed, for_limits, for_head, for_after, keeps_hold_after, turns_between, while_head, turn_bound}
 use Rattle.camac_check_rules.specs.Procedures.{ranges_of, arguments_fit, at_entry}
 use Rattle.camac_check_rules.specs.Transfers.{is_one_crate, has_sub_addresses, scan_rule, block_region}
@@ -38,6 +38,14 @@ use Rattle.camac_check_rules.specs.Statements.{greatest_word, accept_statement, 
 use Rattle.camac_check_rules.specs.Accept.{at_start, own_body, within, accept_procedure, accept_service}
 use Rattle.camac_check_simple.specs.declared.context.Context as code
 use Rattle.camac_check_simple.specs.Gives.{by_code, by_rules}
+
+-- these costs stay at the greatest number of 64 bits
+abbrev pub in_code : Context → Context
+in_code c = record c { limit = capped }
+
+-- these are of any size
+abbrev pub in_rules : Context → Context
+in_rules c = record c { limit = λ k. k }
 
 -- a verdict with its costs cut
 abbrev pub cut : Verdict → Verdict
@@ -58,7 +66,7 @@ unfolding go_on
 go_cut q (Ok v) k l e h = ap (λ x. go_on x k) e ∙ h v
 go_cut q (Err f) k l e h = ap (λ x. go_on x k) e
 
-if_reached_cut : (known : Option Facts) (k l : Facts → Result Verdict Fault) → ((q : Facts) → k q ≡ cut_all (l q)) → if_reached unreached known k ≡ cut_all (if_reached unreached known l)
+pub if_reached_cut : (known : Option Facts) (k l : Facts → Result Verdict Fault) → ((q : Facts) → k q ≡ cut_all (l q)) → if_reached unreached known k ≡ cut_all (if_reached unreached known l)
 unfolding if_reached
 if_reached_cut None k l h = refl
 if_reached_cut (Some q) k l h = h q
@@ -103,36 +111,36 @@ loop_cut t a = same_costs _ _ _ _ _ _ (scaled t a.cycles (2 ^ 64 - 1)) (scaled t
         let c = ap (λ m. min (t * m) k) inner in
         omega arith
 
-single_cut : (context : code.Context) (around : Around) (line : ℕ) (size : WordSize) (f r : ℕ) (m : Move) (k : Facts) → single_rule (by_code context) around line size f r m k ≡ cut_all (single_rule (by_rules context) around line size f r m k)
+single_cut : (context : Context) (around : Around) (line : ℕ) (size : WordSize) (f r : ℕ) (m : Move) (k : Facts) → single_rule (in_code context) around line size f r m k ≡ cut_all (single_rule (in_rules context) around line size f r m k)
 single_cut context around line size f r no_data k =
     go_same (given (region_at k.registers r) RegisterUnset line _) _ _ (λ g.
-    go_same (command_widths context.plan.now line f g) _ _ (λ w.
+    go_same (command_widths context.plan line f g) _ _ (λ w.
     go_same (required (same_class Control (class_of f)) WrongDirection line _) _ _ (λ _. refl)))
 single_cut context around line size f r (into x) k =
     go_same (required (may_write around x) LoopVariableAssigned line _) _ _ (λ _.
     go_same (given (region_at k.registers r) RegisterUnset line _) _ _ (λ g.
-    go_same (command_widths context.plan.now line f g) _ _ (λ w.
+    go_same (command_widths context.plan line f g) _ _ (λ w.
     go_same (required (same_class Read (class_of f)) WrongDirection line _) _ _ (λ _. refl))))
 single_cut context around line size f r (from e) k =
     go_same (range_of line e k.ranges) _ _ (λ v.
     go_same (given (region_at k.registers r) RegisterUnset line _) _ _ (λ g.
-    go_same (command_widths context.plan.now line f g) _ _ (λ w.
+    go_same (command_widths context.plan line f g) _ _ (λ w.
     go_same (required (same_class Write (class_of f)) WrongDirection line _) _ _ (λ _.
     go_same (required (nat_lt v.hi (2 ^ w.lo) && fits_size size v.hi) ValueTooWide line _) _ _ (λ _. refl)))))
 
-scan_cut : (context : code.Context) (around : Around) (line f r1 r2 : ℕ) (e : Expression) (x : ℕ) (k : Facts) → scan_rule (by_code context) around line f r1 r2 e x k ≡ cut_all (scan_rule (by_rules context) around line f r1 r2 e x k)
+scan_cut : (context : Context) (around : Around) (line f r1 r2 : ℕ) (e : Expression) (x : ℕ) (k : Facts) → scan_rule (in_code context) around line f r1 r2 e x k ≡ cut_all (scan_rule (in_rules context) around line f r1 r2 e x k)
 scan_cut context around line f r1 r2 e x k =
     go_same (range_of line e k.ranges) _ _ (λ most.
     go_same (required (may_write around x) LoopVariableAssigned line _) _ _ (λ _.
     go_same (given (region_at k.registers r1) RegisterUnset line _) _ _ (λ g.
     go_same (given (region_at k.registers r2) RegisterUnset line _) _ _ (λ h.
     go_same (required (is_one_crate g h) ScanCratesDiffer line _) _ _ (λ _.
-    go_same (required (is_installed context.plan.now (window_of g h)) StationNotInstalled line _) _ _ (λ _.
-    go_same (required (has_sub_addresses g && (has_sub_addresses h && is_declared context.plan.now f (window_of g h))) CommandNotDeclared line _) _ _ (λ _.
+    go_same (required (is_installed context.plan (window_of g h)) StationNotInstalled line _) _ _ (λ _.
+    go_same (required (has_sub_addresses g && (has_sub_addresses h && is_declared context.plan f (window_of g h))) CommandNotDeclared line _) _ _ (λ _.
     go_same (required (same_class Read (class_of f)) WrongDirection line _) _ _ (λ _. refl))))))))
 
 mutual
-  statement_cut : (context : code.Context) (around : Around) (s : Statement) (k : Facts) → accept_statement (by_code context) around s k ≡ cut_all (accept_statement (by_rules context) around s k)
+  pub statement_cut : (context : Context) (around : Around) (s : Statement) (k : Facts) → accept_statement (in_code context) around s k ≡ cut_all (accept_statement (in_rules context) around s k)
   statement_cut context around (assign line x e) k =
       go_same (range_of line e k.ranges) _ _ (λ r. go_same (required (may_write around x) LoopVariableAssigned line _) _ _ (λ _. refl))
   statement_cut context around (set_register line r e1 e2 e3) k =
@@ -141,59 +149,59 @@ mutual
   statement_cut context around (put line e) k =
       go_same (range_of line e k.ranges) _ _ (λ r. go_same (required (nat_le r.hi greatest_word) WordTooWide line _) _ _ (λ _. refl))
   statement_cut context around (crate_call line which e) k =
-      go_same (range_of line e k.ranges) _ _ (λ r. go_same (required (is_crate context.plan.now r) CrateUnfit line _) _ _ (λ _. refl))
+      go_same (range_of line e k.ranges) _ _ (λ r. go_same (required (is_crate context.plan r) CrateUnfit line _) _ _ (λ _. refl))
   statement_cut context around (address_scan line f r1 r2 max x) k = scan_cut context around line f r1 r2 max x k
   statement_cut context around (q_stop line f r t max x) k =
-      go_same (range_of line max k.ranges) _ _ (λ most. go_same (block_region (by_rules context) around line f r t most.hi x k) _ _ (λ g. refl))
+      go_same (range_of line max k.ranges) _ _ (λ most. go_same (block_region (in_rules context) around line f r t most.hi x k) _ _ (λ g. refl))
   statement_cut context around (q_repeat line f r t max limit x) k =
       go_same (range_of line max k.ranges) _ _ (λ most.
-      go_same (range_of line limit k.ranges) _ _ (λ cycles. go_same (block_region (by_rules context) around line f r t most.hi x k) _ _ (λ g. refl)))
+      go_same (range_of line limit k.ranges) _ _ (λ cycles. go_same (block_region (in_rules context) around line f r t most.hi x k) _ _ (λ g. refl)))
   statement_cut context around (lam_call line which l) k =
-      go_same (given (lam_region (by_rules context) l) StationNotInstalled line _) _ _ (λ g.
-      go_same (command_widths context.plan.now line (lam_function which) g) _ _ (λ w. refl))
+      go_same (given (lam_region (in_rules context) l) StationNotInstalled line _) _ _ (λ g.
+      go_same (command_widths context.plan line (lam_function which) g) _ _ (λ w. refl))
   statement_cut context around (choose line test a) k =
       go_same (split line test k) _ _ (λ ways.
-      go_cut (if_reached unreached ways.holds (accept_block (by_code context) around a)) (if_reached unreached ways.holds (accept_block (by_rules context) around a)) _ _
-      (if_reached_cut ways.holds (accept_block (by_code context) around a) (accept_block (by_rules context) around a) (λ q. block_cut context around a q))
+      go_cut (if_reached unreached ways.holds (accept_block (in_code context) around a)) (if_reached unreached ways.holds (accept_block (in_rules context) around a)) _ _
+      (if_reached_cut ways.holds (accept_block (in_code context) around a) (accept_block (in_rules context) around a) (λ q. block_cut context around a q))
       (λ first. ap (λ c. Ok (verdict (join first.after ways.fails) c)) (choice_cut first.costs no_costs)))
   statement_cut context around (choose_else line test a b) k =
       go_same (split line test k) _ _ (λ ways.
-      go_cut (if_reached unreached ways.holds (accept_block (by_code context) around a)) (if_reached unreached ways.holds (accept_block (by_rules context) around a)) _ _
-      (if_reached_cut ways.holds (accept_block (by_code context) around a) (accept_block (by_rules context) around a) (λ q. block_cut context around a q))
+      go_cut (if_reached unreached ways.holds (accept_block (in_code context) around a)) (if_reached unreached ways.holds (accept_block (in_rules context) around a)) _ _
+      (if_reached_cut ways.holds (accept_block (in_code context) around a) (accept_block (in_rules context) around a) (λ q. block_cut context around a q))
       (λ first.
-      go_cut (if_reached unreached ways.fails (accept_block (by_code context) around b)) (if_reached unreached ways.fails (accept_block (by_rules context) around b)) _ _
-      (if_reached_cut ways.fails (accept_block (by_code context) around b) (accept_block (by_rules context) around b) (λ q. block_cut context around b q))
+      go_cut (if_reached unreached ways.fails (accept_block (in_code context) around b)) (if_reached unreached ways.fails (accept_block (in_rules context) around b)) _ _
+      (if_reached_cut ways.fails (accept_block (in_code context) around b) (accept_block (in_rules context) around b) (λ q. block_cut context around b q))
       (λ second. ap (λ c. Ok (verdict (join first.after second.after) c)) (choice_cut first.costs second.costs))))
   statement_cut context around (for_ line x e1 e2 keeps body) k =
       go_same (for_limits around line x e1 e2 keeps k) _ _ (λ l.
-      go_cut (if_reached unreached (for_head x l keeps body k) (accept_block (by_code context) (with_fixed x around) body)) (if_reached unreached (for_head x l keeps body k) (accept_block (by_rules context) (with_fixed x around) body)) _ _
-      (if_reached_cut (for_head x l keeps body k) (accept_block (by_code context) (with_fixed x around) body) (accept_block (by_rules context) (with_fixed x around) body) (λ q. block_cut context (with_fixed x around) body q))
+      go_cut (if_reached unreached (for_head x l keeps body k) (accept_block (in_code context) (with_fixed x around) body)) (if_reached unreached (for_head x l keeps body k) (accept_block (in_rules context) (with_fixed x around) body)) _ _
+      (if_reached_cut (for_head x l keeps body k) (accept_block (in_code context) (with_fixed x around) body) (accept_block (in_rules context) (with_fixed x around) body) (λ q. block_cut context (with_fixed x around) body q))
       (λ turn.
       go_same (required (keeps_hold_after keeps turn.after) KeepFailsAfterTurn line _) _ _ (λ _.
       ap (λ c. Ok (verdict (for_after x l keeps body k) c)) (loop_cut (turns_between l) turn.costs))))
   statement_cut context around (while_ line test most m keeps body) k =
       go_same (while_head around.body line most m keeps body k) _ _ (λ top.
       go_same (split line test top) _ _ (λ arms.
-      go_cut (if_reached unreached arms.holds (accept_block (by_code context) around body)) (if_reached unreached arms.holds (accept_block (by_rules context) around body)) _ _
-      (if_reached_cut arms.holds (accept_block (by_code context) around body) (accept_block (by_rules context) around body) (λ q. block_cut context around body q))
+      go_cut (if_reached unreached arms.holds (accept_block (in_code context) around body)) (if_reached unreached arms.holds (accept_block (in_rules context) around body)) _ _
+      (if_reached_cut arms.holds (accept_block (in_code context) around body) (accept_block (in_rules context) around body) (λ q. block_cut context around body q))
       (λ turn.
       go_same (required (keeps_hold_after keeps turn.after) KeepFailsAfterTurn line _) _ _ (λ _.
       ap (λ c. Ok (verdict arms.fails c)) (loop_cut (turn_bound arms.holds most) turn.costs)))))
   statement_cut context around (locked line e body) k =
-      go_same (lock_rule (by_rules context) around line e k) _ _ (λ c.
-      go_cut (accept_block (by_code context) (with_locked c around) body k) (accept_block (by_rules context) (with_locked c around) body k) _ _ (block_cut context (with_locked c around) body k)
-      (λ inner. ap (λ d. Ok (verdict inner.after d)) (lock_cut (unwrap_or (crate_waits context.plan.now c) 0) inner.costs)))
+      go_same (lock_rule (in_rules context) around line e k) _ _ (λ c.
+      go_cut (accept_block (in_code context) (with_locked c around) body k) (accept_block (in_rules context) (with_locked c around) body k) _ _ (block_cut context (with_locked c around) body k)
+      (λ inner. ap (λ d. Ok (verdict inner.after d)) (lock_cut (unwrap_or (crate_waits context.plan c) 0) inner.costs)))
   statement_cut context around (call line p es) k =
       go_same (ranges_of line es k.ranges) _ _ (λ rs.
-      go_same (given (slice_get (by_rules context).procedures p) ArgumentOutOfRange line _) _ _ (λ procedure.
+      go_same (given (slice_get (in_rules context).procedures p) ArgumentOutOfRange line _) _ _ (λ procedure.
       go_same (required (arguments_fit rs procedure.parameters) ArgumentOutOfRange line _) _ _ (λ _. refl)))
 
-  pub block_cut : (context : code.Context) (around : Around) (b : Block) (k : Facts) → accept_block (by_code context) around b k ≡ cut_all (accept_block (by_rules context) around b k)
+  pub block_cut : (context : Context) (around : Around) (b : Block) (k : Facts) → accept_block (in_code context) around b k ≡ cut_all (accept_block (in_rules context) around b k)
   block_cut context around done k = refl
   block_cut context around (next s rest) k =
-      go_cut (accept_statement (by_code context) around s k) (accept_statement (by_rules context) around s k) _ _ (statement_cut context around s k) (λ first.
-      go_cut (if_reached unreached first.after (accept_block (by_code context) around rest)) (if_reached unreached first.after (accept_block (by_rules context) around rest)) _ _
-      (if_reached_cut first.after (accept_block (by_code context) around rest) (accept_block (by_rules context) around rest) (λ q. block_cut context around rest q))
+      go_cut (accept_statement (in_code context) around s k) (accept_statement (in_rules context) around s k) _ _ (statement_cut context around s k) (λ first.
+      go_cut (if_reached unreached first.after (accept_block (in_code context) around rest)) (if_reached unreached first.after (accept_block (in_rules context) around rest)) _ _
+      (if_reached_cut first.after (accept_block (in_code context) around rest) (accept_block (in_rules context) around rest) (λ q. block_cut context around rest q))
       (λ second. ap (λ c. Ok (verdict second.after c)) (plus_cut first.costs second.costs)))
 
 leb_cut : (n w k : ℕ) → w < k → nat_le (min n k) w ≡ nat_le n w
@@ -235,7 +243,7 @@ pub service_cut : (context : code.Context) (v : Service) → v.cycles < 2 ^ 64 -
 service_cut context v hc hw =
     let around : Around = alone_in (body.Service v.lam) in
     finish_all (body.Service v.lam) (costs v.cycles v.words greatest) v.line hc hw (lit< tt) (accept_block (by_code context) around v.body at_start) (accept_block (by_rules context) around v.body at_start)
-    (block_cut context around v.body at_start)
+    (block_cut (by_rules context) around v.body at_start)
 
 pub procedure_cut : (context : code.Context) (p : Procedure) → p.cycles < 2 ^ 64 - 1 → p.words < 2 ^ 64 - 1 → p.steps < 2 ^ 64 - 1 → accept_procedure (by_code context) p ≡ accept_procedure (by_rules context) p
 procedure_cut context p hc hw hs =
@@ -244,4 +252,4 @@ procedure_cut context p hc hw hs =
     finish_all place (annotated p) p.line hc hw hs
     (if_reached unreached (at_entry p.parameters) (accept_block (by_code context) around p.body))
     (if_reached unreached (at_entry p.parameters) (accept_block (by_rules context) around p.body))
-    (if_reached_cut (at_entry p.parameters) (accept_block (by_code context) around p.body) (accept_block (by_rules context) around p.body) (block_cut context around p.body))
+    (if_reached_cut (at_entry p.parameters) (accept_block (by_code context) around p.body) (accept_block (by_rules context) around p.body) (block_cut (by_rules context) around p.body))

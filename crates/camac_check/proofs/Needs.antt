@@ -56,7 +56,7 @@ pub needs_cut : (context : code.Context) (v : Service) → service_needs (by_cod
 needs_cut context v =
     let around : Around = alone_in (body.Service v.lam) in
     finish_needs (body.Service v.lam) context.plan.now v.line (accept_block (by_code context) around v.body at_start) (accept_block (by_rules context) around v.body at_start)
-    (block_cut context around v.body at_start)
+    (block_cut (by_rules context) around v.body at_start)
 
 -- a fault of the checker, and what it allows, seen as what is needed
 pub finds_fault : {X A B : Type 0} (view : X → B) (e : CheckFault) (f : LeastFault) (r : Result A Fault) (next : A → Result B LeastFault) → f ≡ of_check e → Fails e r → Finds view (Err f) (and_then (checked r) next)

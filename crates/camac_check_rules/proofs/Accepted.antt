@@ -24,13 +24,13 @@ use Rattle.camac_check_rules.proofs.Stores.{Place}
 use Rattle.camac_check_rules.proofs.Sound.{Paid, Sound}
 use Rattle.camac_check_rules.proofs.Routines.{called, AreSmall, RoutineSound}
 
-lockless : (script : Script) → IsTrue (is_well_formed script) → AreLockless script.procedures
+pub lockless : (script : Script) → IsTrue (is_well_formed script) → AreLockless script.procedures
 lockless script formed =
     are_lockless script.procedures (λ j p at.
     let stands = procedures_stand script formed j p at in
     block_lockless (inside script j p) refl p.body 0 _ stands.body)
 
-first_accepted : (plan : Layout) (script : Script) (ks : List Bounds) → IsPlan plan → IsTrue (is_well_formed script) → accept plan script ≡ Ok ks → AreFirst plan script (services_in script.order) (procedures_in script.order) [] script.procedures script.services ks
+pub first_accepted : (plan : Layout) (script : Script) (ks : List Bounds) → IsPlan plan → IsTrue (is_well_formed script) → accept plan script ≡ Ok ks → AreFirst plan script (services_in script.order) (procedures_in script.order) [] script.procedures script.services ks
 first_accepted plan script ks is formed e =
     subst (λ r. IfOk r (AreFirst plan script (services_in script.order) (procedures_in script.order) [] script.procedures script.services)) e
     (items_accepted plan script (λ at f w h. (allowed-in_range plan is at f w h).1) script.order [] [] script.procedures script.services tt refl (lockless script formed)).holds
@@ -49,7 +49,7 @@ accepted_within plan script ks is formed events e =
     let all = order_services script formed in
     all_within plan script ks script.services first.accepted (omega arith) events
 
-in_range_small : (vs : List ℕ) (ps : List Parameter) → AreInRanges vs ps → AreNumbers ps → AreSmall vs
+pub in_range_small : (vs : List ℕ) (ps : List Parameter) → AreInRanges vs ps → AreNumbers ps → AreSmall vs
 in_range_small [] ps h n = tt
 in_range_small (v ∷ vs) [] h n = absurd h
 in_range_small (v ∷ vs) (p ∷ ps) h n =
@@ -58,7 +58,7 @@ in_range_small (v ∷ vs) (p ∷ ps) h n =
     (omega arith, in_range_small vs ps h.2 n.1)
 
 -- where a call leaves a branch and flags as they are, and nothing is counted yet
-abbrev at_call : Branch → Bool → Bool → List Answer → State
+abbrev pub at_call : Branch → Bool → Bool → List Answer → State
 at_call b q x answers = record (fresh b answers) { branch = b; q = q; x = x }
 
 called_within : (k : Bounds) (vs : List ℕ) (b : Branch) (q x : Bool) (answers : List Answer) (t : State) → Paid k (entered vs (at_call b q x answers)) t → IsWithin k t

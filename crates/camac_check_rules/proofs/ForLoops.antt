@@ -11,7 +11,8 @@ use Rattle.camac_model.specs.State.{State, stepped, with_variable}
 use Rattle.camac_model.specs.Behaviour.{Action, given}
 use Rattle.camac_model.specs.Value.{value}
 use Rattle.camac_model.specs.Meaning.{for_state, for_from, effect, block_meaning}
-use Rattle.camac_model.specs.Fine.{Bounds}
+use Rattle.camac_model.specs.Fine.{Bounds, most_turns}
+use Rattle.camac_model.specs.Moments.{Meets}
 use Rattle.camac_model.proofs.Rules.{counts_meet_within}
 use Rattle.camac_check_rules.specs.Known.{Facts, Known, range_at, with_range}
 use Rattle.camac_check_rules.specs.Costs.{loop_costs, Verdict, verdict}
@@ -61,11 +62,11 @@ After x body qs k l = Some (with_range x (hull (range_at k.ranges x) (values_bet
 
 -- A `for` whose body `run` is accepted at the head, from a state that is inside what is known.
 module _ (plan : Layout) (around : Place) (x : ℕ) (body : Block) (qs : List Keep) (k : Facts) (l : Limits) (turn : Verdict) (run : Action) where
-  record Checked : Type 0 where
-    may : may_write (around_of around) x ≡ true
-    sound : (t : State) → Inside (fixing x around) (with_range x (values_between l) (head body qs k)) t → Sound plan (fixing x around) turn.after turn.costs t (run t)
-    leaves : (t : State) → Leaves (block_writes body) (block_sets body) t (run t)
-    keep : keeps_hold_after qs turn.after ≡ true
+  pub record Checked : Type 0 where
+    pub may : may_write (around_of around) x ≡ true
+    pub sound : (t : State) → Inside (fixing x around) (with_range x (values_between l) (head body qs k)) t → Sound plan (fixing x around) turn.after turn.costs t (run t)
+    pub leaves : (t : State) → Leaves (block_writes body) (block_sets body) t (run t)
+    pub keep : keeps_hold_after qs turn.after ≡ true
 
   abbrev Written : ℕ → Bool
   Written y = nat_eq y x || block_writes body y
@@ -75,13 +76,13 @@ module _ (plan : Layout) (around : Place) (x : ℕ) (body : Block) (qs : List Ke
 
   module _ (h : Checked) (s : State) (i : Inside around k s) (v w : ℕ) (first : Fits l.first v) (last : Fits l.last w) where
     -- after so many turns, with so many left and this value next
-    record Turned (left next : ℕ) (t : State) : Type 0 where
-      made : ℕ
-      turns : made + left ≡ w + 1 - v
-      is_next : next ≡ v + made
-      paid : Paid (loop_costs made turn.costs) s t
-      between : Between around Written body qs s t
-      untouched : Untouched around s t
+    pub record Turned (left next : ℕ) (t : State) : Type 0 where
+      pub made : ℕ
+      pub turns : made + left ≡ w + 1 - v
+      pub is_next : next ≡ v + made
+      pub paid : Paid (loop_costs made turn.costs) s t
+      pub between : Between around Written body qs s t
+      pub untouched : Untouched around s t
 
     in_values : (n : ℕ) → v ≤ n → n ≤ w → IsWithin (values_between l) n
     in_values n low high = record { low = omega (arith, first.within); high = omega (arith, last.within) }
@@ -108,6 +109,28 @@ module _ (plan : Layout) (around : Place) (x : ℕ) (body : Block) (qs : List Ke
           untouched = λ y among. e.untouched y (or_right (nat_eq y x) (is_among y around.fixed) among) ∙ (written_other around x next t.variables h.may y among ∙ g.untouched y among);
         }
 
+    -- the body begins inside what is known there
+    pub turn_begins : (left next : ℕ) (t : State) → Turned (suc left) next t → Inside (fixing x around) (with_range x (values_between l) (head body qs k)) (for_state x next t)
+    turn_begins left next t g =
+        let high : next ≤ w = omega (arith, g.turns, g.is_next) in
+        let value_in : IsWithin (values_between l) next = in_values next (omega (arith, g.is_next)) high in
+        let value_small : next ≤ greatest = omega (arith, last.small) in
+        let set = inside_set around x next (values_between l) body qs k s t i g.between value_in value_small in
+        record { variables = set.variables; registers = set.registers; locks = set.locks }
+
+    pub one_turn : (left next : ℕ) (t : State) → Turned (suc left) next t → Meets step (SafePiece plan) (StopsWell Costs s) (λ y. Turned left (next + 1)) tt (run (for_state x next t))
+    one_turn left next t g =
+        let t' : State = for_state x next t in
+        let fewer : g.made + 1 ≤ turns_between l = omega (arith, g.turns, first.within, last.within) in
+        meets_more plan (StopsWell turn.costs t') (StopsWell Costs s)
+        (λ y q. Ended (fixing x around) turn.after turn.costs t' q × Same (block_writes body) (block_sets body) t' q) (λ y. Turned left (next + 1)) (run t')
+        (λ o q e. stopped_turn g.made (turns_between l) turn.costs o s t t' q fewer g.paid (record { cost = refl; words = refl; steps = refl; answers = refl }) e)
+        (λ q e. turn_left left next t q g e.0 e.1)
+        (meets_both plan (StopsWell turn.costs t') (EndsWell (fixing x around) turn.after turn.costs t') (λ y q. Same (block_writes body) (block_sets body) t' q) (run t') (h.sound t' (turn_begins left next t g)) (h.leaves t'))
+
+    pub before_turns : (m : ℕ) → m ≡ w + 1 - v → Between around Written body qs s (stepped s) → Turned m v (stepped s)
+    before_turns m is b = record { made = 0; turns = omega (arith, is); is_next = omega arith; paid = paid_begun 0 turn.costs s; between = b; untouched = λ y e. refl }
+
     all_turns : (m n : ℕ) → m ≡ w + 1 - v → m ≤ n → Between around Written body qs s (stepped s) → Sound plan around (After x body qs k l) Costs s (for_from m n x v w run (stepped s))
     all_turns zero n is le b = record {
       reaches = inside_narrowed around (head body qs k) (stepped s) x (hull (range_at k.ranges x) (values_between l))
@@ -118,20 +141,7 @@ module _ (plan : Layout) (around : Place) (x : ℕ) (body : Block) (qs : List Ke
     }
     all_turns (suc m) n is le b =
         counts_meet_within step (SafePiece plan) (StopsWell Costs s) (EndsWell around (After x body qs k l) Costs s) x w run (λ u. Turned)
-        (λ u left next t g.
-        let t' : State = for_state x next t in
-        let old = g.between in
-        let high : next ≤ w = omega (arith, g.turns, g.is_next) in
-        let value_in : IsWithin (values_between l) next = in_values next (omega (arith, g.is_next)) high in
-        let value_small : next ≤ greatest = omega (arith, last.small) in
-        let set = inside_set around x next (values_between l) body qs k s t i old value_in value_small in
-        let inside : Inside (fixing x around) (with_range x (values_between l) (head body qs k)) t' = record { variables = set.variables; registers = set.registers; locks = set.locks } in
-        let fewer : g.made + 1 ≤ turns_between l = omega (arith, g.turns, first.within, last.within) in
-        meets_more plan (StopsWell turn.costs t') (StopsWell Costs s)
-        (λ y q. Ended (fixing x around) turn.after turn.costs t' q × Same (block_writes body) (block_sets body) t' q) (λ y. Turned left (next + 1)) (run t')
-        (λ o q e. stopped_turn g.made (turns_between l) turn.costs o s t t' q fewer g.paid (record { cost = refl; words = refl; steps = refl; answers = refl }) e)
-        (λ q e. turn_left left next t q g e.0 e.1)
-        (meets_both plan (StopsWell turn.costs t') (EndsWell (fixing x around) turn.after turn.costs t') (λ y q. Same (block_writes body) (block_sets body) t' q) (run t') (h.sound t' inside) (h.leaves t')))
+        (λ u left next t g. one_turn left next t g)
         (λ u next t g.
         let fewer : g.made ≤ turns_between l = omega (arith, g.turns, first.within, last.within) in
         let all = paid_turns g.made (turns_between l) turn.costs s t fewer g.paid in
@@ -141,8 +151,7 @@ module _ (plan : Layout) (around : Place) (x : ℕ) (body : Block) (qs : List Ke
           paid = record { cycles = all.cycles; words = all.words; steps = all.steps; are_words = all.are_words; answers = all.answers; easy = all.easy };
           untouched = λ y among. written_other around x w t.variables h.may y among ∙ g.untouched y among;
         })
-        (suc m) n le tt v (stepped s)
-        (record { made = 0; turns = omega (arith, is); is_next = omega arith; paid = paid_begun 0 turn.costs s; between = b; untouched = λ y e. refl })
+        (suc m) n le tt v (stepped s) (before_turns (suc m) is b)
 
 -- a `for`, with and without a turn that can be
 module _ (c : Setting) (around : Place) (line x : ℕ) (e1 e2 : Expression) (qs : List Keep) (body : Block) (k : Facts) (l : Limits) (turn : Verdict) (m : MayCount around x e1 e2 qs k l) (keep : keeps_hold_after qs turn.after ≡ true) where
@@ -171,6 +180,12 @@ module _ (c : Setting) (around : Place) (line x : ℕ) (e1 e2 : Expression) (qs 
         }));
   }
 
+  pub entered : (s : State) → Inside around k s → Between around (λ y. nat_eq y x || block_writes body y) body qs s (stepped s)
+  entered s i = record { same = record { variables = λ y e. refl; registers = λ r e. refl }; small = i.variables.small; locks = i.locks; kept = in_keeps around qs k s m.entry i }
+
+  pub checked : (n : ℕ) → most_turns ≤ n → SoundFor c.plan (fixing x around) (Some (with_range x (values_between l) (head body qs k))) (λ n. block_meaning (of c) n body) turn → Checked c.plan around x body qs k l turn (block_meaning (of c) n body)
+  checked n le h = record { may = m.may; sound = λ t j. h.each n le t j; leaves = λ t. block_leaves (of c) n body t; keep = keep }
+
   some_turns : SoundFor c.plan (fixing x around) (Some (with_range x (values_between l) (head body qs k))) (λ n. block_meaning (of c) n body) turn → SoundFor c.plan around (Some k) Run (verdict (After x body qs k l) (loop_costs (turns_between l) turn.costs))
   some_turns h = record {
     each = λ n le s i. valued n (After x body qs k l) s i (λ v w f g.
@@ -178,9 +193,7 @@ module _ (c : Setting) (around : Place) (line x : ℕ) (e1 e2 : Expression) (qs 
         let few : turns_between l ≤ turn_limit = m.few in
         let fewer : w + 1 - v ≤ turns_between l = omega (arith, f.within, g.within) in
         all_turns c.plan around x body qs k l turn (block_meaning (of c) n body)
-        (record { may = m.may; sound = λ t j. h.each n le t j; leaves = λ t. block_leaves (of c) n body t; keep = keep }) s i v w f g
-        (w + 1 - v) n refl (omega arith)
-        (record { same = record { variables = λ y e. refl; registers = λ r e. refl }; small = i.variables.small; locks = i.locks; kept = in_keeps around qs k s m.entry i }));
+        (checked n le h) s i v w f g (w + 1 - v) n refl (omega arith) (entered s i));
   }
 
   by_turns : (b : Bool) → nat_lt l.last.hi l.first.lo ≡ b → SoundFor c.plan (fixing x around) (if b then None else Some (with_range x (values_between l) (head body qs k))) (λ n. block_meaning (of c) n body) turn → SoundFor c.plan around (Some k) Run (verdict (if b then Some k else After x body qs k l) (loop_costs (turns_between l) turn.costs))

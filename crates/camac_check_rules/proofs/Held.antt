@@ -1,6 +1,6 @@
 -- What the rules accept of a locked block runs safely, and the crate is free again after it.
 use Rattle.std.proofs.Common.{◌≡◌, ℕ, ◌≤◌, Bool, true, false, List, Some, None, sym, ap, ◌∙◌, subst, arith}
-use Rattle.std.specs.Prelude.{◌||◌, not, nat_eq, unwrap_or}
+use Rattle.std.specs.Prelude.{is_some, ◌||◌, not, nat_eq, unwrap_or}
 use Rattle.std.proofs.lemmas.Bool.{and_parts, eqb-true, cond_both, not-true, false≢true}
 use Rattle.camac_lang.specs.Tree.{Expression, Block, locked}
 use Rattle.camac_branch.specs.Branch.{Branch, Answer, with_lock}
@@ -63,7 +63,7 @@ is_taken p c = is_among c p.locked || p.outside c
 not_taken : (p : Place) (c : ℕ) → NoneOutside p → is_among c p.locked ≡ false → is_taken p c ≡ false
 not_taken p c none free = ap (λ t. t || p.outside c) free ∙ none c
 
-lock_taken : (p : Place) (b : Branch) (c : ℕ) → AreLocked p b → AreLocked (holding c p) (with_lock c true b)
+pub lock_taken : (p : Place) (b : Branch) (c : ℕ) → AreLocked p b → AreLocked (holding c p) (with_lock c true b)
 lock_taken p b c h d =
     cond_both (nat_eq d c) (record (b c) { locked = true }) (b d) (λ j. j.locked ≡ ((nat_eq d c || is_among d p.locked) || p.outside d))
     (λ e. ap (λ t. (t || is_among d p.locked) || p.outside d) (sym e)) (λ e. h d ∙ ap (λ t. (t || is_among d p.locked) || p.outside d) (sym e))
@@ -119,5 +119,5 @@ lock_sound c around line e body k crate_no inner none can h =
           (λ l. absurd (false≢true (sym (i.locks crate_no ∙ free) ∙ l)))
           (λ g. record { of_answers = tt; paid = stopped; because = λ z. omega (arith, none_left s.answers g) })
           (λ a rest g p. record { of_answers = tt; paid = stopped; because = λ z. absurd (not_easy s.answers a rest false waits g p z) })
-          (λ a rest l g p. (tt, held_sound c.plan around k crate_no waits a.wait rest (block_meaning (of c) n body) inner s free (permitted_wait false waits a.wait p) (used s.answers a rest g) i (λ u j. h.each n le u j)))));
+          (λ a rest l g p. (ap is_some can.in_plan, held_sound c.plan around k crate_no waits a.wait rest (block_meaning (of c) n body) inner s free (permitted_wait false waits a.wait p) (used s.answers a rest g) i (λ u j. h.each n le u j)))));
     })

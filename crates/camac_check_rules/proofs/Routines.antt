@@ -158,7 +158,7 @@ argument_small [] y h = omega arith
 argument_small (v ∷ vs) zero h = h.0
 argument_small (v ∷ vs) (suc y) h = argument_small vs y h.1
 
-entry_reached : (body : Body) (outside : ℕ → Bool) (ps : List Parameter) (vs : List ℕ) (s : State) → AreInRanges vs ps → AreSmall vs → ((c : ℕ) → (s.branch c).locked ≡ outside c) → Reaches (called body outside) (at_entry ps) (entered vs s)
+pub entry_reached : (body : Body) (outside : ℕ → Bool) (ps : List Parameter) (vs : List ℕ) (s : State) → AreInRanges vs ps → AreSmall vs → ((c : ℕ) → (s.branch c).locked ≡ outside c) → Reaches (called body outside) (at_entry ps) (entered vs s)
 entry_reached body outside ps vs s h small locks =
     subst (λ b. Reaches (called body outside) (if b then Some (facts (map parameter_range ps) []) else None) (entered vs s)) (sym (callable vs ps h))
     (record {

@@ -33,11 +33,11 @@ zero_within : IsWithin (only 0) 0
 zero_within = record { low = omega arith; high = omega arith }
 
 -- where a service runs
-abbrev outermost : Body → Place
+abbrev pub outermost : Body → Place
 outermost body = called body (λ c. false)
 
 -- a service starts inside what is known there
-start_inside : (body : Body) (b : Branch) (answers : List Answer) → Inside (outermost body) at_start (fresh b answers)
+pub start_inside : (body : Body) (b : Branch) (answers : List Answer) → Inside (outermost body) at_start (fresh b answers)
 start_inside body b answers = record {
   variables = record { each = λ x. zero_within; small = λ x. omega arith };
   registers = λ r. tt;

@@ -110,7 +110,7 @@ sound_then plan around mid after c d s b go h k =
     (λ u f. record { reaches = f.reaches; paid = paid_then c d s t u e.paid f.paid; untouched = untouched_then around s t u e.untouched f.untouched })
     (k t e.reaches))
 
-stepped_reaches : (around : Place) (k : Known) (s : State) → Reaches around k s → Reaches around k (stepped s)
+pub stepped_reaches : (around : Place) (k : Known) (s : State) → Reaches around k s → Reaches around k (stepped s)
 stepped_reaches around None s h = h
 stepped_reaches around (Some k) s h = record { variables = h.variables; registers = h.registers; locks = h.locks }
 

@@ -91,7 +91,7 @@ register_set_sound c around line r e1 e2 e3 k =
     }))))
 
 -- a block, if it can be reached
-reached_sound : (c : Setting) (around : Place) (b : Block) (known : Known) → ((k : Facts) → Allows (accept_block (seen c) (around_of around) b k) (SoundFor c.plan around (Some k) (λ n. block_meaning (of c) n b))) → Allows (if_reached unreached known (accept_block (seen c) (around_of around) b)) (SoundFor c.plan around known (λ n. block_meaning (of c) n b))
+pub reached_sound : (c : Setting) (around : Place) (b : Block) (known : Known) → ((k : Facts) → Allows (accept_block (seen c) (around_of around) b k) (SoundFor c.plan around (Some k) (λ n. block_meaning (of c) n b))) → Allows (if_reached unreached known (accept_block (seen c) (around_of around) b)) (SoundFor c.plan around known (λ n. block_meaning (of c) n b))
 reached_sound c around b known h =
     if_reached_allowed unreached known (accept_block (seen c) (around_of around) b) (λ k. SoundFor c.plan around k (λ n. block_meaning (of c) n b))
     (record { each = λ n le s i. absurd i }) h
@@ -106,10 +106,10 @@ choice_sound plan around arms first second s (Some false) go other d f g =
     sound_begun plan around arms.fails second.after (join first.after second.after) second.costs (choice_costs first.costs second.costs) s other d g
     (join_right around first.after second.after) (omega arith) (omega arith) (omega arith)
 
-may_first : (a b : Bool) (around : Place) → MayLock around (a || b) → MayLock around a
+pub may_first : (a b : Bool) (around : Place) → MayLock around (a || b) → MayLock around a
 may_first a b around m e = m (ap (λ t. t || b) e)
 
-may_second : (a b : Bool) (around : Place) → MayLock around (a || b) → MayLock around b
+pub may_second : (a b : Bool) (around : Place) → MayLock around (a || b) → MayLock around b
 may_second a b around m e = m (or_right a b e)
 
 mutual

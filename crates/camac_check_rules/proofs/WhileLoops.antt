@@ -13,6 +13,7 @@ use Rattle.camac_model.specs.Moments.{Meets}
 use Rattle.camac_model.specs.Value.{truth}
 use Rattle.camac_model.specs.Meaning.{turns, effect, block_meaning}
 use Rattle.camac_model.specs.Fine.{Bounds}
+use Rattle.camac_model.specs.Fine as fine
 use Rattle.camac_model.proofs.Rules.{turns_meet}
 use Rattle.camac_check_rules.specs.Known.{Facts, Known, range_at, with_range}
 use Rattle.camac_check_rules.specs.declared.case.Body.{Body}
@@ -89,12 +90,12 @@ module _ (plan : Layout) (around : Place) (test : Condition) (most m fall : ℕ)
   abbrev Top : ℕ
   Top = (range_at k.ranges m).hi
 
-  record Checked : Type 0 where
-    truth : (t : State) → Inside around (with_range m (interval 0 Top) (head body qs k)) t → Decides around (truth test t.variables t.q t.x) arms t
-    sound : (t : State) → Reaches around arms.holds t → Sound plan around turn.after turn.costs t (run t)
-    leaves : (t : State) → Leaves (block_writes body) (block_sets body) t (run t)
-    falls : (t : State) → Falls m fall t (run t)
-    keep : keeps_hold_after qs turn.after ≡ true
+  pub record Checked : Type 0 where
+    pub truth : (t : State) → Inside around (with_range m (interval 0 Top) (head body qs k)) t → Decides around (truth test t.variables t.q t.x) arms t
+    pub sound : (t : State) → Reaches around arms.holds t → Sound plan around turn.after turn.costs t (run t)
+    pub leaves : (t : State) → Leaves (block_writes body) (block_sets body) t (run t)
+    pub falls : (t : State) → Falls m fall t (run t)
+    pub keep : keeps_hold_after qs turn.after ≡ true
 
   abbrev Turns : ℕ
   Turns = turn_bound arms.holds most
@@ -103,24 +104,23 @@ module _ (plan : Layout) (around : Place) (test : Condition) (most m fall : ℕ)
   Costs = loop_costs Turns turn.costs
 
   module _ (h : Checked) (s : State) (i : Inside around k s) where
-    -- after so many turns, with so many left, and at most n allowed
-    record Turned (n : ℕ) (t : State) : Type 0 where
-      made : ℕ
-      left : ℕ
-      turns : made + left ≡ Turns
-      allowed : left ≤ n
-      paid : Paid (loop_costs made turn.costs) s t
-      between : Between around (block_writes body) body qs s t
-      below : t.variables m ≤ Top
-      bound : Reaches around arms.holds t → t.variables m < left * fall + fall
-      untouched : Untouched around s t
+    -- with so many turns left, of at most n that are allowed
+    pub record Turned (left n : ℕ) (t : State) : Type 0 where
+      pub made : ℕ
+      pub turns : made + left ≡ Turns
+      pub allowed : left ≤ n
+      pub paid : Paid (loop_costs made turn.costs) s t
+      pub between : Between around (block_writes body) body qs s t
+      pub below : t.variables m ≤ Top
+      pub bound : Reaches around arms.holds t → t.variables m < left * fall + fall
+      pub untouched : Untouched around s t
 
-    at_head : (n : ℕ) (t : State) → Turned n t → Inside around (with_range m (interval 0 Top) (head body qs k)) t
-    at_head n t g =
+    at_head : (left n : ℕ) (t : State) → Turned left n t → Inside around (with_range m (interval 0 Top) (head body qs k)) t
+    at_head left n t g =
         inside_narrowed around (head body qs k) t m (interval 0 Top) (inside_head around body qs k s t i g.between) (record { low = omega arith; high = g.below })
 
-    decided : (n : ℕ) (t : State) (o : Option Bool) → Turned n t → truth test t.variables t.q t.x ≡ o → Decides around o arms t
-    decided n t o g e = subst (λ p. Decides around p arms t) e (h.truth t (at_head n t g))
+    pub decided : (left n : ℕ) (t : State) (o : Option Bool) → Turned left n t → truth test t.variables t.q t.x ≡ o → Decides around o arms t
+    decided left n t o g e = subst (λ p. Decides around p arms t) e (h.truth t (at_head left n t g))
 
     enough : (t : State) → Reaches around arms.holds t → fall ≤ t.variables m
     enough t r =
@@ -128,16 +128,22 @@ module _ (plan : Layout) (around : Place) (test : Condition) (most m fall : ℕ)
         was_there plan around turn.after turn.costs m fall u (run u) (are_easy turn.costs.steps) (omega (arith, many turn.costs.steps))
         (h.sound u (with_answers around arms.holds t (easy turn.costs.steps) r)) (h.falls u)
 
-    turn_left : (n made left : ℕ) (t u : State) (g : Turned (suc n) t) → made + suc left ≡ Turns → Paid (loop_costs made turn.costs) s t → suc left ≤ suc n → t.variables m < suc left * fall + fall → Ended around turn.after turn.costs (stepped t) u → Same (block_writes body) (block_sets body) (stepped t) u → u.variables m + fall ≡ t.variables m → Turned n u
-    turn_left n made left t u g turns' paid le lower e f fell =
+    -- no turn begins where none is left
+    pub one_is_left : (n : ℕ) (t : State) → Turned zero n t → Reaches around arms.holds t → ⊥
+    one_is_left n t g r =
+        let there = enough t r in
+        let none : t.variables m < zero * fall + fall = g.bound r in
+        omega arith
+
+    turn_left : (n left : ℕ) (t u : State) (g : Turned (suc left) (suc n) t) → t.variables m < suc left * fall + fall → Ended around turn.after turn.costs (stepped t) u → Same (block_writes body) (block_sets body) (stepped t) u → u.variables m + fall ≡ t.variables m → Turned left n u
+    turn_left n left t u g lower e f fell =
         let old = g.between in
         let below = g.below in
         record {
-          made = made + 1;
-          left = left;
-          turns = omega arith;
-          allowed = omega arith;
-          paid = paid_turn made turn.costs s t (stepped t) u paid (record { cost = refl; words = refl; steps = refl; answers = refl }) e.paid;
+          made = g.made + 1;
+          turns = omega (arith, g.turns);
+          allowed = omega (arith, g.allowed);
+          paid = paid_turn g.made turn.costs s t (stepped t) u g.paid (record { cost = refl; words = refl; steps = refl; answers = refl }) e.paid;
           between = record {
             same = record {
               variables = λ y o. f.variables y o ∙ old.same.variables y o;
@@ -152,42 +158,43 @@ module _ (plan : Layout) (around : Place) (test : Condition) (most m fall : ℕ)
           untouched = λ y among. e.untouched y among ∙ g.untouched y among;
         }
 
-    one_turn : (n left : ℕ) (t : State) (g : Turned (suc n) t) → g.left ≡ left → Reaches around arms.holds t → Meets step (SafePiece plan) (StopsWell Costs s) (λ x. Turned n) tt (run (stepped t))
-    one_turn n zero t g is r =
-        let there = enough t r in
-        let lower : t.variables m < g.left * fall + fall = g.bound r in
-        let none : t.variables m < zero * fall + fall = subst (λ j. t.variables m < j * fall + fall) is lower in
-        absurd (omega arith)
-    one_turn n (suc left) t g is r =
+    pub turn_begins : (t : State) → Reaches around arms.holds t → Reaches around arms.holds (stepped t)
+    turn_begins t r = reaches_stepped around arms.holds t r
+
+    pub one_turn : (n left : ℕ) (t : State) → Turned (suc left) (suc n) t → Reaches around arms.holds t → Meets step (SafePiece plan) (StopsWell Costs s) (λ x. Turned left n) tt (run (stepped t))
+    one_turn n left t g r =
         let b : State = stepped t in
-        let turns' : g.made + suc left ≡ Turns = subst (λ j. g.made + j ≡ Turns) is g.turns in
-        let le : suc left ≤ suc n = subst (λ j. j ≤ suc n) is g.allowed in
-        let lower : t.variables m < suc left * fall + fall = subst (λ j. t.variables m < j * fall + fall) is (g.bound r) in
-        let fewer : g.made + 1 ≤ Turns = omega arith in
+        let lower : t.variables m < suc left * fall + fall = g.bound r in
+        let fewer : g.made + 1 ≤ Turns = omega (arith, g.turns) in
         meets_more plan (StopsWell turn.costs b) (StopsWell Costs s)
-        (λ x q. (Ended around turn.after turn.costs b q × Same (block_writes body) (block_sets body) b q) × Fell m fall b x q) (λ x. Turned n) (run b)
+        (λ x q. (Ended around turn.after turn.costs b q × Same (block_writes body) (block_sets body) b q) × Fell m fall b x q) (λ x. Turned left n) (run b)
         (λ o q e. stopped_turn g.made Turns turn.costs o s t b q fewer g.paid (record { cost = refl; words = refl; steps = refl; answers = refl }) e)
-        (λ q e. turn_left n g.made left t q g turns' g.paid le lower e.0.0 e.0.1 e.1)
+        (λ q e. turn_left n left t q g lower e.0.0 e.0.1 e.1)
         (meets_both plan (StopsWell turn.costs b) (λ x q. Ended around turn.after turn.costs b q × Same (block_writes body) (block_sets body) b q) (Fell m fall b) (run b)
-        (meets_both plan (StopsWell turn.costs b) (EndsWell around turn.after turn.costs b) (λ x q. Same (block_writes body) (block_sets body) b q) (run b) (h.sound b (reaches_stepped around arms.holds t r)) (h.leaves b))
+        (meets_both plan (StopsWell turn.costs b) (EndsWell around turn.after turn.costs b) (λ x q. Same (block_writes body) (block_sets body) b q) (run b) (h.sound b (turn_begins t r)) (h.leaves b))
         (h.falls b))
 
-    turning : (n : ℕ) (t : State) → Turned n t → Sound plan around arms.fails Costs s (turns n test run t)
+    abbrev SomeLeft : ℕ → State → Type 0
+    SomeLeft n t = (left : ℕ) × Turned left n t
+
+    next_turn : (n left : ℕ) (t : State) → Turned left (suc n) t → Reaches around arms.holds t → Meets step (SafePiece plan) (StopsWell Costs s) (λ x. SomeLeft n) tt (run (stepped t))
+    next_turn n zero t g r = absurd (one_is_left (suc n) t g r)
+    next_turn n (suc left) t g r =
+        meets_more plan (StopsWell Costs s) (StopsWell Costs s) (λ x. Turned left n) (λ x. SomeLeft n) (run (stepped t)) (λ o q e. e) (λ q e. (left, e)) (one_turn n left t g r)
+
+    none_allowed : (left : ℕ) (t : State) → Turned left zero t → Reaches around arms.holds t → ⊥
+    none_allowed zero t g r = one_is_left zero t g r
+    none_allowed (suc left) t g r = let le : suc left ≤ zero = g.allowed in omega arith
+
+    turning : (n : ℕ) (t : State) → SomeLeft n t → Sound plan around arms.fails Costs s (turns n test run t)
     turning n t g =
-        turns_meet step (SafePiece plan) (StopsWell Costs s) (EndsWell around arms.fails Costs s) test run (λ x. Turned)
-        (λ x n t g e. absurd (decided n t None g e))
-        (λ x t g e.
-        let r : Reaches around arms.holds t = decided zero t (Some true) g e in
-        let there = enough t r in
-        let lower = g.bound r in
-        let allowed = g.allowed in
-        let none : g.left ≡ zero = omega arith in
-        let small : t.variables m < zero * fall + fall = subst (λ j. t.variables m < j * fall + fall) none lower in
-        absurd (omega arith))
-        (λ x n t g e. one_turn n g.left t g refl (decided (suc n) t (Some true) g e))
+        turns_meet step (SafePiece plan) (StopsWell Costs s) (EndsWell around arms.fails Costs s) test run (λ x. SomeLeft)
+        (λ x n t g e. absurd (decided g.0 n t None g.1 e))
+        (λ x t g e. absurd (none_allowed g.0 t g.1 (decided g.0 zero t (Some true) g.1 e)))
+        (λ x n t g e. next_turn n g.0 t g.1 (decided g.0 (suc n) t (Some true) g.1 e))
         (λ x n t g e.
-        let fewer : g.made ≤ Turns = omega (arith, g.turns) in
-        record { reaches = decided n t (Some false) g e; paid = paid_turns g.made Turns turn.costs s t fewer g.paid; untouched = g.untouched })
+        let fewer : g.1.made ≤ Turns = omega (arith, g.1.turns) in
+        record { reaches = decided g.0 n t (Some false) g.1 e; paid = paid_turns g.1.made Turns turn.costs s t fewer g.1.paid; untouched = g.1.untouched })
         n tt t g
 
 bound_of : (around : Place) (holds : Known) (s : State) (v top fall most : ℕ) → 0 < fall → top / fall ≤ most → v ≤ top → Reaches around holds s → v < turn_bound holds most * fall + fall
@@ -201,32 +208,39 @@ bound_small : (holds : Known) (most : ℕ) → turn_bound holds most ≤ most
 bound_small None most = omega arith
 bound_small (Some q) most = omega arith
 
-pub while_sound : (c : Setting) (around : Place) (line : ℕ) (test : Condition) (most m : ℕ) (qs : List Keep) (body : Block) (k top : Facts) (arms : Branches) (turn : Verdict) → MayTurn most m qs body k top → ((s : State) → Inside around top s → Decides around (truth test s.variables s.q s.x) arms s) → SoundFor c.plan around arms.holds (λ n. block_meaning (of c) n body) turn → keeps_hold_after qs turn.after ≡ true → SoundFor c.plan around (Some k) (λ n s. effect (of c) n (while_ line test most m qs body) (stepped s)) (verdict arms.fails (loop_costs (turn_bound arms.holds most) turn.costs))
-while_sound c around line test most m qs body k top arms turn may d h keep = record {
-  each = λ n le s i.
-      let last : ℕ = (range_at k.ranges m).hi in
+-- a `while` in a script
+module _ (c : Setting) (around : Place) (line : ℕ) (test : Condition) (most m : ℕ) (qs : List Keep) (body : Block) (k top : Facts) (arms : Branches) (turn : Verdict)
+    (may : MayTurn most m qs body k top) (d : (s : State) → Inside around top s → Decides around (truth test s.variables s.q s.x) arms s)
+    (h : SoundFor c.plan around arms.holds (λ n. block_meaning (of c) n body) turn) (keep : keeps_hold_after qs turn.after ≡ true) where
+  pub checked : (n : ℕ) → fine.most_turns ≤ n → Checked c.plan around test most m may.fall qs body k arms turn (block_meaning (of c) n body)
+  checked n le = record {
+    truth = λ t j. d t (subst (λ q. Inside around q t) may.is j);
+    sound = λ t r. h.each n le t r;
+    leaves = λ t. block_leaves (of c) n body t;
+    falls = λ t. block_falls (of c) n m may.fall body t may.falls;
+    keep = keep;
+  }
+
+  pub before_turns : (n : ℕ) (le : fine.most_turns ≤ n) (s : State) (i : Inside around k s) → Turned c.plan around test most m may.fall qs body k arms turn (block_meaning (of c) n body) (checked n le) s i (turn_bound arms.holds most) n (stepped s)
+  before_turns n le s i =
       let enough : turn_limit ≤ n = limit_is_most n le in
       let few : turn_bound arms.holds most ≤ most = bound_small arms.holds most in
       let most_turns' : most ≤ turn_limit = may.most_turns in
-      let below : s.variables m ≤ last = (i.variables.each m).high in
-      turning c.plan around test most m may.fall qs body k arms turn (block_meaning (of c) n body)
-      (record {
-        truth = λ t j. d t (subst (λ q. Inside around q t) may.is j);
-        sound = λ t r. h.each n le t r;
-        leaves = λ t. block_leaves (of c) n body t;
-        falls = λ t. block_falls (of c) n m may.fall body t may.falls;
-        keep = keep;
-      })
-      s i n (stepped s)
-      (record {
+      let below : s.variables m ≤ (range_at k.ranges m).hi = (i.variables.each m).high in
+      record {
         made = 0;
-        left = turn_bound arms.holds most;
         turns = omega arith;
         allowed = omega arith;
         paid = paid_begun 0 turn.costs s;
         between = record { same = record { variables = λ y e. refl; registers = λ r e. refl }; small = i.variables.small; locks = i.locks; kept = in_keeps around qs k s may.entry i };
         below = below;
-        bound = λ r. bound_of around arms.holds (stepped s) (s.variables m) last may.fall most (fall_positive m body may.fall may.falls) may.few below r;
+        bound = λ r. bound_of around arms.holds (stepped s) (s.variables m) (range_at k.ranges m).hi may.fall most (fall_positive m body may.fall may.falls) may.few below r;
         untouched = λ y e. refl;
-      });
-}
+      }
+
+  pub while_sound : SoundFor c.plan around (Some k) (λ n s. effect (of c) n (while_ line test most m qs body) (stepped s)) (verdict arms.fails (loop_costs (turn_bound arms.holds most) turn.costs))
+  while_sound = record {
+    each = λ n le s i.
+        turning c.plan around test most m may.fall qs body k arms turn (block_meaning (of c) n body) (checked n le) s i n (stepped s)
+        (turn_bound arms.holds most, before_turns n le s i);
+  }

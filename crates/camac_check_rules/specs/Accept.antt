@@ -36,21 +36,35 @@ accept_service c s = do
   v ← accept_block c (alone_in (body.Service s.lam)) s.body at_start
   within (body.Service s.lam) (costs s.cycles s.words greatest) v.costs s.line
 
--- the procedures and services from here on, in the order of the text: what each service can cost
-abbrev pub accept_items : Context → List Item → List Procedure → List Service → Result (List Bounds) Fault
-accept_items c [] ps vs = Ok []
-accept_items c (next_table ∷ rest) ps vs = accept_items c rest ps vs
-accept_items c (next_lam ∷ rest) ps vs = accept_items c rest ps vs
-accept_items c (next_variables line n ∷ rest) ps vs = accept_items c rest ps vs
-accept_items c (next_procedure ∷ rest) [] vs = accept_items c rest [] vs
-accept_items c (next_procedure ∷ rest) (p ∷ ps) vs = do
+-- what has a body: a procedure or a service
+pub data Section : Type 0 where
+  of_procedure : Procedure → Section
+  of_service : Service → Section
+
+-- the sections of these declarations, in the order of the text
+abbrev pub sections : List Item → List Procedure → List Service → List Section
+sections [] ps vs = []
+sections (next_table ∷ rest) ps vs = sections rest ps vs
+sections (next_lam ∷ rest) ps vs = sections rest ps vs
+sections (next_variables line n ∷ rest) ps vs = sections rest ps vs
+sections (next_procedure ∷ rest) [] vs = sections rest [] vs
+sections (next_procedure ∷ rest) (p ∷ ps) vs = of_procedure p ∷ sections rest ps vs
+sections (next_service ∷ rest) ps [] = sections rest ps []
+sections (next_service ∷ rest) ps (v ∷ vs) = of_service v ∷ sections rest ps vs
+
+-- what each service of these can cost
+abbrev pub accept_sections : Context → List Section → Result (List Bounds) Fault
+accept_sections c [] = Ok []
+accept_sections c (of_procedure p ∷ rest) = do
   found ← accept_procedure c p
-  accept_items (with_procedure p c) rest ps vs
-accept_items c (next_service ∷ rest) ps [] = accept_items c rest ps []
-accept_items c (next_service ∷ rest) ps (v ∷ vs) = do
+  accept_sections (with_procedure p c) rest
+accept_sections c (of_service v ∷ rest) = do
   first ← accept_service c v
-  others ← accept_items c rest ps vs
+  others ← accept_sections c rest
   Ok (first ∷ others)
+
+abbrev pub accept_items : Context → List Item → List Procedure → List Service → Result (List Bounds) Fault
+accept_items c items ps vs = accept_sections c (sections items ps vs)
 
 -- the tables and LAMs of a script, and no procedure
 abbrev pub bare : (Bounds → Bounds) → Layout → Script → Context

@@ -1,18 +1,18 @@
 -- The rows of each statement, from what the steps of its rule found.
-use Rattle.std.proofs.Common.{◌≡◌, ℕ, ◌+◌, List, [], ◌∷◌, ◌++◌, map, Option, Some, None, Result, Ok, Err, refl, sym, ap, ap₂, ◌∙◌, append_assoc, append-nil, drop, length, ◌<◌, ◌≤◌, get_or, arith}
+use Rattle.std.proofs.Common.{◌≡◌, ℕ, ◌+◌, List, [], ◌∷◌, ◌++◌, map, Some, None, Ok, refl, sym, ap, ap₂, ◌∙◌, append_assoc}
 use Rattle.std.specs.Prelude.{IsTrue, unwrap_or}
-use Rattle.camac_lang.specs.Tree.{Expression, Condition, Keep, Statement, assign, set_register, single, address_scan, q_stop, q_repeat, put, crate_call, lam_call, choose, choose_else, for_, while_, locked, call, Block, done, next}
+use Rattle.camac_lang.specs.Tree.{Expression, Condition, Keep, Statement, assign, set_register, single, address_scan, q_stop, q_repeat, put, crate_call, lam_call, choose, choose_else, for_, while_, locked, call, Block, next}
+use Rattle.camac_range.specs.Interval.{only}
 use Rattle.camac_branch.specs.Plan.{crate_waits}
 use Rattle.camac_model.specs.Fine.{Bounds}
-use Rattle.camac_check_rules.specs.Fault.{Fault}
-use Rattle.camac_check_rules.specs.Refusal.{go_on, required, if_reached}
+use Rattle.camac_check_rules.specs.Refusal.{go_on, if_reached}
 use Rattle.camac_check_rules.specs.Known.{Facts, Known}
 use Rattle.camac_check_rules.specs.Joined.{join}
 use Rattle.camac_check_rules.specs.Conditions.{Branches, branches, split}
-use Rattle.camac_check_rules.specs.Costs.{costs, no_costs, plus, choice_costs, lock_costs, loop_costs, Verdict, verdict, unreached}
+use Rattle.camac_check_rules.specs.Costs.{costs, no_costs, choice_costs, lock_costs, Verdict, verdict, unreached}
 use Rattle.camac_check_rules.specs.Cycles.{Context, Around, with_locked}
 use Rattle.camac_check_rules.specs.Calls.{lock_rule}
-use Rattle.camac_check_rules.specs.Loops.{Limits, with_fixed, for_limits, for_head, for_after, keeps_hold_after, turns_between, while_head, turn_bound}
+use Rattle.camac_check_rules.specs.Loops.{Limits, with_fixed, for_limits, for_head, turns_between, while_head, turn_bound}
 use Rattle.camac_check_rules.specs.Statements.{accept_statement, accept_block}
 use Rattle.camac_costs.specs.declared.row.Kind.TheVariants as kind
 use Rattle.camac_costs.specs.declared.row.Detail.{Detail}
@@ -21,7 +21,7 @@ use Rattle.camac_costs.specs.declared.row.Row.{Row}
 use Rattle.camac_costs.specs.declared.inside.Weight.{Weight}
 use Rattle.camac_costs.specs.Statements.{is_simple, line_of, kind_of, detail_of, first_row}
 use Rattle.camac_costs.specs.Weights.{once, turning, first_arm, second_arm, inside_row}
-use Rattle.camac_costs.specs.Rows.{found, ways, Turning, turning_from, taken, loop_detail, loop_share, lock_share, lock_detail, lock_inside, lock_head, statement_verdict, block_verdict, simple_row, else_row, times_at, inside, statement_rows, block_rows}
+use Rattle.camac_costs.specs.Rows.{found, Turning, turning_from, loop_detail, loop_share, lock_share, lock_detail, lock_inside, lock_head, statement_verdict, block_verdict, simple_row, else_row, times_at, inside, statement_rows, block_rows}
 
 -- what was found is the verdict
 pub verdict_is : (c : Context) (around : Around) (s : Statement) (k : Known) (v : Verdict) → if_reached unreached k (accept_statement c around s) ≡ Ok v → statement_verdict c around s k ≡ v
@@ -102,7 +102,7 @@ choice_rows c around line test a b k arms first second is one two =
 pub lock_rows : (c : Context) (around : Around) (line : ℕ) (e : Expression) (body : Block) (k : Facts) (n : ℕ) (inner : Verdict)
     → lock_rule c around line e k ≡ Ok n → accept_block c (with_locked n around) body k ≡ Ok inner
     → statement_rows c around (locked line e body) (Some k)
-    ≡ first_row line kind.Lock 1 (c.limit (lock_costs (unwrap_or (crate_waits c.plan n) 0) inner.costs)) (costs (unwrap_or (crate_waits c.plan n) 0) 0 2) (detail.Crate n)
+    ≡ first_row line kind.Lock 1 (c.limit (lock_costs (unwrap_or (crate_waits c.plan n) 0) inner.costs)) (costs (unwrap_or (crate_waits c.plan n) 0) 0 2) (detail.Crates (only n))
     ∷ inside c once (block_rows c (with_locked n around) body (Some k))
 unfolding go_on if_reached
 lock_rows c around line e body k n inner is one =

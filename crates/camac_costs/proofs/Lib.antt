@@ -1,5 +1,4 @@
 pub mod Found
-pub mod Before
 pub mod Lams
 pub mod Trees
 pub mod Whole

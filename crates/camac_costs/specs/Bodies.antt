@@ -1,6 +1,7 @@
 -- The bodies of a script in the order of the text, with their bounds and the rows of their statements.
-use Rattle.std.specs.Prelude.{ℕ, ◌+◌, List, [], ◌∷◌, ◌++◌, take, Option, Some, None, option_map, option_to_list, Result, Ok, Err, slice_get}
-use Rattle.camac_lang.specs.Tree.{Block, Procedure, Service, Item, next_table, next_lam, next_variables, next_procedure, next_service, Script}
+use Rattle.std.specs.Prelude.{ℕ, ◌+◌, List, [], ◌∷◌, map, take, Some, Result, Ok, Err}
+use Rattle.camac_lang.specs.Tree.{Block, Procedure, Service, Script}
+use Rattle.camac_lang.specs.View.{procedure_of}
 use Rattle.camac_branch.specs.Plan.{Layout}
 use Rattle.camac_model.specs.Fine.{Bounds}
 use Rattle.camac_check_rules.specs.declared.case.Body.TheVariants as body
@@ -11,7 +12,10 @@ use Rattle.camac_check_rules.specs.Costs.{Verdict, unreached}
 use Rattle.camac_check_rules.specs.Cycles.{Context, Around, alone_in}
 use Rattle.camac_check_rules.specs.Procedures.{at_entry}
 use Rattle.camac_check_rules.specs.Statements.{accept_block}
-use Rattle.camac_check_rules.specs.Accept.{at_start, bare, own_body}
+use Rattle.camac_check_rules.specs.Accept.{Section, of_procedure, of_service, sections, at_start, bare, own_body, with_procedure}
+use Rattle.camac_check_rules.specs.Capped.{capped}
+use Rattle.camac_check_simple.specs.declared.context.Context as code
+use Rattle.camac_check_simple.specs.Gives.{by_code}
 use Rattle.camac_costs.specs.declared.bodies.Owner.{Owner}
 use Rattle.camac_costs.specs.declared.bodies.Owner.TheVariants as owner
 use Rattle.camac_costs.specs.declared.row.Row.{Row}
@@ -37,25 +41,23 @@ procedure_costs c i p = body_costs c (owner.Procedure i) (alone_in (own_body c))
 abbrev pub service_costs : Context → ℕ → Service → BodyRows
 service_costs c i v = body_costs c (owner.Service i) (alone_in (body.Service v.lam)) v.body (Some at_start)
 
--- what may be referred to after so many procedures
-abbrev pub context_after : (Bounds → Bounds) → Layout → Script → ℕ → Context
-context_after limit plan s n = record (bare limit plan s) { procedures = take n s.procedures }
+-- those of these sections, after so many procedures and services
+abbrev pub costs_over : Context → (done served : ℕ) → List Section → List BodyRows
+costs_over c done served [] = []
+costs_over c done served (of_procedure p ∷ rest) = procedure_costs c done p ∷ costs_over (with_procedure p c) (done + 1) served rest
+costs_over c done served (of_service v ∷ rest) = service_costs c served v ∷ costs_over c done (served + 1) rest
 
-abbrev pub procedure_at : (Bounds → Bounds) → Layout → Script → ℕ → List BodyRows
-procedure_at limit plan s i = option_to_list (option_map (procedure_costs (context_after limit plan s i) i) (slice_get s.procedures i))
-
-abbrev pub service_at : (Bounds → Bounds) → Layout → Script → (done i : ℕ) → List BodyRows
-service_at limit plan s done i = option_to_list (option_map (service_costs (context_after limit plan s done) i) (slice_get s.services i))
-
--- those of these declarations, after so many procedures and services
-abbrev pub bodies_from : (Bounds → Bounds) → Layout → Script → List Item → (done served : ℕ) → List BodyRows
-bodies_from limit plan s [] done served = []
-bodies_from limit plan s (next_table ∷ rest) done served = bodies_from limit plan s rest done served
-bodies_from limit plan s (next_lam ∷ rest) done served = bodies_from limit plan s rest done served
-bodies_from limit plan s (next_variables line n ∷ rest) done served = bodies_from limit plan s rest done served
-bodies_from limit plan s (next_procedure ∷ rest) done served = procedure_at limit plan s done ++ bodies_from limit plan s rest (done + 1) served
-bodies_from limit plan s (next_service ∷ rest) done served = service_at limit plan s done served ++ bodies_from limit plan s rest done (served + 1)
+abbrev pub sections_of : Script → List Section
+sections_of s = sections s.order s.procedures s.services
 
 -- the procedures and services of a script, where each cost is limited so
 abbrev pub costs_with : (Bounds → Bounds) → Layout → Script → List BodyRows
-costs_with limit plan s = bodies_from limit plan s s.order 0 0
+costs_with limit plan s = costs_over (bare limit plan s) 0 0 (sections_of s)
+
+-- all that a script may refer to, with costs in 64 bits
+abbrev pub context_of : Layout → Script → Context
+context_of plan s = record (bare capped plan s) { procedures = s.procedures }
+
+-- of this after so many procedures
+abbrev pub code_before : code.Context → ℕ → Context
+code_before c n = record (by_code c) { procedures = map procedure_of (take n c.procedures.now) }

@@ -1,6 +1,7 @@
 -- What each statement has of the bound of its body: rows over what the checker's rules find. No rule is stated here.
-use Rattle.std.specs.Prelude.{ℕ, ◌+◌, List, [], ◌∷◌, ◌++◌, map, Option, Some, None, Result, Ok, Err, nat_eq, unwrap_or, if◌then◌else◌}
-use Rattle.camac_lang.specs.Tree.{Expression, Condition, Keep, Statement, assign, set_register, single, address_scan, q_stop, q_repeat, put, crate_call, lam_call, choose, choose_else, for_, while_, locked, call, Block, done, next}
+use Rattle.std.specs.Prelude.{ℕ, ◌+◌, List, [], ◌∷◌, ◌++◌, map, Option, Some, None, Result, Ok, Err, unwrap_or}
+use Rattle.camac_range.specs.Interval.{only}
+use Rattle.camac_lang.specs.Tree.{Expression, Condition, Keep, Statement, choose, choose_else, for_, while_, locked, Block, done, next}
 use Rattle.camac_branch.specs.Plan.{crate_waits}
 use Rattle.camac_model.specs.Fine.{Bounds}
 use Rattle.camac_check_rules.specs.Fault.{Fault}
@@ -89,7 +90,7 @@ lock_share c (Some crate_no) = costs (unwrap_or (crate_waits c.plan crate_no) 0)
 
 abbrev pub lock_detail : Option ℕ → Detail
 lock_detail None = detail.Nothing
-lock_detail (Some crate_no) = detail.Crate crate_no
+lock_detail (Some crate_no) = detail.Crates (only crate_no)
 
 abbrev pub lock_inside : Option ℕ → Around → Around
 lock_inside None around = around
@@ -115,41 +116,39 @@ else_row c around line b k = first_row line kind.Else (times_at k) (block_verdic
 abbrev pub inside : Context → Weight → List Row → List Row
 inside c w rows = map (inside_row c.limit w) rows
 
+-- the row of a statement and then the rows of its blocks: of a choice with one arm, with two, of a loop, and of a lock
+abbrev pub if_rows : Context → Row → (rows : List Row) → List Row
+if_rows c own rows = own ∷ inside c once rows
+
+abbrev pub choice_rows : Context → Row → Bounds → List Row → Row → Bounds → List Row → List Row
+choice_rows c own first rows otherwise second others =
+    own ∷ inside c (first_arm first second) rows ++ otherwise ∷ inside c (second_arm first second) others
+
+abbrev pub loop_rows : Context → Around → Statement → Known → Turning → (rows : List Row) → List Row
+loop_rows c around s k turn rows = own_row c around s k (loop_share k turn.turns) (loop_detail k turn.turns) ∷ inside c (turning turn.turns) rows
+
+abbrev pub lock_rows : Context → Around → Statement → Known → Option ℕ → (rows : List Row) → List Row
+lock_rows c around s k o rows = own_row c around s k (lock_share c o) (lock_detail o) ∷ inside c once rows
+
 abbrev mutual
   pub statement_rows : Context → Around → Statement → Known → List Row
   statement_rows c around (choose line test a) k =
-      own_row c around (choose line test a) k (choice_share k) detail.Nothing
-      ∷ inside c once (block_rows c around a (ways line test k).holds)
+      if_rows c (own_row c around (choose line test a) k (choice_share k) detail.Nothing) (block_rows c around a (ways line test k).holds)
   statement_rows c around (choose_else line test a b) k =
-      own_row c around (choose_else line test a b) k (choice_share k) detail.Nothing
-      ∷ inside c (first_arm (block_verdict c around a (ways line test k).holds).costs (block_verdict c around b (ways line test k).fails).costs)
-      (block_rows c around a (ways line test k).holds)
-      ++ else_row c around line b (ways line test k).fails
-      ∷ inside c (second_arm (block_verdict c around a (ways line test k).holds).costs (block_verdict c around b (ways line test k).fails).costs)
-      (block_rows c around b (ways line test k).fails)
+      let arms = ways line test k in
+      choice_rows c (own_row c around (choose_else line test a b) k (choice_share k) detail.Nothing)
+      (block_verdict c around a arms.holds).costs (block_rows c around a arms.holds)
+      (else_row c around line b arms.fails) (block_verdict c around b arms.fails).costs (block_rows c around b arms.fails)
   statement_rows c around (for_ line x e1 e2 keeps body) k =
-      own_row c around (for_ line x e1 e2 keeps body) k (loop_share k (for_turning around line x e1 e2 keeps body k).turns)
-      (loop_detail k (for_turning around line x e1 e2 keeps body k).turns)
-      ∷ inside c (turning (for_turning around line x e1 e2 keeps body k).turns)
-      (block_rows c (with_fixed x around) body (for_turning around line x e1 e2 keeps body k).head)
+      let turn = for_turning around line x e1 e2 keeps body k in
+      loop_rows c around (for_ line x e1 e2 keeps body) k turn (block_rows c (with_fixed x around) body turn.head)
   statement_rows c around (while_ line test most m keeps body) k =
-      own_row c around (while_ line test most m keeps body) k (loop_share k (while_turning around line test most m keeps body k).turns)
-      (loop_detail k (while_turning around line test most m keeps body k).turns)
-      ∷ inside c (turning (while_turning around line test most m keeps body k).turns)
-      (block_rows c around body (while_turning around line test most m keeps body k).head)
+      let turn = while_turning around line test most m keeps body k in
+      loop_rows c around (while_ line test most m keeps body) k turn (block_rows c around body turn.head)
   statement_rows c around (locked line e body) k =
-      own_row c around (locked line e body) k (lock_share c (taken c around line e k)) (lock_detail (taken c around line e k))
-      ∷ inside c once (block_rows c (lock_inside (taken c around line e k) around) body (lock_head (taken c around line e k) k))
-  statement_rows c around (assign line x e) k = simple_row c around (assign line x e) k ∷ []
-  statement_rows c around (set_register line r e1 e2 e3) k = simple_row c around (set_register line r e1 e2 e3) k ∷ []
-  statement_rows c around (single line size f r move) k = simple_row c around (single line size f r move) k ∷ []
-  statement_rows c around (address_scan line f r1 r2 max x) k = simple_row c around (address_scan line f r1 r2 max x) k ∷ []
-  statement_rows c around (q_stop line f r t max x) k = simple_row c around (q_stop line f r t max x) k ∷ []
-  statement_rows c around (q_repeat line f r t max limit x) k = simple_row c around (q_repeat line f r t max limit x) k ∷ []
-  statement_rows c around (put line e) k = simple_row c around (put line e) k ∷ []
-  statement_rows c around (crate_call line which e) k = simple_row c around (crate_call line which e) k ∷ []
-  statement_rows c around (lam_call line which l) k = simple_row c around (lam_call line which l) k ∷ []
-  statement_rows c around (call line p es) k = simple_row c around (call line p es) k ∷ []
+      let o = taken c around line e k in
+      lock_rows c around (locked line e body) k o (block_rows c (lock_inside o around) body (lock_head o k))
+  statement_rows c around s k = simple_row c around s k ∷ []
 
   -- one after the other, each at what the one before leaves
   pub block_rows : Context → Around → Block → Known → List Row

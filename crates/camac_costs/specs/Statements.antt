@@ -1,14 +1,17 @@
 -- What the text of a statement tells of its row.
-use Rattle.std.specs.Prelude.{ℕ, Bool, true, false, Option, Some, None}
+use Rattle.std.specs.Prelude.{ℕ, Bool, true, false, Option, Some, None, Result, Ok, Err}
 use Rattle.camac_lang.specs.declared.word.WordSize.{WordSize}
 use Rattle.camac_lang.specs.declared.word.WordSize.TheVariants as size
 use Rattle.camac_lang.specs.declared.word.CrateCall.{CrateCall}
 use Rattle.camac_lang.specs.declared.word.CrateCall.TheVariants as crate_word
 use Rattle.camac_lang.specs.declared.word.LamCall.{LamCall}
 use Rattle.camac_lang.specs.declared.word.LamCall.TheVariants as lam_word
-use Rattle.camac_lang.specs.Tree.{Statement, assign, set_register, single, address_scan, q_stop, q_repeat, put, crate_call, lam_call, choose, choose_else, for_, while_, locked, call}
+use Rattle.camac_range.specs.Interval.{Interval}
+use Rattle.camac_lang.specs.Tree.{Expression, Statement, assign, set_register, single, address_scan, q_stop, q_repeat, put, crate_call, lam_call, choose, choose_else, for_, while_, locked, call}
 use Rattle.camac_model.specs.Fine.{Bounds}
 use Rattle.camac_check_rules.specs.Known.{Region, Known, region_at}
+use Rattle.camac_check_rules.specs.Fault.{Fault}
+use Rattle.camac_check_rules.specs.Expressions.{range_of}
 use Rattle.camac_check_rules.specs.Calls.{lam_region}
 use Rattle.camac_check_rules.specs.Cycles.{Context}
 use Rattle.camac_costs.specs.declared.row.Kind.{Kind}
@@ -90,16 +93,32 @@ at_region None = detail.Nothing
 at_region (Some g) = detail.At g
 
 -- the addresses that a register may hold, where that is known
-abbrev pub register_detail : Known → ℕ → Detail
-register_detail None r = detail.Nothing
-register_detail (Some k) r = at_region (region_at k.registers r)
+abbrev pub known_region : Known → ℕ → Option Region
+known_region None r = None
+known_region (Some k) r = region_at k.registers r
 
--- of a statement that holds no others: a scan is told by its first register
+-- between the addresses of two registers
+abbrev pub between : Option Region → Option Region → Detail
+between None h = detail.Nothing
+between (Some g) None = detail.Nothing
+between (Some g) (Some h) = detail.Between g h
+
+abbrev pub in_crates : Result Interval Fault → Detail
+in_crates (Ok r) = detail.Crates r
+in_crates (Err f) = detail.Nothing
+
+-- the crates that an expression may name
+abbrev pub crate_detail : ℕ → Expression → Known → Detail
+crate_detail line e None = detail.Nothing
+crate_detail line e (Some k) = in_crates (range_of line e k.ranges)
+
+-- of a statement that holds no others
 abbrev pub detail_of : Context → Statement → Known → Detail
-detail_of c (single line size f r move) k = register_detail k r
-detail_of c (address_scan line f r1 r2 max x) k = register_detail k r1
-detail_of c (q_stop line f r t max x) k = register_detail k r
-detail_of c (q_repeat line f r t max limit x) k = register_detail k r
+detail_of c (single line size f r move) k = at_region (known_region k r)
+detail_of c (address_scan line f r1 r2 max x) k = between (known_region k r1) (known_region k r2)
+detail_of c (q_stop line f r t max x) k = at_region (known_region k r)
+detail_of c (q_repeat line f r t max limit x) k = at_region (known_region k r)
+detail_of c (crate_call line which e) k = crate_detail line e k
 detail_of c (lam_call line which l) k = at_region (lam_region c l)
 detail_of c (call line p es) k = detail.Procedure p
 detail_of c s k = detail.Nothing

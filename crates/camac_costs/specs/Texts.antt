@@ -1,5 +1,5 @@
 -- The lines of `camac costs`.
-use Rattle.std.specs.Prelude.{ℕ, List, [], ◌∷◌, ◌++◌, codes, decimal, nat_eq, option_map, unwrap_or, slice_get, if◌then◌else◌}
+use Rattle.std.specs.Prelude.{ℕ, List, [], ◌++◌, codes, decimal, nat_eq, option_map, unwrap_or, slice_get, if◌then◌else◌}
 use Rattle.std.specs.List.{flat_map}
 use Rattle.camac_range.specs.Interval.{Interval}
 use Rattle.camac_lang.specs.Tree.{Text, Lam, Procedure, Service, Script}
@@ -7,6 +7,7 @@ use Rattle.camac_branch.specs.Plan.{Layout}
 use Rattle.camac_names.specs.Link.{service_bit}
 use Rattle.camac_model.specs.Fine.{Bounds}
 use Rattle.camac_check_rules.specs.Known.{Region}
+use Rattle.camac_check_rules.specs.Windows.{Window, window_of}
 use Rattle.camac_costs.specs.declared.bodies.Owner.{Owner}
 use Rattle.camac_costs.specs.declared.bodies.Owner.TheVariants as owner
 use Rattle.camac_costs.specs.declared.row.Kind.{Kind}
@@ -50,6 +51,16 @@ range_text r = if nat_eq r.lo r.hi then decimal r.lo else decimal r.lo ++ codes 
 abbrev pub region_text : Region → List ℕ
 region_text g = codes " at " ++ range_text g.crates ++ codes " " ++ range_text g.stations ++ codes " " ++ range_text g.sub_addresses
 
+-- one address after a word
+abbrev pub address_after : List ℕ → (crate_no station sub_address : ℕ) → List ℕ
+address_after word c n a = word ++ decimal c ++ codes " " ++ decimal n ++ codes " " ++ decimal a
+
+-- from its first address to its last one
+abbrev pub window_text : Window → List ℕ
+window_text w =
+    address_after (codes " at ") w.crate_no w.first_station w.first_sub_address
+    ++ address_after (codes " to ") w.crate_no w.last_station w.last_sub_address
+
 abbrev pub procedure_name : List Procedure → ℕ → Text
 procedure_name ps i = unwrap_or (option_map (λ p. p.name) (slice_get ps i)) []
 
@@ -58,7 +69,8 @@ abbrev pub detail_text : List Procedure → Detail → List ℕ
 detail_text ps detail.Nothing = []
 detail_text ps (detail.At g) = region_text g
 detail_text ps (detail.Turns n) = codes " turns " ++ decimal n
-detail_text ps (detail.Crate c) = codes " crate " ++ decimal c
+detail_text ps (detail.Between g h) = window_text (window_of g h)
+detail_text ps (detail.Crates r) = codes " crate " ++ range_text r
 detail_text ps (detail.Procedure i) = codes " proc " ++ procedure_name ps i
 
 -- where it stands, how often it is made, what one time costs, and its share
@@ -80,7 +92,7 @@ procedure_line p costs =
     ++ codes " steps " ++ decimal costs.steps ++ codes " of " ++ decimal p.steps ++ codes "\n"
 
 abbrev pub address_text : Lam → List ℕ
-address_text l = codes " at " ++ decimal l.crate_no ++ codes " " ++ decimal l.station ++ codes " " ++ decimal l.sub_address
+address_text l = address_after (codes " at ") l.crate_no l.station l.sub_address
 
 -- of a service with the GL bit and the address of its LAM
 abbrev pub service_line : Lam → ℕ → Service → Bounds → List ℕ

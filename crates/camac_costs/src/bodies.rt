@@ -1,10 +1,11 @@
 // The costs of the bodies of a script, in the order of the text.
 
-ghost use Rattle.std.specs.Prelude.{◌≡◌, ◌<◌, ◌+◌, ◌^◌, ◌++◌, IfOk, OnOk, length, map, take};
+ghost use Rattle.std.specs.Prelude.{◌≡◌, ◌≤◌, ◌<◌, ◌+◌, ◌^◌, ◌++◌, IfOk, OnOk, drop, length, map};
 ghost use Rattle.camac_lang.specs.View.{item_of, procedure_of, service_of, statements_of};
+ghost use Rattle.camac_check_rules.specs.Accept.{sections};
 ghost use Rattle.camac_check_rules.specs.Capped.{capped};
 ghost use Rattle.camac_check_simple.specs.Gives.{by_code};
-ghost use Rattle.camac_costs.specs.Bodies.{bodies_from, body_costs, context_after, costs_with, procedure_at, procedure_costs, service_at, service_costs};
+ghost use Rattle.camac_costs.specs.Bodies.{body_costs, code_before, context_of, costs_over, costs_with, procedure_costs, service_costs};
 
 use crate::row::Row;
 use crate::walk::walk_block;
@@ -65,100 +66,82 @@ impl BodyCosts {
 pub fn costs_of(alloc: Global, checked: &Checked) -> Result<Vec<BodyCosts>, AllocError>
     ensures { IfOk result (λ v. v.items ≡ costs_with capped checked.now.plan checked.now.script) }
 {
+    let whole = context_of(checked);
+    let script = checked.script();
     let mut all = Vec::new(alloc);
-    push_bodies(alloc, checked, checked.script().order(), 0, 0, &mut all)?;
+    push_bodies(
+        alloc,
+        &whole,
+        script.order(),
+        0,
+        script.services(),
+        0,
+        &mut all,
+    )?;
     Ok(all)
 }
 
-// Puts those of these declarations at the end, after so many procedures and services.
-fn push_bodies(
-    alloc: Global,
-    checked: &Checked,
-    items: &[Item],
-    done: usize,
-    served: usize,
-    all: &mut Vec<BodyCosts>,
-) -> Result<(), AllocError>
-    requires { done + served + length items.now < 2 ^ 64 }
-    ensures { OnOk result (all.new.items ≡ all.old.items ++ bodies_from capped checked.now.plan checked.now.script (map item_of items.now) done served) }
-{
-    let [item, rest @ ..] = items else {
-        return Ok(());
-    };
-    match item {
-        Item::Procedure => {
-            push_procedure(alloc, checked, done, all)?;
-            push_bodies(alloc, checked, rest, done + 1, served, all)
-        }
-        Item::Service => {
-            push_service(alloc, checked, done, served, all)?;
-            push_bodies(alloc, checked, rest, done, served + 1, all)
-        }
-        Item::Table | Item::Lam | Item::Variables { .. } => {
-            push_bodies(alloc, checked, rest, done, served, all)
-        }
-    }
-}
-
-fn push_procedure(
-    alloc: Global,
-    checked: &Checked,
-    number: usize,
-    all: &mut Vec<BodyCosts>,
-) -> Result<(), AllocError>
-    ensures { OnOk result (all.new.items ≡ all.old.items ++ procedure_at capped checked.now.plan checked.now.script number) }
-{
-    match checked.script().procedures().get(number) {
-        Some(procedure) => {
-            let context = context_after(checked, number);
-            all.push(procedure_costs(alloc, &context, number, procedure)?)?;
-            Ok(())
-        }
-        None => Ok(()),
-    }
-}
-
-fn push_service(
-    alloc: Global,
-    checked: &Checked,
-    done: usize,
-    number: usize,
-    all: &mut Vec<BodyCosts>,
-) -> Result<(), AllocError>
-    ensures { OnOk result (all.new.items ≡ all.old.items ++ service_at capped checked.now.plan checked.now.script done number) }
-{
-    match checked.script().services().get(number) {
-        Some(service) => {
-            let context = context_after(checked, done);
-            all.push(service_costs(alloc, &context, number, service)?)?;
-            Ok(())
-        }
-        None => Ok(()),
-    }
-}
-
-/// What a body may refer to after so many procedures (own): the plan, the script's tables and LAMs, and these procedures.
-pub fn context_after(checked: &Checked, done: usize) -> Context<'_>
-    ensures { by_code result ≡ context_after capped checked.now.plan checked.now.script done }
+// All that a script may refer to: the plan, and its tables, LAMs and procedures.
+fn context_of(checked: &Checked) -> Context<'_>
+    ensures { by_code result ≡ context_of checked.now.plan checked.now.script }
 {
     let script = checked.script();
     Context {
         plan: checked.plan(),
         tables: script.tables(),
         lams: script.lams(),
-        procedures: first_of(script.procedures(), done),
+        procedures: script.procedures(),
     }
 }
 
-// The first so many procedures, or all where there are less.
-#[tactic(auto, using(crate::proofs::Before::all_of))]
-fn first_of(procedures: &[Procedure], done: usize) -> &[Procedure]
-    ensures { result.now ≡ take done procedures.now }
+// Puts those of these declarations at the end, after so many procedures and services.
+fn push_bodies(
+    alloc: Global,
+    whole: &Context,
+    items: &[Item],
+    done: usize,
+    services: &[Service],
+    served: usize,
+    all: &mut Vec<BodyCosts>,
+) -> Result<(), AllocError>
+    requires before { done ≤ length whole.now.procedures.now }
+    requires few { served + length items.now < 2 ^ 64 }
+    ensures { OnOk result (all.new.items ≡ all.old.items ++ costs_over (code_before whole.now done) done served
+        (sections (map item_of items.now) (map procedure_of (drop done whole.now.procedures.now)) (map service_of services.now))) }
 {
-    if done < procedures.len() {
-        return &procedures[..done];
+    match items {
+        [] => Ok(()),
+        [Item::Procedure, rest @ ..] => match whole.procedures.get(done) {
+            None => push_bodies(alloc, whole, rest, done, services, served, all),
+            Some(procedure) => {
+                let here = before(whole, done);
+                all.push(procedure_costs(alloc, &here, done, procedure)?)?;
+                push_bodies(alloc, whole, rest, done + 1, services, served, all)
+            }
+        },
+        [Item::Service, rest @ ..] => match services {
+            [] => push_bodies(alloc, whole, rest, done, services, served, all),
+            [service, others @ ..] => {
+                let here = before(whole, done);
+                all.push(service_costs(alloc, &here, served, service)?)?;
+                push_bodies(alloc, whole, rest, done, others, served + 1, all)
+            }
+        },
+        [_, rest @ ..] => push_bodies(alloc, whole, rest, done, services, served, all),
     }
-    procedures
+}
+
+// What may be referred to after so many procedures.
+fn before<'a>(whole: &Context<'a>, done: usize) -> Context<'a>
+    requires { done ≤ length whole.now.procedures.now }
+    ensures { by_code result ≡ code_before whole.now done }
+{
+    Context {
+        plan: whole.plan,
+        tables: whole.tables,
+        lams: whole.lams,
+        procedures: &whole.procedures[..done],
+    }
 }
 
 /// The costs of the procedure of this number, from 0, by the checker's rules. The error is want of memory.

@@ -10,6 +10,6 @@ mod texts;
 mod unreached;
 mod walk;
 
-pub use bodies::{BodyCosts, Owner, context_after, costs_of, procedure_costs, service_costs};
+pub use bodies::{BodyCosts, Owner, costs_of, procedure_costs, service_costs};
 pub use row::{Detail, Kind, Row};
 pub use texts::write_costs;

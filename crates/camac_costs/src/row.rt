@@ -1,6 +1,7 @@
 // What a statement has of the bound of its body.
 
 use camac_check_known::{Costs, Region};
+use camac_range::Range;
 
 /// The word by which a statement is known, and that of the second arm of a choice.
 #[derive(Clone, Copy, Debug, PartialEq, Eq)]
@@ -38,10 +39,12 @@ pub enum Detail {
     Nothing,
     /// The addresses that its register can hold, or that of its LAM.
     At(Region),
+    /// Those between the addresses of its two registers.
+    Between(Region, Region),
     /// The most turns of a loop.
     Turns(u64),
-    /// The crate that is locked.
-    Crate(u32),
+    /// The crate that is locked, or those whose controller may be called.
+    Crates(Range),
     /// The procedure that is called, by its number.
     Procedure(usize),
 }

@@ -1,17 +1,18 @@
 // What the text of a statement tells of its row.
 
-ghost use Rattle.std.specs.Prelude.{◌≡◌};
-ghost use Rattle.camac_lang.specs.View.{statement_of};
+ghost use Rattle.std.specs.Prelude.{◌≡◌, IfOk};
+ghost use Rattle.camac_lang.specs.View.{expression_of, statement_of};
 ghost use Rattle.camac_check_rules.specs.Calls.{lam_region};
 ghost use Rattle.camac_check_simple.specs.Gives.{by_code};
 ghost use Rattle.camac_check_rules.specs.Costs.{no_costs};
-ghost use Rattle.camac_costs.specs.Statements.{at_region, crate_kind, detail_of, first_row, kind_of, lam_kind, line_of, register_detail, single_kind};
+ghost use Rattle.camac_costs.specs.Statements.{at_region, between, crate_detail, crate_kind, detail_of, first_row, kind_of, known_region, lam_kind, line_of, single_kind};
 
 use crate::row::{Detail, Kind, Row};
-use camac_check::Context;
-use camac_check_known::{Costs, Facts, Region};
-use camac_lang::{CrateCall, LamCall, Stmt, WordSize};
+use camac_check::{CheckFault, Context};
+use camac_check_known::{Costs, Facts, Region, range_of};
+use camac_lang::{CrateCall, Expr, LamCall, Stmt, WordSize};
 use camac_range::Range;
+use std::alloc::AllocError;
 
 /// The row of a statement that is made so many times, before it is counted how often its block is.
 pub fn first_row(statement: &Stmt, times: u64, each: Costs, share: Costs, detail: Detail) -> Row
@@ -119,27 +120,36 @@ fn lam_kind(call: LamCall) -> Kind
     }
 }
 
-/// What the text of a statement tells, and what is known of its register: where the statement can't be reached, nothing is.
-pub fn detail_of(context: &Context, statement: &Stmt, known: &Option<Facts>) -> Detail
-    ensures { result ≡ detail_of (by_code context.now) (statement_of statement.now) known.now }
+/// What else there is to tell of a statement that holds no others: where it can't be reached, only what its text says. The error is want of
+/// memory.
+pub fn detail_of(
+    context: &Context,
+    statement: &Stmt,
+    known: &Option<Facts>,
+) -> Result<Detail, AllocError>
+    ensures { IfOk result (λ d. d ≡ detail_of (by_code context.now) (statement_of statement.now) known.now) }
 {
     match statement {
         Stmt::Single { register, .. }
         | Stmt::QStop { register, .. }
-        | Stmt::QRepeat { register, .. } => register_detail(known, *register),
-        Stmt::Scan { first, .. } => register_detail(known, *first),
-        Stmt::LamCall { lam, .. } => at_region(lam_region(context, *lam)),
-        Stmt::Call { procedure, .. } => Detail::Procedure(*procedure),
-        _ => Detail::Nothing,
+        | Stmt::QRepeat { register, .. } => Ok(at_region(region_of(known, *register))),
+        Stmt::Scan { first, last, .. } => {
+            let from = region_of(known, *first);
+            Ok(between(from, region_of(known, *last)))
+        }
+        Stmt::CrateCall { line, crate_no, .. } => crate_detail(*line, crate_no, known),
+        Stmt::LamCall { lam, .. } => Ok(at_region(lam_region(context, *lam))),
+        Stmt::Call { procedure, .. } => Ok(Detail::Procedure(*procedure)),
+        _ => Ok(Detail::Nothing),
     }
 }
 
-fn register_detail(known: &Option<Facts>, register: usize) -> Detail
-    ensures { result ≡ register_detail known.now register }
+fn region_of(known: &Option<Facts>, register: usize) -> Option<Region>
+    ensures { result ≡ known_region known.now register }
 {
     match known {
-        Some(known) => at_region(known.register(register)),
-        None => Detail::Nothing,
+        Some(known) => known.register(register),
+        None => None,
     }
 }
 
@@ -149,6 +159,29 @@ fn at_region(region: Option<Region>) -> Detail
     match region {
         Some(region) => Detail::At(region),
         None => Detail::Nothing,
+    }
+}
+
+fn between(first: Option<Region>, last: Option<Region>) -> Detail
+    ensures { result ≡ between first last }
+{
+    match (first, last) {
+        (Some(first), Some(last)) => Detail::Between(first, last),
+        _ => Detail::Nothing,
+    }
+}
+
+// The crates that an expression may name.
+fn crate_detail(line: u32, crate_no: &Expr, known: &Option<Facts>) -> Result<Detail, AllocError>
+    ensures { IfOk result (λ d. d ≡ crate_detail line (expression_of crate_no.now) known.now) }
+{
+    let Some(known) = known else {
+        return Ok(Detail::Nothing);
+    };
+    match range_of(line, crate_no, known.ranges()) {
+        Ok(range) => Ok(Detail::Crates(range)),
+        Err(CheckFault::Broken { .. }) => Ok(Detail::Nothing),
+        Err(CheckFault::OutOfMemory) => Err(AllocError),
     }
 }
 

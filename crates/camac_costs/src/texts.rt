@@ -3,7 +3,8 @@
 ghost use Rattle.std.specs.Prelude.{◌≡◌, ◌≤◌, ◌<◌, ◌+◌, ◌||◌, ◌++◌, [], codes, is_err, length, map, option_map, slice_get, unwrap_or};
 ghost use Rattle.std.specs.List.{flat_map};
 ghost use Rattle.camac_lang.specs.View.{lam_of, procedure_of, service_of};
-ghost use Rattle.camac_costs.specs.Texts.{address_text, body_text, costs_text, detail_text, head_text, kind_word, procedure_line, procedure_name, range_text, region_text, row_start, row_text, service_line, service_text};
+ghost use Rattle.camac_costs.specs.Texts.{address_after, body_text, costs_text, detail_text, head_text, kind_word, procedure_line, procedure_name, range_text, region_text, row_start, row_text, service_line, service_text, window_text};
+ghost use Rattle.camac_check_rules.specs.Windows.{window_of};
 ghost use Rattle.camac_word.specs.Watched.{inner_of, has_failed};
 ghost use Rattle.camac_word.specs.Writing.{Writes};
 
@@ -110,9 +111,10 @@ fn end_of_row(procedures: &[Procedure], detail: Detail) -> Line
             line.push_str(" turns ");
             line.push_number(turns);
         }
-        Detail::Crate(c) => {
+        Detail::Between(first, last) => push_window(&mut line, first, last),
+        Detail::Crates(crates) => {
             line.push_str(" crate ");
-            line.push_number(c);
+            push_range(&mut line, crates);
         }
         Detail::Procedure(number) => {
             line.push_str(" proc ");
@@ -134,6 +136,39 @@ fn push_region(line: &mut Line, region: Region)
     push_range(line, region.stations());
     line.push_str(" ");
     push_range(line, region.sub_addresses());
+}
+
+// The window of a scan between the addresses of two registers.
+fn push_window(line: &mut Line, first: Region, last: Region)
+    requires { length line.old ≤ 100 }
+    ensures text { line.new ≡ line.old ++ window_text (window_of first last) }
+    ensures len { length line.new ≤ length line.old + 72 }
+{
+    let from = first.crates().lo();
+    push_address(
+        line,
+        " at ",
+        from,
+        first.stations().lo(),
+        first.sub_addresses().lo(),
+    );
+    let to = last.sub_addresses().hi().min(15);
+    push_address(line, " to ", from, last.stations().hi(), to);
+}
+
+// An address after a word.
+fn push_address(line: &mut Line, word: &str, c: u32, n: u32, a: u32)
+    requires room { length line.old ≤ 140 }
+    requires word { length word.now ≤ 4 }
+    ensures text { line.new ≡ line.old ++ address_after word.now c n a }
+    ensures len { length line.new ≤ length line.old + 36 }
+{
+    line.push_str(word);
+    line.push_number(c);
+    line.push_str(" ");
+    line.push_number(n);
+    line.push_str(" ");
+    line.push_number(a);
 }
 
 fn push_range(line: &mut Line, range: Range)
@@ -241,7 +276,13 @@ fn service_line(lam: &Lam, bit: GlBit, service: &Service, costs: Costs) -> Line
     line.push_number(service.line);
     line.push_str(" gl ");
     line.push_number(bit.get());
-    push_address(&mut line, lam);
+    push_address(
+        &mut line,
+        " at ",
+        lam.crate_no,
+        lam.station,
+        lam.sub_address.get(),
+    );
     line.push_str(" cycles ");
     line.push_number(costs.cycles());
     line.push_str(" of ");
@@ -254,19 +295,6 @@ fn service_line(lam: &Lam, bit: GlBit, service: &Service, costs: Costs) -> Line
     line.push_number(costs.steps());
     line.push_str("\n");
     line
-}
-
-fn push_address(line: &mut Line, lam: &Lam)
-    requires { length line.old ≤ 80 }
-    ensures text { line.new ≡ line.old ++ address_text (lam_of lam.now) }
-    ensures len { length line.new ≤ length line.old + 36 }
-{
-    line.push_str(" at ");
-    line.push_number(lam.crate_no);
-    line.push_str(" ");
-    line.push_number(lam.station);
-    line.push_str(" ");
-    line.push_number(lam.sub_address.get());
 }
 
 fn procedure_line(procedure: &Procedure, costs: Costs) -> Line

@@ -25,7 +25,7 @@ pub fn unreached_rows(
     ensures { (around : Surroundings) → IfOk result (λ v. v.items ≡ statement_rows (by_code context.now) around (statement_of statement.now) None) }
 {
     let nothing = Costs::new(0, 0, 0);
-    let detail = detail_of(context, statement, &None);
+    let detail = detail_of(context, statement, &None)?;
     let mut rows = Vec::new(alloc);
     rows.push(first_row(statement, 0, nothing, nothing, detail))?;
     match statement {

@@ -22,6 +22,7 @@ use camac_check_known::{Around, Costs, Facts, join, split, waits_of};
 use camac_check_loops::{for_limits, keeps_after, turn_bound, while_head};
 use camac_check_simple::{Place, lock_crate};
 use camac_lang::Stmt;
+use camac_range::Range;
 use std::alloc::{AllocError, Global};
 
 /// What is known after a block or statement, none where that can't be reached, what it can cost, and its rows.
@@ -133,7 +134,7 @@ fn walk_simple(
 {
     let here = Some(known);
     let found = accept_statement(alloc, context, around, statement, &here)?;
-    let detail = detail_of(context, statement, &here);
+    let detail = detail_of(context, statement, &here)?;
     let rows = one_row(alloc, statement, found.costs, found.costs, detail)?;
     Ok(Walked {
         known: found.known,
@@ -267,7 +268,13 @@ fn walk_lock(
     let waits = waits_of(context.plan, c);
     let costs = inner.costs.in_lock(waits);
     let share = Costs::new(u64::from(waits), 0, 2);
-    let mut rows = one_row(alloc, statement, costs, share, Detail::Crate(c))?;
+    let mut rows = one_row(
+        alloc,
+        statement,
+        costs,
+        share,
+        Detail::Crates(Range::only(c)),
+    )?;
     push_inside(&mut rows, &inner.rows, once())?;
     Ok(Walked {
         known: inner.known,

@@ -16,4 +16,4 @@ pub use event::{Event, Events, Usage, Version};
 pub use fault::{EventFault, EventFlaw, EventRule};
 pub use file::{EventFile, EventRecord, EventRecords, EventWords};
 pub use laws::{spelling_is_one, spelling_reads_back};
-pub use writing::{encode, write_header, write_record};
+pub use writing::{TextWriter, encode, write_header, write_record};

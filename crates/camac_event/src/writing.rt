@@ -1,6 +1,6 @@
 // Writing events, into memory in either version, and to a writer in version Two.
 
-ghost use Rattle.std.specs.Prelude.{◌≡◌, ◌≤◌, ◌<◌, ◌+◌, ◌*◌, ◌^◌, ◌++◌, ◌||◌, length, OnOk, IfOk, Some, is_err, All};
+ghost use Rattle.std.specs.Prelude.{◌≡◌, ◌≤◌, ◌<◌, ◌+◌, ◌*◌, ◌^◌, ◌++◌, ◌||◌, length, OnOk, IfOk, Some, is_err, All, ℕ, Bool, List, Option};
 ghost use Rattle.std.specs.List.{flat_map};
 ghost use Rattle.std.specs.Io.KnownBytes.{Appends};
 ghost use Rattle.arrayvec.specs.ArrayVec.{array_vec_len};
@@ -17,6 +17,30 @@ use camac_word::{GlBit, Watched, Word24, WriteFault};
 use std::alloc::{AllocError, Global};
 use std::io::Write;
 
+/// A writer of whole texts: any watched writer, or one that gathers.
+pub trait TextWriter {
+    /// The bytes that it was given, where they are known.
+    ghost contents: { Self → Option (List ℕ) };
+
+    /// Whether a call has failed so far.
+    ghost failed: { Self → Bool };
+
+    /// Writes the text. After a fault a prefix of it was written.
+    fn put_text(&mut self, text: &[u8]) -> Result<(), WriteFault>
+        ensures text { Writes (contents self.old) (contents self.new) result text.now }
+        ensures failed { failed self.new ≡ (failed self.old || is_err result) };
+}
+
+impl<W: Write> TextWriter for Watched<W> {
+    ghost contents = { λ w. W.contents (inner_of w) };
+
+    ghost failed = { λ w. has_failed w };
+
+    fn put_text(&mut self, text: &[u8]) -> Result<(), WriteFault> {
+        self.write_text(text)
+    }
+}
+
 /// The one spelling of the events, in their own version. An `Err` is out of memory.
 pub fn encode(alloc: Global, events: &Events) -> Result<Vec<u8>, AllocError>
     ensures { IfOk result (λ v. v.items ≡ spelling events.now.version events.now.events) }
@@ -30,16 +54,16 @@ pub fn encode(alloc: Global, events: &Events) -> Result<Vec<u8>, AllocError>
 }
 
 /// Writes the header of a file of version Two. After a fault a prefix of it was written.
-pub fn write_header<W: Write>(out: &mut Watched<W>) -> Result<(), WriteFault>
-    ensures text { Writes (W.contents (inner_of out.old)) (W.contents (inner_of out.new)) result (header Two) }
-    ensures failed { has_failed out.new ≡ (has_failed out.old || is_err result) }
+pub fn write_header<W: TextWriter>(out: &mut W) -> Result<(), WriteFault>
+    ensures text { Writes (W.contents out.old) (W.contents out.new) result (header Two) }
+    ensures failed { W.failed out.new ≡ (W.failed out.old || is_err result) }
 {
-    out.write_text(header_text(Version::Two))
+    out.put_text(header_text(Version::Two))
 }
 
 /// Writes the record of an event of version Two, at most 4,096 words, under its number (1, 2, ..). After a fault a prefix of it was written.
-pub fn write_record<W: Write>(
-    out: &mut Watched<W>,
+pub fn write_record<W: TextWriter>(
+    out: &mut W,
     number: u32,
     gl: GlBit,
     usage: Usage,
@@ -47,18 +71,18 @@ pub fn write_record<W: Write>(
 ) -> Result<(), WriteFault>
     requires words { length words.now ≤ 4096 }
     requires usage { usage.missed ≤ usage.cycles }
-    ensures text { Writes (W.contents (inner_of out.old)) (W.contents (inner_of out.new)) result
+    ensures text { Writes (W.contents out.old) (W.contents out.new) result
         (record_of number (record { gl = gl; usage = Some usage; words = words.now })) }
-    ensures failed { has_failed out.new ≡ (has_failed out.old || is_err result) }
+    ensures failed { W.failed out.new ≡ (W.failed out.old || is_err result) }
 {
     write_entry(out, number, gl, Some(usage), words)
 }
 
 // Writes the records of the events, numbered one after the other.
-fn write_records<W: Write>(out: &mut Watched<W>, events: &[Event]) -> Result<(), WriteFault>
+fn write_records<W: TextWriter>(out: &mut W, events: &[Event]) -> Result<(), WriteFault>
     requires few { length events.now < 2 ^ 32 }
     requires short { All (λ e. length e.words.items ≤ 4096) events.now }
-    ensures { OnOk result (Appends (W.contents (inner_of out.old)) (W.contents (inner_of out.new))
+    ensures { OnOk result (Appends (W.contents out.old) (W.contents out.new)
         (records_from 1 (entries_of events.now))) }
 {
     let mut number = 0;
@@ -70,17 +94,17 @@ fn write_records<W: Write>(out: &mut Watched<W>, events: &[Event]) -> Result<(),
 }
 
 // Writes the record of an event of either version.
-fn write_entry<W: Write>(
-    out: &mut Watched<W>,
+fn write_entry<W: TextWriter>(
+    out: &mut W,
     number: u32,
     gl: GlBit,
     usage: Option<Usage>,
     words: &[Word24],
 ) -> Result<(), WriteFault>
     requires { length words.now ≤ 4096 }
-    ensures text { Writes (W.contents (inner_of out.old)) (W.contents (inner_of out.new)) result
+    ensures text { Writes (W.contents out.old) (W.contents out.new) result
         (record_of number (record { gl = gl; usage = usage; words = words.now })) }
-    ensures failed { has_failed out.new ≡ (has_failed out.old || is_err result) }
+    ensures failed { W.failed out.new ≡ (W.failed out.old || is_err result) }
 {
     let mut layout = PieceBytes::new();
     lay_head(&mut layout, number, gl, usage, words.len());
@@ -88,23 +112,23 @@ fn write_entry<W: Write>(
 }
 
 // Writes what is laid out and the words after it, piece by piece.
-fn write_words<W: Write>(
-    out: &mut Watched<W>,
+fn write_words<W: TextWriter>(
+    out: &mut W,
     layout: &mut PieceBytes,
     words: &[Word24],
 ) -> Result<(), WriteFault>
-    ensures text { Writes (W.contents (inner_of out.old)) (W.contents (inner_of out.new)) result
+    ensures text { Writes (W.contents out.old) (W.contents out.new) result
         (layout.old.items ++ flat_map (big_bytes 4) words.now) }
-    ensures failed { has_failed out.new ≡ (has_failed out.old || is_err result) }
+    ensures failed { W.failed out.new ≡ (W.failed out.old || is_err result) }
 {
     'words: for word in words {
         if layout.remaining_capacity() < 4 {
-            out.write_text(layout)?;
+            out.put_text(layout)?;
             layout.clear();
         }
         lay_u32(layout, word.get());
     }
-    out.write_text(layout)
+    out.put_text(layout)
 }
 
 fn header_text(version: Version) -> &'static [u8; 8]

@@ -2,7 +2,7 @@
 
 use crate::before::{Before, NameKind, word_of};
 use crate::trial::{Beginnings, Trial};
-use camac_text::{TextFault, TextRule, TokenKind, TokensLeft};
+use camac_text::{TextCase, TextFault, TokenKind, TokensLeft};
 use camac_text_tokens::Keyword;
 use std::alloc::{AllocError, Global};
 
@@ -78,7 +78,12 @@ pub fn token_at(text: &[u8]) -> (&[u8], Option<TokenKind>) {
             Some(token) => (size_of(&token.kind, text), Some(token.kind.duplicate())),
             None => (0, None),
         },
-        Err(TextFault::Broken { rule, .. }) if rule == TextRule::BadByte => (1, None),
+        Err(
+            TextFault::Broken {
+                case: TextCase::Byte,
+                ..
+            },
+        ) => (1, None),
         Err(_) => (text.iter().take_while(|b| is_name_byte(**b)).count(), None),
     };
     (&text[..size.min(text.len())], kind)

@@ -21,7 +21,9 @@ impl Trial {
         self.text.truncate(size);
         match read {
             Err(TextFault::OutOfMemory) => Err(AllocError),
-            Err(TextFault::Broken { rule, left, .. }) if left == token.len() => Ok(Some(rule)),
+            Err(TextFault::Broken { case, left, .. }) if left == token.len() => Ok(Some(
+                case.rule(),
+            )),
             Err(TextFault::Broken { left, .. }) if left > 0 => Ok(Some(TextRule::UnexpectedToken)),
             _ => Ok(None),
         }

@@ -24,3 +24,8 @@ mod AddressRows
 pub mod Sums
 pub mod Shares
 pub mod Times
+pub mod CostsBounds
+pub mod MadeLists
+pub mod Made
+pub mod MadeRuns
+mod Listed

@@ -1,6 +1,6 @@
 -- Each range that the checker knows at a place has a number.
-use Rattle.std.proofs.Common.{◌≡◌, ℕ, zero, suc, ◌+◌, ◌-◌, ◌*◌, ◌/◌, ◌<◌, ◌≤◌, Bool, true, false, cond, List, [], ◌∷◌, map, Option, Some, None, Result, Ok, Err, refl, sym, ap, ◌∙◌, subst, ◌⊎◌, inl, inr, ⊎_elim, arith}
-use Rattle.std.specs.Prelude.{◌^◌, ◌&&◌, nat_eq, nat_lt, nat_le, max, min, slice_get, option_map, option_and_then, if◌then◌else◌}
+use Rattle.std.proofs.Common.{◌≡◌, ℕ, zero, suc, ◌+◌, ◌-◌, ◌*◌, ◌/◌, ◌<◌, ◌≤◌, Bool, true, false, cond, List, [], ◌∷◌, map, Option, Some, None, Result, Ok, Err, refl, sym, subst, ⊎_elim, arith}
+use Rattle.std.specs.Prelude.{◌^◌, nat_eq, nat_lt, nat_le, max, min, slice_get, option_map, option_and_then, if◌then◌else◌}
 use Rattle.std.proofs.Math.Nat.{le-div_iff_mul-le, div-mul-le_self, le_trans}
 use Rattle.std.proofs.lemmas.Bool.{and_parts, cond_both, leb-true, eqb-false, ltb-false, cases_lt}
 use Rattle.std.proofs.lemmas.Nat.{mul-le}
@@ -13,28 +13,27 @@ use Rattle.camac_range.specs.Narrow.{narrow}
 use Rattle.camac_range.specs.Operators as range
 use Rattle.camac_lang.specs.declared.word.WordSize.{WordSize}
 use Rattle.camac_model.specs.Cycle.{sized}
-use Rattle.camac_check_rules.specs.Accept.{at_start}
 use Rattle.camac_check_rules.specs.Conditions.{Branches, branches, sole_variable, refine, assume, split_test, split_part, split}
-use Rattle.camac_check_rules.specs.Costs.{Verdict, verdict, unreached}
+use Rattle.camac_check_rules.specs.Costs.{Verdict, unreached}
 use Rattle.camac_check_rules.specs.Addresses.{command_widths}
 use Rattle.camac_check_rules.specs.Calls.{lam_region, lock_rule}
 use Rattle.camac_check_rules.specs.Cycles.{Context, Around, with_locked, single_rule}
 use Rattle.camac_check_rules.specs.Expressions.{range_of}
 use Rattle.camac_check_rules.specs.Fault.{Fault}
-use Rattle.camac_check_rules.specs.Joined.{join_set, join_facts, join}
-use Rattle.camac_check_rules.specs.Known.{write, Region, region, Facts, facts, Known, range_at, region_at, with_range, with_region}
-use Rattle.camac_check_rules.specs.Loops.{kept_range, keeps_hold, with_keeps, head, Limits, limits, values_between, with_fixed, for_limits, for_head, for_after, while_head}
-use Rattle.camac_check_rules.specs.Procedures.{ranges_of, parameter_range, can_be_called, at_entry}
-use Rattle.camac_check_rules.specs.Refusal.{go_on, required, given, if_reached}
+use Rattle.camac_check_rules.specs.Joined.{join_set, join}
+use Rattle.camac_check_rules.specs.Known.{write, Region, region, Facts, facts, Known, range_at, region_at, with_range}
+use Rattle.camac_check_rules.specs.Loops.{kept_range, keeps_hold, with_keeps, head, Limits, values_between, with_fixed, for_limits, for_head, for_after, while_head}
+use Rattle.camac_check_rules.specs.Procedures.{ranges_of, parameter_range, can_be_called}
+use Rattle.camac_check_rules.specs.Refusal.{if_reached}
 use Rattle.camac_check_rules.specs.Statements.{accept_statement, accept_block}
 use Rattle.camac_check_rules.specs.Transfers.{block_region}
 use Rattle.camac_check_rules.specs.Windows.{window_of, scan_kept}
 use Rattle.camac_check_rules.specs.Writes.{fall_of, any_range, forget_move, forget, forget_block}
-use Rattle.camac_check_rules.proofs.Allows.{Allows, allowed, refused, then_allowed, required_allowed, given_then, given_allowed, if_reached_allowed, allowed_more}
+use Rattle.camac_check_rules.proofs.Allows.{Allows, allowed, then_allowed, required_allowed, given_then, given_allowed}
 use Rattle.camac_check_rules.proofs.Heads.{write_at}
 use Rattle.camac_check_rules.proofs.Joined.{range_at-hulls, region_at-join}
 use Rattle.camac_check_rules.proofs.Values.{some_if}
-use Rattle.camac_laws.specs.Places.{Place, place, IfReached, HasPlace, BlockHasPlace, IsStart, RegistersHaveAddresses}
+use Rattle.camac_laws.specs.Places.{Place, HasPlace, BlockHasPlace, IsStart, RegistersHaveAddresses}
 use Rattle.camac_laws.specs.ShownAddresses.{HasAddresses}
 
 -- ---- what is ordered

@@ -1,8 +1,8 @@
 -- The shares of a statement and of a block add up to what it can cost.
 use Rattle.std.proofs.Common.{◌≡◌, ℕ, ◌+◌, ◌-◌, ◌*◌, ◌^◌, ◌<◌, zero, suc, List, [], ◌∷◌, ◌++◌, map, Option, Some, None, Result, Ok, Err, refl, sym, ap, subst, ◌∙◌, arith}
-use Rattle.std.specs.Prelude.{option_map, option_to_list, slice_get, unwrap_or}
-use Rattle.camac_lang.specs.Tree.{Expression, Condition, Keep, Statement, assign, set_register, single, address_scan, q_stop, q_repeat, put, crate_call, lam_call, choose, choose_else, for_, while_, locked, call, Block, done, next, Item, next_table, next_lam, next_variables, next_procedure, next_service, Script}
-use Rattle.camac_branch.specs.Plan.{Layout, crate_waits}
+use Rattle.std.specs.Prelude.{unwrap_or}
+use Rattle.camac_lang.specs.Tree.{Expression, Condition, Keep, Statement, assign, set_register, single, address_scan, q_stop, q_repeat, put, crate_call, lam_call, choose, choose_else, for_, while_, locked, call, Block, done, next}
+use Rattle.camac_branch.specs.Plan.{crate_waits}
 use Rattle.camac_model.specs.Fine.{Bounds}
 use Rattle.camac_check_rules.specs.Fault.{Fault}
 use Rattle.camac_check_rules.specs.Refusal.{go_on, required, if_reached}
@@ -17,14 +17,13 @@ use Rattle.camac_check_rules.specs.Statements.{accept_statement, accept_block}
 use Rattle.camac_costs.specs.declared.bodies.Owner.{Owner}
 use Rattle.camac_costs.specs.declared.bodies.Owner.TheVariants as owner
 use Rattle.camac_check_rules.specs.declared.case.Body.TheVariants as body
-use Rattle.camac_check_rules.specs.Accept.{at_start, own_body}
+use Rattle.camac_check_rules.specs.Accept.{Section, of_procedure, of_service, at_start, bare, own_body, with_procedure}
 use Rattle.camac_check_rules.specs.Procedures.{at_entry}
 use Rattle.camac_costs.specs.declared.row.Row.{Row}
 use Rattle.camac_costs.specs.declared.inside.Weight.{Weight}
 use Rattle.camac_costs.specs.Weights.{once, turning, first_arm, second_arm, weighed, inside_row}
 use Rattle.camac_costs.specs.Rows.{found, block_verdict, Turning, turning_from, loop_share, lock_share, lock_inside, lock_head, simple_row, else_row, inside, statement_rows, block_rows}
-use Rattle.camac_costs.specs.Body.{BodyRows}
-use Rattle.camac_costs.specs.Bodies.{rows_if, body_costs, procedure_costs, service_costs, context_after, procedure_at, service_at, bodies_from}
+use Rattle.camac_costs.specs.Bodies.{rows_if, body_costs, costs_over, sections_of}
 use Rattle.camac_laws.specs.Shares.{total, IsBelow, AddUp, SharesAddUp}
 use Rattle.camac_laws.proofs.Sums.{same_costs, plus_none, none_plus, total_append, total_arms, total_inside, total_of_none, if_sum, if_below, choice_sum, choice_below, lock_sum, lock_below, loop_sum, no_turns, loop_weighed, turn_below, then_sum, then_below}
 
@@ -262,7 +261,7 @@ mutual
 
 -- ---- bodies
 
-body_adds : (r : Context) (whose : Owner) (around : Around) (b : Block) (k : Known) → IsBelow (body_costs (in_code r) whose around b k).costs
+pub body_adds : (r : Context) (whose : Owner) (around : Around) (b : Block) (k : Known) → IsBelow (body_costs (in_code r) whose around b k).costs
     → total (body_costs (in_code r) whose around b k).rows ≡ (body_costs (in_code r) whose around b k).costs
 body_adds r whose around b k below = go (if_reached unreached k (accept_block (in_code r) around b)) refl below
   where
@@ -271,27 +270,10 @@ body_adds r whose around b k below = go (if_reached unreached k (accept_block (i
     go (Ok v) e low = block_adds r around b k v e low
     go (Err f) e low = refl
 
-all_add : (bs cs : List BodyRows) → AddUp bs → AddUp cs → AddUp (bs ++ cs)
-all_add [] cs h more = more
-all_add (b ∷ bs) cs (first, h) more = (first, all_add bs cs h more)
-
-there_adds : {A : Type 0} (body : A → BodyRows) (o : Option A) → ((x : A) → IsBelow (body x).costs → total (body x).rows ≡ (body x).costs) → AddUp (option_to_list (option_map body o))
-there_adds body None h = tt
-there_adds body (Some x) h = (h x, tt)
-
-bodies_add : (plan : Layout) (s : Script) (items : List Item) (done' served : ℕ) → AddUp (bodies_from capped plan s items done' served)
-bodies_add plan s [] done' served = tt
-bodies_add plan s (next_table ∷ rest) done' served = bodies_add plan s rest done' served
-bodies_add plan s (next_lam ∷ rest) done' served = bodies_add plan s rest done' served
-bodies_add plan s (next_variables line n ∷ rest) done' served = bodies_add plan s rest done' served
-bodies_add plan s (next_procedure ∷ rest) done' served =
-    all_add (procedure_at capped plan s done') (bodies_from capped plan s rest (done' + 1) served)
-    (there_adds (procedure_costs (context_after capped plan s done') done') (slice_get s.procedures done') (λ p. body_adds (context_after capped plan s done') (owner.Procedure done') (alone_in (own_body (context_after capped plan s done'))) p.body (at_entry p.parameters)))
-    (bodies_add plan s rest (done' + 1) served)
-bodies_add plan s (next_service ∷ rest) done' served =
-    all_add (service_at capped plan s done' served) (bodies_from capped plan s rest done' (served + 1))
-    (there_adds (service_costs (context_after capped plan s done') served) (slice_get s.services served) (λ v. body_adds (context_after capped plan s done') (owner.Service served) (alone_in (body.Service v.lam)) v.body (Some at_start)))
-    (bodies_add plan s rest done' (served + 1))
+sections_add : (r : Context) (i j : ℕ) (ss : List Section) → AddUp (costs_over (in_code r) i j ss)
+sections_add r i j [] = tt
+sections_add r i j (of_procedure p ∷ rest) = (body_adds r (owner.Procedure i) (alone_in (own_body r)) p.body (at_entry p.parameters), sections_add (with_procedure p r) (i + 1) j rest)
+sections_add r i j (of_service v ∷ rest) = (body_adds r (owner.Service j) (alone_in (body.Service v.lam)) v.body (Some at_start), sections_add r i (j + 1) rest)
 
 pub shares_add_up : SharesAddUp
-shares_add_up plan script = bodies_add plan script script.order 0 0
+shares_add_up plan script = sections_add (bare capped plan script) 0 0 (sections_of script)

@@ -1,25 +1,25 @@
 -- A statement is made at most as often as its body has steps: each of its turns and its own step counts there.
-use Rattle.std.proofs.Common.{◌≡◌, ℕ, ◌+◌, ◌-◌, ◌*◌, ◌^◌, ◌≤◌, zero, suc, List, [], ◌∷◌, ◌++◌, map, Option, Some, None, Result, Ok, Err, refl, sym, ap, subst, ◌∙◌, le_trans, arith}
+use Rattle.std.proofs.Common.{◌≡◌, ℕ, ◌+◌, ◌-◌, ◌*◌, ◌^◌, ◌≤◌, List, [], ◌∷◌, ◌++◌, map, Option, Some, None, Result, Ok, Err, refl, sym, ap, subst, ◌∙◌, le_trans, arith}
 use Rattle.std.proofs.Math.Nat.{mul-le-mul_left}
-use Rattle.std.specs.Prelude.{min, option_map, option_to_list, slice_get, unwrap_or}
+use Rattle.std.specs.Prelude.{min, unwrap_or}
 use Rattle.camac_lang.specs.declared.word.CrateCall.{CrateCall}
 use Rattle.camac_lang.specs.declared.word.LamCall.{LamCall}
 use Rattle.camac_lang.specs.declared.word.WordSize.{WordSize}
-use Rattle.camac_lang.specs.Tree.{Expression, Condition, Keep, Move, no_data, into, from, Statement, assign, set_register, single, address_scan, q_stop, q_repeat, put, crate_call, lam_call, choose, choose_else, for_, while_, locked, call, Block, done, next, Item, next_table, next_lam, next_variables, next_procedure, next_service, Script}
-use Rattle.camac_branch.specs.Plan.{Layout, crate_waits}
+use Rattle.camac_lang.specs.Tree.{Expression, Condition, Keep, Move, no_data, into, from, Statement, assign, set_register, single, address_scan, q_stop, q_repeat, put, crate_call, lam_call, choose, choose_else, for_, while_, locked, call, Block, done, next}
+use Rattle.camac_branch.specs.Plan.{crate_waits}
 use Rattle.camac_model.specs.Fine.{Bounds}
 use Rattle.camac_check_rules.specs.Fault.{Fault}
-use Rattle.camac_check_rules.specs.Refusal.{go_on, given, required, if_reached}
+use Rattle.camac_check_rules.specs.Refusal.{go_on, required, if_reached}
 use Rattle.camac_check_rules.specs.Known.{Facts, Known}
 use Rattle.camac_check_rules.specs.Conditions.{Branches, branches, split}
 use Rattle.camac_check_rules.specs.Capped.{capped}
-use Rattle.camac_check_rules.specs.Costs.{costs, no_costs, plus, choice_costs, lock_costs, loop_costs, Verdict, unreached}
+use Rattle.camac_check_rules.specs.Costs.{no_costs, plus, choice_costs, lock_costs, loop_costs, Verdict, unreached}
 use Rattle.camac_check_rules.specs.Cycles.{Context, Around, alone_in, with_locked}
 use Rattle.camac_check_rules.specs.Calls.{lock_rule}
 use Rattle.camac_check_rules.specs.Loops.{with_fixed, for_limits, for_head, keeps_hold_after, turns_between, while_head, turn_bound}
 use Rattle.camac_check_rules.specs.Statements.{accept_statement, accept_block}
 use Rattle.camac_check_rules.specs.declared.case.Body.TheVariants as body
-use Rattle.camac_check_rules.specs.Accept.{at_start, own_body}
+use Rattle.camac_check_rules.specs.Accept.{Section, of_procedure, of_service, at_start, bare, own_body, with_procedure}
 use Rattle.camac_check_rules.specs.Procedures.{at_entry}
 use Rattle.camac_costs.specs.declared.bodies.Owner.{Owner}
 use Rattle.camac_costs.specs.declared.bodies.Owner.TheVariants as owner
@@ -27,8 +27,7 @@ use Rattle.camac_costs.specs.declared.row.Row.{Row}
 use Rattle.camac_costs.specs.declared.inside.Weight.{Weight}
 use Rattle.camac_costs.specs.Weights.{once, turning, first_arm, second_arm, in_64_bits, inside_row}
 use Rattle.camac_costs.specs.Rows.{found, block_verdict, Turning, turning_from, lock_inside, lock_head, simple_row, else_row, inside, times_at, statement_rows, block_rows}
-use Rattle.camac_costs.specs.Body.{BodyRows}
-use Rattle.camac_costs.specs.Bodies.{rows_if, body_costs, procedure_costs, service_costs, context_after, procedure_at, service_at, bodies_from}
+use Rattle.camac_costs.specs.Bodies.{rows_if, body_costs, costs_over, sections_of}
 use Rattle.camac_laws.specs.Times.{NoMore, InSteps, TimesInSteps}
 use Rattle.camac_laws.proofs.Shares.{in_code, go_ok, ok_same}
 
@@ -280,7 +279,7 @@ mutual
   statement_in_steps r around (while_ line test most m keeps body) k v e = while_in_steps r around line test most m keeps body k v (block_in_steps r around body) e
   statement_in_steps r around (locked line e1 body) k v e = lock_in_steps r around line e1 body k v (λ around'. block_in_steps r around' body) e
 
-  block_in_steps : (r : Context) (around : Around) (b : Block) (k : Known) (v : Verdict) → if_reached unreached k (accept_block (in_code r) around b) ≡ Ok v
+  pub block_in_steps : (r : Context) (around : Around) (b : Block) (k : Known) (v : Verdict) → if_reached unreached k (accept_block (in_code r) around b) ≡ Ok v
       → NoMore (in_64_bits v.costs.steps) (block_rows (in_code r) around b k)
   block_in_steps r around b None v e = no_more_up 0 (in_64_bits v.costs.steps) _ (omega arith) (block_never r around b)
   block_in_steps r around done (Some k) v e = tt
@@ -309,27 +308,10 @@ body_in_steps r whose around b k = go (if_reached unreached k (accept_block (in_
     go (Ok v) e = no_more_up (in_64_bits v.costs.steps) v.costs.steps _ (omega arith) (block_in_steps r around b k v e)
     go (Err f) e = tt
 
-both_in_steps : (bs cs : List BodyRows) → InSteps bs → InSteps cs → InSteps (bs ++ cs)
-both_in_steps [] cs h more = more
-both_in_steps (b ∷ bs) cs (first, h) more = (first, both_in_steps bs cs h more)
-
-there_in_steps : {A : Type 0} (body : A → BodyRows) (o : Option A) → ((x : A) → NoMore (body x).costs.steps (body x).rows) → InSteps (option_to_list (option_map body o))
-there_in_steps body None h = tt
-there_in_steps body (Some x) h = (h x, tt)
-
-bodies_in_steps : (plan : Layout) (s : Script) (items : List Item) (done' served : ℕ) → InSteps (bodies_from capped plan s items done' served)
-bodies_in_steps plan s [] done' served = tt
-bodies_in_steps plan s (next_table ∷ rest) done' served = bodies_in_steps plan s rest done' served
-bodies_in_steps plan s (next_lam ∷ rest) done' served = bodies_in_steps plan s rest done' served
-bodies_in_steps plan s (next_variables line n ∷ rest) done' served = bodies_in_steps plan s rest done' served
-bodies_in_steps plan s (next_procedure ∷ rest) done' served =
-    both_in_steps (procedure_at capped plan s done') (bodies_from capped plan s rest (done' + 1) served)
-    (there_in_steps (procedure_costs (context_after capped plan s done') done') (slice_get s.procedures done') (λ p. body_in_steps (context_after capped plan s done') (owner.Procedure done') (alone_in (own_body (context_after capped plan s done'))) p.body (at_entry p.parameters)))
-    (bodies_in_steps plan s rest (done' + 1) served)
-bodies_in_steps plan s (next_service ∷ rest) done' served =
-    both_in_steps (service_at capped plan s done' served) (bodies_from capped plan s rest done' (served + 1))
-    (there_in_steps (service_costs (context_after capped plan s done') served) (slice_get s.services served) (λ v. body_in_steps (context_after capped plan s done') (owner.Service served) (alone_in (body.Service v.lam)) v.body (Some at_start)))
-    (bodies_in_steps plan s rest done' (served + 1))
+sections_in_steps : (r : Context) (i j : ℕ) (ss : List Section) → InSteps (costs_over (in_code r) i j ss)
+sections_in_steps r i j [] = tt
+sections_in_steps r i j (of_procedure p ∷ rest) = (body_in_steps r (owner.Procedure i) (alone_in (own_body r)) p.body (at_entry p.parameters), sections_in_steps (with_procedure p r) (i + 1) j rest)
+sections_in_steps r i j (of_service v ∷ rest) = (body_in_steps r (owner.Service j) (alone_in (body.Service v.lam)) v.body (Some at_start), sections_in_steps r i (j + 1) rest)
 
 pub times_in_steps : TimesInSteps
-times_in_steps plan script = bodies_in_steps plan script script.order 0 0
+times_in_steps plan script = sections_in_steps (bare capped plan script) 0 0 (sections_of script)

@@ -13,3 +13,6 @@ pub mod Scans
 pub mod SampleText
 pub mod Shares
 pub mod Times
+pub mod CostsBounds
+pub mod Made
+pub mod Listed

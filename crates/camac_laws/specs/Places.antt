@@ -1,6 +1,6 @@
 -- Where the checker comes while it judges a body, and that each register which is set there has an address.
 use Rattle.std.specs.Prelude.{◌≡◌, ℕ, List, Some, Ok, ◌⊎◌}
-use Rattle.camac_lang.specs.Tree.{Statement, assign, choose, choose_else, for_, while_, locked, Block, done, next, Parameter}
+use Rattle.camac_lang.specs.Tree.{Statement, choose, choose_else, for_, while_, locked, Block, done, next, Parameter}
 use Rattle.camac_check_rules.specs.Accept.{at_start}
 use Rattle.camac_check_rules.specs.Calls.{lock_rule}
 use Rattle.camac_check_rules.specs.Conditions.{Branches, split}

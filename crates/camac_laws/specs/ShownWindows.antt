@@ -1,5 +1,5 @@
 -- What the case of a refusal shows of the window of a scan.
-use Rattle.std.specs.Prelude.{◌≡◌, ℕ, ◌<◌, ◌≤◌, Bool, true, false, Some, Err, ◌⊎◌}
+use Rattle.std.specs.Prelude.{◌≡◌, ℕ, ◌<◌, ◌≤◌, true, false, Some, Err, ◌⊎◌}
 use Rattle.camac_lang.specs.Tree.{Expression}
 use Rattle.camac_branch.specs.Plan.{Layout}
 use Rattle.camac_range.specs.Interval.{IsWithin}

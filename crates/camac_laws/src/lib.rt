@@ -20,4 +20,6 @@ pub use laws::{
     windows_are_between,
 };
 pub use sample::sample_text_is_read;
-pub use statements::{shares_add_up, times_in_steps};
+pub use statements::{
+    commands_are_listed, costs_are_bounds, rows_are_of_runs, shares_add_up, times_in_steps,
+};

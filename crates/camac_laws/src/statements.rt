@@ -1,5 +1,8 @@
-// What holds of the rows of a script, each law as the contract of a function that does nothing.
+// What holds of the rows of a script, and of the lines of a plan, each law as the contract of a function that does nothing.
 
+ghost use Rattle.camac_laws.specs.CostsBounds.{CostsAreBounds};
+ghost use Rattle.camac_laws.specs.Listed.{CommandsAreListed};
+ghost use Rattle.camac_laws.specs.Made.{RowsAreOfRuns};
 ghost use Rattle.camac_laws.specs.Shares.{SharesAddUp};
 ghost use Rattle.camac_laws.specs.Times.{TimesInSteps};
 
@@ -11,4 +14,21 @@ pub fn shares_add_up()
 /// No statement is made more often than the bound of its body has steps.
 pub fn times_in_steps()
     ensures { TimesInSteps }
+{}
+
+/// In an accepted script the bounds of the services in its costs are those of the check, and the shares of each body add up to its bound.
+pub fn costs_are_bounds()
+    ensures { CostsAreBounds }
+{}
+
+/// No run makes a statement of an accepted script more often in one service or call than its row says, and no time of it costs more cycles,
+/// words or steps than its row says of one.
+pub fn rows_are_of_runs()
+    ensures { RowsAreOfRuns }
+{}
+
+/// What `camac plan --commands` lists of a type is lines in order, one for each function and the neighbours that are alike. Each sub-address
+/// of a line has that command, and each command that is declared stands in one line.
+pub fn commands_are_listed()
+    ensures { CommandsAreListed }
 {}

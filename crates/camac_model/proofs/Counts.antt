@@ -40,7 +40,7 @@ cycles_stepwise = record {
   on_store = λ x env regs s i. i;
   on_word = λ x w s i. i;
   on_cycle = λ x at f d r a rest s e i. (tt, ap (λ k. k + (1 + a.wait)) i);
-  on_lock = λ x c a rest s e i. (tt, ap (λ k. k + a.wait) i);
+  on_lock = λ x c a rest s e free i. (tt, ap (λ k. k + a.wait) i);
   on_release = λ x c s i. (tt, omega (arith, i));
 }
 
@@ -60,7 +60,7 @@ missed_stepwise = record {
   on_store = λ x env regs s i. i;
   on_word = λ x w s i. i;
   on_cycle = λ x at f d r a rest s e i. (tt, one_missed r.x s.missed x i);
-  on_lock = λ x c a rest s e i. (tt, none_missed s.missed x i);
+  on_lock = λ x c a rest s e free i. (tt, none_missed s.missed x i);
   on_release = λ x c s i. (tt, none_missed s.missed x i);
 }
 
@@ -84,7 +84,7 @@ left_stepwise answers = record {
   on_store = λ x env regs s i. i;
   on_word = λ x w s i. i;
   on_cycle = λ x at f d r a rest s e i. (tt, used_one x answers s a rest e i);
-  on_lock = λ x c a rest s e i. (tt, used_one x answers s a rest e i);
+  on_lock = λ x c a rest s e free i. (tt, used_one x answers s a rest e i);
   on_release = λ x c s i. let same : x ≡ x + 0 = omega arith in (tt, i ∙ ap (λ j. drop j answers) same);
 }
 
@@ -101,7 +101,7 @@ whole_stepwise answers = record {
   on_store = λ x env regs s i. i;
   on_word = λ x w s i. i;
   on_cycle = λ x at f d r a rest s e i. (tt, whole_one answers x s a rest e i);
-  on_lock = λ x c a rest s e i. (tt, whole_one answers x s a rest e i);
+  on_lock = λ x c a rest s e free i. (tt, whole_one answers x s a rest e i);
   on_release = λ x c s i. (tt, omega (arith, i));
 }
 

@@ -30,7 +30,7 @@ stepwise s = record {
   on_store = λ u env regs t h. record { steps = h.steps; cost = h.cost; words = h.words };
   on_word = λ u w t h. one_more s t w h;
   on_cycle = λ u at f d r a rest t e h. (tt, record { steps = h.steps; cost = let le = h.cost in omega arith; words = h.words });
-  on_lock = λ u c a rest t e h. (tt, record { steps = h.steps; cost = let le = h.cost in omega arith; words = h.words });
+  on_lock = λ u c a rest t e free h. (tt, record { steps = h.steps; cost = let le = h.cost in omega arith; words = h.words });
   on_release = λ u c t h. (tt, record { steps = let le = h.steps in omega arith; cost = h.cost; words = h.words });
 }
 

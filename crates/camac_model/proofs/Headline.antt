@@ -157,7 +157,7 @@ told_stepwise = record {
   on_store = λ l env regs s h. record { at = h.at };
   on_word = λ l w s h. record { at = h.at };
   on_cycle = λ l at f d r a rest s e h. (tt, record { at = λ c. (cycle_locks s.branch at f).at c ∙ h.at c });
-  on_lock = λ l c a rest s e h. (tt, record { at = lock_told l s.branch c true h.at });
+  on_lock = λ l c a rest s e free h. (sym (h.at c) ∙ free, record { at = lock_told l s.branch c true h.at });
   on_release = λ l c s h. (tt, record { at = lock_told l s.branch c false h.at });
 }
 

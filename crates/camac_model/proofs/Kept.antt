@@ -27,7 +27,7 @@ module _ {X : Type 0} (step : X → Piece → X) (S : X → Piece → Type 0) (I
     pub on_store : (x : X) (env : Variables) (regs : Registers) (s : State) → I x s → I x (record s { variables = env; registers = regs })
     pub on_word : (x : X) (w : ℕ) (s : State) → I x s → I x (with_word w s)
     pub on_cycle : (x : X) (at : Address) (f : ℕ) (d : DataMove) (r : Reply) (a : Answer) (rest : List Answer) (s : State) → s.answers ≡ a ∷ rest → I x s → S x (cycled at f d r a.wait) × I (step x (cycled at f d r a.wait)) (after_cycle at f r a.wait rest s)
-    pub on_lock : (x : X) (c : ℕ) (a : Answer) (rest : List Answer) (s : State) → s.answers ≡ a ∷ rest → I x s → S x (lock_taken c a.wait) × I (step x (lock_taken c a.wait)) (after_lock c a.wait rest s)
+    pub on_lock : (x : X) (c : ℕ) (a : Answer) (rest : List Answer) (s : State) → s.answers ≡ a ∷ rest → (s.branch c).locked ≡ false → I x s → S x (lock_taken c a.wait) × I (step x (lock_taken c a.wait)) (after_lock c a.wait rest s)
     pub on_release : (x : X) (c : ℕ) (s : State) → I x s → S x (lock_released c) × I (step x (lock_released c)) (after_release c s)
 
   abbrev pub Still : X → Stop → State → Type 0
@@ -101,10 +101,10 @@ module _ {X : Type 0} (step : X → Piece → X) (S : X → Piece → Type 0) (I
     enter_keeps body h vs x s i =
         then_meets step S Still I I x (body (entered vs s)) (λ t. ends (returned s t)) (h x (entered vs s) (k.on_store x _ _ s i)) (λ y t j. k.on_store y s.variables s.registers t j)
 
-    lock_keeps : (c waits : ℕ) (l : Bool) (body : Action) → Keeps body → Keeps (take_lock c waits l body)
-    lock_keeps c waits l body h x s i =
-        lock_meets step S Still I x c waits l body s (λ _. i) (λ _. i) (λ a rest _ _. i) (λ a rest _ e _.
-        let one = k.on_lock x c a rest s e i in
+    lock_keeps : (c waits : ℕ) (body : Action) → Keeps body → Keeps (λ s. take_lock c waits (s.branch c).locked body s)
+    lock_keeps c waits body h x s i =
+        lock_meets step S Still I x c waits (s.branch c).locked body s (λ _. i) (λ _. i) (λ a rest _ _. i) (λ a rest free e _.
+        let one = k.on_lock x c a rest s e free i in
         (one.0, h (step x (lock_taken c a.wait)) (after_lock c a.wait rest s) one.1))
 
     release_keeps : (c : ℕ) → Keeps (release c)
@@ -171,7 +171,7 @@ module _ {X : Type 0} (step : X → Piece → X) (S : X → Piece → Type 0) (I
             let go : ℕ → ℕ → Action = λ d waits t. take_lock d waits (t.branch d).locked (held d) t in
             given_keeps (value e s.variables) (λ d. given (crate_waits c.plan d) (go d)) x s i (λ d _.
             given_keeps (crate_waits c.plan d) (go d) x s i (λ waits _.
-            lock_keeps d waits (s.branch d).locked (held d) (λ y t j. then_keeps (block_meaning c n body) (release d) (λ y t j. block_keeps body y t j) (release_keeps d) y t j) x s i))
+            lock_keeps d waits (held d) (λ y t j. then_keeps (block_meaning c n body) (release d) (λ y t j. block_keeps body y t j) (release_keeps d) y t j) x s i))
         statement_keeps (call line p es) x s i =
             given_keeps (slice_get c.routines p) (λ r. given (values es s.variables) (λ vs. enter (r n) vs)) x s i (λ r e.
             given_keeps (values es s.variables) (λ vs. enter (r n) vs) x s i (λ vs _. enter_keeps (r n) (routines.each p r e n) vs x s i))

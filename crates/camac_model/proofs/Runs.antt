@@ -119,7 +119,7 @@ pub run_answers_extend : RunAnswersExtend
 run_answers_extend plan script n answers bs = run_extends is_short n n bs (more_answers n bs) plan script answers
 
 -- the pieces go on
-more_pieces : (bs : List Answer) (a b : Behaviour (Unit {0})) → Extends (RunEnd bs) is_short bs a b → (ps : List Piece) × (pieces b ≡ pieces a ++ ps)
+pub more_pieces : (bs : List Answer) (a b : Behaviour (Unit {0})) → Extends (RunEnd bs) is_short bs a b → (ps : List Piece) × (pieces b ≡ pieces a ++ ps)
 more_pieces bs (does p a) b h =
     let go = more_pieces bs a h.0 h.2 in (go.0, ap pieces h.1 ∙ ap (λ ps. p ∷ ps) go.1)
 more_pieces bs (ends v) b h = (pieces b, refl)

@@ -55,7 +55,7 @@ module _ (i : ℕ) (answers : List Answer) where
       in_it m s (cycled at f d r a.wait) e tt,
       after_one m s (cycled at f d r a.wait) (here (after_cycle at f r a.wait rest s)) e (ap (λ k. record { left = k; progress = Some (at_cost (s.cost + (1 + a.wait))) }) (one_less s a rest l)),
     );
-    on_lock = λ m c a rest s l e. (
+    on_lock = λ m c a rest s l free e. (
       in_it m s (lock_taken c a.wait) e tt,
       after_one m s (lock_taken c a.wait) (here (after_lock c a.wait rest s)) e (ap (λ k. record { left = k; progress = Some (at_cost (s.cost + a.wait)) }) (one_less s a rest l)),
     );

@@ -23,7 +23,7 @@ stepwise = record {
   on_store = λ u env regs s i. i;
   on_word = λ u w s i. i;
   on_cycle = λ u at f d r a rest s e i. (tt, (ap (λ k. k + (1 + a.wait)) i.0, one_missed r.x s.missed u.missed i.1));
-  on_lock = λ u c a rest s e i. (tt, (ap (λ k. k + a.wait) i.0, i.1));
+  on_lock = λ u c a rest s e free i. (tt, (ap (λ k. k + a.wait) i.0, i.1));
   on_release = λ u c s i. (tt, i);
 }
 

@@ -51,6 +51,11 @@ abbrev pub given : {A : Type 0} → Option A → (A → Action) → Action
 given None go s = stops wrong s
 given (Some v) go s = go v s
 
+-- the same in a `do` block
+infixl 10 ◌>>=◌
+abbrev pub ◌>>=◌ : {A : Type 0} → Option A → (A → Action) → Action
+o >>= go = given o go
+
 -- goes on by a test, or is wrong where it has no value
 abbrev pub decide : Option Bool → Action → Action → Action
 decide None first second s = stops wrong s

@@ -45,8 +45,8 @@ after_cycle at f r wait rest s = record s {
 -- a cycle that is permitted, and then what its reply leads to
 abbrev pub make_cycle : Layout → Address → ℕ → DataMove → (Reply → Action) → Answer → List Answer → Action
 make_cycle plan at f d go a rest s =
-    does (cycled at f d (reply_to plan s.branch at f a) a.wait)
-    (go (reply_to plan s.branch at f a) (after_cycle at f (reply_to plan s.branch at f a) a.wait rest s))
+    let reply = reply_to plan s.branch at f a in
+    does (cycled at f d reply a.wait) (go reply (after_cycle at f reply a.wait rest s))
 
 -- one cycle on the first of these answers
 abbrev pub cycle : Layout → Address → ℕ → DataMove → List Answer → (Reply → Action) → Action

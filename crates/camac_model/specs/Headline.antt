@@ -107,11 +107,11 @@ locked_after l (lock_taken c w) = λ d. if nat_eq d c then true else l d
 locked_after l (lock_released c) = λ d. if nat_eq d c then false else l d
 locked_after l (event_left e) = l
 
--- no crate is locked where a service ends
+-- no crate is locked where a service ends, nor the one whose lock is taken before that
 abbrev pub NoneHeld : Locked → Piece → Type 0
 NoneHeld l (demanded p v) = Unit {0}
 NoneHeld l (cycled at f d r w) = Unit {0}
-NoneHeld l (lock_taken c w) = Unit {0}
+NoneHeld l (lock_taken c w) = l c ≡ false
 NoneHeld l (lock_released c) = Unit {0}
 NoneHeld l (event_left e) = (c : ℕ) → l c ≡ false
 

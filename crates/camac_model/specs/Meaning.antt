@@ -13,7 +13,7 @@ use Rattle.camac_branch.specs.Plan.{Layout, crate_waits}
 pub use Rattle.camac_esone.specs.Calls.{crate_address, crate_function, lam_function}
 use Rattle.camac_esone.specs.Transfers.{NextAddress, q_stop_next, q_repeat_next, scan_next, tally}
 use Rattle.camac_model.specs.State.{State, Variables, stepped, with_variable, with_register, with_word}
-use Rattle.camac_model.specs.Behaviour.{ends, stops, more, Action, then_do, given, decide, unless_wrong}
+use Rattle.camac_model.specs.Behaviour.{ends, stops, more, Action, then_do, given, ◌>>=◌, decide, unless_wrong}
 use Rattle.camac_model.specs.Value.{value, values, truth}
 use Rattle.camac_model.specs.Cycle.{cycle, sized, kept, take_lock, release}
 use Rattle.camac_model.specs.Transfer.{transfer}
@@ -87,34 +87,57 @@ enter body vs s = then_do (body (entered vs s)) (λ t. ends (returned s t))
 -- what a statement does once it is begun, and what a block does
 abbrev mutual
   pub effect : Context → ℕ → Statement → Action
-  effect c n (assign line x e) s = given (value e s.variables) (λ v t. ends (with_variable x v t)) s
-  effect c n (set_register line r k m a) s =
-      given (value k s.variables) (λ k'. given (value m s.variables) (λ m'. given (value a s.variables) (λ a' t.
-      ends (with_register r (address k' m' a') t)))) s
-  effect c n (single line size f r data') s = given (s.registers r) (λ at. act c.plan at f size data') s
-  effect c n (address_scan line f r1 r2 max x) s =
-      given (s.registers r1) (λ first. given (s.registers r2) (λ last. given (value max s.variables) (λ m.
-      unless_wrong (nat_eq first.crate_no last.crate_no) (transfer_to c.plan f None (scan_next first last m) x)))) s
-  effect c n (q_stop line f r g max x) s =
-      given (sent c g) (λ table. given (s.registers r) (λ at. given (value max s.variables) (λ m.
-      transfer_to c.plan f table (q_stop_next at m) x))) s
-  effect c n (q_repeat line f r g max limit x) s =
-      given (sent c g) (λ table. given (s.registers r) (λ at. given (value max s.variables) (λ m. given (value limit s.variables) (λ l.
-      transfer_to c.plan f table (q_repeat_next at m l) x)))) s
-  effect c n (put line e) s = given (value e s.variables) (λ v t. ends (with_word v t)) s
-  effect c n (crate_call line k e) s =
-      given (value e s.variables) (λ v. act c.plan (crate_address k v) (crate_function k) Full no_data) s
-  effect c n (lam_call line k l) s = given (slice_get c.lams l) (λ at. act c.plan at (lam_function k) Full no_data) s
+  effect c n (assign line x e) s = (do
+    v ← value e s.variables
+    λ t. ends (with_variable x v t)) s
+  effect c n (set_register line r e1 e2 e3) s = (do
+    crate_no ← value e1 s.variables
+    station ← value e2 s.variables
+    sub_address ← value e3 s.variables
+    λ t. ends (with_register r (address crate_no station sub_address) t)) s
+  effect c n (single line size f r data') s = (do
+    at ← s.registers r
+    act c.plan at f size data') s
+  effect c n (address_scan line f r1 r2 max x) s = (do
+    first ← s.registers r1
+    last ← s.registers r2
+    m ← value max s.variables
+    unless_wrong (nat_eq first.crate_no last.crate_no) (transfer_to c.plan f None (scan_next first last m) x)) s
+  effect c n (q_stop line f r g max x) s = (do
+    table ← sent c g
+    at ← s.registers r
+    m ← value max s.variables
+    transfer_to c.plan f table (q_stop_next at m) x) s
+  effect c n (q_repeat line f r g max limit x) s = (do
+    table ← sent c g
+    at ← s.registers r
+    m ← value max s.variables
+    l ← value limit s.variables
+    transfer_to c.plan f table (q_repeat_next at m l) x) s
+  effect c n (put line e) s = (do
+    v ← value e s.variables
+    λ t. ends (with_word v t)) s
+  effect c n (crate_call line k e) s = (do
+    crate_no ← value e s.variables
+    act c.plan (crate_address k crate_no) (crate_function k) Full no_data) s
+  effect c n (lam_call line k l) s = (do
+    at ← slice_get c.lams l
+    act c.plan at (lam_function k) Full no_data) s
   effect c n (choose line test a) s = decide (truth test s.variables s.q s.x) (block_meaning c n a) ends s
   effect c n (choose_else line test a b) s = decide (truth test s.variables s.q s.x) (block_meaning c n a) (block_meaning c n b) s
-  effect c n (for_ line x e1 e2 keeps body) s =
-      given (value e1 s.variables) (λ v. given (value e2 s.variables) (λ w. for_from (w + 1 - v) n x v w (block_meaning c n body))) s
+  effect c n (for_ line x e1 e2 keeps body) s = (do
+    first ← value e1 s.variables
+    last ← value e2 s.variables
+    for_from (last + 1 - first) n x first last (block_meaning c n body)) s
   effect c n (while_ line test m k keeps body) s = turns n test (block_meaning c n body) s
-  effect c n (locked line e body) s =
-      given (value e s.variables) (λ k. given (crate_waits c.plan k) (λ waits t.
-      take_lock k waits (t.branch k).locked (λ u. then_do (block_meaning c n body u) (release k)) t)) s
-  effect c n (call line p es) s =
-      given (slice_get c.routines p) (λ routine. given (values es s.variables) (λ vs. enter (routine n) vs)) s
+  effect c n (locked line e body) s = (do
+    crate_no ← value e s.variables
+    waits ← crate_waits c.plan crate_no
+    λ t. take_lock crate_no waits (t.branch crate_no).locked (λ u. then_do (block_meaning c n body u) (release crate_no)) t) s
+  effect c n (call line p es) s = (do
+    routine ← slice_get c.routines p
+    vs ← values es s.variables
+    enter (routine n) vs) s
 
   pub block_meaning : Context → ℕ → Block → Action
   block_meaning c n done s = ends s

@@ -1,25 +1,15 @@
 // The last line of a run.
 
-ghost use Rattle.std.specs.Prelude.{◌≡◌, ◌≤◌, ◌+◌, ◌||◌, ◌++◌, length, is_err, codes, decimal};
+ghost use Rattle.std.specs.Prelude.{◌≡◌, ◌≤◌, ◌+◌, ◌++◌, length, codes, decimal};
 ghost use Rattle.camac_report.specs.Ends.{end_text};
 ghost use Rattle.camac_run.specs.Ends.{stop_in};
-ghost use Rattle.camac_word.specs.Writing.{Writes};
 
-use crate::writer::RunWriter;
 use camac_branch::Overrun;
 use camac_report_text::Line;
 use camac_run::End;
-use camac_word::WriteFault;
 
-/// Writes the last line of a run: how it ended, and how many events it left. After a write fault a prefix of it was written.
-pub fn write_end<L: RunWriter>(out: &mut L, end: End, events: u32) -> Result<(), WriteFault>
-    ensures text { Writes (L.contents out.old) (L.contents out.new) result (end_text (stop_in end) events) }
-    ensures failed { L.failed out.new ≡ (L.failed out.old || is_err result) }
-{
-    out.write_line(&end_line(end, events))
-}
-
-fn end_line(end: End, events: u32) -> Line
+/// The last line of a run: how it ended, and how many events it left.
+pub fn end_line(end: End, events: u32) -> Line
     ensures { result ≡ end_text (stop_in end) events }
 {
     let mut line = Line::new();

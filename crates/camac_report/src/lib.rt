@@ -6,14 +6,12 @@ mod cycle;
 mod end;
 mod item;
 mod request;
-mod writer;
 
 pub use camac_report_text::{
     Code, LONGEST_LINE, Line, Refusal, lam_name, refusal_line, write_event_file, write_events,
     write_headings, write_plan, write_plan_with_commands, write_refusal, write_verdict,
 };
 pub use cycle::write_cycle;
-pub use end::write_end;
+pub use end::end_line;
 pub use item::{items_in, write_item, write_items};
-pub use request::{write_request, write_unlocks};
-pub use writer::RunWriter;
+pub use request::{request_line, unlocks_line};

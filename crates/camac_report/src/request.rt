@@ -1,42 +1,36 @@
 // The lines of a live run.
 
-ghost use Rattle.std.specs.Prelude.{◌≡◌, ◌≤◌, ◌+◌, ◌||◌, ◌++◌, length, is_err};
+ghost use Rattle.std.specs.Prelude.{◌≡◌, ◌≤◌, ◌+◌, ◌++◌, length};
 ghost use Rattle.camac_branch.specs.Address.{address};
 ghost use Rattle.camac_report.specs.Items.{unlock_texts};
 ghost use Rattle.camac_report.specs.Requests.{asked_text, request_text};
-ghost use Rattle.camac_word.specs.Writing.{Writes};
 
 use crate::item::unlocks_in;
-use crate::writer::RunWriter;
 use camac_branch::Command;
 use camac_func::DataMove;
 use camac_report_text::{LONGEST_LINE, Line};
 use camac_run::Wanted;
-use camac_word::{CrateNo, WriteFault};
+use camac_word::CrateNo;
 
-/// Writes the request for an operation in one write: `demand`, `cycle` with its command and what it moves, or `lock` with its crate. After
-/// a write fault a prefix of it was written.
-pub fn write_request<L: RunWriter>(out: &mut L, wanted: Wanted) -> Result<(), WriteFault>
-    ensures text { Writes (L.contents out.old) (L.contents out.new) result (request_text wanted) }
-    ensures failed { L.failed out.new ≡ (L.failed out.old || is_err result) }
+/// The request for an operation: `demand`, `cycle` with its command and what it moves, or `lock` with its crate.
+pub fn request_line(wanted: Wanted) -> Line
+    ensures { result ≡ request_text wanted }
 {
     let mut line = Line::new();
     push_request(&mut line, wanted);
-    out.write_line(&line)
+    line
 }
 
-/// Writes a line `unlock` for each crate, at most seven, whose lockout is released, all in one write. After a write fault a prefix of
-/// them was written.
-pub fn write_unlocks<L: RunWriter>(out: &mut L, unlocks: &[CrateNo]) -> Result<(), WriteFault>
+/// A line `unlock` for each crate, at most seven, whose lockout is released, all in one text.
+pub fn unlocks_line(unlocks: &[CrateNo]) -> Line
     requires { length unlocks.now ≤ 7 }
-    ensures text { Writes (L.contents out.old) (L.contents out.new) result (unlock_texts unlocks.now) }
-    ensures failed { L.failed out.new ≡ (L.failed out.old || is_err result) }
+    ensures { result ≡ unlock_texts unlocks.now }
 {
     let mut bytes = [0; LONGEST_LINE];
     let end = unlocks_in(&mut bytes, 0, unlocks);
     let mut lines = Line::new();
     lines.push_bytes(&bytes[..end]);
-    out.write_line(&lines)
+    lines
 }
 
 fn push_request(line: &mut Line, wanted: Wanted)

@@ -3,4 +3,4 @@ pub mod HeadingLines
 pub mod Lines
 pub mod Pairs
 pub mod Texts
-mod Neighbours
+pub mod Neighbours

@@ -70,7 +70,7 @@ module _ (plan : Layout) (is_plan : IsPlan plan) (script : Script) (ks : List Bo
     on_store = λ x env regs s i. tt;
     on_word = λ x w s i. tt;
     on_cycle = λ x at f d r a rest s e i. (tt, tt);
-    on_lock = λ x c a rest s e i. (tt, tt);
+    on_lock = λ x c a rest s e free i. (tt, tt);
     on_release = λ x c s i. (tt, tt);
   }
 

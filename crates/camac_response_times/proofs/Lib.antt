@@ -1,5 +1,6 @@
 pub mod Wanted
 pub mod Rounds
+pub mod Shares
 pub mod Rates
 pub mod Calls
 pub mod Answered

@@ -125,18 +125,16 @@ fn settle_from(
 fn sum_within(first: u64, bit: GlBit, own: bool, cycles: u32, sources: &[Source]) -> Option<u32>
     ensures { result ≡ within (first + called_within (is_meant bit own) cycles sources.now) }
 {
-    if first > u64::from(u32::MAX) {
-        return None;
+    let mut all = first;
+    'services: for source in sources {
+        if all > u64::from(u32::MAX) {
+            return None;
+        }
+        if source.bit < bit || own && source.bit == bit {
+            all += most_calls(source.every, cycles) * u64::from(source.cycles);
+        }
     }
-    let [source, rest @ ..] = sources else {
-        return Some(first as u32);
-    };
-    let all = if source.bit < bit || own && source.bit == bit {
-        first + most_calls(source.every, cycles) * u64::from(source.cycles)
-    } else {
-        first
-    };
-    sum_within(all, bit, own, cycles, rest)
+    u32::try_from(all).ok()
 }
 
 // The most cycles of a service of a greater bit.
@@ -160,9 +158,7 @@ fn most_calls(every: Option<Rate>, cycles: u32) -> u64
 {
     match every {
         None => 1,
-        // most rates are longer than the cycles that are tried, and a division takes longest
-        Some(period) if cycles < period.get() => 1,
-        Some(period) => u64::from(cycles / period.get()) + 1,
+        Some(period) => u64::from(period.times_in(cycles)) + 1,
     }
 }
 

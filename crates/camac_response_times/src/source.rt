@@ -1,6 +1,6 @@
 // Services as sources of look-at-mes.
 
-ghost use Rattle.std.specs.Prelude.{◌≡◌, ◌≤◌, ◌↔◌, IfSome, IsSome};
+ghost use Rattle.std.specs.Prelude.{◌≡◌, ◌≤◌, ◌/◌, ◌↔◌, IfSome, IsSome};
 
 use camac_word::GlBit;
 use std::marker::Model;
@@ -9,18 +9,20 @@ use std::marker::Model;
 #[derive(Clone, Copy, Debug, PartialEq, Eq)]
 pub struct Rate {
     cycles: u32,
+    // what one cycle is of it, in parts of 2^64: a product in place of a division, which takes longest in each round
+    share: u64,
 }
 
 impl Model for Rate {
-    ghost use Rattle.std.specs.Prelude.{ℕ, ◌≤◌};
+    ghost use Rattle.std.specs.Prelude.{ℕ, ◌≡◌, ◌≤◌, ◌-◌, ◌/◌, ◌^◌};
 
     ghost Value = { ℕ };
 
     ghost view = { λ r. r.cycles };
 
-    ghost invariant = { λ r. 1 ≤ r.cycles };
+    ghost invariant = { λ r. (1 ≤ r.cycles) × (r.share ≡ (2 ^ 64 - 1) / r.cycles) };
 
-    ghost inverse = { λ n. record { cycles = n } };
+    ghost inverse = { λ n. record { cycles = n; share = (2 ^ 64 - 1) / n } };
 }
 
 impl Rate {
@@ -30,10 +32,20 @@ impl Rate {
         ensures in_range { IsSome result ↔ (1 ≤ cycles) }
     {
         if cycles > 0 {
-            Some(Rate { cycles })
+            Some(Rate {
+                cycles,
+                share: u64::MAX / u64::from(cycles),
+            })
         } else {
             None
         }
+    }
+
+    /// How often so many cycles have it whole: the quotient, rounded down.
+    pub fn times_in(self, cycles: u32) -> u32
+        ensures { result ≡ cycles / self }
+    {
+        ((u128::from(cycles) + 1) * u128::from(self.share) >> 64) as u32
     }
 
     /// The number of cycles.

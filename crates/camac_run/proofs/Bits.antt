@@ -70,7 +70,7 @@ stepwise = record {
   on_store = λ u env regs s i. tt;
   on_word = λ u w s i. tt;
   on_cycle = λ u at f d r a rest s e i. (tt, tt);
-  on_lock = λ u c a rest s e i. (tt, tt);
+  on_lock = λ u c a rest s e free i. (tt, tt);
   on_release = λ u c s i. (tt, tt);
 }
 

@@ -4,13 +4,12 @@ use Rattle.std.specs.Prelude.{slice_get, option_and_then}
 use Rattle.camac_lang.specs.Tree.{Script}
 use Rattle.camac_branch.specs.Branch.{Answer}
 use Rattle.camac_branch.specs.Plan.{Layout}
-use Rattle.camac_model.specs.Behaviour.{Behaviour, does, ends, stops, Piece, lock_released, event_left, pieces, stop_of, Stop, short, overrun, wrong, more}
+use Rattle.camac_model.specs.Behaviour.{Behaviour, does, ends, stops, Piece, lock_released, pieces, stop_of, short, overrun, wrong, more}
 use Rattle.camac_model.specs.Run.{the_run}
 use Rattle.camac_run_machine.specs.MachineState.{Left, piece_of}
 use Rattle.camac_run_machine.specs.Rest.{says}
-use Rattle.camac_run_machine.specs.declared.item.Item.{Item}
-use Rattle.camac_run.specs.Holds.{after, HoldsAfter, GoingOnHolds, WantsAreWanted}
-use Rattle.camac_run.specs.Operation.{Begins, Waits, Wants, operation_of, quiet_answer, wanted_after}
+use Rattle.camac_run.specs.Holds.{after, HoldsAfter, event_pieces, GoingOnHolds, AllIsTold, WantsAreWanted}
+use Rattle.camac_run.specs.Operation.{Begins, Waits, operation_of, quiet_answer}
 use Rattle.camac_run.specs.Runner.{RunnerState, rest, with_event, last_words_in}
 use Rattle.camac_run.specs.declared.progress.Wanted.{Wanted}
 
@@ -31,10 +30,6 @@ waits_quietly (does p b) h = absurd h
 waits_quietly (ends x) h = refl
 waits_quietly (stops w s) h = refl
 
-abbrev pub event_pieces : Option Left → List ℕ → List Piece
-event_pieces None words = []
-event_pieces (Some e) words = event_left (record { bit = e.1; cycles = e.2.cycles; missed = e.2.missed; words = words }) ∷ []
-
 -- what comes after an answer's item: the locks that are released, and the event
 abbrev pub later : List ℕ → Option Left → List ℕ → List Piece
 later ks event words = map lock_released ks ++ event_pieces event words
@@ -48,14 +43,13 @@ says-after [] event words b = with_event-after event words b
 says-after (k ∷ ks) event words b = ap (λ (x : Behaviour (Unit {0})). does (lock_released k) x) (says-after ks event words b)
 
 abbrev pub going_on_holds : GoingOnHolds
-going_on_holds plan script answers a old new item unlocks event h g =
+going_on_holds plan script answers a told old new item unlocks event h g =
     let ps : List Piece = later unlocks event (last_words_in new) in
     record {
-      done = h.done ++ piece_of item ∷ ps;
       goes = λ (more' : List Answer).
           ap (the_run plan script) (append_assoc answers (a ∷ []) more') ∙ h.goes (a ∷ more')
-          ∙ ap (after h.done) (g.goes more' ∙ ap (λ (x : Behaviour (Unit {0})). does (piece_of item) x) (says-after unlocks event (last_words_in new) (rest new more')))
-          ∙ after-append h.done (piece_of item ∷ ps) (rest new more');
+          ∙ ap (after told) (g.goes more' ∙ ap (λ (x : Behaviour (Unit {0})). does (piece_of item) x) (says-after unlocks event (last_words_in new) (rest new more')))
+          ∙ after-append told (piece_of item ∷ ps) (rest new more');
     }
 
 -- with no wait the operation is made
@@ -71,19 +65,22 @@ get_at : {A : Type 0} (xs ys : List A) (x : A) → slice_get (xs ++ x ∷ ys) (l
 get_at [] ys x = refl
 get_at (y ∷ xs) ys x = get_at xs ys x
 
--- what was done is what the run does on these answers
-pub did_all : (plan : Layout) (script : Script) (answers : List Answer) (h : RunnerState) (holds : HoldsAfter plan script answers h) → Waits (rest h []) → pieces (the_run plan script answers) ≡ holds.done
-did_all plan script answers h holds waits =
+-- what was told is what the run does on these answers
+pub told_all : (plan : Layout) (script : Script) (answers : List Answer) (told : List Piece) (h : RunnerState) → HoldsAfter plan script answers told h → Waits (rest h []) → pieces (the_run plan script answers) ≡ told
+told_all plan script answers told h holds waits =
     ap (λ (l : List Answer). pieces (the_run plan script l)) (sym (append-nil answers)) ∙ ap (λ (x : Behaviour (Unit {0})). pieces x) (holds.goes [])
-    ∙ pieces-after holds.done (rest h []) ∙ ap (λ (ps : List Piece). holds.done ++ ps) (waits_quietly (rest h []) waits) ∙ append-nil holds.done
+    ∙ pieces-after told (rest h []) ∙ ap (λ (ps : List Piece). told ++ ps) (waits_quietly (rest h []) waits) ∙ append-nil told
+
+pub all_is_told : AllIsTold
+all_is_told plan script answers told h holds waiting = told_all plan script answers told h holds waiting.1.1
 
 pub wants_are_wanted : WantsAreWanted
-wants_are_wanted plan script answers h o holds wants =
+wants_are_wanted plan script answers told h o holds wants =
     let m = made o (rest h (quiet_answer ∷ [])) (wants.2 quiet_answer []) in
-    let all : pieces (the_run plan script (answers ++ quiet_answer ∷ [])) ≡ holds.done ++ m.0 ∷ pieces m.1 =
-    ap (λ (x : Behaviour (Unit {0})). pieces x) (holds.goes (quiet_answer ∷ [])) ∙ pieces-after holds.done (rest h (quiet_answer ∷ []))
-    ∙ ap (λ (x : Behaviour (Unit {0})). holds.done ++ pieces x) m.2 in
-    ap (λ (ps : List Piece). option_and_then operation_of (slice_get (pieces (the_run plan script (answers ++ quiet_answer ∷ []))) (length ps))) (did_all plan script answers h holds wants.1)
-    ∙ ap (λ (ps : List Piece). option_and_then operation_of (slice_get ps (length holds.done))) all
-    ∙ ap (λ (x : Option Piece). option_and_then operation_of x) (get_at holds.done (pieces m.1) m.0)
+    let all : pieces (the_run plan script (answers ++ quiet_answer ∷ [])) ≡ told ++ m.0 ∷ pieces m.1 =
+    ap (λ (x : Behaviour (Unit {0})). pieces x) (holds.goes (quiet_answer ∷ [])) ∙ pieces-after told (rest h (quiet_answer ∷ []))
+    ∙ ap (λ (x : Behaviour (Unit {0})). told ++ pieces x) m.2 in
+    ap (λ (ps : List Piece). option_and_then operation_of (slice_get (pieces (the_run plan script (answers ++ quiet_answer ∷ []))) (length ps))) (told_all plan script answers told h holds wants.1)
+    ∙ ap (λ (ps : List Piece). option_and_then operation_of (slice_get ps (length told))) all
+    ∙ ap (λ (x : Option Piece). option_and_then operation_of x) (get_at told (pieces m.1) m.0)
     ∙ m.3

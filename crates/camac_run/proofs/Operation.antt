@@ -1,5 +1,5 @@
 -- What a machine wants its next answer for, whatever that is.
-use Rattle.std.proofs.Common.{◌≡◌, ℕ, zero, suc, ◌+◌, ◌<◌, List, [], ◌∷◌, Bool, true, false, Option, Some, None, refl, sym, subst, arith}
+use Rattle.std.proofs.Common.{◌≡◌, ◌∙◌, ℕ, zero, suc, ◌+◌, ◌<◌, List, [], ◌∷◌, Bool, true, false, Option, Some, None, refl, sym, subst, arith}
 use Rattle.std.proofs.lemmas.Bool.{false≢true}
 use Rattle.std.specs.Prelude.{IsSome, IfSome, is_some, unwrap_or}
 use Rattle.camac_lang.specs.View.{statements_of}
@@ -12,17 +12,21 @@ use Rattle.camac_branch.specs.declared.answer.Overrun.{Overrun}
 use Rattle.camac_crate.specs.Lock.{permitted}
 use Rattle.camac_esone.specs.Transfers.{tally}
 use Rattle.camac_model.specs.State.{State, stepped, with_variable}
-use Rattle.camac_model.specs.Behaviour.{Behaviour, does, ends, stops, Action, then_do, given}
+use Rattle.camac_model.specs.Behaviour.{Behaviour, Piece, demanded, cycled, lock_taken, lock_released, event_left, does, ends, stops, short, overrun, wrong, more, Action, then_do, given}
+use Rattle.camac_model.specs.Fine.{Bounds, IsFine}
+use Rattle.camac_model.specs.Headline.{Locked}
+use Rattle.camac_model.specs.Safe.{IsSafePiece}
 use Rattle.camac_model.specs.Cycle.{cycle, kept, take_lock, release}
 use Rattle.camac_model.specs.Fine.{most_turns}
 use Rattle.camac_model.specs.Meaning.{block_meaning}
 use Rattle.camac_model.specs.Transfer.{keep_word, transfer}
 use Rattle.camac_run_machine.specs.Course.{left_at, words_from, words_sent}
-use Rattle.camac_run_machine.specs.MachineState.{context_in, left_in, stands, state_of, pending_of, IsPending, bit_at}
+use Rattle.camac_run_machine.specs.MachineState.{context_in, left_in, stands, state_of, pending_of, IsPending, IsFineHere, bounds_of, bit_at}
 use Rattle.camac_run_machine.specs.Rest.{address_of, awaited, onward, served}
 use Rattle.camac_run.specs.Runner.{rest}
 use Rattle.camac_run.specs.Sound.{runner_state}
-use Rattle.camac_run.specs.Operation.{Begins, CanLock, IsWaiting, Waits, Wants, operation}
+use Rattle.camac_run.specs.Operation.{Begins, IsWaiting, Waits, Wants, operation, operation_of, quiet_answer}
+use Rattle.camac_run.specs.Requested.{IsSafeRequest, held_in}
 use Rattle.camac_run.specs.declared.progress.Wanted.{Wanted}
 use Rattle.camac_run.specs.declared.progress.Wanted.TheVariants as wanted
 use Rattle.camac_run_machine.specs.declared.machine.Machine.{Machine}
@@ -67,13 +71,6 @@ module _ (plan : Layout) (c : ℕ) (body : Action) (s : State) (a : Answer) (ans
   lock_begins : Begins (wanted.Lock c) a (given (crate_waits plan c) (λ waits t. take_lock c waits (t.branch c).locked body t) s)
   lock_begins = lock_by (is_permitted plan s.branch c a.wait) refl
 
--- what is waited for, and is a lock, can be taken
-pub can_lock : {V D C : ℕ} (h : Machine V D C) (w : Pending) (pending : Option Pending) (fed n : ℕ) (has : Bool) (o : Option Overrun) → pending ≡ Some w → IfSome pending (IsPending h) → CanLock (runner_state h pending fed n has o) (Some (operation w))
-can_lock h (Cycle k) pending fed n has o e p = tt
-can_lock h (Read k x bits) pending fed n has o e p = tt
-can_lock h (Lock c body) pending fed n has o e p = let q : IsPending h (Lock c body) = rw e at p in (q.0, q.1.0)
-can_lock h (Transfer w) pending fed n has o e p = tt
-
 module _ {V D C : ℕ} (h : Machine V D C) (a : Answer) (answers : List Answer) where
   first_begins : (w : Pending) → IsPending h w → Begins (operation w) a (awaited (context_in h.checked.now) (pending_of w) (state_of h (a ∷ answers)))
   unfolding awaited
@@ -106,6 +103,45 @@ module _ {V D C : ℕ} (h : Machine V D C) (a : Answer) (answers : List Answer) 
     pub idle_begins : (pending : Option Pending) → pending ≡ None → Begins wanted.Demand a (rest (runner_state h pending fed n has o) (a ∷ answers))
     unfolding onward
     idle_begins pending e = rw e refl
+
+-- ---- what is wanted may be made
+
+safe_piece : (plan : Layout) (held : Locked) (p : Piece) → IsSafePiece plan p → ((c : ℕ) → operation_of p ≡ Some (wanted.Lock c) → held c ≡ false) → IfSome (operation_of p) (IsSafeRequest plan held)
+safe_piece plan held (demanded n v) h free = tt
+safe_piece plan held (cycled at f d r w) h free = h
+safe_piece plan held (lock_taken c w) h free = (h, free c refl)
+safe_piece plan held (lock_released c) h free = tt
+safe_piece plan held (event_left e) h free = tt
+
+begun_safe : (plan : Layout) (held : Locked) (k : Bounds) (o : Wanted) (b : Behaviour State) → Begins o quiet_answer b → IsFine plan k b → ((c : ℕ) → o ≡ wanted.Lock c → held c ≡ false) → IsSafeRequest plan held o
+begun_safe plan held k o (does p b) h f free =
+    let s : IfSome (operation_of p) (IsSafeRequest plan held) = safe_piece plan held p f.0 (λ c e. free c (some_same o (wanted.Lock c) (sym h ∙ e))) in
+    (rw h at s)
+  where
+    some_same : (x y : Wanted) → Some x ≡ Some y → x ≡ y
+    some_same x y e = cc
+begun_safe plan held k o (ends x) h f free = absurd h
+begun_safe plan held k o (stops short s) h f free = absurd h
+begun_safe plan held k o (stops (overrun c w) s) h f free = let no : 0 < 0 = h.2 in absurd (omega (arith, no))
+begun_safe plan held k o (stops wrong s) h f free = absurd h
+begun_safe plan held k o (stops more s) h f free = absurd h
+
+-- a lock that is wanted is of a free crate
+free_lock : {V D C : ℕ} (h : Machine V D C) (w : Pending) (pending : Option Pending) (fed n : ℕ) (has : Bool) (o : Option Overrun) → IsPending h w → (c : ℕ) → operation w ≡ wanted.Lock c
+    → held_in (runner_state h pending fed n has o) c ≡ false
+free_lock h (Cycle k) pending fed n has o p c e = absurd (cc)
+free_lock h (Read k x bits) pending fed n has o p c e = absurd (cc)
+free_lock h (Lock m body) pending fed n has o p c e = let same : m ≡ c = cc in subst (λ j. held_in (runner_state h pending fed n has o) j ≡ false) same p.1.0
+free_lock h (Transfer w) pending fed n has o p c e = absurd (cc)
+
+pub can_send : {V D C : ℕ} (h : Machine V D C) (w : Pending) (pending : Option Pending) (fed n : ℕ) (has : Bool) (o : Option Overrun) → pending ≡ Some w → IfSome pending (IsPending h)
+    → IfSome pending (λ v. (answers : List Answer) → IsFineHere h (stands (Some v) h answers)) → IsSafeRequest h.checked.now.plan (held_in (runner_state h pending fed n has o)) (operation w)
+can_send h w pending fed n has o e p fine =
+    let q : IsPending h w = rw e at p in
+    let f : (answers : List Answer) → IsFineHere h (stands (Some w) h answers) = rw e at fine in
+    begun_safe h.checked.now.plan (held_in (runner_state h pending fed n has o)) (bounds_of h) (operation w) (stands (Some w) h (quiet_answer ∷ []))
+    (begins_then (operation w) quiet_answer (awaited (context_in h.checked.now) (pending_of w) (state_of h (quiet_answer ∷ []))) (left_in h) (first_begins h quiet_answer [] w q))
+    (f (quiet_answer ∷ [])) (free_lock h w pending fed n has o q)
 
 -- a runner whose waits were all permitted wants an answer
 module _ {V D C : ℕ} (h : Machine V D C) (fed n : ℕ) (has : Bool) (o : Option Overrun) (first : o ≡ None) where

@@ -1,14 +1,14 @@
 -- What a runner holds after answers, and the operation that is wanted then.
-use Rattle.std.specs.Prelude.{◌≡◌, ℕ, List, [], ◌∷◌, ◌++◌, Option, Some}
+use Rattle.std.specs.Prelude.{◌≡◌, ℕ, List, [], ◌∷◌, ◌++◌, map, Option, Some, None}
 use Rattle.camac_lang.specs.Tree.{Script}
 use Rattle.camac_branch.specs.Branch.{Answer}
 use Rattle.camac_branch.specs.Plan.{Layout}
-use Rattle.camac_model.specs.Behaviour.{Behaviour, does, Piece}
+use Rattle.camac_model.specs.Behaviour.{Behaviour, does, Piece, lock_released, event_left, pieces}
 use Rattle.camac_model.specs.Run.{the_run}
-use Rattle.camac_run_machine.specs.MachineState.{Left}
+use Rattle.camac_run_machine.specs.MachineState.{Left, piece_of}
 use Rattle.camac_run_machine.specs.declared.item.Item.{Item}
-use Rattle.camac_run.specs.Operation.{Wants, wanted_after}
-use Rattle.camac_run.specs.Runner.{RunnerState, rest, GoesOn}
+use Rattle.camac_run.specs.Operation.{IsWaiting, Wants, wanted_after}
+use Rattle.camac_run.specs.Runner.{RunnerState, rest, last_words_in, GoesOn}
 use Rattle.camac_run.specs.declared.progress.Wanted.{Wanted}
 
 -- pieces, and then the rest
@@ -16,19 +16,34 @@ abbrev pub after : {A : Type 0} → List Piece → Behaviour A → Behaviour A
 after [] b = b
 after (p ∷ ps) b = does p (after ps b)
 
--- these answers did some pieces of the run, and the runner holds the rest
-pub record HoldsAfter (plan : Layout) (script : Script) (answers : List Answer) (h : RunnerState) : Type 0 where
-  pub done : List Piece
-  pub goes : (more : List Answer) → the_run plan script (answers ++ more) ≡ after done (rest h more)
+-- What was told of these answers are pieces of the run, and the runner holds the rest: on all answers that may follow, the run begins with
+-- these pieces and goes on as what the runner holds.
+pub record HoldsAfter (plan : Layout) (script : Script) (answers : List Answer) (told : List Piece) (h : RunnerState) : Type 0 where
+  pub goes : (more : List Answer) → the_run plan script (answers ++ more) ≡ after told (rest h more)
 
--- an answer that is used is one of those after which the runner holds what is left
+abbrev pub event_pieces : Option Left → List ℕ → List Piece
+event_pieces None words = []
+event_pieces (Some e) words = event_left (record { bit = e.1; cycles = e.2.cycles; missed = e.2.missed; words = words }) ∷ []
+
+-- what is told of an answer: its item, the locks that are released, and the event
+abbrev pub told_of : Item → List ℕ → Option Left → (words : List ℕ) → List Piece
+told_of item unlocks event words = piece_of item ∷ (map lock_released unlocks ++ event_pieces event words)
+
+-- with what is told of an answer that is used the runner holds what is left after it
 abbrev pub GoingOnHolds : Type 0
 GoingOnHolds =
-    (plan : Layout) (script : Script) (answers : List Answer) (a : Answer) (old new : RunnerState) (item : Item) (unlocks : List ℕ) (event : Option Left)
-    → HoldsAfter plan script answers old → GoesOn old a item unlocks event new → HoldsAfter plan script (answers ++ a ∷ []) new
+    (plan : Layout) (script : Script) (answers : List Answer) (a : Answer) (told : List Piece) (old new : RunnerState) (item : Item) (unlocks : List ℕ) (event : Option Left)
+    → HoldsAfter plan script answers told old → GoesOn old a item unlocks event new
+    → HoldsAfter plan script (answers ++ a ∷ []) (told ++ told_of item unlocks event (last_words_in new)) new
+
+-- as long as the runner waits for an answer, what was told are the pieces of the run on the answers so far
+abbrev pub AllIsTold : Type 0
+AllIsTold =
+    (plan : Layout) (script : Script) (answers : List Answer) (told : List Piece) (h : RunnerState)
+    → HoldsAfter plan script answers told h → IsWaiting h → pieces (the_run plan script answers) ≡ told
 
 -- what the runner wants is the operation that the run wants after these answers
 abbrev pub WantsAreWanted : Type 0
 WantsAreWanted =
-    (plan : Layout) (script : Script) (answers : List Answer) (h : RunnerState) (o : Wanted)
-    → HoldsAfter plan script answers h → Wants h (Some o) → wanted_after plan script answers ≡ Some o
+    (plan : Layout) (script : Script) (answers : List Answer) (told : List Piece) (h : RunnerState) (o : Wanted)
+    → HoldsAfter plan script answers told h → Wants h (Some o) → wanted_after plan script answers ≡ Some o

@@ -2,8 +2,7 @@
 use Rattle.std.specs.Prelude.{◌≡◌, ℕ, ◌<◌, List, [], ◌∷◌, ◌++◌, length, Option, Some, None, IsSome, false, option_and_then, slice_get}
 use Rattle.camac_lang.specs.Tree.{Script}
 use Rattle.camac_branch.specs.Branch.{Answer}
-use Rattle.camac_branch.specs.Crates.{branch_of}
-use Rattle.camac_branch.specs.Plan.{Layout, crate_waits}
+use Rattle.camac_branch.specs.Plan.{Layout}
 use Rattle.camac_model.specs.Behaviour.{Behaviour, does, ends, stops, Piece, pieces, demanded, cycled, lock_taken, lock_released, event_left, Stop, short, overrun, wrong, more}
 use Rattle.camac_model.specs.Run.{the_run}
 use Rattle.camac_run.specs.Runner.{RunnerState, rest}
@@ -68,13 +67,6 @@ Wants h None = IsSome h.overrun
 -- it wants one for some operation
 abbrev pub IsWaiting : RunnerState → Type 0
 IsWaiting h = (o : Wanted) × Wants h (Some o)
-
--- a lock that is wanted is of a crate of the plan which is not locked
-abbrev pub CanLock : RunnerState → Option Wanted → Type 0
-CanLock h None = Unit {0}
-CanLock h (Some Demand) = Unit {0}
-CanLock h (Some (Cycle k)) = Unit {0}
-CanLock h (Some (Lock c)) = IsSome (crate_waits h.checked.plan c) × ((branch_of h.crates c).locked ≡ false)
 
 -- the operation that a service in progress waits for
 abbrev pub operation : Pending → Wanted

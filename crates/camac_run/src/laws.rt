@@ -1,6 +1,6 @@
 // Laws of every checked script: the headline, and what a runner holds and wants.
 
-ghost use Rattle.camac_run.specs.Holds.{GoingOnHolds, WantsAreWanted};
+ghost use Rattle.camac_run.specs.Holds.{AllIsTold, GoingOnHolds, WantsAreWanted};
 ghost use Rattle.camac_run.specs.Headline.{RunsAlways, RunsByHeadline, LeavesFewEvents};
 ghost use Rattle.camac_run.specs.Requested.{RequestsAreSafe};
 
@@ -18,17 +18,19 @@ pub fn runs_by_headline(checked: &Checked)
     checked.plan().is_plan();
 }
 
-/// The law that each command that a run of this script wants to send is safe, whatever was answered before, and whether or not an answer
-/// to it comes.
+/// The law that what a run of this script wants may be made, whatever was answered before, and whether or not an answer to it comes: each
+/// command is safe, and each lock is of a crate of the plan that is not locked.
 pub fn requests_are_safe(checked: &Checked)
     ensures { RequestsAreSafe checked.now.plan checked.now.script }
 {
     checked.is_checked();
 }
 
-/// A runner holds after the answers that it used what is left of the run, from its start on, where there are none. So what it wants is what
-/// the run wants after them.
+/// What a runner has told of the answers that it used is the beginning of the run on all answers that may follow, and it holds the rest: so it
+/// is at its start, where nothing is told, and after each answer. What was told are then all pieces of the run on the answers so far, and
+/// what the runner wants is what the run wants after them.
 pub fn runner_holds_the_rest()
     ensures goes_on { GoingOnHolds }
+    ensures told { AllIsTold }
     ensures wanted { WantsAreWanted }
 {}

@@ -1,6 +1,6 @@
 // A run that is fed an answer at a time, and takes no memory.
 
-ghost use Rattle.std.specs.Prelude.{◌≡◌, ◌+◌, ◌<◌, ◌≤◌, List, [], length, true, Some, None, false, IsSome, IfNone, OnSome, if◌then◌else◌};
+ghost use Rattle.std.specs.Prelude.{◌≡◌, ◌+◌, ◌<◌, ◌≤◌, List, [], length, true, Some, None, false, IsSome, IfSome, IfNone, OnSome, if◌then◌else◌};
 ghost use Rattle.camac_branch.specs.Branch.{Answer};
 ghost use Rattle.camac_run_machine.specs.MachineState.{bounds_at};
 ghost use Rattle.camac_lang.specs.Fits.{fits};
@@ -8,7 +8,8 @@ ghost use Rattle.camac_model.specs.Behaviour.{stops, short, ends};
 ghost use Rattle.camac_model.specs.Run.{the_run};
 ghost use Rattle.camac_run.specs.Runner.{state_in, rest, last_words_in, event_in, Progresses, steps_of, words_of};
 ghost use Rattle.camac_run.specs.Holds.{HoldsAfter};
-ghost use Rattle.camac_run.specs.Operation.{CanLock, IsWaiting, Wants, operation};
+ghost use Rattle.camac_run.specs.Operation.{IsWaiting, Wants, operation};
+ghost use Rattle.camac_run.specs.Requested.{IsSafeRequest, held_in};
 
 use crate::progress::{Progress, Wanted};
 use crate::service::service_for;
@@ -47,7 +48,7 @@ pub type FullRunner<'a> = Runner<
 impl<'a, const V: usize, const DEPTH: usize, const CAP: usize> Model for Runner<'a, V, DEPTH, CAP> {
     ghost use Rattle.std.specs.Coded.{codes};
     ghost use Rattle.camac_check_result.specs.Checked.{checked_coded};
-    ghost use Rattle.camac_run_machine.specs.Codes.{want_coded, open_coded};
+    ghost use Rattle.camac_run_machine.proofs.Codes.{want_coded, open_coded};
     ghost use Rattle.camac_run.specs.Runner.{RunnerState};
     ghost use Rattle.camac_run.specs.Sound.{runner_state, IsSound};
 
@@ -65,7 +66,7 @@ impl<'a, const V: usize, const DEPTH: usize, const CAP: usize> Runner<'a, V, DEP
     pub fn start(checked: &'a Checked) -> Self
         requires { fits checked.now.script V DEPTH CAP ≡ true }
         ensures rest { (answers : List Answer) → rest result answers ≡ the_run checked.now.plan checked.now.script answers }
-        ensures holds { HoldsAfter checked.now.plan checked.now.script [] result }
+        ensures holds { HoldsAfter checked.now.plan checked.now.script [] [] result }
         ensures checked { result.checked ≡ checked.now }
         ensures fed { result.fed ≡ 0 }
         ensures events { result.events ≡ 0 }
@@ -191,7 +192,7 @@ impl<'a, const V: usize, const DEPTH: usize, const CAP: usize> Runner<'a, V, DEP
     /// not permitted. A lock that is wanted is of a crate of the plan which is not locked.
     pub fn wants(&self) -> Option<Wanted>
         ensures wants { Wants self.now result }
-        ensures lock { CanLock self.now result }
+        ensures safe { IfSome result (IsSafeRequest self.now.checked.plan (held_in self.now)) }
     {
         if self.overrun.is_some() {
             return None;

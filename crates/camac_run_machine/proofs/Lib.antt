@@ -1,3 +1,4 @@
+pub mod Codes
 pub mod Fine
 pub mod Stores
 pub mod Scopes

@@ -1,9 +1,7 @@
-//! Tests of single crates, of what no text of lines shows: builders, event lists, copies, readers that fail, the runner, its lines,
+//! Tests of single crates, of what no text of lines shows: builders, event lists, copies, the runner, its lines,
 //! and happy paths through public calls. Worked rows: tests/rows.
 #![tactic(auto)]
 
-#[cfg(test)]
-mod answers;
 #[cfg(test)]
 mod checked;
 #[cfg(test)]

@@ -28,7 +28,7 @@ placed tokens end_line f e =
       parts = a.parts;
       line = a.line;
       place = a.place;
-      rule = a.rule;
+      fits = a.fits;
       settled = λ t after_first others last here. ap tree_in (a.again t after_first others last here);
     }
 
@@ -42,4 +42,4 @@ pub fault_placed : (text : List ℕ) (r : Result Script TextFault) → Answers r
 unfolding script_of
 fault_placed text (Ok x) e = tt
 fault_placed text (Err text_fault.OutOfMemory) e = tt
-fault_placed text (Err (text_fault.Broken rule line left)) e = fault_after (tokens_of text) (last_line text) (record { rule = rule; line = line; left = left }) e
+fault_placed text (Err (text_fault.Broken case line left)) e = fault_after (tokens_of text) (last_line text) (record { case = case; line = line; left = left }) e

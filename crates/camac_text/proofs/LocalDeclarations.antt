@@ -1,7 +1,8 @@
 -- Readers of declarations are local.
 use Rattle.std.proofs.Common.{ℕ, ◌+◌, nat_lt, length, Option, Some, refl}
 use Rattle.camac_lang.specs.Tree.{Text, Lam}
-use Rattle.camac_text_tokens.specs.declared.fault.TextRule.TheVariants.{UnexpectedToken, LimitPassed}
+use Rattle.camac_text_tokens.specs.declared.fault.Limit.TheVariants as limit
+use Rattle.camac_text_tokens.specs.declared.fault.TextCase.TheVariants as told
 use Rattle.camac_text_tokens.specs.declared.token.Keyword.TheVariants as word
 use Rattle.camac_text_tokens.specs.declared.token.TokenKind.{TokenKind}
 use Rattle.camac_text_tokens.specs.declared.token.TokenKind.TheVariants as kind
@@ -24,8 +25,8 @@ made line x c n a = record { line = line; name = x; crate_no = c; station = n; s
 local_lam : (line : ℕ) (s : State) → IsLocal (lam_declaration line) s
 unfolding lam_declaration
 local_lam line s =
-    local_ask (λ u. u.lams) (λ w ts n. refl) (λ known. check (nat_lt (length known) 64) LimitPassed >> (advance >> (new_name >>= λ x. advance >> (branch_number >> (any_number >>= λ c. any_number >>= λ n. sub_address_number >>= λ a. change (with_lam (made line x c n a))))))) s
-    (local_check (nat_lt (length s.lams) 64) LimitPassed (advance >> (new_name >>= λ x. advance >> (branch_number >> (any_number >>= λ c. any_number >>= λ n. sub_address_number >>= λ a. change (with_lam (made line x c n a)))))) s tt (λ _.
+    local_ask (λ u. u.lams) (λ w ts n. refl) (λ known. check (nat_lt (length known) 64) (told.Limit limit.Lams) >> (advance >> (new_name >>= λ x. advance >> (branch_number >> (any_number >>= λ c. any_number >>= λ n. sub_address_number >>= λ a. change (with_lam (made line x c n a))))))) s
+    (local_check (nat_lt (length s.lams) 64) (told.Limit limit.Lams) (advance >> (new_name >>= λ x. advance >> (branch_number >> (any_number >>= λ c. any_number >>= λ n. sub_address_number >>= λ a. change (with_lam (made line x c n a)))))) s tt (λ _.
     local_then advance (λ _. new_name >>= λ x. advance >> (branch_number >> (any_number >>= λ c. any_number >>= λ n. sub_address_number >>= λ a. change (with_lam (made line x c n a))))) s (local_advance s) (λ _ u _.
     local_then new_name (λ x. advance >> (branch_number >> (any_number >>= λ c. any_number >>= λ n. sub_address_number >>= λ a. change (with_lam (made line x c n a))))) u (local_new_name u) (λ x u _.
     local_then advance (λ _. branch_number >> (any_number >>= λ c. any_number >>= λ n. sub_address_number >>= λ a. change (with_lam (made line x c n a)))) u (local_advance u) (λ _ u _.
@@ -56,8 +57,8 @@ from_within line l = expect word.Within >> (any_number >>= λ c. from_cycles lin
 local_service : (line : ℕ) (s : State) → IsLocal (service_declaration line) s
 unfolding service_declaration
 local_service line s =
-    local_ask (λ u. u.services) (λ w ts n. refl) (λ known. check (nat_lt (length known) 24) LimitPassed >> (advance >> (used_lam >>= λ l. from_within line l))) s
-    (local_check (nat_lt (length s.services) 24) LimitPassed (advance >> (used_lam >>= λ l. from_within line l)) s tt (λ _.
+    local_ask (λ u. u.services) (λ w ts n. refl) (λ known. check (nat_lt (length known) 24) (told.Limit limit.Services) >> (advance >> (used_lam >>= λ l. from_within line l))) s
+    (local_check (nat_lt (length s.services) 24) (told.Limit limit.Services) (advance >> (used_lam >>= λ l. from_within line l)) s tt (λ _.
     local_then advance (λ _. used_lam >>= λ l. from_within line l) s (local_advance s) (λ _ u _.
     local_then used_lam (λ l. from_within line l) u (local_used_lam u) (λ l u _.
     local_then (expect word.Within) (λ _. any_number >>= λ c. from_cycles line l c) u (local_expect word.Within u) (λ _ u _.
@@ -74,7 +75,7 @@ local_declaration_by line (Some (kind.Keyword word.Proc)) s = local_procedure li
 local_declaration_by line (Some (kind.Keyword word.Cdlam)) s = local_lam line s
 local_declaration_by line (Some (kind.Keyword word.Var)) s = local_variables line s
 local_declaration_by line (Some (kind.Keyword word.Service)) s = local_service line s
-local_declaration_by line _ s = local_fail UnexpectedToken s tt
+local_declaration_by line _ s = local_fail told.Unexpected s tt
 
 local_declaration : (s : State) → IsLocal declaration_at s
 unfolding declaration_at

@@ -1,12 +1,13 @@
 -- Readers of procedures are local.
 use Rattle.std.proofs.Common.{ℕ, cond, nat_lt, List, [], ◌∷◌, ◌++◌, length, refl}
 use Rattle.camac_lang.specs.Tree.{Text, Statement, Parameter}
-use Rattle.camac_text_tokens.specs.declared.fault.TextRule.TheVariants.{LimitPassed}
+use Rattle.camac_text_tokens.specs.declared.fault.Limit.TheVariants as limit
+use Rattle.camac_text_tokens.specs.declared.fault.TextCase.TheVariants as told
 use Rattle.camac_text_tokens.specs.declared.token.Keyword.TheVariants as word
 use Rattle.camac_text_tokens.specs.declared.token.Sign.TheVariants as sign
 use Rattle.camac_text_cursor.specs.Reading.{State, Reader, ◌>>=◌, ◌>>◌, give, ask, change, advance, check, kind_of, while_next, one_more}
 use Rattle.camac_text_cursor.specs.Readers.{is_sign, expect, expect_sign, any_number, new_name, new_parameter}
-use Rattle.camac_text_cursor.specs.Declaring.{in_heading, with_procedure}
+use Rattle.camac_text_cursor.specs.Declaring.{in_heading, opened, with_procedure}
 use Rattle.camac_text_statements.specs.Statements.{block_at}
 use Rattle.camac_text.specs.Procedures.{parameter_at, next_parameter, parameter_list, parameters_at, Heading, heading_at, procedure_made, procedure_declaration}
 use Rattle.camac_text_cursor.proofs.Places.{IsLocal, local_then, local_peek, local_ask, local_change, local_give, local_advance, local_if, local_check, local_while}
@@ -65,30 +66,31 @@ local_heading s =
 
 -- ---- the whole procedure
 
-abbrev after_body : ℕ → Text → Heading → List Text → ℕ → List Statement → Reader (Unit {0})
-after_body line name h variables names body = ask (λ s. s.registers) >>= λ registers. change (with_procedure (procedure_made line name h registers body) variables names)
+abbrev after_body : ℕ → Text → Heading → ℕ → List Statement → Reader (Unit {0})
+after_body line name h names body = ask (λ s. s.registers) >>= λ registers. change (with_procedure (procedure_made line name h registers body) names)
 
-abbrev after_names : ℕ → Text → List Text → ℕ → Reader (Unit {0})
-after_names line name variables names = heading_at >>= λ h. block_at 16 >>= λ body. after_body line name h variables names body
+abbrev after_names : ℕ → Text → ℕ → Reader (Unit {0})
+after_names line name names = heading_at >>= λ h. block_at 16 >>= λ body. after_body line name h names body
 
 abbrev after_name : ℕ → Text → Reader (Unit {0})
-after_name line name = ask (λ s. s.variables) >>= λ variables. change (in_heading name) >> (ask (λ s. length s.declared) >>= λ names. after_names line name variables names)
+after_name line name = opened name >>= λ names. after_names line name names
 
-local_after_names : (line : ℕ) (name : Text) (variables : List Text) (names : ℕ) (s : State) → IsLocal (after_names line name variables names) s
-local_after_names line name variables names s =
-    local_then heading_at (λ h. block_at 16 >>= λ body. after_body line name h variables names body) s (local_heading s) (λ h u _.
-    local_then (block_at 16) (λ body. after_body line name h variables names body) u (local_block 16 u) (λ body v _.
-    local_ask (λ w. w.registers) (λ w ts n. refl) (λ registers. change (with_procedure (procedure_made line name h registers body) variables names)) v
-    (local_change (with_procedure (procedure_made line name h v.registers body) variables names) (λ w ts n. refl) (λ w. refl) v)))
+local_after_names : (line : ℕ) (name : Text) (names : ℕ) (s : State) → IsLocal (after_names line name names) s
+local_after_names line name names s =
+    local_then heading_at (λ h. block_at 16 >>= λ body. after_body line name h names body) s (local_heading s) (λ h u _.
+    local_then (block_at 16) (λ body. after_body line name h names body) u (local_block 16 u) (λ body v _.
+    local_ask (λ w. w.registers) (λ w ts n. refl) (λ registers. change (with_procedure (procedure_made line name h registers body) names)) v
+    (local_change (with_procedure (procedure_made line name h v.registers body) names) (λ w ts n. refl) (λ w. refl) v)))
+
+local_opened : (x : Text) (s : State) → IsLocal (opened x) s
+local_opened x s = local_then (change (in_heading x)) (λ _. ask (λ w. length w.declared)) s (local_change (in_heading x) (λ w ts n. refl) (λ w. refl) s) (λ _ u _. local_ask (λ w. length w.declared) (λ w ts n. refl) give u (local_give (length u.declared) u))
 
 pub local_procedure : (line : ℕ) (s : State) → IsLocal (procedure_declaration line) s
 unfolding procedure_declaration
 local_procedure line s =
-    local_ask (λ u. u.procedures) (λ w ts n. refl) (λ known. check (nat_lt (length known) 16) LimitPassed >> (advance >> (new_name >>= λ x. advance >> after_name line x))) s
-    (local_check (nat_lt (length s.procedures) 16) LimitPassed (advance >> (new_name >>= λ x. advance >> after_name line x)) s tt (λ _.
+    local_ask (λ u. u.procedures) (λ w ts n. refl) (λ known. check (nat_lt (length known) 16) (told.Limit limit.Procedures) >> (advance >> (new_name >>= λ x. advance >> after_name line x))) s
+    (local_check (nat_lt (length s.procedures) 16) (told.Limit limit.Procedures) (advance >> (new_name >>= λ x. advance >> after_name line x)) s tt (λ _.
     local_then advance (λ _. new_name >>= λ x. advance >> after_name line x) s (local_advance s) (λ _ u _.
     local_then new_name (λ x. advance >> after_name line x) u (local_new_name u) (λ x u _.
     local_then advance (λ _. after_name line x) u (local_advance u) (λ _ u _.
-    local_ask (λ w. w.variables) (λ w ts n. refl) (λ variables. change (in_heading x) >> (ask (λ w. length w.declared) >>= λ names. after_names line x variables names)) u
-    (local_then (change (in_heading x)) (λ _. ask (λ w. length w.declared) >>= λ names. after_names line x u.variables names) u (local_change (in_heading x) (λ w ts n. refl) (λ w. refl) u) (λ _ v _.
-    local_ask (λ w. length w.declared) (λ w ts n. refl) (λ names. after_names line x u.variables names) v (local_after_names line x u.variables (length v.declared) v))))))))
+    local_then (opened x) (λ names. after_names line x names) u (local_opened x u) (λ names v _. local_after_names line x names v))))))

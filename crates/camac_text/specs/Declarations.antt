@@ -3,7 +3,8 @@ use Rattle.std.specs.Prelude.{ℕ, ◌+◌, Bool, true, false, length, Option, S
 use Rattle.camac_text_tokens.specs.declared.token.Keyword.TheVariants as word
 use Rattle.camac_text_tokens.specs.declared.token.TokenKind.{TokenKind}
 use Rattle.camac_text_tokens.specs.declared.token.TokenKind.TheVariants as kind
-use Rattle.camac_text_tokens.specs.declared.fault.TextRule.TheVariants.{UnexpectedToken, LimitPassed}
+use Rattle.camac_text_tokens.specs.declared.fault.Limit.TheVariants as limit
+use Rattle.camac_text_tokens.specs.declared.fault.TextCase.TheVariants as told
 use Rattle.camac_text_cursor.specs.Reading.{Reader, ◌>>=◌, ◌>>◌, give, ask, change, peek, advance, line_here, fail, check, while_next}
 use Rattle.camac_text_cursor.specs.Readers.{is_name, expect, any_number, branch_number, sub_address_number, new_name, new_variable, used_lam}
 use Rattle.camac_text_cursor.specs.Declaring.{with_lam, with_variables_of, with_service}
@@ -14,7 +15,7 @@ use Rattle.camac_text.specs.Procedures.{procedure_declaration}
 unfoldable pub lam_declaration : ℕ → Reader (Unit {0})
 lam_declaration line = do
   known ← ask (λ s. s.lams)
-  check (nat_lt (length known) 64) LimitPassed
+  check (nat_lt (length known) 64) (told.Limit limit.Lams)
   advance
   name ← new_name
   advance
@@ -38,7 +39,7 @@ variable_declaration line = do
 unfoldable pub service_declaration : ℕ → Reader (Unit {0})
 service_declaration line = do
   known ← ask (λ s. s.services)
-  check (nat_lt (length known) 24) LimitPassed
+  check (nat_lt (length known) 24) (told.Limit limit.Services)
   advance
   lam ← used_lam
   expect word.Within
@@ -56,7 +57,7 @@ declaration_by line (Some (kind.Keyword word.Cdlam)) = lam_declaration line
 declaration_by line (Some (kind.Keyword word.Var)) = variable_declaration line
 declaration_by line (Some (kind.Keyword word.Proc)) = procedure_declaration line
 declaration_by line (Some (kind.Keyword word.Service)) = service_declaration line
-declaration_by line _ = fail UnexpectedToken
+declaration_by line _ = fail told.Unexpected
 
 unfoldable pub declaration_at : Reader (Unit {0})
 declaration_at = do

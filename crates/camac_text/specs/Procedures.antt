@@ -4,10 +4,11 @@ use Rattle.camac_lang.specs.Tree.{Text, Statement, Parameter, Procedure}
 use Rattle.camac_lang.specs.View.{block_of}
 use Rattle.camac_text_tokens.specs.declared.token.Keyword.TheVariants as word
 use Rattle.camac_text_tokens.specs.declared.token.Sign.TheVariants as sign
-use Rattle.camac_text_tokens.specs.declared.fault.TextRule.TheVariants.{LimitPassed}
+use Rattle.camac_text_tokens.specs.declared.fault.Limit.TheVariants as limit
+use Rattle.camac_text_tokens.specs.declared.fault.TextCase.TheVariants as told
 use Rattle.camac_text_cursor.specs.Reading.{Reader, ◌>>=◌, ◌>>◌, give, ask, change, peek, advance, check, while_next, one_more}
 use Rattle.camac_text_cursor.specs.Readers.{is_sign, expect, expect_sign, any_number, new_name, new_parameter}
-use Rattle.camac_text_cursor.specs.Declaring.{in_heading, with_procedure}
+use Rattle.camac_text_cursor.specs.Declaring.{opened, with_procedure}
 use Rattle.camac_text_statements.specs.Statements.{block_at}
 
 -- ---- the heading
@@ -71,14 +72,12 @@ procedure_made line name h registers body = record {
 unfoldable pub procedure_declaration : ℕ → Reader (Unit {0})
 procedure_declaration line = do
   known ← ask (λ s. s.procedures)
-  check (nat_lt (length known) 16) LimitPassed
+  check (nat_lt (length known) 16) (told.Limit limit.Procedures)
   advance
   name ← new_name
   advance
-  variables ← ask (λ s. s.variables)
-  change (in_heading name)
-  names ← ask (λ s. length s.declared)
+  names ← opened name
   heading ← heading_at
   body ← block_at 16
   registers ← ask (λ s. s.registers)
-  change (with_procedure (procedure_made line name heading registers body) variables names)
+  change (with_procedure (procedure_made line name heading registers body) names)

@@ -3,7 +3,8 @@ use Rattle.std.specs.Prelude.{ℕ, Bool, true, false, List, [], ◌∷◌, ◌++
 use Rattle.camac_text_tokens.specs.declared.token.Sign.TheVariants as sign
 use Rattle.camac_text_tokens.specs.declared.token.TokenKind.{TokenKind}
 use Rattle.camac_text_tokens.specs.declared.token.TokenKind.TheVariants as kind
-use Rattle.camac_text_tokens.specs.declared.fault.TextRule.TheVariants.{NumberTooLarge, LimitPassed}
+use Rattle.camac_text_tokens.specs.declared.fault.Limit.TheVariants as limit
+use Rattle.camac_text_tokens.specs.declared.fault.TextCase.TheVariants as told
 use Rattle.camac_text_cursor.specs.Reading.{Reader, ◌>>=◌, ◌>>◌, give, ask, change, advance, check, while_next}
 use Rattle.camac_text_cursor.specs.Readers.{expect_sign, number_here, new_name}
 use Rattle.camac_text_cursor.specs.Declaring.{with_table}
@@ -12,8 +13,8 @@ use Rattle.camac_text_cursor.specs.Declaring.{with_table}
 unfoldable pub word_after : ℕ → Reader ℕ
 word_after count = do
   n ← number_here
-  check (nat_lt n 16777216) NumberTooLarge
-  check (nat_lt count 1024) LimitPassed
+  check (nat_lt n 16777216) (told.Number 16777215)
+  check (nat_lt count 1024) (told.Limit limit.TableWords)
   advance
   give n
 
@@ -32,7 +33,7 @@ table_words = do
 unfoldable pub table_declaration : ℕ → Reader (Unit {0})
 table_declaration line = do
   known ← ask (λ s. s.tables)
-  check (nat_lt (length known) 16) LimitPassed
+  check (nat_lt (length known) 16) (told.Limit limit.Tables)
   advance
   name ← new_name
   advance

@@ -11,7 +11,7 @@ use crate::tables::table_declaration;
 use camac_lang::{Lam, limits};
 use camac_text_cursor::Parser;
 use camac_text_statements::block;
-use camac_text_tokens::{Keyword, TextFault, TextRule, TokenKind};
+use camac_text_tokens::{Keyword, Limit, TextCase, TextFault, TokenKind};
 
 /// All declarations to the text's end.
 #[tactic(auto, unfolding(crate::specs::Declarations::declarations_at))]
@@ -41,7 +41,7 @@ fn declaration(parser: &mut Parser<'_>) -> Result<(), TextFault>
         Some(TokenKind::Keyword(Keyword::Var)) => variable_declaration(parser, line),
         Some(TokenKind::Keyword(Keyword::Proc)) => procedure_declaration(parser, line),
         Some(TokenKind::Keyword(Keyword::Service)) => service_declaration(parser, line),
-        _ => Err(parser.fault(TextRule::UnexpectedToken)),
+        _ => Err(parser.fault(TextCase::Unexpected)),
     }
 }
 
@@ -50,7 +50,7 @@ fn lam_declaration(parser: &mut Parser<'_>, line: u32) -> Result<(), TextFault>
     ensures { Gives (λ _. tt) result parser.new (lam_declaration line (state parser.old)) }
 {
     if parser.lam_count() >= limits::LAMS {
-        return Err(parser.fault(TextRule::LimitPassed));
+        return Err(parser.fault(TextCase::Limit(Limit::Lams)));
     }
     parser.advance();
     let name = parser.new_name()?;
@@ -95,7 +95,7 @@ fn service_declaration(parser: &mut Parser<'_>, line: u32) -> Result<(), TextFau
     ensures { Gives (λ _. tt) result parser.new (service_declaration line (state parser.old)) }
 {
     if parser.service_count() >= limits::SERVICES {
-        return Err(parser.fault(TextRule::LimitPassed));
+        return Err(parser.fault(TextCase::Limit(Limit::Services)));
     }
     parser.advance();
     let lam = parser.used_lam()?;

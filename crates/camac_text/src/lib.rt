@@ -7,6 +7,7 @@ mod reading;
 mod tables;
 
 pub use camac_text_tokens::{
-    Keyword, Sign, TextFault, TextRule, Token, TokenKind, TokensLeft, tokens,
+    Found, Keyword, Limit, NameKind, Sign, TextCase, TextFault, TextRule, Token, TokenKind,
+    TokensLeft, tokens,
 };
 pub use reading::parse;

@@ -9,7 +9,7 @@ ghost use Rattle.camac_text.specs.Procedures.{parameter_at, next_parameter, para
 use camac_lang::{Parameter, Procedure, limits};
 use camac_text_cursor::Parser;
 use camac_text_statements::block;
-use camac_text_tokens::{Keyword, Sign, TextFault, TextRule};
+use camac_text_tokens::{Keyword, Limit, Sign, TextCase, TextFault};
 
 /// What stands in a procedure's heading after its name.
 #[derive(Drop)]
@@ -26,12 +26,12 @@ pub fn procedure_declaration(parser: &mut Parser<'_>, line: u32) -> Result<(), T
     ensures { Gives (λ _. tt) result parser.new (procedure_declaration line (state parser.old)) }
 {
     if parser.procedure_count() >= limits::PROCEDURES {
-        return Err(parser.fault(TextRule::LimitPassed));
+        return Err(parser.fault(TextCase::Limit(Limit::Procedures)));
     }
     parser.advance();
     let name = parser.new_name()?;
     parser.advance();
-    let outside = parser.open_procedure(&name)?;
+    let names = parser.open_procedure(&name)?;
     let heading = read_heading(parser)?;
     let body = block(parser, limits::DEPTH as u32)?;
     let registers = parser.take_registers();
@@ -45,7 +45,7 @@ pub fn procedure_declaration(parser: &mut Parser<'_>, line: u32) -> Result<(), T
         registers,
         body,
     };
-    parser.close_procedure(procedure, outside)
+    parser.close_procedure(procedure, names)
 }
 
 #[tactic(auto, unfolding(crate::specs::Procedures::heading_at))]

@@ -7,7 +7,7 @@ ghost use Rattle.camac_text.specs.Tables.{is_number, word_after, table_words, ta
 
 use camac_lang::{Table, limits};
 use camac_text_cursor::Parser;
-use camac_text_tokens::{Sign, TextFault, TextRule, TokenKind};
+use camac_text_tokens::{Limit, Sign, TextCase, TextFault, TokenKind};
 use camac_word::Word24;
 
 /// `table`
@@ -16,7 +16,7 @@ pub fn table_declaration(parser: &mut Parser<'_>, line: u32) -> Result<(), TextF
     ensures { Gives (λ _. tt) result parser.new (table_declaration line (state parser.old)) }
 {
     if parser.table_count() >= limits::TABLES {
-        return Err(parser.fault(TextRule::LimitPassed));
+        return Err(parser.fault(TextCase::Limit(Limit::Tables)));
     }
     parser.advance();
     let name = parser.new_name()?;
@@ -55,11 +55,11 @@ fn word_after(parser: &mut Parser<'_>, count: usize) -> Result<Word24, TextFault
     match Word24::new(number) {
         Some(word) => {
             if count >= limits::TABLE_WORDS {
-                return Err(parser.fault(TextRule::LimitPassed));
+                return Err(parser.fault(TextCase::Limit(Limit::TableWords)));
             }
             parser.advance();
             Ok(word)
         }
-        None => Err(parser.fault(TextRule::NumberTooLarge)),
+        None => Err(parser.fault(TextCase::Number { most: 16_777_215 })),
     }
 }

@@ -13,7 +13,7 @@ module _ {A : Type 0} (goes_on : Option TokenKind → Bool) (turn : A → Reader
 
   pub fails : (e : TextFault) → goes_on (kind_of s.rest) ≡ true → Fails e (turn x s) → while_next goes_on turn x s ≡ total → Fails e total
   fails fault.OutOfMemory on failed so_far = tt
-  fails (fault.Broken rule line left) on failed so_far = sym so_far ∙ while_on goes_on turn progress x s on ∙ ap (λ (r : Result (A × State) Fault). then_read r (while_next goes_on turn)) failed
+  fails (fault.Broken case line left) on failed so_far = sym so_far ∙ while_on goes_on turn progress x s on ∙ ap (λ (r : Result (A × State) Fault). then_read r (while_next goes_on turn)) failed
 
   pub ends : goes_on (kind_of s.rest) ≡ false → while_next goes_on turn x s ≡ total → total ≡ Ok (x, s)
   ends off so_far = sym so_far ∙ while_off goes_on turn x s off
@@ -25,9 +25,9 @@ module _ {A : Type 0} (goes_on : Option TokenKind → Bool) (read : Reader A) (p
 
   pub more_fails : (e : TextFault) → goes_on (kind_of s.rest) ≡ true → Fails e (read s) → while_next goes_on (one_more read) xs s ≡ total → Fails e total
   more_fails fault.OutOfMemory on failed so_far = tt
-  more_fails (fault.Broken rule line left) on failed so_far = fails goes_on (one_more read) progress xs s total (fault.Broken rule line left) on (ap (λ (r : Result (A × State) Fault). then_read r (λ y. give (xs ++ y ∷ []))) failed) so_far
+  more_fails (fault.Broken case line left) on failed so_far = fails goes_on (one_more read) progress xs s total (fault.Broken case line left) on (ap (λ (r : Result (A × State) Fault). then_read r (λ y. give (xs ++ y ∷ []))) failed) so_far
 
 -- what fails, fails whatever would follow it
 pub then_fails : {A B : Type 0} (e : TextFault) (r : Result (A × State) Fault) (g : A → Reader B) → Fails e r → Fails e (then_read r g)
 then_fails fault.OutOfMemory r g failed = tt
-then_fails (fault.Broken rule line left) r g failed = ap (λ (q : Result (_ × State) Fault). then_read q g) failed
+then_fails (fault.Broken case line left) r g failed = ap (λ (q : Result (_ × State) Fault). then_read q g) failed

@@ -2,15 +2,15 @@
 use Rattle.std.proofs.Common.{◌≡◌, ℕ, ◌≤◌, ◌<◌, Bool, true, false, cond, eqb, nat_lt, List, [], ◌∷◌, length, Option, Some, Ok, refl, sym, ap, subst, ◌∙◌, arith}
 use Rattle.camac_lang.specs.Tests.{is_name, is_number, is_new}
 use Rattle.camac_lang.specs.Tree.{Text}
-use Rattle.camac_text_tokens.specs.declared.fault.TextRule.{TextRule}
-use Rattle.camac_text_tokens.specs.declared.fault.TextRule.TheVariants.{UnexpectedToken, NumberTooLarge, DeclaredTwice, BranchNotOne}
+use Rattle.camac_text_tokens.specs.declared.fault.TextCase.{TextCase}
+use Rattle.camac_text_tokens.specs.declared.fault.TextCase.TheVariants as told
 use Rattle.camac_text_tokens.specs.declared.token.Keyword.{Keyword}
 use Rattle.camac_text_tokens.specs.declared.token.Sign.{Sign}
 use Rattle.camac_text_tokens.specs.declared.token.Token.{Token}
 use Rattle.camac_text_tokens.specs.declared.token.TokenKind.{TokenKind}
 use Rattle.camac_text_tokens.specs.declared.token.TokenKind.TheVariants as kind
 use Rattle.camac_text_cursor.specs.Reading.{State, Reader, ◌>>◌, give, advance, fail, check, kind_of, after_first}
-use Rattle.camac_text_cursor.specs.Readers.{is_keyword, is_sign, expect, expect_sign, name_of, name_here, number_of, number_here, any_number, branch_number, function_number, sub_address_number, new_name}
+use Rattle.camac_text_cursor.specs.Readers.{is_keyword, is_sign, expect, expect_sign, name_of, name_here, number_of, number_here, any_number, branch_number, function_number, sub_address_number, declared_as, new_name}
 use Rattle.camac_text_cursor.proofs.Steps.{then_ok, ok_is, err_no_ok}
 
 -- a token's name has 1 to 32 bytes, and its number is one of the language
@@ -70,10 +70,10 @@ one_moves s k s' t = subst (λ (u : State). Moves s u) (sym t.left) (moved s)
 pub one_less : (s : State) (k : TokenKind) (s' : State) → TakesOne s k s' → length s'.rest < length s.rest
 one_less s k s' t = subst (λ (u : State). length u.rest < length s.rest) (sym t.left) (after_less s.rest k t.next)
 
--- a rule that was tested holds
-pub check_ok : {B : Type 0} (b : Bool) (rule : TextRule) (g : Reader B) (s : State) (y : B × State) → (check b rule >> g) s ≡ Ok y → (b ≡ true) × (g s ≡ Ok y)
-check_ok true rule g s y e = (refl, e)
-check_ok {B} false rule g s y e = absurd (err_no_ok {A = B} _ _ e)
+-- a case that was tested holds
+pub check_ok : {B : Type 0} (b : Bool) (case : TextCase) (g : Reader B) (s : State) (y : B × State) → (check b case >> g) s ≡ Ok y → (b ≡ true) × (g s ≡ Ok y)
+check_ok true case g s y e = (refl, e)
+check_ok {B} false case g s y e = absurd (err_no_ok {A = B} _ _ e)
 
 -- ---- single tokens
 
@@ -97,7 +97,7 @@ unfolding branch_number
 branch_ok s y e =
     let m = then_ok (number_here s) _ y e in
     let h = number_ok s m.0 m.1 in
-    let c = check_ok (eqb m.0.0 1) BranchNotOne advance m.0.1 y m.2 in
+    let c = check_ok (eqb m.0.0 1) told.Branch advance m.0.1 y m.2 in
     (m.0.0, subst (λ (p : Unit {0} × State). TakesOne s (kind.Number m.0.0) p.1) (ok_is _ y c.1) (record { next = h.0; left = ap (λ (w : State). record w { rest = after_first w.rest }) h.1 }))
 
 pub record TakesBelow (limit : ℕ) (s : State) (n : ℕ) (s' : State) : Type 0 where
@@ -109,7 +109,7 @@ unfolding function_number
 function_ok s y e =
     let m = then_ok (number_here s) _ y e in
     let h = number_ok s m.0 m.1 in
-    let c = check_ok (nat_lt m.0.0 32) NumberTooLarge (advance >> give m.0.0) m.0.1 y m.2 in
+    let c = check_ok (nat_lt m.0.0 32) (told.Number 31) (advance >> give m.0.0) m.0.1 y m.2 in
     subst (λ (p : ℕ × State). TakesBelow 32 s p.0 p.1) (ok_is _ y c.1) (record { one = record { next = h.0; left = ap (λ (w : State). record w { rest = after_first w.rest }) h.1 }; below = c.0 })
 
 pub sub_address_ok : (s : State) (y : ℕ × State) → sub_address_number s ≡ Ok y → TakesBelow 16 s y.0 y.1
@@ -117,10 +117,10 @@ unfolding sub_address_number
 sub_address_ok s y e =
     let m = then_ok (number_here s) _ y e in
     let h = number_ok s m.0 m.1 in
-    let c = check_ok (nat_lt m.0.0 16) NumberTooLarge (advance >> give m.0.0) m.0.1 y m.2 in
+    let c = check_ok (nat_lt m.0.0 16) (told.Number 15) (advance >> give m.0.0) m.0.1 y m.2 in
     subst (λ (p : ℕ × State). TakesBelow 16 s p.0 p.1) (ok_is _ y c.1) (record { one = record { next = h.0; left = ap (λ (w : State). record w { rest = after_first w.rest }) h.1 }; below = c.0 })
 
-expected : (b : Bool) (s : State) (y : Unit {0} × State) → cond b advance (fail UnexpectedToken) s ≡ Ok y → y.1 ≡ record s { rest = after_first s.rest }
+expected : (b : Bool) (s : State) (y : Unit {0} × State) → cond b advance (fail told.Unexpected) s ≡ Ok y → y.1 ≡ record s { rest = after_first s.rest }
 expected true s y e = sym (ap (λ (p : Unit {0} × State). p.1) (ok_is _ y e))
 expected false s y e = absurd (err_no_ok _ _ e)
 
@@ -153,5 +153,5 @@ unfolding new_name
 new_name_ok s y e =
     let m = then_ok (name_here s) _ y e in
     let h = name_ok s m.0 m.1 in
-    let c = check_ok (is_new m.0.0 m.0.1.declared) DeclaredTwice (give m.0.0) m.0.1 y m.2 in
+    let c = check_ok (is_new m.0.0 m.0.1.declared) (told.Taken (declared_as m.0.0 m.0.1)) (give m.0.0) m.0.1 y m.2 in
     subst (λ (p : Text × State). NewName s p.0 p.1) (ok_is _ y c.1) (record { next = h.0; free = ap (λ (w : State). is_new m.0.0 w.declared) (sym h.1) ∙ c.0; left = h.1 })

@@ -2,10 +2,10 @@
 use Rattle.std.proofs.Common.{◌≡◌, ℕ, zero, suc, ◌<◌, Bool, true, false, cond, List, [], ◌∷◌, ◌++◌, length, Option, Result, Ok, Err, refl, sym, ap, subst, ◌∙◌, append_assoc, arith, ◌⊎◌, inl, inr}
 use Rattle.camac_text_tokens.specs.declared.token.Token.{Token}
 use Rattle.camac_text_tokens.specs.declared.token.TokenKind.{TokenKind}
-use Rattle.camac_text_tokens.specs.declared.fault.TextRule.{TextRule}
+use Rattle.camac_text_tokens.specs.declared.fault.TextCase.{TextCase}
 use Rattle.camac_text_tokens.specs.Fault.{Fault}
 use Rattle.camac_text_cursor.specs.Reading.{State, Reader, then_read, ◌>>=◌, ◌>>◌, give, ask, change, peek, advance, fail, check, line_here, kind_of, after_first, line_of, left_of, while_next}
-use Rattle.camac_text_cursor.specs.Places.{RuleFits}
+use Rattle.camac_text_cursor.specs.Places.{CaseFits}
 use Rattle.camac_text_cursor.proofs.Steps.{then_ok, ok_is, err_is, err_no_ok, Progresses, while_choice}
 
 -- this state with other tokens ahead
@@ -26,7 +26,7 @@ pub record FailsAt {A : Type 0} (f : Reader A) (s : State) (e : Fault) : Type 0 
   pub parts : s.rest ≡ taken ++ left
   pub line : e.line ≡ line_of left s.end_line
   pub place : e.left ≡ left_of left
-  pub rule : RuleFits e.rule (kind_of left)
+  pub fits : CaseFits e.case (kind_of left)
   pub again : (t : Token) (r r' : List Token) (n : ℕ) → left ≡ t ∷ r → f (with_rest n s (taken ++ t ∷ r')) ≡ Err e
 
 pub record IsLocal {A : Type 0} (f : Reader A) (s : State) : Type 0 where
@@ -84,7 +84,7 @@ fails_then f g s x s' e a b = record {
   parts = join_parts s.rest a.taken s'.rest b.taken b.left a.parts b.parts;
   line = b.line ∙ ap (line_of b.left) a.same_end;
   place = b.place;
-  rule = b.rule;
+  fits = b.fits;
   again = λ t r r' n h.
       let first = resumes f s x s' a b.taken t r r' n (b.parts ∙ ap (λ (w : List Token). b.taken ++ w) h) in
       let second = b.again t r r' n h in
@@ -98,7 +98,7 @@ fails_first f g s e a = record {
   parts = a.parts;
   line = a.line;
   place = a.place;
-  rule = a.rule;
+  fits = a.fits;
   again = λ t r r' n h. ap (λ (q : Result (_ × State) Fault). then_read q g) (a.again t r r' n h);
 }
 
@@ -126,7 +126,7 @@ local_same f g s same at = record {
       record { taken = a.taken; parts = a.parts; same_end = a.same_end; again = λ t r r' n h. sym (same (with_rest n s (a.taken ++ t ∷ r'))) ∙ a.again t r r' n h };
   fails = λ e h.
       let a = at.fails e (same s ∙ h) in
-      record { taken = a.taken; left = a.left; parts = a.parts; line = a.line; place = a.place; rule = a.rule; again = λ t r r' n k. sym (same (with_rest n s (a.taken ++ t ∷ r'))) ∙ a.again t r r' n k };
+      record { taken = a.taken; left = a.left; parts = a.parts; line = a.line; place = a.place; fits = a.fits; again = λ t r r' n k. sym (same (with_rest n s (a.taken ++ t ∷ r'))) ∙ a.again t r r' n k };
 }
 
 -- a look at something that stays the same with the same token ahead
@@ -137,7 +137,7 @@ local_look look same g s at = record {
       record { taken = a.taken; parts = a.parts; same_end = a.same_end; again = λ t r r' n h. ap (λ (v : _). g v (with_rest n s (a.taken ++ t ∷ r'))) (same s a.taken s'.rest t r r' n a.parts h) ∙ a.again t r r' n h };
   fails = λ e k.
       let a = at.fails e k in
-      record { taken = a.taken; left = a.left; parts = a.parts; line = a.line; place = a.place; rule = a.rule; again = λ t r r' n h. ap (λ (v : _). g v (with_rest n s (a.taken ++ t ∷ r'))) (same s a.taken a.left t r r' n a.parts h) ∙ a.again t r r' n h };
+      record { taken = a.taken; left = a.left; parts = a.parts; line = a.line; place = a.place; fits = a.fits; again = λ t r r' n h. ap (λ (v : _). g v (with_rest n s (a.taken ++ t ∷ r'))) (same s a.taken a.left t r r' n a.parts h) ∙ a.again t r r' n h };
 }
 
 pub local_peek : {B : Type 0} (g : Option TokenKind → Reader B) (s : State) → IsLocal (g (kind_of s.rest)) s → IsLocal (peek >>= g) s
@@ -153,8 +153,8 @@ local_ask look same g s at = local_look look (λ u taken left t r r' n p h. same
 pub local_give : {A : Type 0} (x : A) (s : State) → IsLocal (give x) s
 local_give x s = local_ok (give x) s x s refl (record { taken = []; parts = refl; same_end = refl; again = λ t r r' n h. refl })
 
-pub local_fail : {A : Type 0} (rule : TextRule) (s : State) → RuleFits rule (kind_of s.rest) → IsLocal (let f : Reader A = fail rule in f) s
-local_fail rule s fits = local_err (fail rule) s (record { rule = rule; line = line_of s.rest s.end_line; left = left_of s.rest }) refl (record { taken = []; left = s.rest; parts = refl; line = refl; place = refl; rule = fits; again = λ t r r' n h. rw h refl })
+pub local_fail : {A : Type 0} (case : TextCase) (s : State) → CaseFits case (kind_of s.rest) → IsLocal (let f : Reader A = fail case in f) s
+local_fail case s fits = local_err (fail case) s (record { case = case; line = line_of s.rest s.end_line; left = left_of s.rest }) refl (record { taken = []; left = s.rest; parts = refl; line = refl; place = refl; fits = fits; again = λ t r r' n h. rw h refl })
 
 -- the tokens that one step takes
 first_of_rest : List Token → List Token
@@ -194,9 +194,9 @@ pub local_if : {A : Type 0} (b : Bool) (f g : Reader A) (s : State) → (b ≡ t
 local_if true f g s on off = on refl
 local_if false f g s on off = off refl
 
-pub local_check : {B : Type 0} (holds : Bool) (rule : TextRule) (g : Reader B) (s : State) → RuleFits rule (kind_of s.rest) → (holds ≡ true → IsLocal g s) → IsLocal (check holds rule >> g) s
-local_check true rule g s fits next = local_then (give tt) (λ _. g) s (local_give tt s) (λ x s' e. subst (λ (p : Unit {0} × State). IsLocal g p.1) (ok_is (tt, s) (x, s') e) (next refl))
-local_check false rule g s fits next = local_then {A = Unit {0}} (fail rule) (λ _. g) s (local_fail rule s fits) (λ x s' e. absurd (err_no_ok (record { rule = rule; line = line_of s.rest s.end_line; left = left_of s.rest }) (x, s') e))
+pub local_check : {B : Type 0} (holds : Bool) (case : TextCase) (g : Reader B) (s : State) → CaseFits case (kind_of s.rest) → (holds ≡ true → IsLocal g s) → IsLocal (check holds case >> g) s
+local_check true case g s fits next = local_then (give tt) (λ _. g) s (local_give tt s) (λ x s' e. subst (λ (p : Unit {0} × State). IsLocal g p.1) (ok_is (tt, s) (x, s') e) (next refl))
+local_check false case g s fits next = local_then {A = Unit {0}} (fail case) (λ _. g) s (local_fail case s fits) (λ x s' e. absurd (err_no_ok (record { case = case; line = line_of s.rest s.end_line; left = left_of s.rest }) (x, s') e))
 
 local_turns : {A : Type 0} (goes_on : Option TokenKind → Bool) (turn : A → Reader A) → Progresses goes_on turn → ((x : A) (s : State) → goes_on (kind_of s.rest) ≡ true → IsLocal (turn x) s) → (n : ℕ) (x : A) (s : State) → length s.rest < n → IsLocal (while_next goes_on turn x) s
 local_turns goes_on turn progress each zero x s few = absurd (omega arith)

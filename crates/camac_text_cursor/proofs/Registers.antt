@@ -6,7 +6,8 @@ use Rattle.std.proofs.lemmas.Bool.{ltb-true}
 use Rattle.camac_lang.specs.Scope.{are_declarable}
 use Rattle.camac_lang.specs.Tests.{each, is_name, is_new, are_new}
 use Rattle.camac_lang.specs.Tree.{Text}
-use Rattle.camac_text_tokens.specs.declared.fault.TextRule.TheVariants.{LimitPassed}
+use Rattle.camac_text_tokens.specs.declared.fault.Limit.TheVariants as limit
+use Rattle.camac_text_tokens.specs.declared.fault.TextCase.TheVariants as told
 use Rattle.camac_text_tokens.specs.declared.token.TokenKind.TheVariants as kind
 use Rattle.camac_text_cursor.specs.Names.{place_of}
 use Rattle.camac_text_cursor.specs.Reading.{State, ◌>>◌, give, change, advance, kind_of, after_first}
@@ -86,7 +87,7 @@ register_is s x (Some place) y next free at e =
       registers = λ h fits. fits;
     })
 register_is s x None y next free at e =
-    let c = check_ok (nat_lt (other_registers s + length s.registers) 64) LimitPassed (advance >> (change (with_register x) >> give (length s.registers))) s y e in
+    let c = check_ok (nat_lt (other_registers s + length s.registers) 64) (told.Limit limit.Registers) (advance >> (change (with_register x) >> give (length s.registers))) s y e in
     let below : other_registers s + length s.registers < 64 = ltb-true (other_registers s + length s.registers) 64 c.0 in
     let one : length (s.registers ++ x ∷ []) ≡ length s.registers + 1 = length-append s.registers (x ∷ []) in
     let new : is_new x s.registers ≡ true = sym (is_new_none x s.registers) ∙ ap is_none at in

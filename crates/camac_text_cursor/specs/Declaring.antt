@@ -3,7 +3,7 @@ use Rattle.std.specs.Prelude.{ℕ, true, false, List, [], ◌∷◌, ◌++◌, l
 use Rattle.camac_lang.specs.Depth.{callable}
 use Rattle.camac_lang.specs.Tree.{Text, Statement, Table, Lam, Procedure, Script, next_table, next_lam, next_variables, next_procedure, next_service}
 use Rattle.camac_lang.specs.View.{block_of}
-use Rattle.camac_text_cursor.specs.Reading.{State, Reader, ◌>>=◌, ◌>>◌, give, ask, change}
+use Rattle.camac_text_cursor.specs.Reading.{State, Reader, ◌>>◌, ask, change}
 
 -- ---- tables, LAMs, variables and services
 
@@ -28,32 +28,26 @@ with_service line lam cycles words body s = record s {
 
 -- a procedure sees no variables but its parameters, and its own name is declared
 abbrev pub in_heading : Text → State → State
-in_heading name s = record s { variables = []; in_procedure = true; declared = s.declared ++ name ∷ [] }
+in_heading name s = record s { variables = []; in_procedure = true; outside = s.variables; declared = s.declared ++ name ∷ [] }
 
--- what the script has again after a procedure: its variables, and so many of the names that are declared
-pub record Outside : Type 0 where
-  pub variables : List Text
-  pub names : ℕ
-
--- a procedure begins, and what the script has again after it is kept
-abbrev pub opened : Text → Reader Outside
+-- a procedure begins: so many of the names that are declared stay so after it
+abbrev pub opened : Text → Reader ℕ
 opened name = do
-  variables ← ask (λ s. s.variables)
   change (in_heading name)
-  names ← ask (λ s. length s.declared)
-  give (record { variables = variables; names = names })
+  ask (λ s. length s.declared)
 
 -- the next body has no registers yet
 abbrev pub without_registers : State → State
 without_registers s = record s { registers = [] }
 
 -- a procedure can be called from its end on; what it declared for itself ends with it
-abbrev pub with_procedure : Procedure → List Text → ℕ → State → State
-with_procedure p variables names s = record s {
-  variables = variables;
+abbrev pub with_procedure : Procedure → ℕ → State → State
+with_procedure p names s = record s {
+  variables = s.outside;
   declared = take names s.declared;
   registers = [];
   in_procedure = false;
+  outside = [];
   procedures = s.procedures ++ p ∷ [];
   callables = s.callables ++ callable s.callables p ∷ [];
   order = s.order ++ next_procedure ∷ [];

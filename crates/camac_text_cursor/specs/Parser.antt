@@ -4,10 +4,8 @@ use Rattle.camac_lang.specs.View.{item_of, table_of, lam_of, procedure_of, servi
 use Rattle.camac_text_tokens.specs.declared.fault.TextFault.{TextFault}
 use Rattle.camac_text_tokens.specs.declared.token.Token.{Token}
 use Rattle.camac_text_cursor.specs.declared.cursor.Parser.{Parser}
-use Rattle.camac_text_cursor.specs.declared.declaring.Outside as rust_outside
 use Rattle.camac_text_tokens.specs.Fault.{Fault, Fails}
 use Rattle.camac_text_cursor.specs.Reading.{State}
-use Rattle.camac_text_cursor.specs.Declaring.{Outside}
 
 abbrev pub state : Parser → State
 state p = record {
@@ -21,6 +19,7 @@ state p = record {
   services = map service_of p.services.items;
   callables = map callable_of p.callables.items;
   in_procedure = p.in_procedure;
+  outside = p.outside.items;
   variable_count = p.variable_count;
   declared = p.declared.items;
   registers = p.registers.items;
@@ -40,15 +39,12 @@ unread tokens end_line = record {
   services = [];
   callables = [];
   in_procedure = false;
+  outside = [];
   variable_count = 0;
   declared = [];
   registers = [];
   statements = 0;
 }
-
--- what the script has again after a procedure
-abbrev pub outside_of : rust_outside.Outside → Outside
-outside_of o = record { variables = o.variables.items; names = o.names }
 
 -- What a function returned, seen by view, and what it left are what is read, unless memory was refused.
 abbrev pub Gives : {X Y : Type 0} → (X → Y) → Result X TextFault → Parser → Result (Y × State) Fault → Type 0

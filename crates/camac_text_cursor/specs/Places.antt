@@ -1,17 +1,29 @@
--- At which token a rule can be broken.
+-- At which token a case can be told.
 use Rattle.std.specs.Prelude.{◌≡◌, ℕ, Option, Some}
 use Rattle.camac_lang.specs.Tree.{Text}
 use Rattle.camac_text_tokens.specs.declared.token.TokenKind.{TokenKind}
 use Rattle.camac_text_tokens.specs.declared.token.TokenKind.TheVariants as kind
-use Rattle.camac_text_tokens.specs.declared.fault.TextRule.{TextRule}
-use Rattle.camac_text_tokens.specs.declared.fault.TextRule.TheVariants.{BadByte, UnexpectedToken, NumberTooLarge, DeclaredTwice, NotDeclared, LimitPassed, BranchNotOne}
+use Rattle.camac_text_tokens.specs.declared.fault.TextCase.{TextCase}
+use Rattle.camac_text_tokens.specs.declared.fault.TextCase.TheVariants as told
+
+abbrev pub IsNumber : Option TokenKind → Type 0
+IsNumber at = (n : ℕ) × (at ≡ Some (kind.Number n))
+
+abbrev pub IsName : Option TokenKind → Type 0
+IsName at = (x : Text) × (at ≡ Some (kind.Name x))
 
 -- S3 and S7 at a NUM, S4 and S5 at a NAME
-abbrev pub RuleFits : TextRule → Option TokenKind → Type 0
-RuleFits BadByte at = ⊥
-RuleFits UnexpectedToken at = Unit {0}
-RuleFits NumberTooLarge at = (n : ℕ) × (at ≡ Some (kind.Number n))
-RuleFits DeclaredTwice at = (x : Text) × (at ≡ Some (kind.Name x))
-RuleFits NotDeclared at = (x : Text) × (at ≡ Some (kind.Name x))
-RuleFits LimitPassed at = Unit {0}
-RuleFits BranchNotOne at = (n : ℕ) × (at ≡ Some (kind.Number n))
+abbrev pub CaseFits : TextCase → Option TokenKind → Type 0
+CaseFits told.Byte at = ⊥
+CaseFits told.Unexpected at = Unit {0}
+CaseFits told.ZeroDivisor at = Unit {0}
+CaseFits told.LockInProcedure at = Unit {0}
+CaseFits (told.ArgumentCount wanted) at = Unit {0}
+CaseFits (told.Number most) at = IsNumber at
+CaseFits (told.Taken by) at = IsName at
+CaseFits told.KeptTwice at = IsName at
+CaseFits told.CounterKept at = IsName at
+CaseFits told.MeasureKept at = IsName at
+CaseFits (told.Undeclared wanted found) at = IsName at
+CaseFits (told.Limit limit) at = Unit {0}
+CaseFits told.Branch at = IsNumber at

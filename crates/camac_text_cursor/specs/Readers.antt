@@ -1,5 +1,5 @@
 -- What is read of single tokens, of numbers and of names.
-use Rattle.std.specs.Prelude.{ℕ, ◌+◌, suc, Bool, true, false, [], ◌∷◌, ◌++◌, length, Option, Some, None, nat_lt, nat_le, ◌==◌, slice_get, if◌then◌else◌}
+use Rattle.std.specs.Prelude.{ℕ, ◌+◌, suc, Bool, true, false, ◌&&◌, [], ◌∷◌, ◌++◌, length, Option, Some, None, is_some, nat_lt, nat_le, ◌==◌, slice_get, if◌then◌else◌}
 use denote.Enum.Bare.{sameb}
 use Rattle.camac_lang.specs.Expressions.{Callable}
 use Rattle.camac_lang.specs.Tests.{is_new, total, most}
@@ -10,7 +10,12 @@ use Rattle.camac_text_tokens.specs.declared.token.Keyword.{Keyword}
 use Rattle.camac_text_tokens.specs.declared.token.Sign.{Sign}
 use Rattle.camac_text_tokens.specs.declared.token.TokenKind.{TokenKind}
 use Rattle.camac_text_tokens.specs.declared.token.TokenKind.TheVariants as kind
-use Rattle.camac_text_tokens.specs.declared.fault.TextRule.TheVariants.{UnexpectedToken, NumberTooLarge, DeclaredTwice, NotDeclared, LimitPassed, BranchNotOne}
+use Rattle.camac_text_tokens.specs.declared.fault.NameKind.{NameKind}
+use Rattle.camac_text_tokens.specs.declared.fault.NameKind.TheVariants as named
+use Rattle.camac_text_tokens.specs.declared.fault.Found.{Found}
+use Rattle.camac_text_tokens.specs.declared.fault.Found.TheVariants as found
+use Rattle.camac_text_tokens.specs.declared.fault.Limit.TheVariants as limit
+use Rattle.camac_text_tokens.specs.declared.fault.TextCase.TheVariants as told
 use Rattle.camac_text_cursor.specs.Names.{place_of, lam_place, table_place, procedure_place}
 use Rattle.camac_text_cursor.specs.Reading.{State, Reader, ◌>>=◌, ◌>>◌, give, ask, change, peek, advance, fail, check}
 
@@ -29,22 +34,22 @@ is_name (Some (kind.Name v)) = true
 is_name _ = false
 
 unfoldable pub expect : Keyword → Reader (Unit {0})
-expect w = peek >>= λ k. if is_keyword w k then advance else fail UnexpectedToken
+expect w = peek >>= λ k. if is_keyword w k then advance else fail told.Unexpected
 
 unfoldable pub expect_sign : Sign → Reader (Unit {0})
-expect_sign w = peek >>= λ k. if is_sign w k then advance else fail UnexpectedToken
+expect_sign w = peek >>= λ k. if is_sign w k then advance else fail told.Unexpected
 
 -- the name or the number that stands next, and stays there
 abbrev pub name_of : Option TokenKind → Reader Text
 name_of (Some (kind.Name n)) = give n
-name_of _ = fail UnexpectedToken
+name_of _ = fail told.Unexpected
 
 unfoldable pub name_here : Reader Text
 name_here = peek >>= name_of
 
 abbrev pub number_of : Option TokenKind → Reader ℕ
 number_of (Some (kind.Number n)) = give n
-number_of _ = fail UnexpectedToken
+number_of _ = fail told.Unexpected
 
 unfoldable pub number_here : Reader ℕ
 number_here = peek >>= number_of
@@ -60,31 +65,41 @@ any_number = do
 unfoldable pub branch_number : Reader (Unit {0})
 branch_number = do
   n ← number_here
-  check (n == 1) BranchNotOne
+  check (n == 1) told.Branch
   advance
 
 unfoldable pub function_number : Reader ℕ
 function_number = do
   n ← number_here
-  check (nat_lt n 32) NumberTooLarge
+  check (nat_lt n 32) (told.Number 31)
   advance
   give n
 
 unfoldable pub sub_address_number : Reader ℕ
 sub_address_number = do
   n ← number_here
-  check (nat_lt n 16) NumberTooLarge
+  check (nat_lt n 16) (told.Number 15)
   advance
   give n
 
 -- ---- names
+
+-- As what a name that is declared is declared: one that is none of the others is a procedure's, that in hand among them.
+abbrev pub declared_as : Text → State → NameKind
+declared_as x s =
+    if is_some (table_place x s.tables) then named.Table
+    else (if is_some (lam_place x s.lams) then named.Lam
+    else (if is_some (place_of x s.variables) then (if s.in_procedure then named.Parameter else named.Variable)
+    else (if is_some (place_of x s.outside) then named.Variable
+    else (if is_some (place_of x s.registers) then named.Register else named.Procedure))))
 
 -- a name that no table, LAM, variable or procedure before it has
 unfoldable pub new_name : Reader Text
 new_name = do
   name ← name_here
   known ← ask (λ s. s.declared)
-  check (is_new name known) DeclaredTwice
+  by ← ask (declared_as name)
+  check (is_new name known) (told.Taken by)
   give name
 
 abbrev pub with_variable : Text → State → State
@@ -94,7 +109,7 @@ with_variable name s = record s { variables = s.variables ++ name ∷ []; variab
 unfoldable pub added : Text → Reader (Unit {0})
 added name = do
   count ← ask (λ s. s.variable_count)
-  check (nat_lt count 64) LimitPassed
+  check (nat_lt count 64) (told.Limit limit.Variables)
   advance
   change (with_variable name)
 
@@ -106,7 +121,7 @@ unfoldable pub new_parameter : Reader Text
 new_parameter = do
   name ← new_name
   known ← ask (λ s. s.variables)
-  check (nat_lt (length known) 8) LimitPassed
+  check (nat_lt (length known) 8) (told.Limit limit.Parameters)
   added name
   give name
 
@@ -124,7 +139,7 @@ register_at name (Some place) = advance >> give place
 register_at name None = do
   others ← ask other_registers
   known ← ask (λ s. s.registers)
-  check (nat_lt (others + length known) 64) LimitPassed
+  check (nat_lt (others + length known) 64) (told.Limit limit.Registers)
   advance
   change (with_register name)
   give (length known)
@@ -135,58 +150,63 @@ set_name = do
   known ← ask (λ s. s.registers)
   register_at name (place_of name known)
 
--- the number of a name that is declared as the kind needed
-abbrev pub used_at : Option ℕ → Reader ℕ
-used_at (Some place) = advance >> give place
-used_at None = fail NotDeclared
+-- what a name is that is not declared as the kind that is wanted
+abbrev pub found_as : NameKind → Option NameKind → Found
+found_as wanted None = found.Nothing
+found_as named.Variable (Some named.Variable) = found.Hidden
+found_as named.Procedure (Some named.Procedure) = found.Itself
+found_as wanted (Some other) = found.Other other
 
-unfoldable pub used_register : Reader ℕ
-used_register = do
+abbrev pub found_here : NameKind → Text → State → Found
+found_here wanted x s = found_as wanted (if is_new x s.declared && is_new x s.registers then None else Some (declared_as x s))
+
+abbrev pub undeclared : {A : Type 0} → NameKind → Text → Reader A
+undeclared wanted x = ask (found_here wanted x) >>= λ f. fail (told.Undeclared wanted f)
+
+-- The number of a name that is declared as the kind that is wanted. The name is taken, or stays where it is.
+abbrev pub used_at : NameKind → Text → Option ℕ → Reader ℕ
+used_at wanted x (Some place) = advance >> give place
+used_at wanted x None = undeclared wanted x
+
+unfoldable pub used : NameKind → (Text → State → Option ℕ) → Reader ℕ
+used wanted find = do
   name ← name_here
-  known ← ask (λ s. s.registers)
-  used_at (place_of name known)
+  place ← ask (find name)
+  used_at wanted name place
 
-unfoldable pub used_variable : Reader ℕ
-used_variable = do
+abbrev pub known_at : NameKind → Text → Option ℕ → Reader ℕ
+known_at wanted x (Some place) = give place
+known_at wanted x None = undeclared wanted x
+
+unfoldable pub known : NameKind → (Text → State → Option ℕ) → Reader ℕ
+known wanted find = do
   name ← name_here
-  known ← ask (λ s. s.variables)
-  used_at (place_of name known)
+  place ← ask (find name)
+  known_at wanted name place
 
-unfoldable pub used_lam : Reader ℕ
-used_lam = do
-  name ← name_here
-  known ← ask (λ s. s.lams)
-  used_at (lam_place name known)
+abbrev pub used_register : Reader ℕ
+used_register = used named.Register (λ x s. place_of x s.registers)
 
-unfoldable pub used_table : Reader ℕ
-used_table = do
-  name ← name_here
-  known ← ask (λ s. s.tables)
-  used_at (table_place name known)
+abbrev pub used_variable : Reader ℕ
+used_variable = used named.Variable (λ x s. place_of x s.variables)
 
--- the number of a variable whose name stays where it is
-abbrev pub known_at : Option ℕ → Reader ℕ
-known_at (Some place) = give place
-known_at None = fail NotDeclared
+abbrev pub used_lam : Reader ℕ
+used_lam = used named.Lam (λ x s. lam_place x s.lams)
 
-unfoldable pub variable_here : Reader ℕ
-variable_here = do
-  name ← name_here
-  known ← ask (λ s. s.variables)
-  known_at (place_of name known)
+abbrev pub used_table : Reader ℕ
+used_table = used named.Table (λ x s. table_place x s.tables)
 
--- the number of a procedure whose name stays where it is
-unfoldable pub procedure_here : Reader ℕ
-procedure_here = do
-  name ← name_here
-  known ← ask (λ s. s.procedures)
-  known_at (procedure_place name known)
+abbrev pub variable_here : Reader ℕ
+variable_here = known named.Variable (λ x s. place_of x s.variables)
+
+abbrev pub procedure_here : Reader ℕ
+procedure_here = known named.Procedure (λ x s. procedure_place x s.procedures)
 
 -- the number of parameters of what is called, where so many brackets and braces may be open
 abbrev pub callable_by : ℕ → Option Callable → Reader ℕ
-callable_by room None = fail NotDeclared
+callable_by room None = fail (told.Undeclared named.Procedure found.Nothing)
 callable_by room (Some q) = do
-  check (nat_le q.depth room) LimitPassed
+  check (nat_le q.depth room) (told.Limit limit.CallDepth)
   advance
   give q.parameters
 
@@ -202,6 +222,6 @@ called room place = do
 unfoldable pub begin : Reader (Unit {0})
 begin = do
   so_far ← ask (λ s. s.statements)
-  check (nat_lt so_far 4096) LimitPassed
+  check (nat_lt so_far 4096) (told.Limit limit.Statements)
   change (λ s. record s { statements = suc s.statements })
   advance

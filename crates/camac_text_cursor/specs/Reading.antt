@@ -4,7 +4,7 @@ use Rattle.camac_lang.specs.Expressions.{Callable}
 use Rattle.camac_lang.specs.Tree.{Text, Item, Table, Lam, Procedure, Service}
 use Rattle.camac_text_tokens.specs.declared.token.Token.{Token}
 use Rattle.camac_text_tokens.specs.declared.token.TokenKind.{TokenKind}
-use Rattle.camac_text_tokens.specs.declared.fault.TextRule.{TextRule}
+use Rattle.camac_text_tokens.specs.declared.fault.TextCase.{TextCase}
 use Rattle.camac_text_tokens.specs.Fault.{Fault}
 
 pub record State : Type 0 where
@@ -20,8 +20,9 @@ pub record State : Type 0 where
   pub services : List Service
   -- what can be called: the number of parameters and the depth of each procedure
   pub callables : List Callable
-  -- whether the body in hand is a procedure's; then the variables are its parameters
+  -- whether the body in hand is a procedure's; then the variables are its parameters, and those of the script stand outside
   pub in_procedure : Bool
+  pub outside : List Text
   -- the variables of the script and the parameters of all procedures
   pub variable_count : ℕ
   -- the names of tables, LAMs, variables and procedures and, in a procedure, of its parameters
@@ -85,12 +86,12 @@ abbrev pub advance : Reader (Unit {0})
 advance = change (λ s. record s { rest = after_first s.rest })
 
 -- a fault at the next token
-abbrev pub fail : {A : Type 0} → TextRule → Reader A
-fail rule = λ s. Err (record { rule = rule; line = line_of s.rest s.end_line; left = left_of s.rest })
+abbrev pub fail : {A : Type 0} → TextCase → Reader A
+fail case = λ s. Err (record { case = case; line = line_of s.rest s.end_line; left = left_of s.rest })
 
--- a fault at the next token, where a rule is broken
-abbrev pub check : Bool → TextRule → Reader (Unit {0})
-check holds rule = if holds then give tt else fail rule
+-- a fault at the next token, unless this holds
+abbrev pub check : Bool → TextCase → Reader (Unit {0})
+check holds case = if holds then give tt else fail case
 
 -- A turn after the other while the next token is of a kind. There are fewer turns than tokens.
 unfoldable pub turns : {A : Type 0} → ℕ → (Option TokenKind → Bool) → (A → Reader A) → A → Reader A

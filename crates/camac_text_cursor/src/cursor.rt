@@ -7,7 +7,7 @@ ghost use Rattle.camac_text_cursor.specs.Readers.{begin, is_keyword, is_sign, is
 ghost use Rattle.camac_text_cursor.specs.Parser.{state, unread, Gives};
 
 use camac_lang::{Callable, Item, Lam, Name, Node, Procedure, Service, Table, limits};
-use camac_text_tokens::{Keyword, Sign, TextFault, TextRule, TokenKind, TokensLeft};
+use camac_text_tokens::{Keyword, Limit, Sign, TextCase, TextFault, TokenKind, TokensLeft};
 use camac_word::{Function, SubAddress};
 use std::alloc::Global;
 use std::mem::replace;
@@ -28,8 +28,9 @@ pub struct Parser<'a> {
     pub(crate) services: Vec<Service>,
     // What can be called, one for each procedure.
     pub(crate) callables: Vec<Callable>,
-    // Whether the body in hand is a procedure's.
+    // Whether the body in hand is a procedure's, and then the variables of the script, which it does not see.
     pub(crate) in_procedure: bool,
+    pub(crate) outside: Vec<Name>,
     // The variables of the script and the parameters of all procedures.
     pub(crate) variable_count: usize,
     // The names of tables, LAMs, variables and procedures and, in a procedure, of its parameters.
@@ -59,6 +60,7 @@ impl<'a> Parser<'a> {
             services: Vec::new(alloc),
             callables: Vec::new(alloc),
             in_procedure: false,
+            outside: Vec::new(alloc),
             variable_count: 0,
             declared: Vec::new(alloc),
             registers: Vec::new(alloc),
@@ -131,11 +133,11 @@ impl Parser<'_> {
     }
 
     /// A fault at the next token.
-    pub fn fault(&self, rule: TextRule) -> TextFault
-        ensures { result ≡ TextFault.Broken rule (line_of (state self.now).rest self.now.end_line) (left_of (state self.now).rest) }
+    pub fn fault(&self, case: TextCase) -> TextFault
+        ensures { result ≡ TextFault.Broken case (line_of (state self.now).rest self.now.end_line) (left_of (state self.now).rest) }
     {
         TextFault::Broken {
-            rule,
+            case,
             line: self.line_here(),
             left: self.left_here(),
         }
@@ -181,7 +183,7 @@ impl Parser<'_> {
         ensures { Gives (λ _. tt) result self.new (expect keyword (state self.old)) }
     {
         if !self.next_is(keyword) {
-            return Err(self.fault(TextRule::UnexpectedToken));
+            return Err(self.fault(TextCase::Unexpected));
         }
         self.advance();
         Ok(())
@@ -193,7 +195,7 @@ impl Parser<'_> {
         ensures { Gives (λ _. tt) result self.new (expect_sign sign (state self.old)) }
     {
         if !self.next_is_sign(sign) {
-            return Err(self.fault(TextRule::UnexpectedToken));
+            return Err(self.fault(TextCase::Unexpected));
         }
         self.advance();
         Ok(())
@@ -206,7 +208,7 @@ impl Parser<'_> {
     {
         match self.peek() {
             Some(TokenKind::Name(name)) => Ok(name.duplicate()),
-            _ => Err(self.fault(TextRule::UnexpectedToken)),
+            _ => Err(self.fault(TextCase::Unexpected)),
         }
     }
 
@@ -217,7 +219,7 @@ impl Parser<'_> {
     {
         match self.peek() {
             Some(TokenKind::Number(number)) => Ok(*number),
-            _ => Err(self.fault(TextRule::UnexpectedToken)),
+            _ => Err(self.fault(TextCase::Unexpected)),
         }
     }
 
@@ -238,7 +240,7 @@ impl Parser<'_> {
     {
         let number = self.number_here()?;
         if number != 1 {
-            return Err(self.fault(TextRule::BranchNotOne));
+            return Err(self.fault(TextCase::Branch));
         }
         self.advance();
         Ok(())
@@ -255,7 +257,7 @@ impl Parser<'_> {
                 self.advance();
                 Ok(function)
             }
-            None => Err(self.fault(TextRule::NumberTooLarge)),
+            None => Err(self.fault(TextCase::Number { most: 31 })),
         }
     }
 
@@ -270,7 +272,7 @@ impl Parser<'_> {
                 self.advance();
                 Ok(sub_address)
             }
-            None => Err(self.fault(TextRule::NumberTooLarge)),
+            None => Err(self.fault(TextCase::Number { most: 15 })),
         }
     }
 
@@ -280,7 +282,7 @@ impl Parser<'_> {
         ensures { Gives (λ _. tt) result self.new (begin (state self.old)) }
     {
         if self.statements >= limits::STATEMENTS {
-            return Err(self.fault(TextRule::LimitPassed));
+            return Err(self.fault(TextCase::Limit(Limit::Statements)));
         }
         self.statements += 1;
         self.advance();

@@ -6,19 +6,12 @@ ghost use Rattle.camac_lang.specs.Scope.{is_well_formed};
 ghost use Rattle.camac_lang.specs.View.{table_of, lam_of, statement_of, procedure_of};
 ghost use Rattle.camac_text_cursor.specs.Reading.{change};
 ghost use Rattle.camac_text_cursor.specs.Declaring.{with_table, with_lam, with_variables_of, with_service, opened, without_registers, with_procedure, tree_so_far};
-ghost use Rattle.camac_text_cursor.specs.Parser.{state, outside_of, Gives};
+ghost use Rattle.camac_text_cursor.specs.Parser.{state, Gives};
 
 use crate::cursor::Parser;
 use camac_lang::{Callable, Item, Lam, Name, Procedure, Script, Service, Stmt, Table};
 use camac_text_tokens::TextFault;
 use std::mem;
-
-/// What the script has again after a procedure: its variables, and the number of names that are declared.
-#[derive(Drop)]
-pub struct Outside {
-    variables: Vec<Name>,
-    names: usize,
-}
 
 impl Parser<'_> {
     /// How many tables are declared so far.
@@ -110,33 +103,26 @@ impl Parser<'_> {
         mem::replace(&mut self.registers, Vec::new(self.alloc))
     }
 
-    /// Begins a procedure with this name, which is declared: it sees no variables but its parameters. Answers what the script has
-    /// again after it; S8 where memory is refused. The script's variables are set aside, so that one look-up serves both kinds of bodies.
-    pub fn open_procedure(&mut self, name: &Name) -> Result<Outside, TextFault>
-        ensures { Gives outside_of result self.new (opened name.now (state self.old)) }
+    /// Begins a procedure with this name, which is declared: it sees no variables but its parameters. Answers how many names stay
+    /// declared after it; S8 where memory is refused. The script's variables are set aside, so that one look-up serves both kinds of bodies.
+    pub fn open_procedure(&mut self, name: &Name) -> Result<usize, TextFault>
+        ensures { Gives (λ n. n) result self.new (opened name.now (state self.old)) }
     {
-        let variables = mem::replace(&mut self.variables, Vec::new(self.alloc));
+        self.outside = mem::replace(&mut self.variables, Vec::new(self.alloc));
         self.in_procedure = true;
         self.declared.push(name.duplicate())?;
-        Ok(Outside {
-            variables,
-            names: self.declared.len(),
-        })
+        Ok(self.declared.len())
     }
 
     /// Declares a procedure, which can be called from here on, and ends it: its parameters and registers are declared no more, and
     /// the script has again what it had before. S8 where memory is refused.
-    pub fn close_procedure(
-        &mut self,
-        procedure: Procedure,
-        outside: Outside,
-    ) -> Result<(), TextFault>
+    pub fn close_procedure(&mut self, procedure: Procedure, names: usize) -> Result<(), TextFault>
         requires { inner_depth (state self.old).callables (procedure_of procedure).body ≤ 15 }
-        ensures { Gives (λ _. tt) result self.new (change (with_procedure (procedure_of procedure) (outside_of outside).variables (outside_of outside).names) (state self.old)) }
+        ensures { Gives (λ _. tt) result self.new (change (with_procedure (procedure_of procedure) names) (state self.old)) }
     {
         let callable = Callable::new(&procedure, &self.callables);
-        self.variables = outside.variables;
-        self.declared.truncate(outside.names);
+        self.variables = mem::replace(&mut self.outside, Vec::new(self.alloc));
+        self.declared.truncate(names);
         self.registers = Vec::new(self.alloc);
         self.in_procedure = false;
         self.callables.push(callable)?;

@@ -9,4 +9,3 @@ mod names;
 mod naming;
 
 pub use cursor::Parser;
-pub use declaring::Outside;

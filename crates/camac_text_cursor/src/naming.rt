@@ -1,14 +1,17 @@
 // Names that are declared, and names that are used.
 
-ghost use Rattle.std.specs.Prelude.{◌≡◌, None};
+ghost use Rattle.std.specs.Prelude.{◌≡◌, Some, None, if◌then◌else◌};
 ghost use Rattle.camac_lang.specs.Tests.{is_new};
-ghost use Rattle.camac_text_cursor.specs.Readers.{new_name, added, new_variable, new_parameter, register_at, set_name, used_at, used_register, used_variable, used_lam, used_table, variable_here, procedure_here, called};
+ghost use Rattle.camac_text_tokens.specs.declared.fault.NameKind.TheVariants.{Parameter, Variable};
+ghost use Rattle.camac_text_tokens.specs.declared.fault.TextCase.TheVariants.{Undeclared};
+ghost use Rattle.camac_text_cursor.specs.Reading.{line_of, left_of};
+ghost use Rattle.camac_text_cursor.specs.Readers.{new_name, added, new_variable, new_parameter, register_at, set_name, declared_as, found_as, found_here, used_register, used_variable, used_lam, used_table, variable_here, procedure_here, called};
 ghost use Rattle.camac_text_cursor.specs.Parser.{state, Gives};
 
 use crate::cursor::Parser;
 use crate::names::{is_new, lam_place, place_of, procedure_place, table_place};
 use camac_lang::{Name, limits};
-use camac_text_tokens::{TextFault, TextRule, TokenKind};
+use camac_text_tokens::{Found, Limit, NameKind, TextCase, TextFault, TokenKind};
 
 impl Parser<'_> {
     // Whether no table, LAM, variable or procedure before it has this name.
@@ -25,10 +28,11 @@ impl Parser<'_> {
     {
         let here: &Self = self;
         let Some(TokenKind::Name(name)) = here.peek() else {
-            return Err(here.fault(TextRule::UnexpectedToken));
+            return Err(here.fault(TextCase::Unexpected));
         };
         if !here.is_free(name) {
-            return Err(here.fault(TextRule::DeclaredTwice));
+            let by = here.declared_as(name);
+            return Err(here.fault(TextCase::Taken { by }));
         }
         Ok(name.duplicate())
     }
@@ -39,7 +43,7 @@ impl Parser<'_> {
         ensures { Gives (λ _. tt) result self.new (added name (state self.old)) }
     {
         if self.variable_count >= limits::VARIABLES {
-            return Err(self.fault(TextRule::LimitPassed));
+            return Err(self.fault(TextCase::Limit(Limit::Variables)));
         }
         self.advance();
         self.variable_count += 1;
@@ -65,7 +69,7 @@ impl Parser<'_> {
     {
         let name = self.new_name()?;
         if self.variables.len() >= limits::PARAMETERS {
-            return Err(self.fault(TextRule::LimitPassed));
+            return Err(self.fault(TextCase::Limit(Limit::Parameters)));
         }
         self.added(name.duplicate())?;
         Ok(name)
@@ -78,7 +82,7 @@ impl Parser<'_> {
     {
         let register = self.registers.len();
         if self.other_registers() + register >= limits::REGISTERS {
-            return Err(self.fault(TextRule::LimitPassed));
+            return Err(self.fault(TextCase::Limit(Limit::Registers)));
         }
         self.advance();
         self.registers.push(name)?;
@@ -92,10 +96,11 @@ impl Parser<'_> {
     {
         let here: &Self = self;
         let Some(TokenKind::Name(name)) = here.peek() else {
-            return Err(here.fault(TextRule::UnexpectedToken));
+            return Err(here.fault(TextCase::Unexpected));
         };
         if !here.is_free(name) {
-            return Err(here.fault(TextRule::DeclaredTwice));
+            let by = here.declared_as(name);
+            return Err(here.fault(TextCase::Taken { by }));
         }
         match place_of(&here.registers, name) {
             Some(place) => {
@@ -109,98 +114,156 @@ impl Parser<'_> {
         }
     }
 
-    /// The number of a name that is declared as the kind needed.
-    fn used_at(&mut self, place: Option<usize>) -> Result<usize, TextFault>
-        ensures { Gives (λ n. n) result self.new (used_at place (state self.old)) }
+    /// As what a name that is declared is declared: one that is none of the others is a procedure's, that in hand among them.
+    fn declared_as(&self, name: &Name) -> NameKind
+        ensures { result ≡ declared_as name.now (state self.now) }
     {
-        match place {
-            Some(place) => {
-                self.advance();
-                Ok(place)
-            }
-            None => Err(self.fault(TextRule::NotDeclared)),
+        if table_place(&self.tables, name).is_some() {
+            return NameKind::Table;
+        }
+        if lam_place(&self.lams, name).is_some() {
+            return NameKind::Lam;
+        }
+        if place_of(&self.variables, name).is_some() {
+            return self.variable_kind();
+        }
+        if place_of(&self.outside, name).is_some() {
+            return NameKind::Variable;
+        }
+        if place_of(&self.registers, name).is_some() {
+            return NameKind::Register;
+        }
+        NameKind::Procedure
+    }
+
+    /// What the variables are that the body in hand sees.
+    fn variable_kind(&self) -> NameKind
+        ensures { result ≡ (if self.now.in_procedure then Parameter else Variable) }
+    {
+        if self.in_procedure {
+            NameKind::Parameter
+        } else {
+            NameKind::Variable
         }
     }
 
+    /// What a name is that is not declared as the kind that is wanted.
+    fn found_here(&self, wanted: NameKind, name: &Name) -> Found
+        ensures { result ≡ found_here wanted name.now (state self.now) }
+    {
+        if self.is_free(name) && is_new(&self.registers, name) {
+            return Found::Nothing;
+        }
+        found_as(wanted, self.declared_as(name))
+    }
+
+    /// The fault of a name that is not declared as the kind that is wanted.
+    fn undeclared(&self, wanted: NameKind, name: &Name) -> TextFault
+        ensures { result ≡ TextFault.Broken (Undeclared wanted (found_here wanted name.now (state self.now))) (line_of (state self.now).rest self.now.end_line) (left_of (state self.now).rest) }
+    {
+        let found = self.found_here(wanted, name);
+        self.fault(TextCase::Undeclared { wanted, found })
+    }
+
     /// Takes the name of a register, and answers its number; S5 where there is none.
-    #[tactic(auto, unfolding(crate::specs::Readers::used_register, crate::specs::Readers::name_here))]
+    #[tactic(auto, unfolding(crate::specs::Readers::used, crate::specs::Readers::name_here))]
     pub fn used_register(&mut self) -> Result<usize, TextFault>
         ensures { Gives (λ n. n) result self.new (used_register (state self.old)) }
     {
         let here: &Self = self;
         let Some(TokenKind::Name(name)) = here.peek() else {
-            return Err(here.fault(TextRule::UnexpectedToken));
+            return Err(here.fault(TextCase::Unexpected));
         };
-        let place = place_of(&here.registers, name);
-        self.used_at(place)
+        match place_of(&here.registers, name) {
+            Some(place) => {
+                self.advance();
+                Ok(place)
+            }
+            None => Err(here.undeclared(NameKind::Register, name)),
+        }
     }
 
     /// Takes the name of a variable, and answers its number; S5 where there is none.
-    #[tactic(auto, unfolding(crate::specs::Readers::used_variable, crate::specs::Readers::name_here))]
+    #[tactic(auto, unfolding(crate::specs::Readers::used, crate::specs::Readers::name_here))]
     pub fn used_variable(&mut self) -> Result<usize, TextFault>
         ensures { Gives (λ n. n) result self.new (used_variable (state self.old)) }
     {
         let here: &Self = self;
         let Some(TokenKind::Name(name)) = here.peek() else {
-            return Err(here.fault(TextRule::UnexpectedToken));
+            return Err(here.fault(TextCase::Unexpected));
         };
-        let place = place_of(&here.variables, name);
-        self.used_at(place)
+        match place_of(&here.variables, name) {
+            Some(place) => {
+                self.advance();
+                Ok(place)
+            }
+            None => Err(here.undeclared(NameKind::Variable, name)),
+        }
     }
 
     /// Takes the name of a LAM, and answers its number; S5 where there is none.
-    #[tactic(auto, unfolding(crate::specs::Readers::used_lam, crate::specs::Readers::name_here))]
+    #[tactic(auto, unfolding(crate::specs::Readers::used, crate::specs::Readers::name_here))]
     pub fn used_lam(&mut self) -> Result<usize, TextFault>
         ensures { Gives (λ n. n) result self.new (used_lam (state self.old)) }
     {
         let here: &Self = self;
         let Some(TokenKind::Name(name)) = here.peek() else {
-            return Err(here.fault(TextRule::UnexpectedToken));
+            return Err(here.fault(TextCase::Unexpected));
         };
-        let place = lam_place(&here.lams, name);
-        self.used_at(place)
+        match lam_place(&here.lams, name) {
+            Some(place) => {
+                self.advance();
+                Ok(place)
+            }
+            None => Err(here.undeclared(NameKind::Lam, name)),
+        }
     }
 
     /// The number of a variable whose name stays where it is.
-    #[tactic(auto, unfolding(crate::specs::Readers::variable_here, crate::specs::Readers::name_here))]
+    #[tactic(auto, unfolding(crate::specs::Readers::known, crate::specs::Readers::name_here))]
     pub fn variable_here(&mut self) -> Result<usize, TextFault>
         ensures { Gives (λ n. n) result self.new (variable_here (state self.old)) }
     {
         let here: &Self = self;
         let Some(TokenKind::Name(name)) = here.peek() else {
-            return Err(here.fault(TextRule::UnexpectedToken));
+            return Err(here.fault(TextCase::Unexpected));
         };
         match place_of(&here.variables, name) {
             Some(place) => Ok(place),
-            None => Err(here.fault(TextRule::NotDeclared)),
+            None => Err(here.undeclared(NameKind::Variable, name)),
         }
     }
 
     /// Takes the name of a table, and answers its number; S5 where there is none.
-    #[tactic(auto, unfolding(crate::specs::Readers::used_table, crate::specs::Readers::name_here))]
+    #[tactic(auto, unfolding(crate::specs::Readers::used, crate::specs::Readers::name_here))]
     pub fn used_table(&mut self) -> Result<usize, TextFault>
         ensures { Gives (λ n. n) result self.new (used_table (state self.old)) }
     {
         let here: &Self = self;
         let Some(TokenKind::Name(name)) = here.peek() else {
-            return Err(here.fault(TextRule::UnexpectedToken));
+            return Err(here.fault(TextCase::Unexpected));
         };
-        let place = table_place(&here.tables, name);
-        self.used_at(place)
+        match table_place(&here.tables, name) {
+            Some(place) => {
+                self.advance();
+                Ok(place)
+            }
+            None => Err(here.undeclared(NameKind::Table, name)),
+        }
     }
 
     /// The number of a procedure whose name stays where it is; S5 where there is none.
-    #[tactic(auto, unfolding(crate::specs::Readers::procedure_here, crate::specs::Readers::name_here))]
+    #[tactic(auto, unfolding(crate::specs::Readers::known, crate::specs::Readers::name_here))]
     pub fn procedure_here(&mut self) -> Result<usize, TextFault>
         ensures { Gives (λ n. n) result self.new (procedure_here (state self.old)) }
     {
         let here: &Self = self;
         let Some(TokenKind::Name(name)) = here.peek() else {
-            return Err(here.fault(TextRule::UnexpectedToken));
+            return Err(here.fault(TextCase::Unexpected));
         };
         match procedure_place(&here.procedures, name) {
             Some(place) => Ok(place),
-            None => Err(here.fault(TextRule::NotDeclared)),
+            None => Err(here.undeclared(NameKind::Procedure, name)),
         }
     }
 
@@ -214,12 +277,26 @@ impl Parser<'_> {
             Some(callable) => {
                 let parameters = callable.parameters;
                 if callable.depth > room {
-                    return Err(self.fault(TextRule::LimitPassed));
+                    return Err(self.fault(TextCase::Limit(Limit::CallDepth)));
                 }
                 self.advance();
                 Ok(parameters)
             }
-            None => Err(self.fault(TextRule::NotDeclared)),
+            None => Err(self.fault(TextCase::Undeclared {
+                wanted: NameKind::Procedure,
+                found: Found::Nothing,
+            })),
         }
+    }
+}
+
+/// What a name of a kind is where this one is wanted, as which it is not declared.
+fn found_as(wanted: NameKind, kind: NameKind) -> Found
+    ensures { result ≡ found_as wanted (Some kind) }
+{
+    match (wanted, kind) {
+        (NameKind::Variable, NameKind::Variable) => Found::Hidden,
+        (NameKind::Procedure, NameKind::Procedure) => Found::Itself,
+        _ => Found::Other(kind),
     }
 }

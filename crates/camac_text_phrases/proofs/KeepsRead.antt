@@ -8,7 +8,6 @@ use Rattle.camac_lang.specs.Tests.{each, are_distinct, is_number}
 use Rattle.camac_lang.specs.Tree.{Keep}
 use Rattle.camac_lang.specs.View.{keep_of}
 use Rattle.camac_lang.specs.declared.tree.Keep as rust
-use Rattle.camac_text_tokens.specs.declared.fault.TextRule.TheVariants.{DeclaredTwice}
 use Rattle.camac_text_tokens.specs.declared.token.Keyword.TheVariants as word
 use Rattle.camac_text_tokens.specs.declared.token.Sign.{Sign}
 use Rattle.camac_text_tokens.specs.declared.token.Sign.TheVariants as sign
@@ -16,7 +15,8 @@ use Rattle.camac_text_tokens.specs.declared.token.TokenKind.{TokenKind}
 use Rattle.camac_text_tokens.specs.declared.token.TokenKind.TheVariants as kind
 use Rattle.camac_text_cursor.specs.Reading.{State, Reader, ◌>>=◌, ◌>>◌, give, advance, check, kind_of, after_first, while_next}
 use Rattle.camac_text_cursor.specs.Readers.{is_keyword, is_sign, expect, expect_sign, any_number, variable_here}
-use Rattle.camac_text_phrases.specs.Keeps.{taken, is_free, keep_at, next_keep, one_more_keep, keep_list, keeps_at}
+use Rattle.camac_text_phrases.specs.declared.keeping.Own.{Own}
+use Rattle.camac_text_phrases.specs.Keeps.{own_place, taken, is_free, kept_case, keep_at, next_keep, one_more_keep, keep_list, keeps_at}
 use Rattle.camac_text_cursor.proofs.Steps.{then_ok, ok_is, Progresses, while_keeps}
 use Rattle.camac_text_cursor.proofs.Moves.{AllFit, Moves, kind_fit, after_less, stays, moved, then_moves, one_moves, check_ok, any_number_ok, expect_ok, expect_sign_ok}
 use Rattle.camac_text_cursor.proofs.Uses.{scope_of, variable_here_ok}
@@ -31,8 +31,8 @@ not_any place (k ∷ ks) = not_or (nat_eq k.variable place) (list_any (λ (j : r
   not_or true b e = refl
   not_or false b e = e
 
-pub free_of_list : (place own : ℕ) (ks : List rust.Keep) → (own ≡ place → ⊥) → not (list_any (λ (k : rust.Keep). nat_eq k.variable place) ks) ≡ is_free place own (map keep_of ks)
-free_of_list place own ks other = not_any place ks ∙ sym (ap (λ (b : Bool). not b && each (λ (x : ℕ). not (nat_eq x place)) (map (λ (k : Keep). k.variable) (map keep_of ks))) (ne_eqb own place other))
+pub free_of_list : (place : ℕ) (own : Own) (ks : List rust.Keep) → (own_place own ≡ place → ⊥) → not (list_any (λ (k : rust.Keep). nat_eq k.variable place) ks) ≡ is_free place own (map keep_of ks)
+free_of_list place own ks other = not_any place ks ∙ sym (ap (λ (b : Bool). not b && each (λ (x : ℕ). not (nat_eq x place)) (map (λ (k : Keep). k.variable) (map keep_of ks))) (ne_eqb (own_place own) place other))
 
 distinct_push : (ys : List ℕ) (x : ℕ) → are_distinct ys ≡ true → each (λ (y : ℕ). not (nat_eq y x)) ys ≡ true → are_distinct (ys ++ x ∷ []) ≡ true
 distinct_push [] x e free = refl
@@ -42,7 +42,7 @@ distinct_push (y ∷ ys) x e free =
 
 -- ---- one keep
 
-pub record ReadsKeep (own : ℕ) (keeps : List Keep) (s : State) (k : Keep) (s' : State) : Type 0 where
+pub record ReadsKeep (own : Own) (keeps : List Keep) (s : State) (k : Keep) (s' : State) : Type 0 where
   pub moves : Moves s s'
   pub free : is_free k.variable own keeps ≡ true
   pub within : k.variable < length s.variables
@@ -55,13 +55,13 @@ kept place low high = record { variable = place; low = low; high = high }
 abbrev pub range_of : ℕ → Reader Keep
 range_of place = advance >> (expect word.In >> (any_number >>= λ low. expect_sign sign.UpTo >> (any_number >>= λ high. give (kept place low high))))
 
-pub keep_ok : (own : ℕ) (keeps : List Keep) (s : State) (y : Keep × State) → keep_at own keeps s ≡ Ok y → ReadsKeep own keeps s y.0 y.1
+pub keep_ok : (own : Own) (keeps : List Keep) (s : State) (y : Keep × State) → keep_at own keeps s ≡ Ok y → ReadsKeep own keeps s y.0 y.1
 unfolding keep_at
 keep_ok own keeps s y e =
-    let v = then_ok (variable_here s) (λ place. check (is_free place own keeps) DeclaredTwice >> range_of place) y e in
+    let v = then_ok (variable_here s) (λ place. check (is_free place own keeps) (kept_case own place) >> range_of place) y e in
     let here = variable_here_ok s v.0 v.1 in
-    let at : (check (is_free v.0.0 own keeps) DeclaredTwice >> range_of v.0.0) s ≡ Ok y = subst (λ (u : State). (check (is_free v.0.0 own keeps) DeclaredTwice >> range_of v.0.0) u ≡ Ok y) here.left v.2 in
-    let c = check_ok (is_free v.0.0 own keeps) DeclaredTwice (range_of v.0.0) s y at in
+    let at : (check (is_free v.0.0 own keeps) (kept_case own v.0.0) >> range_of v.0.0) s ≡ Ok y = subst (λ (u : State). (check (is_free v.0.0 own keeps) (kept_case own v.0.0) >> range_of v.0.0) u ≡ Ok y) here.left v.2 in
+    let c = check_ok (is_free v.0.0 own keeps) (kept_case own v.0.0) (range_of v.0.0) s y at in
     let t : State = record s { rest = after_first s.rest } in
     let a = then_ok (expect word.In t) (λ _. any_number >>= λ low. expect_sign sign.UpTo >> (any_number >>= λ high. give (kept v.0.0 low high))) y c.1 in
     let b = then_ok (any_number a.0.1) (λ low. expect_sign sign.UpTo >> (any_number >>= λ high. give (kept v.0.0 low high))) y a.2 in
@@ -80,7 +80,7 @@ keep_ok own keeps s y e =
       high_fits = λ h. kind_fit d.0.1.rest (kind.Number f.0.0) high.next (to_d.fit h);
     })
 
-pub next_keep_ok : (own : ℕ) (keeps : List Keep) (s : State) (y : Keep × State) → next_keep own keeps s ≡ Ok y → ReadsKeep own keeps (record s { rest = after_first s.rest }) y.0 y.1
+pub next_keep_ok : (own : Own) (keeps : List Keep) (s : State) (y : Keep × State) → next_keep own keeps s ≡ Ok y → ReadsKeep own keeps (record s { rest = after_first s.rest }) y.0 y.1
 unfolding next_keep
 next_keep_ok own keeps s y e = keep_ok own keeps (record s { rest = after_first s.rest }) y e
 
@@ -88,14 +88,14 @@ sign_some : (w : Sign) (k : Option TokenKind) → is_sign w k ≡ true → (j : 
 sign_some w (Some j) on = (j, refl)
 sign_some w None on = absurd cc
 
-pub next_keep_less : (own : ℕ) (keeps : List Keep) (s : State) (y : Keep × State) → is_sign sign.Comma (kind_of s.rest) ≡ true → next_keep own keeps s ≡ Ok y → length y.1.rest < length s.rest
+pub next_keep_less : (own : Own) (keeps : List Keep) (s : State) (y : Keep × State) → is_sign sign.Comma (kind_of s.rest) ≡ true → next_keep own keeps s ≡ Ok y → length y.1.rest < length s.rest
 next_keep_less own keeps s y on e =
     let k = sign_some sign.Comma (kind_of s.rest) on in
     let less : length (after_first s.rest) < length s.rest = after_less s.rest k.0 k.1 in
     let shorter : length y.1.rest ≤ length (after_first s.rest) = (next_keep_ok own keeps s y e).moves.shorter in
     omega arith
 
-pub keeps_progress : (own : ℕ) → Progresses (is_sign sign.Comma) (one_more_keep own)
+pub keeps_progress : (own : Own) → Progresses (is_sign sign.Comma) (one_more_keep own)
 keeps_progress own ks s js s' on took =
     let m = then_ok (next_keep own ks s) (λ k. give (ks ++ k ∷ [])) (js, s') took in
     subst (λ (p : List Keep × State). length p.1.rest < length s.rest) (ok_is (ks ++ m.0.0 ∷ [], m.0.1) (js, s') m.2) (next_keep_less own ks s m.0 on m.1)
@@ -105,33 +105,33 @@ keeps_progress own ks s js s' on took =
 abbrev keep_fits : ℕ → Keep → Bool
 keep_fits variables k = nat_lt k.variable variables && (is_number k.low && is_number k.high)
 
-pub record ReadsKeeps (own : ℕ) (s : State) (ks : List Keep) (s' : State) : Type 0 where
+pub record ReadsKeeps (own : Own) (s : State) (ks : List Keep) (s' : State) : Type 0 where
   pub moves : Moves s s'
   pub distinct : are_distinct (taken own ks) ≡ true
   pub each_fits : AllFit s.rest → each (keep_fits (length s.variables)) ks ≡ true
 
-no_keeps : (own : ℕ) (s t : State) → Moves s t → ReadsKeeps own s [] t
+no_keeps : (own : Own) (s t : State) → Moves s t → ReadsKeeps own s [] t
 no_keeps own s t m = record { moves = m; distinct = refl; each_fits = λ h. refl }
 
-shifted : (own : ℕ) (s : State) (ks : List Keep) (u v : State) → ReadsKeeps own s ks u → Moves u v → ReadsKeeps own s ks v
+shifted : (own : Own) (s : State) (ks : List Keep) (u v : State) → ReadsKeeps own s ks u → Moves u v → ReadsKeeps own s ks v
 shifted own s ks u v r m = record { moves = then_moves s u v r.moves m; distinct = r.distinct; each_fits = r.each_fits }
 
-longer_keeps : (own : ℕ) (s : State) (ks : List Keep) (u : State) (k : Keep) (t : State) → ReadsKeeps own s ks u → ReadsKeep own ks u k t → ReadsKeeps own s (ks ++ k ∷ []) t
+longer_keeps : (own : Own) (s : State) (ks : List Keep) (u : State) (k : Keep) (t : State) → ReadsKeeps own s ks u → ReadsKeep own ks u k t → ReadsKeeps own s (ks ++ k ∷ []) t
 longer_keeps own s ks u k t r one =
     let within : k.variable < length s.variables = subst (λ (w : State). k.variable < length w.variables) r.moves.same one.within in
     record {
       moves = then_moves s u t r.moves one.moves;
-      distinct = subst (λ (xs : List ℕ). are_distinct (own ∷ xs) ≡ true) (sym (map_push (λ (j : Keep). j.variable) ks k)) (distinct_push (taken own ks) k.variable r.distinct one.free);
+      distinct = subst (λ (xs : List ℕ). are_distinct (own_place own ∷ xs) ≡ true) (sym (map_push (λ (j : Keep). j.variable) ks k)) (distinct_push (taken own ks) k.variable r.distinct one.free);
       each_fits = λ h. each_push (keep_fits (length s.variables)) ks k (r.each_fits h) (both _ _ (lt-ltb k.variable (length s.variables) within) (both _ _ (one.low_fits (r.moves.fit h)) (one.high_fits (r.moves.fit h))));
     }
 
-keeps_turn : (own : ℕ) (s : State) (ks : List Keep) (u : State) (js : List Keep) (t : State) → ReadsKeeps own s ks u → one_more_keep own ks u ≡ Ok (js, t) → ReadsKeeps own s js t
+keeps_turn : (own : Own) (s : State) (ks : List Keep) (u : State) (js : List Keep) (t : State) → ReadsKeeps own s ks u → one_more_keep own ks u ≡ Ok (js, t) → ReadsKeeps own s js t
 keeps_turn own s ks u js t r e =
     let m = then_ok (next_keep own ks u) (λ k. give (ks ++ k ∷ [])) (js, t) e in
     let v : State = record u { rest = after_first u.rest } in
     subst (λ (p : List Keep × State). ReadsKeeps own s p.0 p.1) (ok_is (ks ++ m.0.0 ∷ [], m.0.1) (js, t) m.2) (longer_keeps own s ks v m.0.0 m.0.1 (shifted own s ks u v r (moved u)) (next_keep_ok own ks u m.0 m.1))
 
-keep_list_ok : (own : ℕ) (s : State) (y : List Keep × State) → keep_list own s ≡ Ok y → ReadsKeeps own s y.0 y.1
+keep_list_ok : (own : Own) (s : State) (y : List Keep × State) → keep_list own s ≡ Ok y → ReadsKeeps own s y.0 y.1
 unfolding keep_list
 keep_list_ok own s y e =
     let t : State = record s { rest = after_first s.rest } in
@@ -139,13 +139,13 @@ keep_list_ok own s y e =
     while_keeps (λ (ks : List Keep) (u : State). ReadsKeeps own s ks u) (is_sign sign.Comma) (one_more_keep own) (λ ks u js v r on took. keeps_turn own s ks u js v r took) (m.0.0 ∷ []) m.0.1 y
     (longer_keeps own s [] t m.0.0 m.0.1 (no_keeps own s t (moved s)) (keep_ok own [] t m.0 m.1)) m.2
 
-keeps_is : (b : Bool) (own : ℕ) (s : State) (y : List Keep × State) → cond b (keep_list own) (give []) s ≡ Ok y → ReadsKeeps own s y.0 y.1
+keeps_is : (b : Bool) (own : Own) (s : State) (y : List Keep × State) → cond b (keep_list own) (give []) s ≡ Ok y → ReadsKeeps own s y.0 y.1
 keeps_is true own s y e = keep_list_ok own s y e
 keeps_is false own s y e = subst (λ (p : List Keep × State). ReadsKeeps own s p.0 p.1) (ok_is ([], s) y e) (no_keeps own s s (stays s))
 
-pub keeps_ok : (own : ℕ) (s : State) (y : List Keep × State) → keeps_at own s ≡ Ok y → ReadsKeeps own s y.0 y.1
+pub keeps_ok : (own : Own) (s : State) (y : List Keep × State) → keeps_at own s ≡ Ok y → ReadsKeeps own s y.0 y.1
 unfolding keeps_at
 keeps_ok own s y e = keeps_is (is_keyword word.Keep (kind_of s.rest)) own s y e
 
-pub keeps_stand : (own : ℕ) (s : State) (ks : List Keep) (s' : State) → ReadsKeeps own s ks s' → AllFit s.rest → keeps_fit (scope_of s) own ks ≡ true
+pub keeps_stand : (own : Own) (s : State) (ks : List Keep) (s' : State) → ReadsKeeps own s ks s' → AllFit s.rest → keeps_fit (scope_of s) (own_place own) ks ≡ true
 keeps_stand own s ks s' r h = both _ _ r.distinct (r.each_fits h)

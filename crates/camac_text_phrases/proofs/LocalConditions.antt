@@ -2,7 +2,8 @@
 use Rattle.std.proofs.Common.{ℕ, [], ◌∷◌, ◌++◌, nat_lt, length, Option, Some}
 use Rattle.camac_range.specs.declared.comparison.Cmp.TheVariants as cmp
 use Rattle.camac_lang.specs.Tree.{flag_q, flag_x, compare, plain, negated}
-use Rattle.camac_text_tokens.specs.declared.fault.TextRule.TheVariants.{UnexpectedToken, LimitPassed}
+use Rattle.camac_text_tokens.specs.declared.fault.Limit.TheVariants as limit
+use Rattle.camac_text_tokens.specs.declared.fault.TextCase.TheVariants as told
 use Rattle.camac_text_tokens.specs.declared.token.Keyword.TheVariants as word
 use Rattle.camac_text_tokens.specs.declared.token.Sign.TheVariants as sign
 use Rattle.camac_text_tokens.specs.declared.token.TokenKind.{TokenKind}
@@ -23,7 +24,7 @@ local_comparison_by (Some (kind.Sign sign.More)) s = local_take cmp.More s
 local_comparison_by (Some (kind.Sign sign.AtLeast)) s = local_take cmp.AtLeast s
 local_comparison_by (Some (kind.Sign sign.Same)) s = local_take cmp.Same s
 local_comparison_by (Some (kind.Sign sign.Differs)) s = local_take cmp.Differs s
-local_comparison_by _ s = local_fail UnexpectedToken s tt
+local_comparison_by _ s = local_fail told.Unexpected s tt
 
 local_comparison : (s : State) → IsLocal comparison_sign s
 unfolding comparison_sign
@@ -59,13 +60,13 @@ unfolding part_at
 local_part room s = local_peek (part_by room) s (local_part_by room (kind_of s.rest) s)
 
 local_no_part_by : (k : Option TokenKind) (s : State) → IsLocal (no_part_by k) s
-local_no_part_by (Some (kind.Keyword word.Q)) s = local_fail LimitPassed s tt
-local_no_part_by (Some (kind.Keyword word.X)) s = local_fail LimitPassed s tt
-local_no_part_by (Some (kind.Keyword word.Not)) s = local_fail LimitPassed s tt
-local_no_part_by (Some (kind.Number n)) s = local_fail LimitPassed s tt
-local_no_part_by (Some (kind.Name x)) s = local_then variable_here (λ _. fail LimitPassed) s (local_variable_here s) (λ _ u _. local_fail LimitPassed u tt)
-local_no_part_by (Some (kind.Sign sign.LeftBracket)) s = local_fail LimitPassed s tt
-local_no_part_by _ s = local_fail UnexpectedToken s tt
+local_no_part_by (Some (kind.Keyword word.Q)) s = local_fail (told.Limit limit.Parts) s tt
+local_no_part_by (Some (kind.Keyword word.X)) s = local_fail (told.Limit limit.Parts) s tt
+local_no_part_by (Some (kind.Keyword word.Not)) s = local_fail (told.Limit limit.Parts) s tt
+local_no_part_by (Some (kind.Number n)) s = local_fail (told.Limit limit.Parts) s tt
+local_no_part_by (Some (kind.Name x)) s = local_then variable_here (λ _. fail (told.Limit limit.Parts)) s (local_variable_here s) (λ _ u _. local_fail (told.Limit limit.Parts) u tt)
+local_no_part_by (Some (kind.Sign sign.LeftBracket)) s = local_fail (told.Limit limit.Parts) s tt
+local_no_part_by _ s = local_fail told.Unexpected s tt
 
 local_part_limit : (count : ℕ) (s : State) → IsLocal (part_limit count) s
 unfolding part_limit

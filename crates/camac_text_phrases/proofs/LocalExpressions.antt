@@ -2,7 +2,8 @@
 use Rattle.std.proofs.Common.{◌≡◌, ℕ, zero, suc, Option, Some, Ok}
 use Rattle.std.specs.Prelude.{nat_lt}
 use Rattle.camac_lang.specs.Tree.{number, variable, group, multiply, divide, remainder}
-use Rattle.camac_text_tokens.specs.declared.fault.TextRule.TheVariants.{UnexpectedToken, LimitPassed}
+use Rattle.camac_text_tokens.specs.declared.fault.Limit.TheVariants as limit
+use Rattle.camac_text_tokens.specs.declared.fault.TextCase.TheVariants as told
 use Rattle.camac_text_tokens.specs.declared.token.Sign.TheVariants as sign
 use Rattle.camac_text_tokens.specs.declared.token.TokenKind.{TokenKind}
 use Rattle.camac_text_tokens.specs.declared.token.TokenKind.TheVariants as kind
@@ -17,18 +18,18 @@ use Rattle.camac_text_phrases.proofs.BracketsRead.{product_progress, sum_progres
 
 local_operator : (so_far : ℕ) (s : State) → IsLocal (operator so_far) s
 unfolding operator
-local_operator so_far s = local_check (nat_lt so_far 32) LimitPassed (advance >> give (suc so_far)) s tt (λ _. local_take (suc so_far) s)
+local_operator so_far s = local_check (nat_lt so_far 32) (told.Limit limit.Operators) (advance >> give (suc so_far)) s tt (λ _. local_take (suc so_far) s)
 
 local_divisor : (s : State) → IsLocal divisor s
 unfolding divisor
-local_divisor s = local_then number_here (λ n. check (nat_lt 0 n) UnexpectedToken >> (advance >> give n)) s (local_number s) (λ n u _. local_check (nat_lt 0 n) UnexpectedToken (advance >> give n) u tt (λ _. local_take n u))
+local_divisor s = local_then number_here (λ n. check (nat_lt 0 n) told.ZeroDivisor >> (advance >> give n)) s (local_number s) (λ n u _. local_check (nat_lt 0 n) told.ZeroDivisor (advance >> give n) u tt (λ _. local_take n u))
 
 module _ (room : ℕ) (inner : ℕ → Reader Counted) (inner_ok : (so_far : ℕ) (s : State) (y : Counted × State) → inner so_far s ≡ Ok y → Reads is_factor room so_far s y.0 y.1) (inner_local : (so_far : ℕ) (s : State) → IsLocal (inner so_far) s) where
   local_factor_by : (so_far : ℕ) (k : Option TokenKind) (s : State) → IsLocal (factor_by inner so_far k) s
   local_factor_by so_far (Some (kind.Number n)) s = local_then any_number (λ v. give (counted (number v) so_far)) s (local_any_number s) (λ v u _. local_give (counted (number v) so_far) u)
   local_factor_by so_far (Some (kind.Name x)) s = local_then used_variable (λ v. give (counted (variable v) so_far)) s (local_used_variable s) (λ v u _. local_give (counted (variable v) so_far) u)
   local_factor_by so_far (Some (kind.Sign sign.LeftBracket)) s = inner_local so_far s
-  local_factor_by so_far _ s = local_fail UnexpectedToken s tt
+  local_factor_by so_far _ s = local_fail told.Unexpected s tt
 
   local_factor : (so_far : ℕ) (s : State) → IsLocal (factor_with inner so_far) s
   unfolding factor_with
@@ -68,7 +69,7 @@ module _ (room : ℕ) (inner : ℕ → Reader Counted) (inner_ok : (so_far : ℕ
 
 local_bracketed : (room so_far : ℕ) (s : State) → IsLocal (bracketed room so_far) s
 unfolding bracketed
-local_bracketed zero so_far s = local_fail LimitPassed s tt
+local_bracketed zero so_far s = local_fail (told.Limit limit.Depth) s tt
 local_bracketed (suc room) so_far s =
     local_then advance (λ _. sum_with (bracketed room) so_far >>= λ x. expect_sign sign.RightBracket >> give (counted (group x.value) x.operators)) s (local_advance s) (λ _ u _.
     local_then (sum_with (bracketed room) so_far) (λ x. expect_sign sign.RightBracket >> give (counted (group x.value) x.operators)) u (local_sum room (bracketed room) (bracketed_ok room) (local_bracketed room) so_far u) (λ x u _.

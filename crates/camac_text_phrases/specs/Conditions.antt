@@ -7,7 +7,8 @@ use Rattle.camac_text_tokens.specs.declared.token.Keyword.TheVariants as word
 use Rattle.camac_text_tokens.specs.declared.token.Sign.TheVariants as sign
 use Rattle.camac_text_tokens.specs.declared.token.TokenKind.{TokenKind}
 use Rattle.camac_text_tokens.specs.declared.token.TokenKind.TheVariants as kind
-use Rattle.camac_text_tokens.specs.declared.fault.TextRule.TheVariants.{UnexpectedToken, LimitPassed}
+use Rattle.camac_text_tokens.specs.declared.fault.Limit.TheVariants as limit
+use Rattle.camac_text_tokens.specs.declared.fault.TextCase.TheVariants as told
 use Rattle.camac_text_cursor.specs.Reading.{Reader, ◌>>=◌, ◌>>◌, give, peek, advance, fail, while_next}
 use Rattle.camac_text_cursor.specs.Readers.{is_keyword, variable_here}
 use Rattle.camac_text_phrases.specs.Expressions.{expression_at}
@@ -19,7 +20,7 @@ comparison_by (Some (kind.Sign sign.More)) = advance >> give cmp.More
 comparison_by (Some (kind.Sign sign.AtLeast)) = advance >> give cmp.AtLeast
 comparison_by (Some (kind.Sign sign.Same)) = advance >> give cmp.Same
 comparison_by (Some (kind.Sign sign.Differs)) = advance >> give cmp.Differs
-comparison_by _ = fail UnexpectedToken
+comparison_by _ = fail told.Unexpected
 
 unfoldable pub comparison_sign : Reader Cmp
 comparison_sign = peek >>= comparison_by
@@ -54,13 +55,13 @@ part_at room = peek >>= part_by room
 
 -- the first token of a part too many, where it could begin a part
 abbrev pub no_part_by : Option TokenKind → Reader (Unit {0})
-no_part_by (Some (kind.Keyword word.Q)) = fail LimitPassed
-no_part_by (Some (kind.Keyword word.X)) = fail LimitPassed
-no_part_by (Some (kind.Keyword word.Not)) = fail LimitPassed
-no_part_by (Some (kind.Number n)) = fail LimitPassed
-no_part_by (Some (kind.Name x)) = variable_here >> fail LimitPassed
-no_part_by (Some (kind.Sign sign.LeftBracket)) = fail LimitPassed
-no_part_by _ = fail UnexpectedToken
+no_part_by (Some (kind.Keyword word.Q)) = fail (told.Limit limit.Parts)
+no_part_by (Some (kind.Keyword word.X)) = fail (told.Limit limit.Parts)
+no_part_by (Some (kind.Keyword word.Not)) = fail (told.Limit limit.Parts)
+no_part_by (Some (kind.Number n)) = fail (told.Limit limit.Parts)
+no_part_by (Some (kind.Name x)) = variable_here >> fail (told.Limit limit.Parts)
+no_part_by (Some (kind.Sign sign.LeftBracket)) = fail (told.Limit limit.Parts)
+no_part_by _ = fail told.Unexpected
 
 unfoldable pub part_limit : ℕ → Reader (Unit {0})
 part_limit count = if nat_lt count 16 then give tt else (peek >>= no_part_by)

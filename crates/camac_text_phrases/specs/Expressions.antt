@@ -4,7 +4,8 @@ use Rattle.camac_lang.specs.Tree.{Expression, number, variable, group, add, subt
 use Rattle.camac_text_tokens.specs.declared.token.Sign.TheVariants as sign
 use Rattle.camac_text_tokens.specs.declared.token.TokenKind.{TokenKind}
 use Rattle.camac_text_tokens.specs.declared.token.TokenKind.TheVariants as kind
-use Rattle.camac_text_tokens.specs.declared.fault.TextRule.TheVariants.{UnexpectedToken, LimitPassed}
+use Rattle.camac_text_tokens.specs.declared.fault.Limit.TheVariants as limit
+use Rattle.camac_text_tokens.specs.declared.fault.TextCase.TheVariants as told
 use Rattle.camac_text_cursor.specs.Reading.{Reader, ◌>>=◌, ◌>>◌, give, peek, advance, fail, check, while_next}
 use Rattle.camac_text_cursor.specs.Readers.{number_here, any_number, used_variable, expect_sign}
 
@@ -19,7 +20,7 @@ counted value operators = record { value = value; operators = operators }
 -- the sign of an operator, which is counted
 unfoldable pub operator : ℕ → Reader ℕ
 operator so_far = do
-  check (nat_lt so_far 32) LimitPassed
+  check (nat_lt so_far 32) (told.Limit limit.Operators)
   advance
   give (suc so_far)
 
@@ -27,7 +28,7 @@ operator so_far = do
 unfoldable pub divisor : Reader ℕ
 divisor = do
   n ← number_here
-  check (nat_lt 0 n) UnexpectedToken
+  check (nat_lt 0 n) told.ZeroDivisor
   advance
   give n
 
@@ -35,7 +36,7 @@ divisor = do
 
 abbrev pub bracket_by : (ℕ → Reader Counted) → ℕ → Option TokenKind → Reader Counted
 bracket_by bracketed so_far (Some (kind.Sign sign.LeftBracket)) = bracketed so_far
-bracket_by bracketed so_far _ = fail UnexpectedToken
+bracket_by bracketed so_far _ = fail told.Unexpected
 
 -- brackets, which have to be next
 unfoldable pub brackets_with : (ℕ → Reader Counted) → ℕ → Reader Counted
@@ -104,7 +105,7 @@ sum_with bracketed so_far = product_with bracketed so_far >>= while_next is_sum_
 
 -- what stands in brackets, where there is room for so many open ones
 unfoldable pub bracketed : ℕ → ℕ → Reader Counted
-bracketed zero so_far = fail LimitPassed
+bracketed zero so_far = fail (told.Limit limit.Depth)
 bracketed (suc room) so_far = do
   advance
   inner ← sum_with (bracketed room) so_far

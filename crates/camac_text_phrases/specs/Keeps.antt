@@ -4,21 +4,37 @@ use Rattle.camac_lang.specs.Tests.{each}
 use Rattle.camac_lang.specs.Tree.{Keep}
 use Rattle.camac_text_tokens.specs.declared.token.Keyword.TheVariants as word
 use Rattle.camac_text_tokens.specs.declared.token.Sign.TheVariants as sign
-use Rattle.camac_text_tokens.specs.declared.fault.TextRule.TheVariants.{DeclaredTwice}
+use Rattle.camac_text_tokens.specs.declared.fault.TextCase.{TextCase}
+use Rattle.camac_text_tokens.specs.declared.fault.TextCase.TheVariants as told
+use Rattle.camac_text_phrases.specs.declared.keeping.Own.{Own}
+use Rattle.camac_text_phrases.specs.declared.keeping.Own.TheVariants as of_loop
 use Rattle.camac_text_cursor.specs.Reading.{Reader, ◌>>=◌, ◌>>◌, give, peek, advance, check, while_next}
 use Rattle.camac_text_cursor.specs.Readers.{is_keyword, is_sign, expect, expect_sign, any_number, variable_here}
 
--- the variables that a further keep may not have: the loop's own, and those that are kept
-abbrev pub taken : ℕ → List Keep → List ℕ
-taken own keeps = own ∷ map (λ k. k.variable) keeps
+-- the variable of a loop's own, and what is told where it is kept
+abbrev pub own_place : Own → ℕ
+own_place (of_loop.Counter place) = place
+own_place (of_loop.Measure place) = place
 
-abbrev pub is_free : ℕ → ℕ → List Keep → Bool
+abbrev pub own_case : Own → TextCase
+own_case (of_loop.Counter place) = told.CounterKept
+own_case (of_loop.Measure place) = told.MeasureKept
+
+-- the variables that a further keep may not have: the loop's own, and those that are kept
+abbrev pub taken : Own → List Keep → List ℕ
+taken own keeps = own_place own ∷ map (λ k. k.variable) keeps
+
+abbrev pub is_free : ℕ → Own → List Keep → Bool
 is_free place own keeps = each (λ x. not (nat_eq x place)) (taken own keeps)
 
-unfoldable pub keep_at : ℕ → List Keep → Reader Keep
+-- what is told of a variable that is not free
+abbrev pub kept_case : Own → ℕ → TextCase
+kept_case own place = if nat_eq (own_place own) place then own_case own else told.KeptTwice
+
+unfoldable pub keep_at : Own → List Keep → Reader Keep
 keep_at own keeps = do
   place ← variable_here
-  check (is_free place own keeps) DeclaredTwice
+  check (is_free place own keeps) (kept_case own place)
   advance
   expect word.In
   low ← any_number
@@ -27,18 +43,18 @@ keep_at own keeps = do
   give (record { variable = place; low = low; high = high })
 
 -- `,` and a keep
-unfoldable pub next_keep : ℕ → List Keep → Reader Keep
+unfoldable pub next_keep : Own → List Keep → Reader Keep
 next_keep own keeps = advance >> keep_at own keeps
 
-abbrev pub one_more_keep : ℕ → List Keep → Reader (List Keep)
+abbrev pub one_more_keep : Own → List Keep → Reader (List Keep)
 one_more_keep own keeps = next_keep own keeps >>= λ k. give (keeps ++ k ∷ [])
 
-unfoldable pub keep_list : ℕ → Reader (List Keep)
+unfoldable pub keep_list : Own → Reader (List Keep)
 keep_list own = do
   advance
   first ← keep_at own []
   while_next (is_sign sign.Comma) (one_more_keep own) (first ∷ [])
 
 -- the kept ranges of a loop with this variable of its own, if it has any
-unfoldable pub keeps_at : ℕ → Reader (List Keep)
+unfoldable pub keeps_at : Own → Reader (List Keep)
 keeps_at own = peek >>= λ k. if is_keyword word.Keep k then keep_list own else give []

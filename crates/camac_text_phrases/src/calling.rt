@@ -3,12 +3,15 @@
 ghost use Rattle.std.specs.Prelude.{◌≡◌, map, suc, []};
 ghost use Rattle.camac_lang.specs.View.{expression_of};
 ghost use Rattle.camac_text_cursor.specs.Parser.{state, Gives};
-ghost use Rattle.camac_text_phrases.specs.Arguments.{argument_after, more_arguments, arguments_at};
+ghost use Rattle.camac_text_cursor.specs.Reading.{kind_of};
+ghost use Rattle.camac_text_cursor.specs.Readers.{is_sign};
+ghost use Rattle.camac_text_tokens.specs.declared.token.Sign.TheVariants.{Comma, RightBracket};
+ghost use Rattle.camac_text_phrases.specs.Arguments.{begins_value, shows_more, counted_sign, argument_after, more_arguments, arguments_at};
 
 use crate::expressions::expression;
 use camac_lang::Expr;
 use camac_text_cursor::Parser;
-use camac_text_tokens::{Sign, TextFault, TextRule};
+use camac_text_tokens::{Limit, Sign, TextCase, TextFault, TokenKind};
 
 /// So many arguments in their brackets, where so many brackets may be open at once: S2 at the token where another number of
 /// arguments shows, S6 at a bracket too many, else the faults of expressions.
@@ -18,9 +21,9 @@ pub fn arguments(parser: &mut Parser<'_>, room: u32, count: usize) -> Result<Vec
 {
     if room == 0 {
         if parser.next_is_sign(Sign::LeftBracket) {
-            return Err(parser.fault(TextRule::LimitPassed));
+            return Err(parser.fault(TextCase::Limit(Limit::Depth)));
         }
-        return Err(parser.fault(TextRule::UnexpectedToken));
+        return Err(parser.fault(TextCase::Unexpected));
     }
     in_brackets(parser, room - 1, count)
 }
@@ -31,30 +34,96 @@ fn in_brackets(parser: &mut Parser<'_>, room: u32, count: usize) -> Result<Vec<E
 {
     parser.expect_sign(Sign::LeftBracket)?;
     let arguments = argument_list(parser, room, count)?;
-    parser.expect_sign(Sign::RightBracket)?;
+    closing_bracket(parser, count)?;
     Ok(arguments)
 }
 
 fn argument_list(parser: &mut Parser<'_>, room: u32, count: usize) -> Result<Vec<Expr>, TextFault>
-    ensures { Gives (λ es. map expression_of es.items) result parser.new (more_arguments room count [] (state parser.old)) }
+    ensures { Gives (λ es. map expression_of es.items) result parser.new (more_arguments count room count [] (state parser.old)) }
 {
     let mut arguments = Vec::new(parser.alloc());
     while arguments.len() < count {
-        let argument = argument(parser, room, &arguments)?;
+        let argument = argument(parser, room, &arguments, count)?;
         arguments.push(argument)?;
     }
     Ok(arguments)
 }
 
-/// An argument after these.
-fn argument(parser: &mut Parser<'_>, room: u32, before: &[Expr]) -> Result<Expr, TextFault>
-    ensures { Gives expression_of result parser.new (argument_after room (map expression_of before.now) (state parser.old)) }
+/// An argument after these, of so many.
+fn argument(
+    parser: &mut Parser<'_>,
+    room: u32,
+    before: &[Expr],
+    count: usize,
+) -> Result<Expr, TextFault>
+    ensures { Gives expression_of result parser.new (argument_after count room (map expression_of before.now) (state parser.old)) }
 {
     match before {
-        [] => expression(parser, room),
+        [] => first_argument(parser, room, count),
         [_, ..] => {
-            parser.expect_sign(Sign::Comma)?;
+            comma(parser, count)?;
             expression(parser, room)
         }
     }
+}
+
+fn first_argument(parser: &mut Parser<'_>, room: u32, count: usize) -> Result<Expr, TextFault>
+    ensures { Gives expression_of result parser.new (argument_after count room [] (state parser.old)) }
+{
+    if parser.next_is_sign(Sign::RightBracket) {
+        return Err(parser.fault(TextCase::ArgumentCount { wanted: count }));
+    }
+    expression(parser, room)
+}
+
+/// The `,` between two of so many arguments, where `)` shows that one is missing.
+#[tactic(auto, unfolding(crate::specs::Arguments::counted_sign))]
+fn comma(parser: &mut Parser<'_>, count: usize) -> Result<(), TextFault>
+    ensures { Gives (λ _. tt) result parser.new (counted_sign Comma (is_sign RightBracket) count (state parser.old)) }
+{
+    if parser.next_is_sign(Sign::Comma) {
+        parser.advance();
+        return Ok(());
+    }
+    if parser.next_is_sign(Sign::RightBracket) {
+        return Err(parser.fault(TextCase::ArgumentCount { wanted: count }));
+    }
+    Err(parser.fault(TextCase::Unexpected))
+}
+
+/// The `)` after so many arguments, where `,` or a value shows one too many.
+#[tactic(auto, unfolding(crate::specs::Arguments::counted_sign))]
+fn closing_bracket(parser: &mut Parser<'_>, count: usize) -> Result<(), TextFault>
+    ensures { Gives (λ _. tt) result parser.new (counted_sign RightBracket (shows_more count) count (state parser.old)) }
+{
+    if parser.next_is_sign(Sign::RightBracket) {
+        parser.advance();
+        return Ok(());
+    }
+    if shows_more(parser, count) {
+        return Err(parser.fault(TextCase::ArgumentCount { wanted: count }));
+    }
+    Err(parser.fault(TextCase::Unexpected))
+}
+
+/// Whether what stands next shows one argument too many after so many.
+fn shows_more(parser: &Parser<'_>, count: usize) -> bool
+    ensures { result ≡ shows_more count (kind_of (state parser.now).rest) }
+{
+    if count > 0 {
+        return parser.next_is_sign(Sign::Comma);
+    }
+    begins_value(parser)
+}
+
+/// Whether an expression begins next.
+fn begins_value(parser: &Parser<'_>) -> bool
+    ensures { result ≡ begins_value (kind_of (state parser.now).rest) }
+{
+    matches!(
+        parser.peek(),
+        Some(TokenKind::Number(_))
+            | Some(TokenKind::Name(_))
+            | Some(TokenKind::Sign(Sign::LeftBracket))
+    )
 }

@@ -9,7 +9,7 @@ use crate::expressions::expression;
 use camac_lang::{Cond, Part, Test, limits};
 use camac_range::Cmp;
 use camac_text_cursor::Parser;
-use camac_text_tokens::{Keyword, Sign, TextFault, TextRule, TokenKind};
+use camac_text_tokens::{Keyword, Limit, Sign, TextCase, TextFault, TokenKind};
 
 /// A condition, where so many brackets may be open at once.
 #[tactic(auto, unfolding(crate::specs::Conditions::condition_at))]
@@ -45,16 +45,18 @@ fn part_limit(parser: &mut Parser<'_>, count: usize) -> Result<(), TextFault>
         return Ok(());
     }
     match parser.peek() {
-        Some(TokenKind::Keyword(Keyword::Q)) => Err(parser.fault(TextRule::LimitPassed)),
-        Some(TokenKind::Keyword(Keyword::X)) => Err(parser.fault(TextRule::LimitPassed)),
-        Some(TokenKind::Keyword(Keyword::Not)) => Err(parser.fault(TextRule::LimitPassed)),
-        Some(TokenKind::Number(_)) => Err(parser.fault(TextRule::LimitPassed)),
+        Some(TokenKind::Keyword(Keyword::Q)) => Err(parser.fault(TextCase::Limit(Limit::Parts))),
+        Some(TokenKind::Keyword(Keyword::X)) => Err(parser.fault(TextCase::Limit(Limit::Parts))),
+        Some(TokenKind::Keyword(Keyword::Not)) => Err(parser.fault(TextCase::Limit(Limit::Parts))),
+        Some(TokenKind::Number(_)) => Err(parser.fault(TextCase::Limit(Limit::Parts))),
         Some(TokenKind::Name(_)) => {
             parser.variable_here()?;
-            Err(parser.fault(TextRule::LimitPassed))
+            Err(parser.fault(TextCase::Limit(Limit::Parts)))
         }
-        Some(TokenKind::Sign(Sign::LeftBracket)) => Err(parser.fault(TextRule::LimitPassed)),
-        _ => Err(parser.fault(TextRule::UnexpectedToken)),
+        Some(TokenKind::Sign(Sign::LeftBracket)) => Err(parser.fault(TextCase::Limit(
+            Limit::Parts,
+        ))),
+        _ => Err(parser.fault(TextCase::Unexpected)),
     }
 }
 
@@ -113,7 +115,7 @@ fn comparison_sign(parser: &mut Parser<'_>) -> Result<Cmp, TextFault>
         Some(TokenKind::Sign(Sign::AtLeast)) => Cmp::AtLeast,
         Some(TokenKind::Sign(Sign::Same)) => Cmp::Same,
         Some(TokenKind::Sign(Sign::Differs)) => Cmp::Differs,
-        _ => return Err(parser.fault(TextRule::UnexpectedToken)),
+        _ => return Err(parser.fault(TextCase::Unexpected)),
     };
     parser.advance();
     Ok(how)

@@ -10,7 +10,7 @@ ghost use Rattle.camac_text_phrases.specs.Views.{Continues, Leaf, Puts};
 
 use camac_lang::{Divisor, Expr, Node, limits};
 use camac_text_cursor::Parser;
-use camac_text_tokens::{Sign, TextFault, TextRule, TokenKind};
+use camac_text_tokens::{Limit, Sign, TextCase, TextFault, TokenKind};
 use std::alloc::AllocError;
 
 /// An expression, where so many brackets may be open at once.
@@ -280,7 +280,7 @@ fn bracket(
 {
     match parser.peek() {
         Some(TokenKind::Sign(Sign::LeftBracket)) => bracketed(parser, room, so_far, nodes),
-        _ => Err(parser.fault(TextRule::UnexpectedToken)),
+        _ => Err(parser.fault(TextCase::Unexpected)),
     }
 }
 
@@ -296,7 +296,7 @@ fn bracketed(
     ensures { Puts nodes.old.items nodes.new.items result parser.new (bracketed room so_far (state parser.old)) }
 {
     if room == 0 {
-        return Err(parser.fault(TextRule::LimitPassed));
+        return Err(parser.fault(TextCase::Limit(Limit::Depth)));
     }
     in_brackets(parser, room - 1, so_far, nodes)
 }
@@ -325,7 +325,7 @@ fn operator(parser: &mut Parser<'_>, so_far: u32) -> Result<u32, TextFault>
     ensures { Gives (λ n. n) result parser.new (operator so_far (state parser.old)) }
 {
     if so_far >= limits::OPERATORS {
-        return Err(parser.fault(TextRule::LimitPassed));
+        return Err(parser.fault(TextCase::Limit(Limit::Operators)));
     }
     parser.advance();
     Ok(so_far + 1)
@@ -341,6 +341,6 @@ fn divisor(parser: &mut Parser<'_>) -> Result<Divisor, TextFault>
             parser.advance();
             Ok(divisor)
         }
-        None => Err(parser.fault(TextRule::UnexpectedToken)),
+        None => Err(parser.fault(TextCase::ZeroDivisor)),
     }
 }

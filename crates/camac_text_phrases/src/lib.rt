@@ -10,4 +10,4 @@ mod keeping;
 pub use calling::arguments;
 pub use conditions::condition;
 pub use expressions::expression;
-pub use keeping::keeps;
+pub use keeping::{Own, keeps};

@@ -12,12 +12,13 @@ use Rattle.camac_text_tokens.specs.declared.token.Sign.{Sign}
 use Rattle.camac_text_tokens.specs.declared.token.Token.{Token}
 use Rattle.camac_text_tokens.specs.declared.token.TokenKind.{TokenKind}
 use Rattle.camac_text_tokens.specs.declared.token.TokenKind.TheVariants as kind
-use Rattle.camac_text_tokens.specs.declared.fault.TextRule.{TextRule}
-use Rattle.camac_text_tokens.specs.declared.fault.TextRule.TheVariants.{UnexpectedToken, NumberTooLarge, DeclaredTwice}
+use Rattle.camac_text_tokens.specs.declared.fault.NameKind.{NameKind}
+use Rattle.camac_text_tokens.specs.declared.fault.TextCase.{TextCase}
+use Rattle.camac_text_tokens.specs.declared.fault.TextCase.TheVariants as told
 use Rattle.camac_text_tokens.specs.Fault.{Fault}
 use Rattle.camac_text_cursor.specs.Names.{place_of, lam_place, table_place, procedure_place}
 use Rattle.camac_text_cursor.specs.Reading.{State, Reader, then_read, ◌>>◌, give, advance, fail, check, kind_of, after_first, while_next}
-use Rattle.camac_text_cursor.specs.Readers.{is_keyword, is_sign, expect, expect_sign, name_of, name_here, number_of, number_here, any_number, branch_number, function_number, sub_address_number, new_name, used_at, used_register, used_variable, used_lam, used_table, known_at, variable_here}
+use Rattle.camac_text_cursor.specs.Readers.{is_keyword, is_sign, expect, expect_sign, name_of, name_here, number_of, number_here, any_number, branch_number, function_number, sub_address_number, new_name, used_at, used, used_register, used_variable, used_lam, used_table, known_at, known, variable_here}
 use Rattle.camac_text_cursor.proofs.Steps.{Progresses, while_on}
 use Rattle.camac_text_spelling.specs.Pieces.{text_at, Names}
 
@@ -32,9 +33,9 @@ ok x s = Ok (x, s)
 pub after : {A B : Type 0} {r : Result (B × State) Fault} (q : Result (A × State) Fault) (g : A → Reader B) (x : A) (u : State) → q ≡ ok x u → g x u ≡ r → then_read q g ≡ r
 after q g x u e h = ap (λ (p : Result (_ × State) Fault). then_read p g) e ∙ h
 
-pub checked : {B : Type 0} {r : Result (B × State) Fault} (holds : Bool) (rule : TextRule) (g : Reader B) (s : State) → holds ≡ true → g s ≡ r → (check holds rule >> g) s ≡ r
-checked true rule g s e h = h
-checked false rule g s e h = absurd cc
+pub checked : {B : Type 0} {r : Result (B × State) Fault} (holds : Bool) (case : TextCase) (g : Reader B) (s : State) → holds ≡ true → g s ≡ r → (check holds case >> g) s ≡ r
+checked true case g s e h = h
+checked false case g s e h = absurd cc
 
 pub while_turn : {A : Type 0} {r : Result (A × State) Fault} (goes_on : Option TokenKind → Bool) (turn : A → Reader A) → Progresses goes_on turn → (x : A) (s : State) (y : A) (u : State) → goes_on (kind_of s.rest) ≡ true → turn x s ≡ ok y u → while_next goes_on turn y u ≡ r → while_next goes_on turn x s ≡ r
 while_turn goes_on turn progress x s y u on took rest = while_on goes_on turn progress x s on ∙ after (turn x s) (while_next goes_on turn) y u took rest
@@ -47,11 +48,11 @@ left x s ts us e = ap (λ (w : List Token). ok x (at s w)) e
 
 pub expected : (w : Keyword) (s : State) → kind_of s.rest ≡ Some (kind.Keyword w) → expect w s ≡ ok tt (at s (after_first s.rest))
 unfolding expect
-expected w s e = ap (λ (k : Option TokenKind). cond (is_keyword w k) advance (fail UnexpectedToken) s) e ∙ ap (λ (b : Bool). cond b advance (fail UnexpectedToken) s) (true_same keyword_type.the_type w w refl)
+expected w s e = ap (λ (k : Option TokenKind). cond (is_keyword w k) advance (fail told.Unexpected) s) e ∙ ap (λ (b : Bool). cond b advance (fail told.Unexpected) s) (true_same keyword_type.the_type w w refl)
 
 pub expected_sign : (w : Sign) (s : State) → kind_of s.rest ≡ Some (kind.Sign w) → expect_sign w s ≡ ok tt (at s (after_first s.rest))
 unfolding expect_sign
-expected_sign w s e = ap (λ (k : Option TokenKind). cond (is_sign w k) advance (fail UnexpectedToken) s) e ∙ ap (λ (b : Bool). cond b advance (fail UnexpectedToken) s) (true_same sign_type.the_type w w refl)
+expected_sign w s e = ap (λ (k : Option TokenKind). cond (is_sign w k) advance (fail told.Unexpected) s) e ∙ ap (λ (b : Bool). cond b advance (fail told.Unexpected) s) (true_same sign_type.the_type w w refl)
 
 pub keyword_same : (w : Keyword) → is_keyword w (Some (kind.Keyword w)) ≡ true
 keyword_same w = true_same keyword_type.the_type w w refl
@@ -75,11 +76,11 @@ branch_given s e = after (number_here s) _ 1 s (number_seen s 1 e) refl
 
 pub function_given : (s : State) (n : ℕ) → kind_of s.rest ≡ Some (kind.Number n) → nat_lt n 32 ≡ true → function_number s ≡ ok n (at s (after_first s.rest))
 unfolding function_number
-function_given s n e below = after (number_here s) _ n s (number_seen s n e) (checked (nat_lt n 32) NumberTooLarge (advance >> give n) s below refl)
+function_given s n e below = after (number_here s) _ n s (number_seen s n e) (checked (nat_lt n 32) _ (advance >> give n) s below refl)
 
 pub sub_address_given : (s : State) (n : ℕ) → kind_of s.rest ≡ Some (kind.Number n) → nat_lt n 16 ≡ true → sub_address_number s ≡ ok n (at s (after_first s.rest))
 unfolding sub_address_number
-sub_address_given s n e below = after (number_here s) _ n s (number_seen s n e) (checked (nat_lt n 16) NumberTooLarge (advance >> give n) s below refl)
+sub_address_given s n e below = after (number_here s) _ n s (number_seen s n e) (checked (nat_lt n 16) _ (advance >> give n) s below refl)
 
 -- ---- names
 
@@ -89,10 +90,15 @@ name_seen s x e = ap (λ (k : Option TokenKind). name_of k s) e
 
 pub new_name_seen : (s : State) (x : Text) → kind_of s.rest ≡ Some (kind.Name x) → is_new x s.declared ≡ true → new_name s ≡ ok x s
 unfolding new_name
-new_name_seen s x e new = after (name_here s) _ x s (name_seen s x e) (checked (is_new x s.declared) DeclaredTwice (give x) s new refl)
+new_name_seen s x e new = after (name_here s) _ x s (name_seen s x e) (checked (is_new x s.declared) _ (give x) s new refl)
 
-used_given : (s : State) (place : Option ℕ) (p : ℕ) → place ≡ Some p → used_at place s ≡ ok p (at s (after_first s.rest))
-used_given s place p e = ap (λ (o : Option ℕ). used_at o s) e
+used_seen : (wanted : NameKind) (find : Text → State → Option ℕ) (s : State) (x : Text) (p : ℕ) → find x s ≡ Some p → kind_of s.rest ≡ Some (kind.Name x) → used wanted find s ≡ ok p (at s (after_first s.rest))
+unfolding used
+used_seen wanted find s x p found e = after (name_here s) _ x s (name_seen s x e) (ap (λ (o : Option ℕ). used_at wanted x o s) found)
+
+pub known_seen : (wanted : NameKind) (find : Text → State → Option ℕ) (s : State) (x : Text) (p : ℕ) → find x s ≡ Some p → kind_of s.rest ≡ Some (kind.Name x) → known wanted find s ≡ ok p s
+unfolding known
+known_seen wanted find s x p found e = after (name_here s) _ x s (name_seen s x e) (ap (λ (o : Option ℕ). known_at wanted x o s) found)
 
 -- each name is found at its number
 pub record Finds (n : Names) (vs : List Text) (ls : List Lam) (gs : List Table) (ps : List Procedure) (qs : List Callable) : Type 0 where
@@ -105,33 +111,16 @@ abbrev pub FindsAll : Names → State → Type 0
 FindsAll n s = Finds n s.variables s.lams s.tables s.procedures s.callables
 
 pub variable_given : (n : Names) (s : State) (p : ℕ) → FindsAll n s → nat_lt p (length s.variables) ≡ true → kind_of s.rest ≡ Some (kind.Name (text_at n.variables p)) → used_variable s ≡ ok p (at s (after_first s.rest))
-unfolding used_variable
-variable_given n s p finds fits e =
-    let below : p < length s.variables = ltb-true p (length s.variables) fits in
-    after (name_here s) _ (text_at n.variables p) s (name_seen s (text_at n.variables p) e) (used_given s (place_of (text_at n.variables p) s.variables) p (finds.variables p below))
+variable_given n s p finds fits e = used_seen _ _ s (text_at n.variables p) p (finds.variables p (ltb-true p (length s.variables) fits)) e
 
 pub lam_given : (n : Names) (s : State) (p : ℕ) → FindsAll n s → nat_lt p (length s.lams) ≡ true → kind_of s.rest ≡ Some (kind.Name (text_at n.lams p)) → used_lam s ≡ ok p (at s (after_first s.rest))
-unfolding used_lam
-lam_given n s p finds fits e =
-    let below : p < length s.lams = ltb-true p (length s.lams) fits in
-    after (name_here s) _ (text_at n.lams p) s (name_seen s (text_at n.lams p) e) (used_given s (lam_place (text_at n.lams p) s.lams) p (finds.lams p below))
+lam_given n s p finds fits e = used_seen _ _ s (text_at n.lams p) p (finds.lams p (ltb-true p (length s.lams) fits)) e
 
 pub table_given : (n : Names) (s : State) (p : ℕ) → FindsAll n s → nat_lt p (length s.tables) ≡ true → kind_of s.rest ≡ Some (kind.Name (text_at n.tables p)) → used_table s ≡ ok p (at s (after_first s.rest))
-unfolding used_table
-table_given n s p finds fits e =
-    let below : p < length s.tables = ltb-true p (length s.tables) fits in
-    after (name_here s) _ (text_at n.tables p) s (name_seen s (text_at n.tables p) e) (used_given s (table_place (text_at n.tables p) s.tables) p (finds.tables p below))
+table_given n s p finds fits e = used_seen _ _ s (text_at n.tables p) p (finds.tables p (ltb-true p (length s.tables) fits)) e
 
 pub register_given : (n : Names) (s : State) (p : ℕ) → place_of (text_at n.registers p) s.registers ≡ Some p → kind_of s.rest ≡ Some (kind.Name (text_at n.registers p)) → used_register s ≡ ok p (at s (after_first s.rest))
-unfolding used_register
-register_given n s p found e =
-    after (name_here s) _ (text_at n.registers p) s (name_seen s (text_at n.registers p) e) (used_given s (place_of (text_at n.registers p) s.registers) p found)
-
-pub known_given : (s : State) (place : Option ℕ) (p : ℕ) → place ≡ Some p → known_at place s ≡ ok p s
-known_given s place p e = ap (λ (o : Option ℕ). known_at o s) e
+register_given n s p found e = used_seen _ _ s (text_at n.registers p) p found e
 
 pub variable_seen : (n : Names) (s : State) (p : ℕ) → FindsAll n s → nat_lt p (length s.variables) ≡ true → kind_of s.rest ≡ Some (kind.Name (text_at n.variables p)) → variable_here s ≡ ok p s
-unfolding variable_here
-variable_seen n s p finds fits e =
-    let below : p < length s.variables = ltb-true p (length s.variables) fits in
-    after (name_here s) _ (text_at n.variables p) s (name_seen s (text_at n.variables p) e) (known_given s (place_of (text_at n.variables p) s.variables) p (finds.variables p below))
+variable_seen n s p finds fits e = known_seen _ _ s (text_at n.variables p) p (finds.variables p (ltb-true p (length s.variables) fits)) e

@@ -1,5 +1,5 @@
 -- Calls that are spelled are read.
-use Rattle.std.proofs.Common.{◌≡◌, ℕ, zero, suc, ◌≤◌, ◌<◌, max, true, nat_eq, nat_le, List, [], ◌∷◌, ◌++◌, length, Option, Some, None, refl, sym, ap, subst, ◌∙◌, append_assoc, arith, Bool}
+use Rattle.std.proofs.Common.{◌≡◌, ℕ, zero, suc, ◌≤◌, ◌<◌, max, true, nat_eq, nat_le, List, [], ◌∷◌, ◌++◌, length, Option, Some, None, refl, sym, ap, subst, ◌∙◌, append_assoc, arith, Bool, false, cond}
 use Rattle.std.specs.Prelude.{slice_get}
 use Rattle.std.proofs.lemmas.Bool.{eqb-true, le-leb}
 use Rattle.std.proofs.lemmas.List.{append-nil}
@@ -10,16 +10,15 @@ use Rattle.camac_lang.specs.Statements.{head_fits}
 use Rattle.camac_lang.specs.Tests.{each, has, most}
 use Rattle.camac_lang.specs.Tree.{Expression, Statement, call}
 use Rattle.camac_lang.proofs.Options.{unless_parts}
-use Rattle.camac_text_tokens.specs.declared.fault.TextRule.TheVariants.{LimitPassed}
 use Rattle.camac_text_tokens.specs.declared.token.Keyword.TheVariants as keyword
 use Rattle.camac_text_tokens.specs.declared.token.Sign.TheVariants as mark
 use Rattle.camac_text_tokens.specs.declared.token.Token.{Token}
+use Rattle.camac_text_tokens.specs.declared.fault.TextCase.TheVariants as told
 use Rattle.camac_text_tokens.specs.declared.token.TokenKind.TheVariants as kind
-use Rattle.camac_text_cursor.specs.Names.{procedure_place}
-use Rattle.camac_text_cursor.specs.Reading.{State, ◌>>◌, give, advance, kind_of, after_first}
-use Rattle.camac_text_cursor.specs.Readers.{expect_sign, name_here, procedure_here, callable_by, called}
+use Rattle.camac_text_cursor.specs.Reading.{State, ◌>>◌, give, advance, kind_of, after_first, Reader, fail}
+use Rattle.camac_text_cursor.specs.Readers.{expect_sign, procedure_here, callable_by, called, is_sign}
 use Rattle.camac_text_phrases.specs.Expressions.{expression_at}
-use Rattle.camac_text_phrases.specs.Arguments.{argument_after, more_arguments, arguments_at}
+use Rattle.camac_text_phrases.specs.Arguments.{argument_after, more_arguments, arguments_at, counted_sign, shows_more}
 use Rattle.camac_text_statements.specs.Transfers.{call_statement}
 use Rattle.camac_text_statements.specs.Statements.{block_at}
 use Rattle.camac_text_cursor.proofs.Uses.{scope_of}
@@ -28,24 +27,24 @@ use Rattle.camac_text_cursor.proofs.Registers.{first_of_both, second_of_both}
 use Rattle.camac_text_spelling.specs.Pieces.{Piece, sign, others, separated, text_at, name_at, Names, Prefix}
 use Rattle.camac_text_spelling.specs.Phrases as phrase
 use Rattle.camac_text_spelling.proofs.Prefixes.{prefix_split, prefix_first, prefix_line}
-use Rattle.camac_text_spelling.proofs.Gives.{at, ok, after, checked, left, expected_sign, name_seen, known_given, FindsAll}
+use Rattle.camac_text_spelling.proofs.Gives.{at, ok, after, checked, left, expected_sign, FindsAll, known_seen, sign_same}
 use Rattle.camac_text_spelling.proofs.GivesExpressions.{NoSign, expression_given}
-use Rattle.camac_text_spelling.proofs.GivesPhrases.{no_sign}
+use Rattle.camac_text_spelling.proofs.GivesPhrases.{no_sign, begins_value, value_begins}
 use Rattle.camac_text_spelling.proofs.Runs.{first_given, simple_given}
 use Rattle.camac_text_spelling.proofs.GivesActions.{IsGiven}
+use Rattle.camac_text_tokens.specs.declared.token.Sign.{Sign}
+use Rattle.camac_text_tokens.specs.declared.token.TokenKind.{TokenKind}
 
 -- ---- what is called
 
 procedure_seen : (n : Names) (s : State) (p : ℕ) → FindsAll n s → p < length s.callables → kind_of s.rest ≡ Some (kind.Name (text_at n.procedures p)) → procedure_here s ≡ ok p s
-unfolding procedure_here
-procedure_seen n s p finds below e =
-    after (name_here s) _ (text_at n.procedures p) s (name_seen s (text_at n.procedures p) e) (known_given s (procedure_place (text_at n.procedures p) s.procedures) p (finds.procedures p below))
+procedure_seen n s p finds below e = known_seen _ _ s (text_at n.procedures p) p (finds.procedures p below) e
 
 called_given : (room : ℕ) (s : State) (p : ℕ) (q : Callable) → slice_get s.callables p ≡ Some q → q.depth ≤ room → called room p s ≡ ok q.parameters (at s (after_first s.rest))
 unfolding called
 called_given room s p q found deep =
     ap (λ (o : Option Callable). callable_by room o s) found
-    ∙ checked (nat_le q.depth room) LimitPassed (advance >> give q.parameters) s (le-leb q.depth room deep) refl
+    ∙ checked (nat_le q.depth room) _ (advance >> give q.parameters) s (le-leb q.depth room deep) refl
 
 -- ---- arguments
 
@@ -54,34 +53,50 @@ argument_ends : (n : Names) (es : List Expression) (ts rest : List Token) → Pr
 argument_ends n [] ts rest f ends = subst (λ (w : List Token). NoSign (kind_of w)) (sym f) ends
 argument_ends n (e ∷ es) ts rest f ends = no_sign (kind_of ts) _ (prefix_first ts (sign mark.Comma) (phrase.expression n e ++ others (sign mark.Comma) (phrase.expression n) es) rest f).0 (record { product = refl; sum = refl })
 
+counted_given : (w : Sign) (shows : Option TokenKind → Bool) (wanted : ℕ) (s : State) → kind_of s.rest ≡ Some (kind.Sign w) → counted_sign w shows wanted s ≡ ok tt (at s (after_first s.rest))
+unfolding counted_sign
+counted_given w shows wanted s e =
+    let other : Bool → Reader (Unit {0}) = λ b. cond b (fail (told.ArgumentCount wanted)) (fail told.Unexpected) in
+    ap (λ (b : Bool). cond b advance (other (shows (kind_of s.rest))) s) (ap (is_sign w) e ∙ sign_same w)
+
+-- an argument begins with no `)`
+value_no_bracket : (k : Option TokenKind) → begins_value k ≡ true → is_sign mark.RightBracket k ≡ false
+value_no_bracket (Some (kind.Number j)) e = refl
+value_no_bracket (Some (kind.Name x)) e = refl
+value_no_bracket (Some (kind.Sign mark.LeftBracket)) e = refl
+value_no_bracket _ e = absurd cc
+
+first_given_by : (wanted room : ℕ) (s : State) → is_sign mark.RightBracket (kind_of s.rest) ≡ false → argument_after wanted room [] s ≡ expression_at room s
+first_given_by wanted room s off = ap (λ (b : Bool). cond b (fail (told.ArgumentCount wanted)) (expression_at room) s) off
+
 -- those after the first
-others_read : (n : Names) (first : Expression) (before es : List Expression) (room : ℕ) (s : State) (rest : List Token) → FindsAll n s → each (expression_fits (scope_of s)) es ≡ true → most expression_depth es ≤ room → Prefix s.rest (others (sign mark.Comma) (phrase.expression n) es) rest → NoSign (kind_of rest) → more_arguments room (length es) (first ∷ before) s ≡ ok (first ∷ (before ++ es)) (at s rest)
+others_read : (n : Names) (wanted : ℕ) (first : Expression) (before es : List Expression) (room : ℕ) (s : State) (rest : List Token) → FindsAll n s → each (expression_fits (scope_of s)) es ≡ true → most expression_depth es ≤ room → Prefix s.rest (others (sign mark.Comma) (phrase.expression n) es) rest → NoSign (kind_of rest) → more_arguments wanted room (length es) (first ∷ before) s ≡ ok (first ∷ (before ++ es)) (at s rest)
 unfolding more_arguments
-others_read n first before [] room s rest finds fit deep f ends =
+others_read n wanted first before [] room s rest finds fit deep f ends =
     ap (λ (xs : List Expression). ok (first ∷ xs) s) (sym (append-nil before)) ∙ left (first ∷ (before ++ [])) s s.rest rest f
-others_read n first before (e ∷ es) room s rest finds fit deep f ends =
+others_read n wanted first before (e ∷ es) room s rest finds fit deep f ends =
     let m = prefix_split s.rest (sign mark.Comma ∷ phrase.expression n e) (others (sign mark.Comma) (phrase.expression n) es) rest f in
     let us : List Token = m.0 in
     let h = prefix_first s.rest (sign mark.Comma) (phrase.expression n e) us m.1 in
     let t : State = at s (after_first s.rest) in
     let deep_e : expression_depth e ≤ room = omega arith in
     let deep_es : most expression_depth es ≤ room = omega arith in
-    after (argument_after room (first ∷ before) s) _ e (at s us)
-    (after (expect_sign mark.Comma s) _ tt t (expected_sign mark.Comma s h.0)
+    after (argument_after wanted room (first ∷ before) s) _ e (at s us)
+    (after (counted_sign mark.Comma (is_sign mark.RightBracket) wanted s) _ tt t (counted_given mark.Comma (is_sign mark.RightBracket) wanted s h.0)
     (expression_given n e room t us finds (first_of_both (expression_fits (scope_of s) e) _ fit) deep_e h.1 (argument_ends n es us rest m.2 ends)))
-    (others_read n first (before ++ e ∷ []) es room (at s us) rest finds (second_of_both (expression_fits (scope_of s) e) _ fit) deep_es m.2 ends
+    (others_read n wanted first (before ++ e ∷ []) es room (at s us) rest finds (second_of_both (expression_fits (scope_of s) e) _ fit) deep_es m.2 ends
     ∙ ap (λ (xs : List Expression). ok (first ∷ xs) (at s rest)) (append_assoc before (e ∷ []) es))
 
-arguments_read : (n : Names) (es : List Expression) (room : ℕ) (s : State) (rest : List Token) → FindsAll n s → each (expression_fits (scope_of s)) es ≡ true → most expression_depth es ≤ room → Prefix s.rest (separated (sign mark.Comma) (phrase.expression n) es) rest → NoSign (kind_of rest) → more_arguments room (length es) [] s ≡ ok es (at s rest)
+arguments_read : (n : Names) (wanted : ℕ) (es : List Expression) (room : ℕ) (s : State) (rest : List Token) → FindsAll n s → each (expression_fits (scope_of s)) es ≡ true → most expression_depth es ≤ room → Prefix s.rest (separated (sign mark.Comma) (phrase.expression n) es) rest → NoSign (kind_of rest) → more_arguments wanted room (length es) [] s ≡ ok es (at s rest)
 unfolding more_arguments
-arguments_read n [] room s rest finds fit deep f ends = left [] s s.rest rest f
-arguments_read n (e ∷ es) room s rest finds fit deep f ends =
+arguments_read n wanted [] room s rest finds fit deep f ends = left [] s s.rest rest f
+arguments_read n wanted (e ∷ es) room s rest finds fit deep f ends =
     let m = prefix_split s.rest (phrase.expression n e) (others (sign mark.Comma) (phrase.expression n) es) rest f in
     let us : List Token = m.0 in
     let deep_e : expression_depth e ≤ room = omega arith in
     let deep_es : most expression_depth es ≤ room = omega arith in
-    after (expression_at room s) _ e (at s us) (expression_given n e room s us finds (first_of_both (expression_fits (scope_of s) e) _ fit) deep_e m.1 (argument_ends n es us rest m.2 ends))
-    (others_read n e [] es room (at s us) rest finds (second_of_both (expression_fits (scope_of s) e) _ fit) deep_es m.2 ends)
+    after (argument_after wanted room [] s) _ e (at s us) (first_given_by wanted room s (value_no_bracket (kind_of s.rest) (value_begins n e s.rest us m.1)) ∙ expression_given n e room s us finds (first_of_both (expression_fits (scope_of s) e) _ fit) deep_e m.1 (argument_ends n es us rest m.2 ends))
+    (others_read n wanted e [] es room (at s us) rest finds (second_of_both (expression_fits (scope_of s) e) _ fit) deep_es m.2 ends)
 
 abbrev bracketed : Names → List Expression → List Piece
 bracketed n es = sign mark.LeftBracket ∷ (separated (sign mark.Comma) (phrase.expression n) es ++ sign mark.RightBracket ∷ [])
@@ -98,8 +113,8 @@ arguments_given n es (suc room) s rest finds fit deep f =
     let g = prefix_first us (sign mark.RightBracket) [] rest m.2 in
     let within : most expression_depth es ≤ room = omega arith in
     after (expect_sign mark.LeftBracket s) _ tt t (expected_sign mark.LeftBracket s h.0)
-    (after (more_arguments room (length es) [] t) _ es (at s us) (arguments_read n es room t us finds fit within m.1 (no_sign (kind_of us) _ g.0 (record { product = refl; sum = refl })))
-    (after (expect_sign mark.RightBracket (at s us)) _ tt (at s (after_first us)) (expected_sign mark.RightBracket (at s us) g.0) (left es s (after_first us) rest g.1)))
+    (after (more_arguments (length es) room (length es) [] t) _ es (at s us) (arguments_read n (length es) es room t us finds fit within m.1 (no_sign (kind_of us) _ g.0 (record { product = refl; sum = refl })))
+    (after (counted_sign mark.RightBracket (shows_more (length es)) (length es) (at s us)) _ tt (at s (after_first us)) (counted_given mark.RightBracket (shows_more (length es)) (length es) (at s us) g.0) (left es s (after_first us) rest g.1)))
 
 -- ---- the call
 

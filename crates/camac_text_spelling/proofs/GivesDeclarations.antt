@@ -4,7 +4,6 @@ use Rattle.std.proofs.lemmas.Bool.{lt-ltb}
 use Rattle.std.proofs.lemmas.List.{append-nil}
 use Rattle.camac_lang.specs.Tests.{is_new, are_new}
 use Rattle.camac_lang.specs.Tree.{Text, Block, Lam, Service, next_service, Script}
-use Rattle.camac_text_tokens.specs.declared.fault.TextRule.TheVariants.{LimitPassed}
 use Rattle.camac_text_tokens.specs.declared.token.Keyword.TheVariants as keyword
 use Rattle.camac_text_tokens.specs.declared.token.Token.{Token}
 use Rattle.camac_text_tokens.specs.declared.token.TokenKind.{TokenKind}
@@ -56,7 +55,7 @@ lam_declared l s rest room new below f =
     let t5 : List Token = after_first t4 in
     let f5 = prefix_first t5 (numeral l.sub_address) [] rest f4.1 in
     first_given l.line (kind.Keyword keyword.Cdlam) s (name l.name ∷ q1) rest f
-    ∙ checked (nat_lt (length s.lams) 64) LimitPassed _ s (lt-ltb (length s.lams) 64 room)
+    ∙ checked (nat_lt (length s.lams) 64) _ _ s (lt-ltb (length s.lams) 64 room)
     (after (new_name (at s t1)) _ l.name (at s t1) (new_name_seen (at s t1) l.name f1.0 new)
     (after (branch_number (at s t2)) _ tt (at s t3) (branch_given (at s t2) f2.0)
     (after (any_number (at s t3)) _ l.crate_no (at s t4) (number_given (at s t3) l.crate_no f3.0)
@@ -75,7 +74,7 @@ pub name_added : (s : State) (x : Text) → s.variable_count < 64 → added x s 
 unfolding added
 name_added s x room =
     let one_more : suc s.variable_count ≡ s.variable_count + 1 = omega arith in
-    checked (nat_lt s.variable_count 64) LimitPassed (advance >> change (with_variable x)) s (lt-ltb s.variable_count 64 room)
+    checked (nat_lt s.variable_count 64) _ (advance >> change (with_variable x)) s (lt-ltb s.variable_count 64 room)
     (ap (λ (i : ℕ). ok tt (record s { rest = after_first s.rest; variables = s.variables ++ x ∷ []; variable_count = i; declared = s.declared ++ x ∷ [] })) one_more)
 
 variable_declared : (s : State) (x : Text) → kind_of s.rest ≡ Some (kind.Name x) → is_new x s.declared ≡ true → s.variable_count < 64 → new_variable s ≡ ok tt (with_names s (after_first s.rest) (x ∷ []))
@@ -179,7 +178,7 @@ service_declared t v s rest m room lam_fits c f =
     } in
     let k : ℕ = length v.registers in
     first_given v.line (kind.Keyword keyword.Service) s q1 rest f
-    ∙ checked (nat_lt (length s.services) 24) LimitPassed _ s (lt-ltb (length s.services) 24 room)
+    ∙ checked (nat_lt (length s.services) 24) _ _ s (lt-ltb (length s.services) 24 room)
     (after (used_lam (at s t1)) _ v.lam (at s t2) (lam_given n (at s t1) v.lam c.finds lam_fits f1.0)
     (after (expect keyword.Within (at s t2)) _ tt (at s t3) (expected keyword.Within (at s t2) f2.0)
     (after (any_number (at s t3)) _ v.cycles (at s t4) (number_given (at s t3) v.cycles f3.0)

@@ -5,7 +5,6 @@ use Rattle.camac_lang.specs.Depth.{expression_depth}
 use Rattle.camac_lang.specs.Expressions.{operators, refers, is_term, is_factor, is_grouped, expression_fits}
 use Rattle.camac_lang.specs.Tree.{Expression, number, variable, group, add, subtract, multiply, divide, remainder}
 use Rattle.camac_lang.specs.Tests.{is_number}
-use Rattle.camac_text_tokens.specs.declared.fault.TextRule.TheVariants.{UnexpectedToken, LimitPassed}
 use Rattle.camac_text_tokens.specs.declared.token.Sign.{Sign}
 use Rattle.camac_text_tokens.specs.declared.token.Sign.TheVariants as mark
 use Rattle.camac_text_tokens.specs.declared.token.Token.{Token}
@@ -61,13 +60,13 @@ sum_from_product e room so_far m s rest off h = after (product_with (bracketed r
 
 operator_given : (so_far : ℕ) (s : State) → so_far < 32 → operator so_far s ≡ ok (suc so_far) (at s (after_first s.rest))
 unfolding operator
-operator_given so_far s below = checked (nat_lt so_far 32) LimitPassed (advance >> give (suc so_far)) s (lt-ltb so_far 32 below) refl
+operator_given so_far s below = checked (nat_lt so_far 32) _ (advance >> give (suc so_far)) s (lt-ltb so_far 32 below) refl
 
 divisor_given : (s : State) (d : ℕ) → kind_of s.rest ≡ Some (kind.Number d) → nat_le 1 d ≡ true → divisor s ≡ ok d (at s (after_first s.rest))
 unfolding divisor
 divisor_given s d e from_1 =
     let above : nat_lt 0 d ≡ true = grind (arith, from_1) in
-    after (number_here s) _ d s (number_seen s d e) (checked (nat_lt 0 d) UnexpectedToken (advance >> give d) s above refl)
+    after (number_here s) _ d s (number_seen s d e) (checked (nat_lt 0 d) _ (advance >> give d) s above refl)
 
 -- ---- factors
 

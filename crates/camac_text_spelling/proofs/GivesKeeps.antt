@@ -5,7 +5,6 @@ use Rattle.camac_lang.specs.Depth.{move_depth}
 use Rattle.camac_lang.specs.Statements.{keeps_fit, move_fits}
 use Rattle.camac_lang.specs.Tests.{each, are_distinct, is_number}
 use Rattle.camac_lang.specs.Tree.{Move, no_data, into, from, Keep}
-use Rattle.camac_text_tokens.specs.declared.fault.TextRule.TheVariants.{DeclaredTwice}
 use Rattle.camac_text_tokens.specs.declared.token.Keyword.TheVariants as keyword
 use Rattle.camac_text_tokens.specs.declared.token.Sign.TheVariants as mark
 use Rattle.camac_text_tokens.specs.declared.token.Token.{Token}
@@ -14,7 +13,8 @@ use Rattle.camac_text_tokens.specs.declared.token.TokenKind.TheVariants as kind
 use Rattle.camac_text_cursor.specs.Reading.{State, give, kind_of, after_first}
 use Rattle.camac_text_cursor.specs.Readers.{is_keyword, is_sign, expect, expect_sign, any_number, used_variable, variable_here}
 use Rattle.camac_text_phrases.specs.Expressions.{expression_at}
-use Rattle.camac_text_phrases.specs.Keeps.{is_free, keep_at, next_keep, keep_list, keeps_at}
+use Rattle.camac_text_phrases.specs.declared.keeping.Own.{Own}
+use Rattle.camac_text_phrases.specs.Keeps.{own_place, is_free, keep_at, next_keep, keep_list, keeps_at}
 use Rattle.camac_text_statements.specs.Statements.{move_by, move_at}
 use Rattle.camac_text_cursor.proofs.Uses.{scope_of}
 use Rattle.camac_text_cursor.proofs.Registers.{both, first_of_both, second_of_both}
@@ -69,11 +69,11 @@ distinct_free (x ∷ xs) p ys e =
     first_far [] h = first_of_both (not (nat_eq x p)) _ h
     first_far (z ∷ zs) h = first_far zs (second_of_both (not (nat_eq x z)) _ h)
 
-record GoodKeeps (own : ℕ) (s : State) (acc ks : List Keep) : Type 0 where
-  distinct : are_distinct (own ∷ map kept_variable (acc ++ ks)) ≡ true
+record GoodKeeps (own : Own) (s : State) (acc ks : List Keep) : Type 0 where
+  distinct : are_distinct (own_place own ∷ map kept_variable (acc ++ ks)) ≡ true
   fit : each (λ (k : Keep). nat_lt k.variable (length s.variables) && (is_number k.low && is_number k.high)) ks ≡ true
 
-keep_given : (n : Names) (own : ℕ) (s : State) → FindsAll n s → (acc : List Keep) (k : Keep) (ks : List Keep) (ts us : List Token) → GoodKeeps own s acc (k ∷ ks) → Prefix ts (phrase.keep n k) us → (keep_at own acc (at s ts) ≡ ok k (at s us)) × GoodKeeps own s (acc ++ k ∷ []) ks
+keep_given : (n : Names) (own : Own) (s : State) → FindsAll n s → (acc : List Keep) (k : Keep) (ks : List Keep) (ts us : List Token) → GoodKeeps own s acc (k ∷ ks) → Prefix ts (phrase.keep n k) us → (keep_at own acc (at s ts) ≡ ok k (at s us)) × GoodKeeps own s (acc ++ k ∷ []) ks
 unfolding keep_at
 keep_given n own s finds acc k ks ts us good f =
     let u : State = at s ts in
@@ -87,28 +87,28 @@ keep_given n own s finds acc k ks ts us good f =
     let t4 = after_first t3 in
     let h4 = prefix_first t4 (numeral k.high) [] us h3.1 in
     let fits = first_of_both (nat_lt k.variable (length s.variables) && (is_number k.low && is_number k.high)) _ good.fit in
-    let parted : are_distinct ((own ∷ map kept_variable acc) ++ k.variable ∷ map kept_variable ks) ≡ true = subst (λ (xs : List ℕ). are_distinct (own ∷ xs) ≡ true) (map-append kept_variable acc (k ∷ ks)) good.distinct in
-    let free : is_free k.variable own acc ≡ true = distinct_free (own ∷ map kept_variable acc) k.variable (map kept_variable ks) parted in (
+    let parted : are_distinct ((own_place own ∷ map kept_variable acc) ++ k.variable ∷ map kept_variable ks) ≡ true = subst (λ (xs : List ℕ). are_distinct (own_place own ∷ xs) ≡ true) (map-append kept_variable acc (k ∷ ks)) good.distinct in
+    let free : is_free k.variable own acc ≡ true = distinct_free (own_place own ∷ map kept_variable acc) k.variable (map kept_variable ks) parted in (
       after (variable_here u) _ k.variable u (variable_seen n u k.variable finds (first_of_both (nat_lt k.variable (length s.variables)) _ fits) h.0)
-          (checked (is_free k.variable own acc) DeclaredTwice _ u free
+          (checked (is_free k.variable own acc) _ _ u free
           (after (expect keyword.In (at s t1)) _ tt (at s t2) (expected keyword.In (at s t1) h1.0)
           (after (any_number (at s t2)) _ k.low (at s t3) (number_given (at s t2) k.low h2.0)
           (after (expect_sign mark.UpTo (at s t3)) _ tt (at s t4) (expected_sign mark.UpTo (at s t3) h3.0)
           (after (any_number (at s t4)) _ k.high (at s (after_first t4)) (number_given (at s t4) k.high h4.0) (left k s (after_first t4) us h4.1)))))),
       record {
-        distinct = subst (λ (xs : List Keep). are_distinct (own ∷ map kept_variable xs) ≡ true) (sym (append_assoc acc (k ∷ []) ks)) good.distinct;
+        distinct = subst (λ (xs : List Keep). are_distinct (own_place own ∷ map kept_variable xs) ≡ true) (sym (append_assoc acc (k ∷ []) ks)) good.distinct;
         fit = second_of_both (nat_lt k.variable (length s.variables) && (is_number k.low && is_number k.high)) _ good.fit;
       },
     )
 
-next_keep_given : (n : Names) (own : ℕ) (s : State) → FindsAll n s → (acc : List Keep) (k : Keep) (ks : List Keep) (ts us : List Token) → GoodKeeps own s acc (k ∷ ks) → Prefix ts (sign mark.Comma ∷ phrase.keep n k) us → Unit {0} → (next_keep own acc (at s ts) ≡ ok k (at s us)) × GoodKeeps own s (acc ++ k ∷ []) ks
+next_keep_given : (n : Names) (own : Own) (s : State) → FindsAll n s → (acc : List Keep) (k : Keep) (ks : List Keep) (ts us : List Token) → GoodKeeps own s acc (k ∷ ks) → Prefix ts (sign mark.Comma ∷ phrase.keep n k) us → Unit {0} → (next_keep own acc (at s ts) ≡ ok k (at s us)) × GoodKeeps own s (acc ++ k ∷ []) ks
 unfolding next_keep
 next_keep_given n own s finds acc k ks ts us good f _ =
     let h = prefix_first ts (sign mark.Comma) (phrase.keep n k) us f in
     keep_given n own s finds acc k ks (after_first ts) us good h.1
 
 -- the kept ranges of a loop, and the brace after them
-pub keeps_given : (n : Names) (own : ℕ) (ks : List Keep) (s : State) (rest : List Token) → FindsAll n s → keeps_fit (scope_of s) own ks ≡ true → Prefix s.rest (phrase.keeps n ks) rest → kind_of rest ≡ Some (kind.Sign mark.LeftBrace) → keeps_at own s ≡ ok ks (at s rest)
+pub keeps_given : (n : Names) (own : Own) (ks : List Keep) (s : State) (rest : List Token) → FindsAll n s → keeps_fit (scope_of s) (own_place own) ks ≡ true → Prefix s.rest (phrase.keeps n ks) rest → kind_of rest ≡ Some (kind.Sign mark.LeftBrace) → keeps_at own s ≡ ok ks (at s rest)
 unfolding keeps_at keep_list
 keeps_given n own [] s rest finds fits f brace =
     ap (λ (k : Option TokenKind). cond (is_keyword keyword.Keep k) (keep_list own) (give []) s) (ap kind_of f ∙ brace) ∙ left [] s s.rest rest f
@@ -117,7 +117,7 @@ keeps_given n own (k ∷ ks) s rest finds fits f brace =
     let u : State = at s (after_first s.rest) in
     let m = prefix_split (after_first s.rest) (phrase.keep n k) (others (sign mark.Comma) (phrase.keep n) ks) rest h.1 in
     let us : List Token = m.0 in
-    let good : GoodKeeps own s [] (k ∷ ks) = record { distinct = first_of_both (are_distinct (own ∷ map kept_variable (k ∷ ks))) _ fits; fit = second_of_both (are_distinct (own ∷ map kept_variable (k ∷ ks))) _ fits } in
+    let good : GoodKeeps own s [] (k ∷ ks) = record { distinct = first_of_both (are_distinct (own_place own ∷ map kept_variable (k ∷ ks))) _ fits; fit = second_of_both (are_distinct (own_place own ∷ map kept_variable (k ∷ ks))) _ fits } in
     let first = keep_given n own s finds [] k ks (after_first s.rest) us good m.1 in
     ap (λ (o : Option TokenKind). cond (is_keyword keyword.Keep o) (keep_list own) (give []) s) h.0
     ∙ ap (λ (b : Bool). cond b (keep_list own) (give []) s) (keyword_same keyword.Keep)

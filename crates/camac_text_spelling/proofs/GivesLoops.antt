@@ -14,6 +14,7 @@ use Rattle.camac_text_cursor.specs.Reading.{State, kind_of, after_first}
 use Rattle.camac_text_cursor.specs.Readers.{is_keyword, expect, expect_sign, any_number, used_variable}
 use Rattle.camac_text_phrases.specs.Expressions.{expression_at}
 use Rattle.camac_text_phrases.specs.Conditions.{condition_at}
+use Rattle.camac_text_phrases.specs.declared.keeping.Own.TheVariants as of_loop
 use Rattle.camac_text_phrases.specs.Keeps.{keeps_at}
 use Rattle.camac_text_cursor.specs.Readers.{begin}
 use Rattle.camac_text_statements.specs.Statements.{for_statement, while_statement, block_at}
@@ -87,7 +88,7 @@ count_given n line v e1 e2 ks b given room s rest j k m c f ends =
     (after (expression_at room (at g t3)) _ e1 (at g s1.0) (expression_given n e1 room (at g t3) s1.0 c.finds (first_of_both (expression_fits (scope_of s) e1) _ fits) (omega arith) s1.1 (no_sign (kind_of s1.0) _ to.0 (record { product = refl; sum = refl })))
     (after (expect keyword.To (at g s1.0)) _ tt (at g t4) (expected keyword.To (at g s1.0) to.0)
     (after (expression_at room (at g t4)) _ e2 (at g s2.0) (expression_given n e2 room (at g t4) s2.0 c.finds (first_of_both (expression_fits (scope_of s) e2) _ fits_more) (omega arith) s2.1 (keeps_first n ks s2.0 us s3.1 brace))
-    (after (keeps_at v (at g s2.0)) _ ks (at g us) (keeps_given n v ks (at g s2.0) us c.finds (second_of_both (expression_fits (scope_of s) e2) _ fits_more) s3.1 brace)
+    (after (keeps_at (of_loop.Counter v) (at g s2.0)) _ ks (at g us) (keeps_given n (of_loop.Counter v) ks (at g s2.0) us c.finds (second_of_both (expression_fits (scope_of s) e2) _ fits_more) s3.1 brace)
     (after (block_at room (at g us)) _ (listed b) (left_at n s rest k m) (braced_given n b given room (at g us) rest p.0 k m inside s3.2)
     (ap (λ (w : Block). ok (for_ line v e1 e2 ks w) (left_at n s rest k m)) (block_of_listed b)))))))))
 
@@ -140,6 +141,6 @@ while_given n line t turns v ks b given room s rest j k m c f ends =
     (after (any_number (at g t2)) _ turns (at g t3) (number_given (at g t2) turns f2.0)
     (after (expect keyword.By (at g t3)) _ tt (at g t4) (expected keyword.By (at g t3) f3.0)
     (after (used_variable (at g t4)) _ v (at g t5) (variable_given n (at g t4) v c.finds (first_of_both (nat_lt v (length s.variables)) _ fits_more) f4.0)
-    (after (keeps_at v (at g t5)) _ ks (at g us) (keeps_given n v ks (at g t5) us c.finds (second_of_both (nat_lt v (length s.variables)) _ fits_more) s3.1 brace)
+    (after (keeps_at (of_loop.Measure v) (at g t5)) _ ks (at g us) (keeps_given n (of_loop.Measure v) ks (at g t5) us c.finds (second_of_both (nat_lt v (length s.variables)) _ fits_more) s3.1 brace)
     (after (block_at room (at g us)) _ (listed b) (left_at n s rest k m) (braced_given n b given room (at g us) rest p.0 k m inside s3.2)
     (ap (λ (w : Block). ok (while_ line t turns v ks w) (left_at n s rest k m)) (block_of_listed b)))))))))

@@ -6,7 +6,6 @@ use Rattle.std.proofs.Math.Seq.{take-append_seam}
 use Rattle.camac_lang.specs.Depth.{callable}
 use Rattle.camac_lang.specs.Tests.{is_new, are_new}
 use Rattle.camac_lang.specs.Tree.{Text, Block, Parameter, Procedure, next_procedure, Script}
-use Rattle.camac_text_tokens.specs.declared.fault.TextRule.TheVariants.{LimitPassed}
 use Rattle.camac_text_tokens.specs.declared.token.Keyword.TheVariants as keyword
 use Rattle.camac_text_tokens.specs.declared.token.Sign.TheVariants as mark
 use Rattle.camac_text_tokens.specs.declared.token.Token.{Token}
@@ -38,7 +37,7 @@ name_of_parameter : (s : State) (x : Text) → kind_of s.rest ≡ Some (kind.Nam
 unfolding new_parameter
 name_of_parameter s x e new few room =
     after (new_name s) _ x s (new_name_seen s x e new)
-    (checked (nat_lt (length s.variables) 8) LimitPassed (added x >> give x) s (lt-ltb (length s.variables) 8 few)
+    (checked (nat_lt (length s.variables) 8) _ (added x >> give x) s (lt-ltb (length s.variables) 8 few)
     (after (added x s) (λ _. give x) tt (with_names s (after_first s.rest) (x ∷ [])) (name_added s x room) refl))
 
 parameter_given : (s : State) (p : Parameter) (rest : List Token) → is_new p.name s.declared ≡ true → length s.variables < 8 → s.variable_count < 64 → Prefix s.rest (spell.parameter p) rest → parameter_at s ≡ ok p (with_names s rest (p.name ∷ []))
@@ -187,6 +186,7 @@ with_procedure_body s rest p m = record s {
   declared = s.declared ++ p.name ∷ [];
   registers = [];
   in_procedure = false;
+  outside = [];
   procedures = s.procedures ++ p ∷ [];
   callables = s.callables ++ callable s.callables p ∷ [];
   statements = m;
@@ -221,9 +221,9 @@ procedure_declared t p s rest m room new new_parameters few count c f =
     let w : State = left_at n v rest k m in
     let names : ℕ = length (s.declared ++ p.name ∷ []) in
     let made : (rs : List Text) (b : Block) → Procedure = λ rs b. record p { registers = rs; body = b } in
-    let with_it : Procedure → State = λ q. with_procedure q s.variables names w in
+    let with_it : Procedure → State = λ q. with_procedure q names w in
     first_given p.line (kind.Keyword keyword.Proc) s (name p.name ∷ q1) rest f
-    ∙ checked (nat_lt (length s.procedures) 16) LimitPassed _ s (lt-ltb (length s.procedures) 16 room)
+    ∙ checked (nat_lt (length s.procedures) 16) _ _ s (lt-ltb (length s.procedures) 16 room)
     (after (new_name (at s t1)) _ p.name (at s t1) (new_name_seen (at s t1) p.name f1.0 new)
     (after (heading_at u) _ (heading_of p) v g.1
     (after (block_at 16 v) _ (listed p.body) w (body_given n p.body 16 v rest 0 k m runs g.2)

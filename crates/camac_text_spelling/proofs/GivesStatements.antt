@@ -7,7 +7,6 @@ use Rattle.camac_lang.specs.Tree.{Expression, Condition, Statement, choose, choo
 use Rattle.camac_lang.specs.View.{block_of}
 use Rattle.camac_lang.proofs.Grows.{block_grows}
 use Rattle.camac_lang.proofs.Options.{unless_parts, then_parts}
-use Rattle.camac_text_tokens.specs.declared.fault.TextRule.TheVariants.{UnexpectedToken}
 use Rattle.camac_text_tokens.specs.declared.token.Keyword.TheVariants as keyword
 use Rattle.camac_text_tokens.specs.declared.token.Sign.TheVariants as mark
 use Rattle.camac_text_tokens.specs.declared.token.Token.{Token}
@@ -100,7 +99,7 @@ locked_given n line e b given room s rest j k m c f ends =
       few = c.few;
     } in
     first_given line room (block_at room) (kind.Keyword keyword.Lock) s (p1 ++ body) rest f
-    ∙ checked (not s.in_procedure) UnexpectedToken _ s (first_of_both (not s.in_procedure) _ r.0)
+    ∙ checked (not s.in_procedure) _ _ s (first_of_both (not s.in_procedure) _ r.0)
     (after (begin s) _ tt (begun s) (begin_given s (omega arith))
     (after (expression_at room (begun s)) _ e (at (begun s) us) (expression_given n e room (begun s) us c.finds (second_of_both (not s.in_procedure) _ r.0) (omega arith) parts.1 (no_sign (kind_of us) _ (brace_first n b us rest parts.2) brace_no_sign))
     (after (block_at room (at (begun s) us)) _ (listed b) (left_at n s rest k m) (braced_given n b given room (at (begun s) us) rest p.0 k m inside parts.2)

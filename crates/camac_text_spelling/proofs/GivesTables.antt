@@ -4,7 +4,6 @@ use Rattle.std.proofs.lemmas.Bool.{lt-ltb, leb-true}
 use Rattle.std.proofs.lemmas.List.{append-nil}
 use Rattle.camac_lang.specs.Tests.{each, is_new, is_word}
 use Rattle.camac_lang.specs.Tree.{Table}
-use Rattle.camac_text_tokens.specs.declared.fault.TextRule.TheVariants.{NumberTooLarge, LimitPassed}
 use Rattle.camac_text_tokens.specs.declared.token.Keyword.TheVariants as keyword
 use Rattle.camac_text_tokens.specs.declared.token.Sign.TheVariants as mark
 use Rattle.camac_text_tokens.specs.declared.token.Token.{Token}
@@ -30,8 +29,8 @@ word_given count s w next fits room =
     let most : w ≤ 16777215 = leb-true w 16777215 fits in
     let below : w < 16777216 = omega arith in
     after (number_here s) _ w s (number_seen s w next)
-    (checked (nat_lt w 16777216) NumberTooLarge (check (nat_lt count 1024) LimitPassed >> (advance >> give w)) s (lt-ltb w 16777216 below)
-    (checked (nat_lt count 1024) LimitPassed (advance >> give w) s (lt-ltb count 1024 room) refl))
+    (checked (nat_lt w 16777216) _ (check (nat_lt count 1024) _ >> (advance >> give w)) s (lt-ltb w 16777216 below)
+    (checked (nat_lt count 1024) _ (advance >> give w) s (lt-ltb count 1024 room) refl))
 
 -- the words after these
 words_given : (ws acc : List ℕ) (s : State) (rest : List Token) → each is_word ws ≡ true → length acc + length ws ≤ 1024 → Prefix s.rest (map numeral ws) rest → is_number (kind_of rest) ≡ false → while_next is_number one_more_word acc s ≡ ok (acc ++ ws) (at s rest)
@@ -69,7 +68,7 @@ table_declared g s rest room new some few fit f off =
     let f2 = prefix_first t2 (sign mark.Equals) q2 rest f1.1 in
     let t3 : List Token = after_first t2 in
     first_given g.line (kind.Keyword keyword.Table) s (name g.name ∷ q1) rest f
-    ∙ checked (nat_lt (length s.tables) 16) LimitPassed _ s (lt-ltb (length s.tables) 16 room)
+    ∙ checked (nat_lt (length s.tables) 16) _ _ s (lt-ltb (length s.tables) 16 room)
     (after (new_name (at s t1)) _ g.name (at s t1) (new_name_seen (at s t1) g.name f1.0 new)
     (after (expect_sign mark.Equals (at s t2)) _ tt (at s t3) (expected_sign mark.Equals (at s t2) f2.0)
     (after (table_words (at s t3)) _ g.words (at s rest) (all_words_given g.words (at s t3) rest some few fit f2.1 off) refl)))

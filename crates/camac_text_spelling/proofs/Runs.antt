@@ -5,7 +5,6 @@ use Rattle.std.proofs.lemmas.List.{length-take-le}
 use Rattle.camac_lang.specs.Tests.{is_new}
 use Rattle.camac_lang.specs.Tree.{Text, Statement, Block, done, next}
 use Rattle.camac_lang.specs.View.{block_of}
-use Rattle.camac_text_tokens.specs.declared.fault.TextRule.TheVariants.{LimitPassed}
 use Rattle.camac_text_tokens.specs.declared.token.Keyword.TheVariants as keyword
 use Rattle.camac_text_tokens.specs.declared.token.Token.{Token}
 use Rattle.camac_text_tokens.specs.declared.token.TokenKind.{TokenKind}
@@ -52,7 +51,7 @@ left_at n s rest k m = record s { rest = rest; registers = take k n.registers; s
 
 pub begin_given : (s : State) → s.statements < 4096 → begin s ≡ ok tt (begun s)
 unfolding begin
-begin_given s below = checked (nat_lt s.statements 4096) LimitPassed (change (λ u. record u { statements = suc u.statements }) >> advance) s (lt-ltb s.statements 4096 below) refl
+begin_given s below = checked (nat_lt s.statements 4096) _ (change (λ u. record u { statements = suc u.statements }) >> advance) s (lt-ltb s.statements 4096 below) refl
 
 pub first_given : (line room : ℕ) (block : Reader (List Statement)) (k : TokenKind) (s : State) (ps : List Piece) (rest : List Token) → Prefix s.rest (first_piece line k ∷ ps) rest → statement_with room block s ≡ statement_by room block line (Some k) s
 unfolding statement_with
@@ -98,7 +97,7 @@ register_set s x place r e = ap (λ (o : Option ℕ). register_at x o s) e
 register_new : (s : State) (x : Text) (place : Option ℕ) → place ≡ None → other_registers s + length s.registers < 64 → register_at x place s ≡ ok (length s.registers) (record s { rest = after_first s.rest; registers = s.registers ++ x ∷ [] })
 register_new s x place e room =
     ap (λ (o : Option ℕ). register_at x o s) e
-    ∙ checked (nat_lt (other_registers s + length s.registers) 64) LimitPassed (advance >> (change (with_register x) >> give (length s.registers))) s (lt-ltb (other_registers s + length s.registers) 64 room) refl
+    ∙ checked (nat_lt (other_registers s + length s.registers) 64) _ (advance >> (change (with_register x) >> give (length s.registers))) s (lt-ltb (other_registers s + length s.registers) 64 room) refl
 
 pub set_name_given : (n : Names) (s : State) (r j k : ℕ) → Sets n s.declared (other_registers s) → s.registers ≡ take j n.registers → r ≤ j → max j (suc r) ≡ k → k ≤ length n.registers → kind_of s.rest ≡ Some (kind.Name (text_at n.registers r)) → set_name s ≡ ok r (record s { rest = after_first s.rest; registers = take k n.registers })
 unfolding set_name

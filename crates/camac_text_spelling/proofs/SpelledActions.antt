@@ -7,7 +7,6 @@ use Rattle.camac_lang.specs.declared.word.CrateCall.{CrateCall}
 use Rattle.camac_lang.specs.declared.word.CrateCall.TheVariants as crate_word
 use Rattle.camac_lang.specs.declared.word.LamCall.{LamCall}
 use Rattle.camac_lang.specs.declared.word.LamCall.TheVariants as lam_word
-use Rattle.camac_text_tokens.specs.declared.fault.TextRule.TheVariants.{LimitPassed}
 use Rattle.camac_text_tokens.specs.declared.token.Keyword.{Keyword}
 use Rattle.camac_text_tokens.specs.declared.token.Keyword.TheVariants as keyword
 use Rattle.camac_text_tokens.specs.declared.token.Sign.TheVariants as mark
@@ -71,7 +70,7 @@ took_register_at {n} s x (Some place) y next found e =
     let u : State = record s { rest = after_first s.rest } in
     returns {x = place} (λ r. name_at n.registers r ∷ []) e (named {s' = u} (text_at n.registers place) (λ t. t.registers x place found) (took_one {s' = u} next refl))
 took_register_at {n} s x None y next found e =
-    let c = check_ok (nat_lt (other_registers s + length s.registers) 64) LimitPassed (advance >> (change (with_register x) >> give (length s.registers))) s y e in
+    let c = check_ok (nat_lt (other_registers s + length s.registers) 64) _ (advance >> (change (with_register x) >> give (length s.registers))) s y e in
     let u : State = record s { rest = after_first s.rest } in
     let v : State = record u { registers = s.registers ++ x ∷ [] } in
     let one : Took n s (piece (kind.Name x) ∷ []) u = took_one {s' = u} next refl in

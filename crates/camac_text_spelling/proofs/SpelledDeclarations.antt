@@ -3,7 +3,6 @@ use Rattle.std.proofs.Common.{◌≡◌, ℕ, ◌+◌, nat_lt, List, [], ◌∷�
 use Rattle.std.proofs.lemmas.List.{append-nil, map_push, map-append}
 use Rattle.camac_lang.specs.Tree.{Text, Table, Lam, Procedure, Service, next_variables, Script}
 use Rattle.camac_lang.specs.View.{block_of}
-use Rattle.camac_text_tokens.specs.declared.fault.TextRule.TheVariants.{LimitPassed, NumberTooLarge}
 use Rattle.camac_text_tokens.specs.declared.token.Keyword.TheVariants as keyword
 use Rattle.camac_text_tokens.specs.declared.token.Sign.TheVariants as mark
 use Rattle.camac_text_tokens.specs.declared.token.Token.{Token}
@@ -60,7 +59,7 @@ lam_spelled : (s : State) (y : Unit {0} × State) → kind_of s.rest ≡ Some (k
 unfolding lam_declaration
 lam_spelled s y next e =
     let t : State = record s { rest = after_first s.rest } in
-    let c0 = check_ok (nat_lt (length s.lams) 64) LimitPassed _ s y e in
+    let c0 = check_ok (nat_lt (length s.lams) 64) _ _ s y e in
     let a = then_ok (new_name t) _ y c0.1 in
     let h = new_name_ok t a.0 a.1 in
     let u : State = record a.0.1 { rest = after_first a.0.1.rest } in
@@ -88,8 +87,8 @@ took_word_of {n} count s y e =
     let m = then_ok (number_here s) _ y e in
     let h = number_ok s m.0 m.1 in
     let rest : Reader ℕ = advance >> give m.0.0 in
-    let a = check_ok (nat_lt m.0.0 16777216) NumberTooLarge _ m.0.1 y m.2 in
-    let b = check_ok (nat_lt count 1024) LimitPassed rest m.0.1 y a.1 in
+    let a = check_ok (nat_lt m.0.0 16777216) _ _ m.0.1 y m.2 in
+    let b = check_ok (nat_lt count 1024) _ rest m.0.1 y a.1 in
     let one : Took n s (numeral m.0.0 ∷ []) (record m.0.1 { rest = after_first m.0.1.rest }) = took_one h.0 (ap (λ (w : State). record w { rest = after_first w.rest }) h.1) in
     returns {x = m.0.0} (λ w. numeral w ∷ []) b.1 one
 
@@ -105,7 +104,7 @@ table_spelled : (s : State) (y : Unit {0} × State) → kind_of s.rest ≡ Some 
 unfolding table_declaration
 table_spelled s y next e =
     let t : State = record s { rest = after_first s.rest } in
-    let c0 = check_ok (nat_lt (length s.tables) 16) LimitPassed _ s y e in
+    let c0 = check_ok (nat_lt (length s.tables) 16) _ _ s y e in
     let a = then_ok (new_name t) _ y c0.1 in
     let h = new_name_ok t a.0 a.1 in
     let u : State = record a.0.1 { rest = after_first a.0.1.rest } in
@@ -172,7 +171,7 @@ unfolding service_declaration
 service_spelled s y next e =
     let line : ℕ = line_of s.rest s.end_line in
     let t : State = record s { rest = after_first s.rest } in
-    let c0 = check_ok (nat_lt (length s.services) 24) LimitPassed _ s y e in
+    let c0 = check_ok (nat_lt (length s.services) 24) _ _ s y e in
     let l = then_ok (used_lam t) _ y c0.1 in
     let a = then_ok (expect keyword.Within l.0.1) _ y l.2 in
     let b = then_ok (any_number a.0.1) _ y a.2 in

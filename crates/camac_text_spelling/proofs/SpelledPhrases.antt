@@ -3,7 +3,8 @@ use Rattle.std.proofs.Common.{◌≡◌, ℕ, Bool, true, false, cond, nat_lt, L
 use Rattle.camac_range.specs.declared.comparison.Cmp.{Cmp}
 use Rattle.camac_range.specs.declared.comparison.Cmp.TheVariants as cmp
 use Rattle.camac_lang.specs.Tree.{Test, flag_q, flag_x, Part, plain, negated, Condition, Move, no_data, into, from, Keep}
-use Rattle.camac_text_tokens.specs.declared.fault.TextRule.TheVariants.{DeclaredTwice, LimitPassed}
+use Rattle.camac_text_tokens.specs.declared.fault.Limit.TheVariants as limit
+use Rattle.camac_text_tokens.specs.declared.fault.TextCase.TheVariants as told
 use Rattle.camac_text_tokens.specs.declared.token.Keyword.TheVariants as keyword
 use Rattle.camac_text_tokens.specs.declared.token.Sign.TheVariants as mark
 use Rattle.camac_text_tokens.specs.declared.token.TokenKind.{TokenKind}
@@ -12,7 +13,8 @@ use Rattle.camac_text_cursor.specs.Reading.{State, Reader, ◌>>=◌, ◌>>◌, 
 use Rattle.camac_text_cursor.specs.Readers.{is_keyword, is_sign, expect, expect_sign, any_number, used_variable, variable_here}
 use Rattle.camac_text_phrases.specs.Expressions.{expression_at}
 use Rattle.camac_text_phrases.specs.Conditions.{comparison_by, comparison_sign, compared, test_by, test_at, part_by, part_at, no_part_by, part_limit, and_part, condition_at}
-use Rattle.camac_text_phrases.specs.Keeps.{is_free, keep_at, next_keep, keep_list, keeps_at}
+use Rattle.camac_text_phrases.specs.declared.keeping.Own.{Own}
+use Rattle.camac_text_phrases.specs.Keeps.{is_free, kept_case, keep_at, next_keep, keep_list, keeps_at}
 use Rattle.camac_text_statements.specs.Statements.{move_by, move_at}
 use Rattle.camac_text_cursor.proofs.Steps.{then_ok, ok_is, err_no_ok}
 use Rattle.camac_text_cursor.proofs.Moves.{any_number_ok, check_ok}
@@ -74,7 +76,7 @@ unfolding part_at
 took_part room s y e = took_part_by room (kind_of s.rest) s y refl e
 
 no_part : (k : Option TokenKind) (s : State) (y : Unit {0} × State) → no_part_by k s ≡ Ok y → ⊥
-no_part (Some (kind.Name x)) s y e = let m = then_ok (variable_here s) (λ _. fail LimitPassed) y e in err_no_ok _ _ m.2
+no_part (Some (kind.Name x)) s y e = let m = then_ok (variable_here s) (λ _. fail (told.Limit limit.Parts)) y e in err_no_ok _ _ m.2
 no_part (Some (kind.Keyword keyword.Q)) s y e = err_no_ok _ _ e
 no_part (Some (kind.Keyword keyword.X)) s y e = err_no_ok _ _ e
 no_part (Some (kind.Keyword keyword.Not)) s y e = err_no_ok _ _ e
@@ -127,14 +129,14 @@ took_move room s y e = took_move_by room (kind_of s.rest) s y refl e
 abbrev kept : ℕ → ℕ → ℕ → Keep
 kept place low high = record { variable = place; low = low; high = high }
 
-took_keep : {n : Names} (own : ℕ) (keeps : List Keep) (s : State) (y : Keep × State) → keep_at own keeps s ≡ Ok y → Took n s (phrase.keep n y.0) y.1
+took_keep : {n : Names} (own : Own) (keeps : List Keep) (s : State) (y : Keep × State) → keep_at own keeps s ≡ Ok y → Took n s (phrase.keep n y.0) y.1
 unfolding keep_at
 took_keep {n} own keeps s y e =
     let v = then_ok (variable_here s) _ y e in
     let here = sees_variable {n = n} s v.0 v.1 in
     let range : ℕ → Reader Keep = λ place. advance >> (expect keyword.In >> (any_number >>= λ low. expect_sign mark.UpTo >> (any_number >>= λ high. give (kept place low high)))) in
-    let at : (check (is_free v.0.0 own keeps) DeclaredTwice >> range v.0.0) s ≡ Ok y = subst (λ (w : State). (check (is_free v.0.0 own keeps) DeclaredTwice >> range v.0.0) w ≡ Ok y) here.left v.2 in
-    let c = check_ok (is_free v.0.0 own keeps) DeclaredTwice (range v.0.0) s y at in
+    let at : (check (is_free v.0.0 own keeps) (kept_case own v.0.0) >> range v.0.0) s ≡ Ok y = subst (λ (w : State). (check (is_free v.0.0 own keeps) (kept_case own v.0.0) >> range v.0.0) w ≡ Ok y) here.left v.2 in
+    let c = check_ok (is_free v.0.0 own keeps) _ (range v.0.0) s y at in
     let u : State = record s { rest = after_first s.rest } in
     let a = then_ok (expect keyword.In u) _ y c.1 in
     let b = then_ok (any_number a.0.1) _ y a.2 in
@@ -143,13 +145,13 @@ took_keep {n} own keeps s y e =
     returns {x = kept v.0.0 b.0.0 f.0.0} (phrase.keep n) f.2
     (join (seen here (took_one {s' = u} here.next refl)) (join (took_word keyword.In u a.0 a.1) (join (took_token (any_number_ok a.0.1 b.0 b.1)) (join (took_sign mark.UpTo b.0.1 d.0 d.1) (took_token (any_number_ok d.0.1 f.0 f.1))))))
 
-took_next_keep : {n : Names} (own : ℕ) (keeps : List Keep) (s : State) (y : Keep × State) → is_sign mark.Comma (kind_of s.rest) ≡ true → next_keep own keeps s ≡ Ok y → Took n s (sign mark.Comma ∷ phrase.keep n y.0) y.1
+took_next_keep : {n : Names} (own : Own) (keeps : List Keep) (s : State) (y : Keep × State) → is_sign mark.Comma (kind_of s.rest) ≡ true → next_keep own keeps s ≡ Ok y → Took n s (sign mark.Comma ∷ phrase.keep n y.0) y.1
 unfolding next_keep
 took_next_keep own keeps s y on e =
     let u : State = record s { rest = after_first s.rest } in
     join (took_one {s' = u} (sign_is mark.Comma (kind_of s.rest) on) refl) (took_keep own keeps u y e)
 
-took_keep_list : {n : Names} (own : ℕ) (s : State) (y : List Keep × State) → kind_of s.rest ≡ Some (kind.Keyword keyword.Keep) → keep_list own s ≡ Ok y → Took n s (phrase.keeps n y.0) y.1
+took_keep_list : {n : Names} (own : Own) (s : State) (y : List Keep × State) → kind_of s.rest ≡ Some (kind.Keyword keyword.Keep) → keep_list own s ≡ Ok y → Took n s (phrase.keeps n y.0) y.1
 unfolding keep_list
 took_keep_list {n} own s y next e =
     let u : State = record s { rest = after_first s.rest } in
@@ -157,10 +159,10 @@ took_keep_list {n} own s y next e =
     let l = took_list n (sign mark.Comma) (phrase.keep n) (is_sign mark.Comma) (next_keep own) (λ xs w z on took. took_next_keep own xs w z on took) m.0.0 u m.0.1 (took_keep own [] u m.0 m.1) y m.2 in
     subst (λ (ks : List Keep). Took n s (phrase.keeps n ks) y.1) (sym l.same) (join (took_one {s' = u} next refl) l.took)
 
-took_keeps_by : {n : Names} (b : Bool) (own : ℕ) (s : State) (y : List Keep × State) → is_keyword keyword.Keep (kind_of s.rest) ≡ b → cond b (keep_list own) (give []) s ≡ Ok y → Took n s (phrase.keeps n y.0) y.1
+took_keeps_by : {n : Names} (b : Bool) (own : Own) (s : State) (y : List Keep × State) → is_keyword keyword.Keep (kind_of s.rest) ≡ b → cond b (keep_list own) (give []) s ≡ Ok y → Took n s (phrase.keeps n y.0) y.1
 took_keeps_by true own s y on e = took_keep_list own s y (keyword_is keyword.Keep (kind_of s.rest) on) e
 took_keeps_by {n} false own s y on e = returns {x = []} (phrase.keeps n) e (nothing n s)
 
-pub took_keeps : {n : Names} (own : ℕ) (s : State) (y : List Keep × State) → keeps_at own s ≡ Ok y → Took n s (phrase.keeps n y.0) y.1
+pub took_keeps : {n : Names} (own : Own) (s : State) (y : List Keep × State) → keeps_at own s ≡ Ok y → Took n s (phrase.keeps n y.0) y.1
 unfolding keeps_at
 took_keeps own s y e = took_keeps_by (is_keyword keyword.Keep (kind_of s.rest)) own s y refl e

@@ -1,8 +1,7 @@
 -- Procedures that are read are spelled so.
-use Rattle.std.proofs.Common.{◌≡◌, ℕ, Bool, true, false, cond, nat_lt, List, [], ◌∷◌, ◌++◌, map, length, Some, Ok, refl, sym, ap, subst, ◌∙◌, append_assoc}
+use Rattle.std.proofs.Common.{◌≡◌, ℕ, Bool, true, false, cond, nat_lt, List, [], ◌∷◌, ◌++◌, map, length, Some, Ok, refl, sym, ap, subst, ◌∙◌, append_assoc, ◌≤◌, arith}
 use Rattle.std.proofs.lemmas.List.{append-nil, map_push, map-append}
-use Rattle.camac_lang.specs.Tree.{Text, Table, Lam, Parameter, Procedure, next_procedure, Script}
-use Rattle.camac_text_tokens.specs.declared.fault.TextRule.TheVariants.{LimitPassed}
+use Rattle.camac_lang.specs.Tree.{Text, Table, Lam, Parameter, Procedure, next_procedure, Script, Statement}
 use Rattle.camac_text_tokens.specs.declared.token.Keyword.{Keyword}
 use Rattle.camac_text_tokens.specs.declared.token.Keyword.TheVariants as keyword
 use Rattle.camac_text_tokens.specs.declared.token.Sign.{Sign}
@@ -11,7 +10,7 @@ use Rattle.camac_text_tokens.specs.declared.token.TokenKind.{TokenKind}
 use Rattle.camac_text_tokens.specs.declared.token.TokenKind.TheVariants as kind
 use Rattle.camac_text_cursor.specs.Reading.{State, Reader, ◌>>=◌, ◌>>◌, give, ask, change, advance, kind_of, line_of, after_first, while_next, one_more}
 use Rattle.camac_text_cursor.specs.Readers.{is_sign, expect, expect_sign, any_number, new_name, added, new_parameter}
-use Rattle.camac_text_cursor.specs.Declaring.{tree_so_far, in_heading, with_procedure as procedure_added}
+use Rattle.camac_text_cursor.specs.Declaring.{tree_so_far, in_heading, opened, with_procedure as procedure_added}
 use Rattle.camac_text_cursor.proofs.Steps.{then_ok, ok_is, while_keeps}
 use Rattle.camac_text_cursor.proofs.Moves.{TakesOne, check_ok, any_number_ok, new_name_ok}
 use Rattle.camac_text_statements.specs.Statements.{block_at}
@@ -27,6 +26,8 @@ use Rattle.camac_text_spelling.proofs.Lists.{separated_push}
 use Rattle.camac_text_spelling.proofs.Takes.{Tells, Took, keyword_is, sign_is, expected}
 use Rattle.camac_text_spelling.proofs.SpelledStatements.{took_block}
 use Rattle.camac_text_spelling.proofs.Declared.{Extends, Declares, with_procedure, declares_procedure}
+use Rattle.camac_text_statements.proofs.Bodies.{block_ok}
+use Rattle.camac_text.proofs.ParametersRead.{heading_ok}
 
 -- The tokens between two states are these pieces, and these variables are declared between them.
 record Heads (s : State) (ps : List Piece) (xs : List Text) (s' : State) : Type 0 where
@@ -62,7 +63,7 @@ unfolding new_parameter
 parameter_name s y e =
     let m = then_ok (new_name s) _ y e in
     let h = new_name_ok s m.0 m.1 in
-    let c = check_ok (nat_lt (length m.0.1.variables) 8) LimitPassed (added m.0.0 >> give m.0.0) m.0.1 y m.2 in
+    let c = check_ok (nat_lt (length m.0.1.variables) 8) _ (added m.0.0 >> give m.0.0) m.0.1 y m.2 in
     let at : (added m.0.0 >> give m.0.0) s ≡ Ok y = subst (λ (u : State). (added m.0.0 >> give m.0.0) u ≡ Ok y) h.left c.1 in
     let a = then_ok (added m.0.0 s) (λ _. give m.0.0) y at in
     let d = added_ok s m.0.0 a.0 h.next h.free a.1 in
@@ -258,36 +259,44 @@ encloses s p u h w v opens start read parameters cycles words steps registers ta
     prefix_join s.rest (first_word p.line keyword.Proc ∷ name p.name ∷ []) u.rest (sign mark.LeftBracket ∷ (listed p.parameters ++ (middle_pieces made ++ body_pieces t p))) v.rest opens joined in
     record { declares = declares_procedure (tree_so_far s) p s.rest v.rest prefix; tree = tree }
 
+-- the script's variables stand outside of its heading and its body
+outside_kept : (u : State) (h : Heading × State) (b : List Statement × State) → u.variables ≡ [] → heading_at u ≡ Ok h → block_at 16 h.1 ≡ Ok b → b.1.outside ≡ u.outside
+outside_kept u h b none headed body =
+    ap (λ (w : State). w.outside) (block_ok 16 h.1 b body).same
+    ∙ ap (λ (w : State). w.outside) (heading_ok u h (subst (λ (xs : List Text). length xs ≤ 8) (sym none) (omega arith)) headed).parameters.names.same
+
 -- after its name
-abbrev after_its_name : ℕ → Text → List Text → ℕ → Reader (Unit {0})
-after_its_name line x variables names = do
+abbrev after_its_name : ℕ → Text → ℕ → Reader (Unit {0})
+after_its_name line x names = do
   h ← heading_at
   body ← block_at 16
   registers ← ask (λ w. w.registers)
-  change (procedure_added (procedure_made line x h registers body) variables names)
+  change (procedure_added (procedure_made line x h registers body) names)
 
-after_its_name_spelled : (s : State) (x : Text) (names : ℕ) (u : State) (y : Unit {0} × State) → Prefix s.rest (first_word (line_of s.rest s.end_line) keyword.Proc ∷ name x ∷ []) u.rest → tree_so_far u ≡ record (tree_so_far s) { variables = [] } → after_its_name (line_of s.rest s.end_line) x s.variables names u ≡ Ok y → Declares (tree_so_far s) s.rest (tree_so_far y.1) y.1.rest
+after_its_name_spelled : (s : State) (x : Text) (names : ℕ) (u : State) (y : Unit {0} × State) → Prefix s.rest (first_word (line_of s.rest s.end_line) keyword.Proc ∷ name x ∷ []) u.rest → tree_so_far u ≡ record (tree_so_far s) { variables = [] } → u.outside ≡ s.variables → after_its_name (line_of s.rest s.end_line) x names u ≡ Ok y → Declares (tree_so_far s) s.rest (tree_so_far y.1) y.1.rest
 unfolding body_pieces
-after_its_name_spelled s x names u y opens start e =
+after_its_name_spelled s x names u y opens start outside e =
     let line : ℕ = line_of s.rest s.end_line in
     let h = then_ok (heading_at u) _ y e in
     let b = then_ok (block_at 16 h.0.1) _ y h.2 in
     let v : State = b.0.1 in
     let p : Procedure = procedure_made line x h.0.0 v.registers b.0.0 in
     let made = encloses s p u h.0.0 h.0.1 v opens start (read_heading u h.0 h.1) refl refl refl refl refl (λ t. took_block (procedure_names t p) 16 h.0.1 b.0 b.1) in
-    subst (λ (z : Unit {0} × State). Declares (tree_so_far s) s.rest (tree_so_far z.1) z.1.rest) (ok_is (tt, procedure_added p s.variables names v) y b.2)
-    (subst (λ (w : Script). Declares (tree_so_far s) s.rest (record w { variables = s.variables; procedures = w.procedures ++ p ∷ []; order = w.order ++ next_procedure ∷ [] }) v.rest) (sym made.tree) made.declares)
+    let kept : v.outside ≡ s.variables = outside_kept u h.0 b.0 (ap (λ (t : Script). t.variables) start) h.1 b.1 ∙ outside in
+    subst (λ (z : Unit {0} × State). Declares (tree_so_far s) s.rest (tree_so_far z.1) z.1.rest) (ok_is (tt, procedure_added p names v) y b.2)
+    (subst (λ (xs : List Text). Declares (tree_so_far s) s.rest (record (tree_so_far v) { variables = xs; procedures = v.procedures ++ p ∷ []; order = v.order ++ next_procedure ∷ [] }) v.rest) (sym kept)
+    (subst (λ (w : Script). Declares (tree_so_far s) s.rest (record w { variables = s.variables; procedures = w.procedures ++ p ∷ []; order = w.order ++ next_procedure ∷ [] }) v.rest) (sym made.tree) made.declares))
 
 pub procedure_spelled : (s : State) (y : Unit {0} × State) → kind_of s.rest ≡ Some (kind.Keyword keyword.Proc) → procedure_declaration (line_of s.rest s.end_line) s ≡ Ok y → Declares (tree_so_far s) s.rest (tree_so_far y.1) y.1.rest
 unfolding procedure_declaration
 procedure_spelled s y ahead e =
     let line : ℕ = line_of s.rest s.end_line in
     let t : State = record s { rest = after_first s.rest } in
-    let c0 = check_ok (nat_lt (length s.procedures) 16) LimitPassed _ s y e in
-    let a = then_ok (new_name t) (λ x. advance >> (ask (λ w. w.variables) >>= λ variables. change (in_heading x) >> (ask (λ w. length w.declared) >>= λ names. after_its_name line x variables names))) y c0.1 in
+    let c0 = check_ok (nat_lt (length s.procedures) 16) _ _ s y e in
+    let a = then_ok (new_name t) (λ x. advance >> (opened x >>= λ names. after_its_name line x names)) y c0.1 in
     let n = new_name_ok t a.0 a.1 in
-    let after_name : Reader (Unit {0}) = advance >> (ask (λ w. w.variables) >>= λ variables. change (in_heading a.0.0) >> (ask (λ w. length w.declared) >>= λ names. after_its_name line a.0.0 variables names)) in
+    let after_name : Reader (Unit {0}) = advance >> (opened a.0.0 >>= λ names. after_its_name line a.0.0 names) in
     let at : after_name t ≡ Ok y = subst (λ (w : State). after_name w ≡ Ok y) n.left a.2 in
     let u : State = record t { rest = after_first t.rest } in
     let opens : Prefix s.rest (first_word line keyword.Proc ∷ name a.0.0 ∷ []) u.rest = prefix_join s.rest (first_word line keyword.Proc ∷ []) t.rest (name a.0.0 ∷ []) u.rest (prefix_begin s.rest s.end_line (kind.Keyword keyword.Proc) ahead) (prefix_token t.rest (kind.Name a.0.0) n.next) in
-    after_its_name_spelled s a.0.0 (length (in_heading a.0.0 u).declared) (in_heading a.0.0 u) y opens refl at
+    after_its_name_spelled s a.0.0 (length (in_heading a.0.0 u).declared) (in_heading a.0.0 u) y opens refl refl at

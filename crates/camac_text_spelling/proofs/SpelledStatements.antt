@@ -4,7 +4,8 @@ use Rattle.std.proofs.lemmas.List.{append-nil}
 use Rattle.camac_lang.specs.Tree.{Statement, choose, choose_else, for_, while_, locked, Condition}
 use Rattle.camac_lang.specs.View.{block_of}
 use Rattle.camac_lang.specs.declared.word.WordSize.TheVariants.{Full, Short}
-use Rattle.camac_text_tokens.specs.declared.fault.TextRule.TheVariants.{UnexpectedToken, LimitPassed}
+use Rattle.camac_text_tokens.specs.declared.fault.Limit.TheVariants as limit
+use Rattle.camac_text_tokens.specs.declared.fault.TextCase.TheVariants as told
 use Rattle.camac_text_tokens.specs.declared.token.Keyword.TheVariants as keyword
 use Rattle.camac_text_tokens.specs.declared.token.Sign.TheVariants as mark
 use Rattle.camac_text_tokens.specs.declared.token.TokenKind.{TokenKind}
@@ -13,6 +14,7 @@ use Rattle.camac_text_cursor.specs.Reading.{State, Reader, give, fail, kind_of, 
 use Rattle.camac_text_cursor.specs.Readers.{is_sign, expect, expect_sign, any_number, used_variable}
 use Rattle.camac_text_phrases.specs.Expressions.{expression_at}
 use Rattle.camac_text_phrases.specs.Conditions.{condition_at}
+use Rattle.camac_text_phrases.specs.declared.keeping.Own.TheVariants as of_loop
 use Rattle.camac_text_phrases.specs.Keeps.{keeps_at}
 use Rattle.camac_text_cursor.specs.Readers.{begin}
 use Rattle.camac_text_statements.specs.Statements.{else_by, if_statement, for_statement, while_statement, lock_statement, nested_by, statement_by, statement_with, is_no_end, block_at}
@@ -63,12 +65,12 @@ module _ (n : Names) (room : ℕ) (block : Reader (List Statement)) (block_took 
       let f = then_ok (expression_at room q.0.1) _ y q.2 in
       let w = then_ok (expect keyword.To f.0.1) _ y f.2 in
       let l = then_ok (expression_at room w.0.1) _ y w.2 in
-      let k = then_ok (keeps_at x.0.0 l.0.1) _ y l.2 in
+      let k = then_ok (keeps_at (of_loop.Counter x.0.0) l.0.1) _ y l.2 in
       let b = then_ok (block k.0.1) (λ xs. give (for_ line x.0.0 f.0.0 l.0.0 k.0.0 (block_of xs))) y k.2 in
       returns {x = for_ line x.0.0 f.0.0 l.0.0 k.0.0 (block_of b.0.0)} (spell.statement n) b.2
       (join (took_begin s (kind.Keyword keyword.For) a.0 next a.1) (join (took_variable a.0.1 x.0 x.1) (join (took_sign mark.Equals x.0.1 q.0 q.1)
       (join (took_expression room q.0.1 f.0 f.1) (join (took_word keyword.To f.0.1 w.0 w.1) (join (took_expression room w.0.1 l.0 l.1)
-      (join (took_keeps x.0.0 l.0.1 k.0 k.1) (block_took k.0.1 b.0 b.1))))))))
+      (join (took_keeps (of_loop.Counter x.0.0) l.0.1 k.0 k.1) (block_took k.0.1 b.0 b.1))))))))
 
   took_while : (s : State) (y : Statement × State) → kind_of s.rest ≡ Some (kind.Keyword keyword.While) → while_statement room block (line_of s.rest s.end_line) s ≡ Ok y → Took n s (spell.statement n y.0) y.1
   unfolding while_statement
@@ -80,18 +82,18 @@ module _ (n : Names) (room : ℕ) (block : Reader (List Statement)) (block_took 
       let t = then_ok (any_number w.0.1) _ y w.2 in
       let v = then_ok (expect keyword.By t.0.1) _ y t.2 in
       let m = then_ok (used_variable v.0.1) _ y v.2 in
-      let k = then_ok (keeps_at m.0.0 m.0.1) _ y m.2 in
+      let k = then_ok (keeps_at (of_loop.Measure m.0.0) m.0.1) _ y m.2 in
       let b = then_ok (block k.0.1) (λ xs. give (while_ line c.0.0 t.0.0 m.0.0 k.0.0 (block_of xs))) y k.2 in
       returns {x = while_ line c.0.0 t.0.0 m.0.0 k.0.0 (block_of b.0.0)} (spell.statement n) b.2
       (join (took_begin s (kind.Keyword keyword.While) a.0 next a.1) (join (took_condition room a.0.1 c.0 c.1) (join (took_word keyword.Turns c.0.1 w.0 w.1)
       (join (took_token (any_number_ok w.0.1 t.0 t.1)) (join (took_word keyword.By t.0.1 v.0 v.1) (join (took_variable v.0.1 m.0 m.1)
-      (join (took_keeps m.0.0 m.0.1 k.0 k.1) (block_took k.0.1 b.0 b.1))))))))
+      (join (took_keeps (of_loop.Measure m.0.0) m.0.1 k.0 k.1) (block_took k.0.1 b.0 b.1))))))))
 
   took_locking : (s : State) (y : Statement × State) → kind_of s.rest ≡ Some (kind.Keyword keyword.Lock) → lock_statement room block (line_of s.rest s.end_line) s ≡ Ok y → Took n s (spell.statement n y.0) y.1
   unfolding lock_statement
   took_locking s y next e =
       let line : ℕ = line_of s.rest s.end_line in
-      let outside = check_ok (not s.in_procedure) UnexpectedToken _ s y e in
+      let outside = check_ok (not s.in_procedure) _ _ s y e in
       let a = then_ok (begin s) _ y outside.1 in
       let c = then_ok (expression_at room a.0.1) _ y a.2 in
       let b = then_ok (block c.0.1) (λ xs. give (locked line c.0.0 (block_of xs))) y c.2 in
@@ -128,7 +130,7 @@ took_turn n room block block_took s xs u y before e =
     let m = then_ok (statement_with room block u) (λ x. give (xs ++ x ∷ [])) y e in
     returns {x = xs ++ m.0.0 ∷ []} (body n) m.2 (subst (λ (ps : List Piece). Took n s ps m.0.1) (sym (block_push n xs m.0.0)) (join before (took_statement n room block block_took u m.0 m.1)))
 
-no_room : (b : Bool) (s : State) (y : List Statement × State) → cond b (fail LimitPassed) (fail UnexpectedToken) s ≡ Ok y → ⊥
+no_room : (b : Bool) (s : State) (y : List Statement × State) → cond b (fail (told.Limit limit.Depth)) (fail told.Unexpected) s ≡ Ok y → ⊥
 no_room true s y e = err_no_ok _ _ e
 no_room false s y e = err_no_ok _ _ e
 

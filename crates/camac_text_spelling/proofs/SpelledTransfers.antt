@@ -1,28 +1,30 @@
 -- Transfers and calls of procedures that are read are spelled so.
-use Rattle.std.proofs.Common.{◌≡◌, ℕ, zero, suc, Bool, true, false, cond, List, [], ◌∷◌, ◌++◌, Option, Some, None, Ok, refl, sym, subst}
+use Rattle.std.proofs.Common.{◌≡◌, ℕ, zero, suc, Bool, true, false, cond, List, [], ◌∷◌, ◌++◌, Option, Some, None, Ok, refl, sym, subst, ap}
 use Rattle.std.proofs.lemmas.List.{append-nil}
 use Rattle.camac_lang.specs.Tree.{Expression, Statement, address_scan, q_stop, q_repeat, call}
-use Rattle.camac_text_tokens.specs.declared.fault.TextRule.TheVariants.{UnexpectedToken, LimitPassed}
+use Rattle.camac_text_tokens.specs.declared.fault.Limit.TheVariants as limit
+use Rattle.camac_text_tokens.specs.declared.fault.TextCase.TheVariants as told
 use Rattle.camac_text_tokens.specs.declared.token.Keyword.{Keyword}
 use Rattle.camac_text_tokens.specs.declared.token.Keyword.TheVariants as keyword
 use Rattle.camac_text_tokens.specs.declared.token.Sign.TheVariants as mark
 use Rattle.camac_text_tokens.specs.declared.token.TokenKind.{TokenKind}
 use Rattle.camac_text_tokens.specs.declared.token.TokenKind.TheVariants as kind
-use Rattle.camac_text_cursor.specs.Reading.{State, Reader, ◌>>=◌, give, fail, kind_of, line_of, after_first}
+use Rattle.camac_text_cursor.specs.Reading.{State, Reader, ◌>>=◌, give, fail, kind_of, line_of, after_first, advance}
 use Rattle.camac_text_cursor.specs.Readers.{begin, is_sign, expect, expect_sign, function_number, used_register, used_variable, used_table, procedure_here, called}
-use Rattle.camac_text_phrases.specs.Arguments.{argument_after, more_arguments, arguments_at}
+use Rattle.camac_text_phrases.specs.Arguments.{argument_after, more_arguments, arguments_at, counted_sign, shows_more}
 use Rattle.camac_text_phrases.specs.Expressions.{expression_at}
 use Rattle.camac_text_statements.specs.Statements.{transfer_by}
 use Rattle.camac_text_statements.specs.Transfers.{last_bound, table_by, table_at, scan_statement, q_stop_statement, q_repeat_statement, call_statement}
-use Rattle.camac_text_cursor.proofs.Steps.{then_ok, err_no_ok}
+use Rattle.camac_text_cursor.proofs.Steps.{then_ok, err_no_ok, ok_is}
 use Rattle.camac_text_cursor.proofs.Moves.{function_ok}
 use Rattle.camac_text_spelling.specs.Pieces.{Piece, word, sign, separated, Names}
 use Rattle.camac_text_spelling.specs.Phrases as phrase
 use Rattle.camac_text_spelling.specs.Statements as spell
-use Rattle.camac_text_spelling.proofs.Takes.{Took, join, returns, nothing, took_one, took_token, took_word, took_sign, took_register, took_variable, took_table, sees_procedure, took_called}
+use Rattle.camac_text_spelling.proofs.Takes.{Took, join, returns, nothing, took_one, took_token, took_word, took_sign, took_register, took_variable, took_table, sees_procedure, took_called, sign_is}
 use Rattle.camac_text_spelling.proofs.Lists.{separated_push}
 use Rattle.camac_text_spelling.proofs.SpelledExpressions.{took_expression}
 use Rattle.camac_text_spelling.proofs.SpelledActions.{took_begin, took_crate_call}
+use Rattle.camac_text_tokens.specs.declared.token.Sign.{Sign}
 
 -- ---- transfers
 
@@ -93,21 +95,34 @@ took_q_repeat {n} room s y next e =
 abbrev listed : Names → List Expression → List Piece
 listed n es = separated (sign mark.Comma) (phrase.expression n) es
 
+counted_took : {n : Names} (on shown : Bool) (w : Sign) (wanted : ℕ) (s : State) (y : Unit {0} × State) → is_sign w (kind_of s.rest) ≡ on → cond on advance (cond shown (fail (told.ArgumentCount wanted)) (fail told.Unexpected)) s ≡ Ok y → Took n s (sign w ∷ []) y.1
+counted_took true shown w wanted s y is e = took_one (sign_is w (kind_of s.rest) is) (sym (ap (λ (p : Unit {0} × State). p.1) (ok_is _ y e)))
+counted_took false true w wanted s y is e = absurd (err_no_ok _ _ e)
+counted_took false false w wanted s y is e = absurd (err_no_ok _ _ e)
+
+took_counted : {n : Names} (w : Sign) (shows : Option TokenKind → Bool) (wanted : ℕ) (s : State) (y : Unit {0} × State) → counted_sign w shows wanted s ≡ Ok y → Took n s (sign w ∷ []) y.1
+unfolding counted_sign
+took_counted w shows wanted s y e = counted_took (is_sign w (kind_of s.rest)) (shows (kind_of s.rest)) w wanted s y refl e
+
+first_took : {n : Names} (b : Bool) (wanted room : ℕ) (u : State) (y : Expression × State) → cond b (fail (told.ArgumentCount wanted)) (expression_at room) u ≡ Ok y → Took n u (phrase.expression n y.0) y.1
+first_took true wanted room u y e = absurd (err_no_ok _ _ e)
+first_took false wanted room u y e = took_expression room u y e
+
 -- an argument after these
-took_argument : {n : Names} (room : ℕ) (es : List Expression) (s u : State) (y : Expression × State) → Took n s (listed n es) u → argument_after room es u ≡ Ok y → Took n s (listed n (es ++ y.0 ∷ [])) y.1
-took_argument {n} room [] s u y before e = subst (λ (ps : List Piece). Took n s ps y.1) (sym (append-nil (phrase.expression n y.0))) (join before (took_expression room u y e))
-took_argument {n} room (x ∷ xs) s u y before e =
-    let a = then_ok (expect_sign mark.Comma u) (λ _. expression_at room) y e in
-    subst (λ (ps : List Piece). Took n s ps y.1) (sym (separated_push (sign mark.Comma) (phrase.expression n) x xs y.0)) (join before (join (took_sign mark.Comma u a.0 a.1) (took_expression room a.0.1 y a.2)))
+took_argument : {n : Names} (wanted room : ℕ) (es : List Expression) (s u : State) (y : Expression × State) → Took n s (listed n es) u → argument_after wanted room es u ≡ Ok y → Took n s (listed n (es ++ y.0 ∷ [])) y.1
+took_argument {n} wanted room [] s u y before e = subst (λ (ps : List Piece). Took n s ps y.1) (sym (append-nil (phrase.expression n y.0))) (join before (first_took (is_sign mark.RightBracket (kind_of u.rest)) wanted room u y e))
+took_argument {n} wanted room (x ∷ xs) s u y before e =
+    let a = then_ok (counted_sign mark.Comma (is_sign mark.RightBracket) wanted u) (λ _. expression_at room) y e in
+    subst (λ (ps : List Piece). Took n s ps y.1) (sym (separated_push (sign mark.Comma) (phrase.expression n) x xs y.0)) (join before (join (took_counted mark.Comma (is_sign mark.RightBracket) wanted u a.0 a.1) (took_expression room a.0.1 y a.2)))
 
-took_more : {n : Names} (room m : ℕ) (es : List Expression) (s u : State) (y : List Expression × State) → Took n s (listed n es) u → more_arguments room m es u ≡ Ok y → Took n s (listed n y.0) y.1
+took_more : {n : Names} (wanted room m : ℕ) (es : List Expression) (s u : State) (y : List Expression × State) → Took n s (listed n es) u → more_arguments wanted room m es u ≡ Ok y → Took n s (listed n y.0) y.1
 unfolding more_arguments
-took_more {n} room zero es s u y before e = returns {x = es} (listed n) e before
-took_more {n} room (suc m) es s u y before e =
-    let a = then_ok (argument_after room es u) _ y e in
-    took_more room m (es ++ a.0.0 ∷ []) s a.0.1 y (took_argument room es s u a.0 before a.1) a.2
+took_more {n} wanted room zero es s u y before e = returns {x = es} (listed n) e before
+took_more {n} wanted room (suc m) es s u y before e =
+    let a = then_ok (argument_after wanted room es u) _ y e in
+    took_more wanted room m (es ++ a.0.0 ∷ []) s a.0.1 y (took_argument wanted room es s u a.0 before a.1) a.2
 
-no_room : (b : Bool) (s : State) (y : List Expression × State) → cond b (fail LimitPassed) (fail UnexpectedToken) s ≡ Ok y → ⊥
+no_room : (b : Bool) (s : State) (y : List Expression × State) → cond b (fail (told.Limit limit.Depth)) (fail told.Unexpected) s ≡ Ok y → ⊥
 no_room true s y e = err_no_ok _ _ e
 no_room false s y e = err_no_ok _ _ e
 
@@ -119,9 +134,9 @@ unfolding arguments_at
 took_arguments zero m s y e = absurd (no_room (is_sign mark.LeftBracket (kind_of s.rest)) s y e)
 took_arguments {n} (suc room) m s y e =
     let a = then_ok (expect_sign mark.LeftBracket s) _ y e in
-    let b = then_ok (more_arguments room m [] a.0.1) _ y a.2 in
-    let c = then_ok (expect_sign mark.RightBracket b.0.1) (λ _. give b.0.0) y b.2 in
-    returns {x = b.0.0} (in_brackets n) c.2 (join (took_sign mark.LeftBracket s a.0 a.1) (join (took_more room m [] a.0.1 a.0.1 b.0 (nothing n a.0.1) b.1) (took_sign mark.RightBracket b.0.1 c.0 c.1)))
+    let b = then_ok (more_arguments m room m [] a.0.1) _ y a.2 in
+    let c = then_ok (counted_sign mark.RightBracket (shows_more m) m b.0.1) (λ _. give b.0.0) y b.2 in
+    returns {x = b.0.0} (in_brackets n) c.2 (join (took_sign mark.LeftBracket s a.0 a.1) (join (took_more m room m [] a.0.1 a.0.1 b.0 (nothing n a.0.1) b.1) (took_counted mark.RightBracket (shows_more m) m b.0.1 c.0 c.1)))
 
 took_calling : {n : Names} (room : ℕ) (s : State) (y : Statement × State) → kind_of s.rest ≡ Some (kind.Keyword keyword.Call) → call_statement room (line_of s.rest s.end_line) s ≡ Ok y → Took n s (spell.statement n y.0) y.1
 unfolding call_statement

@@ -11,14 +11,16 @@ use Rattle.camac_text_tokens.specs.declared.token.Keyword.{Keyword}
 use Rattle.camac_text_tokens.specs.declared.token.Sign.{Sign}
 use Rattle.camac_text_tokens.specs.declared.token.TokenKind.{TokenKind}
 use Rattle.camac_text_tokens.specs.declared.token.TokenKind.TheVariants as kind
-use Rattle.camac_text_tokens.specs.declared.fault.TextRule.TheVariants.{UnexpectedToken, BranchNotOne, LimitPassed}
+use Rattle.camac_text_tokens.specs.declared.fault.TextCase.TheVariants as told
+use Rattle.camac_text_tokens.specs.declared.fault.NameKind.{NameKind}
 use Rattle.camac_text_tokens.specs.Fault.{Fault}
 use Rattle.camac_text_cursor.specs.Names.{place_of, lam_place, table_place, procedure_place}
 use Rattle.camac_text_cursor.specs.Reading.{◌>>◌, State, advance, fail, kind_of, line_of, after_first, give}
-use Rattle.camac_text_cursor.specs.Readers.{is_keyword, is_sign, expect, expect_sign, name_here, number_here, branch_number, used_at, used_register, used_variable, used_lam, known_at, variable_here, used_table, procedure_here, callable_by, called}
+use Rattle.camac_text_cursor.specs.Readers.{is_keyword, is_sign, expect, expect_sign, number_here, branch_number, used, used_register, used_variable, used_lam, used_table, variable_here, procedure_here, callable_by, called}
 use Rattle.camac_text_cursor.specs.Declaring.{tree_so_far}
 use Rattle.camac_text_cursor.proofs.Steps.{then_ok, ok_is, err_no_ok}
-use Rattle.camac_text_cursor.proofs.Moves.{TakesOne, check_ok, name_ok, number_ok}
+use Rattle.camac_text_cursor.proofs.Uses.{used_ok, known_ok}
+use Rattle.camac_text_cursor.proofs.Moves.{TakesOne, check_ok, number_ok}
 use Rattle.camac_text_spelling.specs.Pieces.{Piece, piece, first_piece, text_at, name_at, Names, Prefix}
 use Rattle.camac_text_spelling.proofs.Prefixes.{prefix_join, prefix_token, prefix_begin}
 
@@ -73,7 +75,7 @@ pub sign_is : (w : Sign) (k : Option TokenKind) → is_sign w k ≡ true → k �
 sign_is w (Some (kind.Sign v)) e = ap (λ (u : Sign). Some (kind.Sign u)) (same_true sign_type.the_type (search rules) v w e)
 sign_is w _ e = absurd cc
 
-pub expected : (b : Bool) (s : State) (y : Unit {0} × State) → cond b advance (fail UnexpectedToken) s ≡ Ok y → (b ≡ true) × (y.1 ≡ record s { rest = after_first s.rest })
+pub expected : (b : Bool) (s : State) (y : Unit {0} × State) → cond b advance (fail told.Unexpected) s ≡ Ok y → (b ≡ true) × (y.1 ≡ record s { rest = after_first s.rest })
 expected true s y e = (refl, sym (ap (λ (p : Unit {0} × State). p.1) (ok_is _ y e)))
 expected false s y e = absurd (err_no_ok _ _ e)
 
@@ -92,7 +94,7 @@ unfolding branch_number
 took_branch {n} s y e =
     let m = then_ok (number_here s) _ y e in
     let h = number_ok s m.0 m.1 in
-    let c = check_ok (eqb m.0.0 1) BranchNotOne advance m.0.1 y m.2 in
+    let c = check_ok (eqb m.0.0 1) _ advance m.0.1 y m.2 in
     let one : m.0.0 ≡ 1 = eqb-true m.0.0 1 c.0 in
     let next : kind_of s.rest ≡ Some (kind.Number 1) = h.0 ∙ ap (λ (k : ℕ). Some (kind.Number k)) one in
     took_one next (ap (λ (p : Unit {0} × State). p.1) (sym (ok_is _ y c.1)) ∙ ap (λ (w : State). record w { rest = after_first w.rest }) h.1)
@@ -107,52 +109,24 @@ named {n} {s} {x} {s'} y same took = record {
   same = took.same;
 }
 
-used_is : (place : Option ℕ) (s : State) (y : ℕ × State) → used_at place s ≡ Ok y → (place ≡ Some y.0) × (y.1 ≡ record s { rest = after_first s.rest })
-used_is (Some place) s y e = subst (λ (p : ℕ × State). (Some place ≡ Some p.0) × (p.1 ≡ record s { rest = after_first s.rest })) (ok_is (place, record s { rest = after_first s.rest }) y e) (refl, refl)
-used_is None s y e = absurd (err_no_ok _ _ e)
-
 -- a name that is used, where it stands in a list
-used : {n : Names} (s : State) (x : Text) (place : Option ℕ) (y : ℕ × State) (names : List Text) → kind_of s.rest ≡ Some (kind.Name x) → used_at place s ≡ Ok y → (Tells n s → place ≡ Some y.0 → x ≡ text_at names y.0) → Took n s (name_at names y.0 ∷ []) y.1
-used {n} s x place y names next e tells =
-    let u = used_is place s y e in
-    let one : Took n s (piece (kind.Name x) ∷ []) y.1 = took_one next u.1 in
-    named (text_at names y.0) (λ t. tells (one.tells t) u.0) one
+took_used : {n : Names} (wanted : NameKind) (find : Text → State → Option ℕ) (names : List Text) (s : State) (y : ℕ × State) → used wanted find s ≡ Ok y → ((x : Text) → Tells n s → find x s ≡ Some y.0 → x ≡ text_at names y.0) → Took n s (name_at names y.0 ∷ []) y.1
+took_used {n} wanted find names s y e tells =
+    let u = used_ok wanted find s y e in
+    let one : Took n s (piece (kind.Name u.name) ∷ []) y.1 = took_one u.next u.left in
+    named (text_at names y.0) (λ t. tells u.name (one.tells t) u.found) one
 
 pub took_register : {n : Names} (s : State) (y : ℕ × State) → used_register s ≡ Ok y → Took n s (name_at n.registers y.0 ∷ []) y.1
-unfolding used_register
-took_register {n} s y e =
-    let m = then_ok (name_here s) _ y e in
-    let h = name_ok s m.0 m.1 in
-    let at : used_at (place_of m.0.0 s.registers) s ≡ Ok y = subst (λ (u : State). used_at (place_of m.0.0 u.registers) u ≡ Ok y) h.1 m.2 in
-    used s m.0.0 (place_of m.0.0 s.registers) y n.registers h.0 at (λ t found. t.registers m.0.0 y.0 found)
+took_register {n} s y e = took_used _ _ n.registers s y e (λ x t found. t.registers x y.0 found)
 
 pub took_variable : {n : Names} (s : State) (y : ℕ × State) → used_variable s ≡ Ok y → Took n s (name_at n.variables y.0 ∷ []) y.1
-unfolding used_variable
-took_variable {n} s y e =
-    let m = then_ok (name_here s) _ y e in
-    let h = name_ok s m.0 m.1 in
-    let at : used_at (place_of m.0.0 s.variables) s ≡ Ok y = subst (λ (u : State). used_at (place_of m.0.0 u.variables) u ≡ Ok y) h.1 m.2 in
-    used s m.0.0 (place_of m.0.0 s.variables) y n.variables h.0 at (λ t found. t.variables m.0.0 y.0 found)
+took_variable {n} s y e = took_used _ _ n.variables s y e (λ x t found. t.variables x y.0 found)
 
 pub took_lam : {n : Names} (s : State) (y : ℕ × State) → used_lam s ≡ Ok y → Took n s (name_at n.lams y.0 ∷ []) y.1
-unfolding used_lam
-took_lam {n} s y e =
-    let m = then_ok (name_here s) _ y e in
-    let h = name_ok s m.0 m.1 in
-    let at : used_at (lam_place m.0.0 s.lams) s ≡ Ok y = subst (λ (u : State). used_at (lam_place m.0.0 u.lams) u ≡ Ok y) h.1 m.2 in
-    used s m.0.0 (lam_place m.0.0 s.lams) y n.lams h.0 at (λ t found. t.lams m.0.0 y.0 found)
+took_lam {n} s y e = took_used _ _ n.lams s y e (λ x t found. t.lams x y.0 found)
 
 pub took_table : {n : Names} (s : State) (y : ℕ × State) → used_table s ≡ Ok y → Took n s (name_at n.tables y.0 ∷ []) y.1
-unfolding used_table
-took_table {n} s y e =
-    let m = then_ok (name_here s) _ y e in
-    let h = name_ok s m.0 m.1 in
-    let at : used_at (table_place m.0.0 s.tables) s ≡ Ok y = subst (λ (u : State). used_at (table_place m.0.0 u.tables) u ≡ Ok y) h.1 m.2 in
-    used s m.0.0 (table_place m.0.0 s.tables) y n.tables h.0 at (λ t found. t.tables m.0.0 y.0 found)
-
-known_is : (place : Option ℕ) (s : State) (y : ℕ × State) → known_at place s ≡ Ok y → (place ≡ Some y.0) × (y.1 ≡ s)
-known_is (Some place) s y e = subst (λ (p : ℕ × State). (Some place ≡ Some p.0) × (p.1 ≡ s)) (ok_is (place, s) y e) (refl, refl)
-known_is None s y e = absurd (err_no_ok _ _ e)
+took_table {n} s y e = took_used _ _ n.tables s y e (λ x t found. t.tables x y.0 found)
 
 -- the name of a variable stands next, and stays there
 pub record SeesVariable (n : Names) (s : State) (place : ℕ) (s' : State) : Type 0 where
@@ -163,13 +137,7 @@ pub record SeesVariable (n : Names) (s : State) (place : ℕ) (s' : State) : Typ
   pub left : s' ≡ s
 
 pub sees_variable : {n : Names} (s : State) (y : ℕ × State) → variable_here s ≡ Ok y → SeesVariable n s y.0 y.1
-unfolding variable_here
-sees_variable s y e =
-    let m = then_ok (name_here s) _ y e in
-    let h = name_ok s m.0 m.1 in
-    let at : known_at (place_of m.0.0 s.variables) s ≡ Ok y = subst (λ (u : State). known_at (place_of m.0.0 u.variables) u ≡ Ok y) h.1 m.2 in
-    let k = known_is (place_of m.0.0 s.variables) s y at in
-    record { name = m.0.0; next = h.0; found = k.0; same = λ t. t.variables m.0.0 y.0 k.0; left = k.1 }
+sees_variable s y e = let k = known_ok _ _ s y e in record { name = k.name; next = k.next; found = k.found; same = λ t. t.variables k.name y.0 k.found; left = k.left }
 
 -- its piece
 pub seen : {n : Names} {s : State} {place : ℕ} {u v : State} (here : SeesVariable n s place u) → Took n s (piece (kind.Name here.name) ∷ []) v → Took n s (name_at n.variables place ∷ []) v
@@ -185,18 +153,12 @@ pub record SeesProcedure (n : Names) (s : State) (place : ℕ) (s' : State) : Ty
   pub left : s' ≡ s
 
 pub sees_procedure : {n : Names} (s : State) (y : ℕ × State) → procedure_here s ≡ Ok y → SeesProcedure n s y.0 y.1
-unfolding procedure_here
-sees_procedure s y e =
-    let m = then_ok (name_here s) _ y e in
-    let h = name_ok s m.0 m.1 in
-    let at : known_at (procedure_place m.0.0 s.procedures) s ≡ Ok y = subst (λ (u : State). known_at (procedure_place m.0.0 u.procedures) u ≡ Ok y) h.1 m.2 in
-    let k = known_is (procedure_place m.0.0 s.procedures) s y at in
-    record { name = m.0.0; next = h.0; same = λ t. t.procedures m.0.0 y.0 k.0; left = k.1 }
+sees_procedure s y e = let k = known_ok _ _ s y e in record { name = k.name; next = k.next; same = λ t. t.procedures k.name y.0 k.found; left = k.left }
 
 callable_moves : (room : ℕ) (found : Option Callable) (s : State) (y : ℕ × State) → callable_by room found s ≡ Ok y → y.1 ≡ record s { rest = after_first s.rest }
 callable_moves room None s y e = absurd (err_no_ok _ _ e)
 callable_moves room (Some q) s y e =
-    let c = check_ok (nat_le q.depth room) LimitPassed (advance >> give q.parameters) s y e in
+    let c = check_ok (nat_le q.depth room) _ (advance >> give q.parameters) s y e in
     sym (ap (λ (p : ℕ × State). p.1) (ok_is (q.parameters, record s { rest = after_first s.rest }) y c.1))
 
 -- the procedure that is called

@@ -6,7 +6,8 @@ use Rattle.camac_lang.specs.Expressions.{Callable, Scope}
 use Rattle.camac_lang.specs.Statements.{after, after_block, statements_in, statements}
 use Rattle.camac_lang.specs.Tree.{Statement}
 use Rattle.camac_lang.specs.View.{block_of}
-use Rattle.camac_text_tokens.specs.declared.fault.TextRule.TheVariants.{UnexpectedToken, LimitPassed}
+use Rattle.camac_text_tokens.specs.declared.fault.Limit.TheVariants as limit
+use Rattle.camac_text_tokens.specs.declared.fault.TextCase.TheVariants as told
 use Rattle.camac_text_tokens.specs.declared.token.Sign.TheVariants as sign
 use Rattle.camac_text_cursor.specs.Reading.{State, Reader, give, fail, kind_of, one_more, many}
 use Rattle.camac_text_cursor.specs.Readers.{is_sign, expect_sign}
@@ -90,7 +91,7 @@ module _ (room : ℕ) (block : Reader (List Statement)) (block_is : (s : State) 
 
 -- ---- a body in its braces
 
-no_room : (b : Bool) (s : State) (y : List Statement × State) → cond b (fail LimitPassed) (fail UnexpectedToken) s ≡ Ok y → ⊥
+no_room : (b : Bool) (s : State) (y : List Statement × State) → cond b (fail (told.Limit limit.Depth)) (fail told.Unexpected) s ≡ Ok y → ⊥
 no_room true s y e = err_no_ok _ _ e
 no_room false s y e = err_no_ok _ _ e
 

@@ -5,7 +5,7 @@ use Rattle.camac_lang.specs.declared.word.CrateCall.{CrateCall}
 use Rattle.camac_lang.specs.declared.word.CrateCall.TheVariants as crate_word
 use Rattle.camac_lang.specs.declared.word.LamCall.{LamCall}
 use Rattle.camac_lang.specs.declared.word.LamCall.TheVariants as lam_word
-use Rattle.camac_text_tokens.specs.declared.fault.TextRule.TheVariants.{UnexpectedToken}
+use Rattle.camac_text_tokens.specs.declared.fault.TextCase.TheVariants as told
 use Rattle.camac_text_tokens.specs.declared.token.Keyword.TheVariants as word
 use Rattle.camac_text_tokens.specs.declared.token.TokenKind.{TokenKind}
 use Rattle.camac_text_tokens.specs.declared.token.TokenKind.TheVariants as kind
@@ -20,7 +20,7 @@ use Rattle.camac_text_phrases.proofs.LocalExpressions.{local_expression}
 local_switch_by : (k : Option TokenKind) (s : State) → IsLocal (switch_by k) s
 local_switch_by (Some (kind.Keyword word.On)) s = local_take true s
 local_switch_by (Some (kind.Keyword word.Off)) s = local_take false s
-local_switch_by _ s = local_fail UnexpectedToken s tt
+local_switch_by _ s = local_fail told.Unexpected s tt
 
 local_switch : (s : State) → IsLocal switch s
 unfolding switch
@@ -56,7 +56,7 @@ local_lam_call_by : (line : ℕ) (k : Option TokenKind) (s : State) → IsLocal 
 local_lam_call_by line (Some (kind.Keyword word.Cclm)) s = local_lam_switch line s
 local_lam_call_by line (Some (kind.Keyword word.Cclc)) s = local_lam_action lam_word.Clear line s
 local_lam_call_by line (Some (kind.Keyword word.Ctlm)) s = local_lam_action lam_word.Test line s
-local_lam_call_by line _ s = local_fail UnexpectedToken s tt
+local_lam_call_by line _ s = local_fail told.Unexpected s tt
 
 pub local_crate_call_by : (room line : ℕ) (k : Option TokenKind) (s : State) → IsLocal (crate_call_by room line k) s
 local_crate_call_by room line (Some (kind.Keyword word.Cccz)) s = local_crate crate_word.Initialise room line s

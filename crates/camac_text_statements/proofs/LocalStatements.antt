@@ -4,7 +4,8 @@ use Rattle.camac_lang.specs.Tree.{no_data, into, from, assign, set_register, sin
 use Rattle.camac_lang.specs.View.{block_of}
 use Rattle.camac_lang.specs.declared.word.WordSize.{WordSize}
 use Rattle.camac_lang.specs.declared.word.WordSize.TheVariants.{Full, Short}
-use Rattle.camac_text_tokens.specs.declared.fault.TextRule.TheVariants.{UnexpectedToken, LimitPassed}
+use Rattle.camac_text_tokens.specs.declared.fault.Limit.TheVariants as limit
+use Rattle.camac_text_tokens.specs.declared.fault.TextCase.TheVariants as told
 use Rattle.camac_text_tokens.specs.declared.token.Keyword.TheVariants as word
 use Rattle.camac_text_tokens.specs.declared.token.Sign.TheVariants as sign
 use Rattle.camac_text_tokens.specs.declared.token.TokenKind.{TokenKind}
@@ -14,6 +15,7 @@ use Rattle.camac_text_cursor.specs.Readers.{begin, is_sign, expect, expect_sign,
 use Rattle.camac_text_phrases.specs.Expressions.{expression_at}
 use Rattle.camac_text_statements.specs.Statements.{assignment, register_setting, move_by, move_at, single_action, put_action, else_by, if_statement, for_statement, while_statement, lock_statement, nested_by, statement_by, statement_with, is_no_end, block_at}
 use Rattle.camac_text_phrases.specs.Conditions.{condition_at}
+use Rattle.camac_text_phrases.specs.declared.keeping.Own.TheVariants as of_loop
 use Rattle.camac_text_phrases.specs.Keeps.{keeps_at}
 use Rattle.camac_text_statements.proofs.Blocks.{Body}
 use Rattle.camac_text_statements.proofs.LocalTransfers.{local_transfer_by}
@@ -89,32 +91,32 @@ module _ (room : ℕ) (block : Reader (List Statement)) (block_is : (s : State) 
   local_for_statement : (line : ℕ) (s : State) → IsLocal (for_statement room block line) s
   unfolding for_statement
   local_for_statement line s =
-      local_then begin (λ _. used_variable >>= λ v. expect_sign sign.Equals >> (expression_at room >>= λ a. expect word.To >> (expression_at room >>= λ b. keeps_at v >>= λ ks. block >>= λ xs. give (for_ line v a b ks (block_of xs))))) s (local_begin s) (λ _ u _.
-      local_then used_variable (λ v. expect_sign sign.Equals >> (expression_at room >>= λ a. expect word.To >> (expression_at room >>= λ b. keeps_at v >>= λ ks. block >>= λ xs. give (for_ line v a b ks (block_of xs))))) u (local_used_variable u) (λ v u _.
-      local_then (expect_sign sign.Equals) (λ _. expression_at room >>= λ a. expect word.To >> (expression_at room >>= λ b. keeps_at v >>= λ ks. block >>= λ xs. give (for_ line v a b ks (block_of xs)))) u (local_expect_sign sign.Equals u) (λ _ u _.
-      local_then (expression_at room) (λ a. expect word.To >> (expression_at room >>= λ b. keeps_at v >>= λ ks. block >>= λ xs. give (for_ line v a b ks (block_of xs)))) u (local_expression room u) (λ a u _.
-      local_then (expect word.To) (λ _. expression_at room >>= λ b. keeps_at v >>= λ ks. block >>= λ xs. give (for_ line v a b ks (block_of xs))) u (local_expect word.To u) (λ _ u _.
-      local_then (expression_at room) (λ b. keeps_at v >>= λ ks. block >>= λ xs. give (for_ line v a b ks (block_of xs))) u (local_expression room u) (λ b u _.
-      local_then (keeps_at v) (λ ks. block >>= λ xs. give (for_ line v a b ks (block_of xs))) u (local_keeps v u) (λ ks u _.
+      local_then begin (λ _. used_variable >>= λ v. expect_sign sign.Equals >> (expression_at room >>= λ a. expect word.To >> (expression_at room >>= λ b. keeps_at (of_loop.Counter v) >>= λ ks. block >>= λ xs. give (for_ line v a b ks (block_of xs))))) s (local_begin s) (λ _ u _.
+      local_then used_variable (λ v. expect_sign sign.Equals >> (expression_at room >>= λ a. expect word.To >> (expression_at room >>= λ b. keeps_at (of_loop.Counter v) >>= λ ks. block >>= λ xs. give (for_ line v a b ks (block_of xs))))) u (local_used_variable u) (λ v u _.
+      local_then (expect_sign sign.Equals) (λ _. expression_at room >>= λ a. expect word.To >> (expression_at room >>= λ b. keeps_at (of_loop.Counter v) >>= λ ks. block >>= λ xs. give (for_ line v a b ks (block_of xs)))) u (local_expect_sign sign.Equals u) (λ _ u _.
+      local_then (expression_at room) (λ a. expect word.To >> (expression_at room >>= λ b. keeps_at (of_loop.Counter v) >>= λ ks. block >>= λ xs. give (for_ line v a b ks (block_of xs)))) u (local_expression room u) (λ a u _.
+      local_then (expect word.To) (λ _. expression_at room >>= λ b. keeps_at (of_loop.Counter v) >>= λ ks. block >>= λ xs. give (for_ line v a b ks (block_of xs))) u (local_expect word.To u) (λ _ u _.
+      local_then (expression_at room) (λ b. keeps_at (of_loop.Counter v) >>= λ ks. block >>= λ xs. give (for_ line v a b ks (block_of xs))) u (local_expression room u) (λ b u _.
+      local_then (keeps_at (of_loop.Counter v)) (λ ks. block >>= λ xs. give (for_ line v a b ks (block_of xs))) u (local_keeps (of_loop.Counter v) u) (λ ks u _.
       local_then block (λ xs. give (for_ line v a b ks (block_of xs))) u (block_local u) (λ xs u _. local_give (for_ line v a b ks (block_of xs)) u))))))))
 
   local_while_statement : (line : ℕ) (s : State) → IsLocal (while_statement room block line) s
   unfolding while_statement
   local_while_statement line s =
-      local_then begin (λ _. condition_at room >>= λ c. expect word.Turns >> (any_number >>= λ n. expect word.By >> (used_variable >>= λ v. keeps_at v >>= λ ks. block >>= λ xs. give (while_ line c n v ks (block_of xs))))) s (local_begin s) (λ _ u _.
-      local_then (condition_at room) (λ c. expect word.Turns >> (any_number >>= λ n. expect word.By >> (used_variable >>= λ v. keeps_at v >>= λ ks. block >>= λ xs. give (while_ line c n v ks (block_of xs))))) u (local_condition room u) (λ c u _.
-      local_then (expect word.Turns) (λ _. any_number >>= λ n. expect word.By >> (used_variable >>= λ v. keeps_at v >>= λ ks. block >>= λ xs. give (while_ line c n v ks (block_of xs)))) u (local_expect word.Turns u) (λ _ u _.
-      local_then any_number (λ n. expect word.By >> (used_variable >>= λ v. keeps_at v >>= λ ks. block >>= λ xs. give (while_ line c n v ks (block_of xs)))) u (local_any_number u) (λ n u _.
-      local_then (expect word.By) (λ _. used_variable >>= λ v. keeps_at v >>= λ ks. block >>= λ xs. give (while_ line c n v ks (block_of xs))) u (local_expect word.By u) (λ _ u _.
-      local_then used_variable (λ v. keeps_at v >>= λ ks. block >>= λ xs. give (while_ line c n v ks (block_of xs))) u (local_used_variable u) (λ v u _.
-      local_then (keeps_at v) (λ ks. block >>= λ xs. give (while_ line c n v ks (block_of xs))) u (local_keeps v u) (λ ks u _.
+      local_then begin (λ _. condition_at room >>= λ c. expect word.Turns >> (any_number >>= λ n. expect word.By >> (used_variable >>= λ v. keeps_at (of_loop.Measure v) >>= λ ks. block >>= λ xs. give (while_ line c n v ks (block_of xs))))) s (local_begin s) (λ _ u _.
+      local_then (condition_at room) (λ c. expect word.Turns >> (any_number >>= λ n. expect word.By >> (used_variable >>= λ v. keeps_at (of_loop.Measure v) >>= λ ks. block >>= λ xs. give (while_ line c n v ks (block_of xs))))) u (local_condition room u) (λ c u _.
+      local_then (expect word.Turns) (λ _. any_number >>= λ n. expect word.By >> (used_variable >>= λ v. keeps_at (of_loop.Measure v) >>= λ ks. block >>= λ xs. give (while_ line c n v ks (block_of xs)))) u (local_expect word.Turns u) (λ _ u _.
+      local_then any_number (λ n. expect word.By >> (used_variable >>= λ v. keeps_at (of_loop.Measure v) >>= λ ks. block >>= λ xs. give (while_ line c n v ks (block_of xs)))) u (local_any_number u) (λ n u _.
+      local_then (expect word.By) (λ _. used_variable >>= λ v. keeps_at (of_loop.Measure v) >>= λ ks. block >>= λ xs. give (while_ line c n v ks (block_of xs))) u (local_expect word.By u) (λ _ u _.
+      local_then used_variable (λ v. keeps_at (of_loop.Measure v) >>= λ ks. block >>= λ xs. give (while_ line c n v ks (block_of xs))) u (local_used_variable u) (λ v u _.
+      local_then (keeps_at (of_loop.Measure v)) (λ ks. block >>= λ xs. give (while_ line c n v ks (block_of xs))) u (local_keeps (of_loop.Measure v) u) (λ ks u _.
       local_then block (λ xs. give (while_ line c n v ks (block_of xs))) u (block_local u) (λ xs u _. local_give (while_ line c n v ks (block_of xs)) u))))))))
 
   local_locking : (line : ℕ) (s : State) → IsLocal (lock_statement room block line) s
   unfolding lock_statement
   local_locking line s =
-      local_ask (λ w. w.in_procedure) (λ w ts n. refl) (λ b. check (not b) UnexpectedToken >> (begin >> (expression_at room >>= λ e. block >>= λ xs. give (locked line e (block_of xs))))) s
-      (local_check (not s.in_procedure) UnexpectedToken (begin >> (expression_at room >>= λ e. block >>= λ xs. give (locked line e (block_of xs)))) s tt (λ _.
+      local_ask (λ w. w.in_procedure) (λ w ts n. refl) (λ b. check (not b) told.LockInProcedure >> (begin >> (expression_at room >>= λ e. block >>= λ xs. give (locked line e (block_of xs))))) s
+      (local_check (not s.in_procedure) told.LockInProcedure (begin >> (expression_at room >>= λ e. block >>= λ xs. give (locked line e (block_of xs)))) s tt (λ _.
       local_then begin (λ _. expression_at room >>= λ e. block >>= λ xs. give (locked line e (block_of xs))) s (local_begin s) (λ _ u _.
       local_then (expression_at room) (λ e. block >>= λ xs. give (locked line e (block_of xs))) u (local_expression room u) (λ e u _.
       local_then block (λ xs. give (locked line e (block_of xs))) u (block_local u) (λ xs u _. local_give (locked line e (block_of xs)) u)))))
@@ -147,8 +149,8 @@ module _ (room : ℕ) (block : Reader (List Statement)) (block_is : (s : State) 
 pub local_block : (room : ℕ) (s : State) → IsLocal (block_at room) s
 unfolding block_at
 local_block zero s =
-    local_peek (λ k. cond (is_sign sign.LeftBrace k) (fail LimitPassed) (fail UnexpectedToken)) s
-    (local_if (is_sign sign.LeftBrace (kind_of s.rest)) (fail LimitPassed) (fail UnexpectedToken) s (λ _. local_fail LimitPassed s tt) (λ _. local_fail UnexpectedToken s tt))
+    local_peek (λ k. cond (is_sign sign.LeftBrace k) (fail (told.Limit limit.Depth)) (fail told.Unexpected)) s
+    (local_if (is_sign sign.LeftBrace (kind_of s.rest)) (fail (told.Limit limit.Depth)) (fail told.Unexpected) s (λ _. local_fail (told.Limit limit.Depth) s tt) (λ _. local_fail told.Unexpected s tt))
 local_block (suc room) s =
     local_then (expect_sign sign.LeftBrace) (λ _. many is_no_end (statement_with room (block_at room)) >>= λ body. expect_sign sign.RightBrace >> give body) s (local_expect_sign sign.LeftBrace s) (λ _ u _.
     local_then (many is_no_end (statement_with room (block_at room))) (λ body. expect_sign sign.RightBrace >> give body) u (local_statements room (block_at room) (block_ok room) (local_block room) u) (λ body v _.

@@ -8,7 +8,7 @@ use Rattle.camac_lang.specs.Statements.{keeps_fit, after_block}
 use Rattle.camac_lang.specs.Tests.{most, unless_broken}
 use Rattle.camac_lang.specs.Tree.{Expression, Condition, Keep, Statement, for_, while_, locked}
 use Rattle.camac_lang.specs.View.{block_of}
-use Rattle.camac_text_tokens.specs.declared.fault.TextRule.TheVariants.{UnexpectedToken}
+use Rattle.camac_text_tokens.specs.declared.fault.TextCase.TheVariants as told
 use Rattle.camac_text_tokens.specs.declared.token.Keyword.TheVariants as word
 use Rattle.camac_text_tokens.specs.declared.token.Sign.TheVariants as sign
 use Rattle.camac_text_tokens.specs.declared.token.TokenKind.{TokenKind}
@@ -17,6 +17,7 @@ use Rattle.camac_text_cursor.specs.Reading.{State, Reader, ◌>>=◌, ◌>>◌, 
 use Rattle.camac_text_cursor.specs.Readers.{begin, expect, expect_sign, any_number, used_variable}
 use Rattle.camac_text_phrases.specs.Expressions.{expression_at}
 use Rattle.camac_text_phrases.specs.Conditions.{condition_at}
+use Rattle.camac_text_phrases.specs.declared.keeping.Own.TheVariants as of_loop
 use Rattle.camac_text_phrases.specs.Keeps.{keeps_at}
 use Rattle.camac_text_statements.specs.Statements.{for_statement, while_statement, lock_statement}
 use Rattle.camac_text_cursor.proofs.Steps.{then_ok, ok_is}
@@ -53,17 +54,17 @@ module _ (room : ℕ) (block : Reader (List Statement)) (block_is : (s : State) 
     is : (for_ line own first last keeps (block_of body), left) ≡ y
 
   abbrev from_to : ℕ → ℕ → Expression → Reader Statement
-  from_to line own first = expect word.To >> (expression_at room >>= λ last. keeps_at own >>= λ ks. block >>= λ xs. give (for_ line own first last ks (block_of xs)))
+  from_to line own first = expect word.To >> (expression_at room >>= λ last. keeps_at (of_loop.Counter own) >>= λ ks. block >>= λ xs. give (for_ line own first last ks (block_of xs)))
 
   bounded : (line own : ℕ) (first : Expression) (s : State) (y : Statement × State) → from_to line own first s ≡ Ok y → Bounded line own first s y
   bounded line own first s y e =
-      let a = then_ok (expect word.To s) (λ _. expression_at room >>= λ last. keeps_at own >>= λ ks. block >>= λ xs. give (for_ line own first last ks (block_of xs))) y e in
+      let a = then_ok (expect word.To s) (λ _. expression_at room >>= λ last. keeps_at (of_loop.Counter own) >>= λ ks. block >>= λ xs. give (for_ line own first last ks (block_of xs))) y e in
       let to_a : Moves s a.0.1 = expect_ok word.To s a.0 a.1 in
-      let b = then_ok (expression_at room a.0.1) (λ last. keeps_at own >>= λ ks. block >>= λ xs. give (for_ line own first last ks (block_of xs))) y a.2 in
+      let b = then_ok (expression_at room a.0.1) (λ last. keeps_at (of_loop.Counter own) >>= λ ks. block >>= λ xs. give (for_ line own first last ks (block_of xs))) y a.2 in
       let last = expression_ok room a.0.1 b.0 b.1 in
       let to_b : Moves s b.0.1 = then_moves s a.0.1 b.0.1 to_a last.moves in
-      let c = then_ok (keeps_at own b.0.1) (λ ks. block >>= λ xs. give (for_ line own first b.0.0 ks (block_of xs))) y b.2 in
-      let keeps = keeps_ok own b.0.1 c.0 c.1 in
+      let c = then_ok (keeps_at (of_loop.Counter own) b.0.1) (λ ks. block >>= λ xs. give (for_ line own first b.0.0 ks (block_of xs))) y b.2 in
+      let keeps = keeps_ok (of_loop.Counter own) b.0.1 c.0 c.1 in
       let to_c : Moves s c.0.1 = then_moves s b.0.1 c.0.1 to_b keeps.moves in
       let d = then_ok (block c.0.1) (λ xs. give (for_ line own first b.0.0 c.0.0 (block_of xs))) y c.2 in
       record {
@@ -73,7 +74,7 @@ module _ (room : ℕ) (block : Reader (List Statement)) (block_is : (s : State) 
         left = d.0.1;
         last_fits = expression_before s a.0.1 b.0.0 to_a last.fits;
         last_deep = last.deep;
-        keeps_stand = keeps_before s b.0.1 own c.0.0 to_b (keeps_stand own b.0.1 c.0.0 c.0.1 keeps);
+        keeps_stand = keeps_before s b.0.1 own c.0.0 to_b (keeps_stand (of_loop.Counter own) b.0.1 c.0.0 c.0.1 keeps);
         holds = after_moves room s c.0.1 d.0.0 d.0.1 to_c (block_is c.0.1 d.0 d.1);
         is = ok_is (for_ line own first b.0.0 c.0.0 (block_of d.0.0), d.0.1) y d.2;
       }
@@ -114,7 +115,7 @@ module _ (room : ℕ) (block : Reader (List Statement)) (block_is : (s : State) 
   pub while_is : (s : State) (j : TokenKind) (line : ℕ) (y : Statement × State) → kind_of s.rest ≡ Some j → while_statement room block line s ≡ Ok y → Acts room s y.0 y.1
   unfolding while_statement
   while_is s j line y next e =
-      let by_to : Condition → ℕ → Reader Statement = λ c turns. expect word.By >> (used_variable >>= λ own. keeps_at own >>= λ ks. block >>= λ xs. give (while_ line c turns own ks (block_of xs))) in
+      let by_to : Condition → ℕ → Reader Statement = λ c turns. expect word.By >> (used_variable >>= λ own. keeps_at (of_loop.Measure own) >>= λ ks. block >>= λ xs. give (while_ line c turns own ks (block_of xs))) in
       let rest : Reader Statement = condition_at room >>= λ c. expect word.Turns >> (any_number >>= λ turns. by_to c turns) in
       let z = then_ok (begin s) (λ _. rest) y e in
       let begins = begin_ok s z.0 z.1 in
@@ -127,13 +128,13 @@ module _ (room : ℕ) (block : Reader (List Statement)) (block_is : (s : State) 
       let a3 = then_ok (any_number a2.0.1) (λ turns. by_to a1.0.0 turns) y a2.2 in
       let turns = any_number_ok a2.0.1 a3.0 a3.1 in
       let to_3 : Moves b a3.0.1 = then_moves b a2.0.1 a3.0.1 to_2 (one_moves a2.0.1 (kind.Number a3.0.0) a3.0.1 turns) in
-      let a4 = then_ok (expect word.By a3.0.1) (λ _. used_variable >>= λ own. keeps_at own >>= λ ks. block >>= λ xs. give (while_ line a1.0.0 a3.0.0 own ks (block_of xs))) y a3.2 in
+      let a4 = then_ok (expect word.By a3.0.1) (λ _. used_variable >>= λ own. keeps_at (of_loop.Measure own) >>= λ ks. block >>= λ xs. give (while_ line a1.0.0 a3.0.0 own ks (block_of xs))) y a3.2 in
       let to_4 : Moves b a4.0.1 = then_moves b a3.0.1 a4.0.1 to_3 (expect_ok word.By a3.0.1 a4.0 a4.1) in
-      let v = then_ok (used_variable a4.0.1) (λ own. keeps_at own >>= λ ks. block >>= λ xs. give (while_ line a1.0.0 a3.0.0 own ks (block_of xs))) y a4.2 in
+      let v = then_ok (used_variable a4.0.1) (λ own. keeps_at (of_loop.Measure own) >>= λ ks. block >>= λ xs. give (while_ line a1.0.0 a3.0.0 own ks (block_of xs))) y a4.2 in
       let own = used_variable_ok a4.0.1 v.0 v.1 in
       let to_v : Moves b v.0.1 = then_moves b a4.0.1 v.0.1 to_4 own.1 in
-      let a5 = then_ok (keeps_at v.0.0 v.0.1) (λ ks. block >>= λ xs. give (while_ line a1.0.0 a3.0.0 v.0.0 ks (block_of xs))) y v.2 in
-      let keeps = keeps_ok v.0.0 v.0.1 a5.0 a5.1 in
+      let a5 = then_ok (keeps_at (of_loop.Measure v.0.0) v.0.1) (λ ks. block >>= λ xs. give (while_ line a1.0.0 a3.0.0 v.0.0 ks (block_of xs))) y v.2 in
+      let keeps = keeps_ok (of_loop.Measure v.0.0) v.0.1 a5.0 a5.1 in
       let to_5 : Moves b a5.0.1 = then_moves b v.0.1 a5.0.1 to_v keeps.moves in
       let a6 = then_ok (block a5.0.1) (λ xs. give (while_ line a1.0.0 a3.0.0 v.0.0 a5.0.0 (block_of xs))) y a5.2 in
       let body : Body room b a6.0.0 a6.0.1 = after_moves room b a5.0.1 a6.0.0 a6.0.1 to_5 (block_is a5.0.1 a6.0 a6.1) in
@@ -148,14 +149,14 @@ module _ (room : ℕ) (block : Reader (List Statement)) (block_is : (s : State) 
       (both _ _ (test.fits h_b)
       (both _ _ (kind_fit a2.0.1.rest (kind.Number a3.0.0) turns.next (to_2.fit h_b))
       (both _ _ (variable_before b a4.0.1 v.0.0 to_4 own.0)
-      (keeps_before b v.0.1 v.0.0 a5.0.0 to_v (keeps_stand v.0.0 v.0.1 a5.0.0 a5.0.1 keeps) h_b)))))
+      (keeps_before b v.0.1 v.0.0 a5.0.0 to_v (keeps_stand (of_loop.Measure v.0.0) v.0.1 a5.0.0 a5.0.1 keeps) h_b)))))
       refl (omega arith) body)
 
   pub locking_is : (s : State) (j : TokenKind) (line : ℕ) (y : Statement × State) → kind_of s.rest ≡ Some j → lock_statement room block line s ≡ Ok y → Acts room s y.0 y.1
   unfolding lock_statement
   locking_is s j line y next e =
       let rest : Reader Statement = expression_at room >>= λ c. block >>= λ xs. give (locked line c (block_of xs)) in
-      let free = check_ok (not s.in_procedure) UnexpectedToken (begin >> rest) s y e in
+      let free = check_ok (not s.in_procedure) told.LockInProcedure (begin >> rest) s y e in
       let z = then_ok (begin s) (λ _. rest) y free.1 in
       let begins = begin_ok s z.0 z.1 in
       let b : State = begun s in

@@ -12,12 +12,14 @@ use Rattle.camac_text_tokens.specs.declared.token.Keyword.TheVariants as word
 use Rattle.camac_text_tokens.specs.declared.token.Sign.TheVariants as sign
 use Rattle.camac_text_tokens.specs.declared.token.TokenKind.{TokenKind}
 use Rattle.camac_text_tokens.specs.declared.token.TokenKind.TheVariants as kind
-use Rattle.camac_text_tokens.specs.declared.fault.TextRule.TheVariants.{UnexpectedToken, LimitPassed}
+use Rattle.camac_text_tokens.specs.declared.fault.Limit.TheVariants as limit
+use Rattle.camac_text_tokens.specs.declared.fault.TextCase.TheVariants as told
 use Rattle.camac_text_cursor.specs.Reading.{Reader, ◌>>=◌, ◌>>◌, give, peek, advance, line_here, fail, many, ask, check}
 use Rattle.camac_text_cursor.specs.Readers.{begin, is_sign, expect, expect_sign, any_number, branch_number, function_number, set_name, used_register, used_variable, variable_here, used_lam}
 use Rattle.camac_text_phrases.specs.Expressions.{expression_at}
 use Rattle.camac_text_statements.specs.Transfers.{scan_statement, q_stop_statement, q_repeat_statement, call_statement}
 use Rattle.camac_text_phrases.specs.Conditions.{condition_at}
+use Rattle.camac_text_phrases.specs.declared.keeping.Own.TheVariants as of_loop
 use Rattle.camac_text_phrases.specs.Keeps.{keeps_at}
 
 unfoldable pub assignment : ℕ → ℕ → Reader Statement
@@ -73,7 +75,7 @@ put_action room line = do
 abbrev pub switch_by : Option TokenKind → Reader Bool
 switch_by (Some (kind.Keyword word.On)) = advance >> give true
 switch_by (Some (kind.Keyword word.Off)) = advance >> give false
-switch_by _ = fail UnexpectedToken
+switch_by _ = fail told.Unexpected
 
 unfoldable pub switch : Reader Bool
 switch = peek >>= switch_by
@@ -109,7 +111,7 @@ abbrev pub lam_call_by : ℕ → Option TokenKind → Reader Statement
 lam_call_by line (Some (kind.Keyword word.Cclm)) = lam_switch line
 lam_call_by line (Some (kind.Keyword word.Cclc)) = lam_action lam_word.Clear line
 lam_call_by line (Some (kind.Keyword word.Ctlm)) = lam_action lam_word.Test line
-lam_call_by line _ = fail UnexpectedToken
+lam_call_by line _ = fail told.Unexpected
 
 abbrev pub crate_call_by : ℕ → ℕ → Option TokenKind → Reader Statement
 crate_call_by room line (Some (kind.Keyword word.Cccz)) = crate_action crate_word.Initialise room line
@@ -159,7 +161,7 @@ for_statement room block line = do
   first ← expression_at room
   expect word.To
   last ← expression_at room
-  keeps ← keeps_at own
+  keeps ← keeps_at (of_loop.Counter own)
   body ← block
   give (for_ line own first last keeps (block_of body))
 
@@ -172,7 +174,7 @@ while_statement room block line = do
   turns ← any_number
   expect word.By
   measure ← used_variable
-  keeps ← keeps_at measure
+  keeps ← keeps_at (of_loop.Measure measure)
   body ← block
   give (while_ line test turns measure keeps (block_of body))
 
@@ -180,7 +182,7 @@ while_statement room block line = do
 unfoldable pub lock_statement : ℕ → Reader (List Statement) → ℕ → Reader Statement
 lock_statement room block line = do
   is_procedure ← ask (λ s. s.in_procedure)
-  check (not is_procedure) UnexpectedToken
+  check (not is_procedure) told.LockInProcedure
   begin
   crate_no ← expression_at room
   body ← block
@@ -216,7 +218,7 @@ is_no_end k = not (is_sign sign.RightBrace k)
 
 -- a block, where so many braces may be open at once
 unfoldable pub block_at : ℕ → Reader (List Statement)
-block_at zero = peek >>= λ k. if is_sign sign.LeftBrace k then fail LimitPassed else fail UnexpectedToken
+block_at zero = peek >>= λ k. if is_sign sign.LeftBrace k then fail (told.Limit limit.Depth) else fail told.Unexpected
 block_at (suc room) = do
   expect_sign sign.LeftBrace
   body ← many is_no_end (statement_with room (block_at room))

@@ -8,8 +8,8 @@ ghost use Rattle.camac_text_cursor.specs.Parser.{state, Gives};
 use crate::statements::block;
 use camac_lang::Stmt;
 use camac_text_cursor::Parser;
-use camac_text_phrases::{condition, expression, keeps};
-use camac_text_tokens::{Keyword, Sign, TextFault, TextRule, TokenKind};
+use camac_text_phrases::{Own, condition, expression, keeps};
+use camac_text_tokens::{Keyword, Sign, TextCase, TextFault, TokenKind};
 
 /// `if`
 #[cycle(statement)]
@@ -47,7 +47,7 @@ pub fn for_statement(parser: &mut Parser<'_>, room: u32, line: u32) -> Result<St
     let from = expression(parser, room)?;
     parser.expect(Keyword::To)?;
     let to = expression(parser, room)?;
-    let keeps = keeps(parser, variable)?;
+    let keeps = keeps(parser, Own::Counter(variable))?;
     let body = block(parser, room)?;
     Ok(Stmt::For {
         line,
@@ -71,7 +71,7 @@ pub fn while_statement(parser: &mut Parser<'_>, room: u32, line: u32) -> Result<
     let turns = parser.any_number()?;
     parser.expect(Keyword::By)?;
     let measure = parser.used_variable()?;
-    let keeps = keeps(parser, measure)?;
+    let keeps = keeps(parser, Own::Measure(measure))?;
     let body = block(parser, room)?;
     Ok(Stmt::While {
         line,
@@ -90,7 +90,7 @@ pub fn lock_statement(parser: &mut Parser<'_>, room: u32, line: u32) -> Result<S
     ensures { Gives statement_of result parser.new (lock_statement room (block_at room) line (state parser.old)) }
 {
     if parser.in_procedure() {
-        return Err(parser.fault(TextRule::UnexpectedToken));
+        return Err(parser.fault(TextCase::LockInProcedure));
     }
     parser.begin()?;
     let crate_no = expression(parser, room)?;

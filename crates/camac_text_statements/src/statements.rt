@@ -13,7 +13,7 @@ use crate::nesting::{for_statement, if_statement, lock_statement, while_statemen
 use crate::transfers::{call, q_repeat, q_stop, scan};
 use camac_lang::{CrateCall, LamCall, Stmt, WordSize};
 use camac_text_cursor::Parser;
-use camac_text_tokens::{Keyword, Sign, TextFault, TextRule, TokenKind};
+use camac_text_tokens::{Keyword, Limit, Sign, TextCase, TextFault, TokenKind};
 
 /// The statements between two braces, where so many braces and brackets may be open at once.
 #[cycle(statement)]
@@ -23,9 +23,9 @@ pub fn block(parser: &mut Parser<'_>, room: u32) -> Result<Vec<Stmt>, TextFault>
 {
     if room == 0 {
         if parser.next_is_sign(Sign::LeftBrace) {
-            return Err(parser.fault(TextRule::LimitPassed));
+            return Err(parser.fault(TextCase::Limit(Limit::Depth)));
         }
-        return Err(parser.fault(TextRule::UnexpectedToken));
+        return Err(parser.fault(TextCase::Unexpected));
     }
     in_braces(parser, room - 1)
 }
@@ -73,7 +73,7 @@ fn statement(parser: &mut Parser<'_>, room: u32) -> Result<Stmt, TextFault>
             let word = *word;
             keyword_statement(parser, word, room, line)
         }
-        _ => Err(parser.fault(TextRule::UnexpectedToken)),
+        _ => Err(parser.fault(TextCase::Unexpected)),
     }
 }
 
@@ -122,6 +122,6 @@ fn keyword_statement(
         Keyword::Cclm => lam_switch(parser, line),
         Keyword::Cclc => lam_action(parser, LamCall::Clear, line),
         Keyword::Ctlm => lam_action(parser, LamCall::Test, line),
-        _ => Err(parser.fault(TextRule::UnexpectedToken)),
+        _ => Err(parser.fault(TextCase::Unexpected)),
     }
 }

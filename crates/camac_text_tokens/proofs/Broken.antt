@@ -11,8 +11,9 @@ use Rattle.camac_text_tokens.specs.declared.token.TokenKind.{TokenKind}
 use Rattle.camac_text_tokens.specs.declared.token.TokenKind.TheVariants as kind
 use Rattle.camac_text_tokens.specs.Start.{Start}
 use Rattle.camac_text_tokens.specs.Start as start
-use Rattle.camac_text_tokens.specs.declared.fault.TextRule.{TextRule}
-use Rattle.camac_text_tokens.specs.declared.fault.TextRule.TheVariants as rule
+use Rattle.camac_text_tokens.specs.declared.fault.TextCase.{TextCase}
+use Rattle.camac_text_tokens.specs.declared.fault.Limit.TheVariants.{NameBytes}
+use Rattle.camac_text_tokens.specs.declared.fault.TextCase.TheVariants as told
 use Rattle.camac_text_tokens.specs.Fault.{Fault}
 use Rattle.camac_text_tokens.specs.Words.{keyword}
 use Rattle.camac_text_tokens.specs.Scanning.{is_name_byte, is_blank, decimal_value, keyword_or, pair_at, single_at, pair_or_single, start_of, size, added, wrong, line_number, line_after, tokens_by, tokens_from, tokens_of}
@@ -41,7 +42,7 @@ word_breaks : (k : Option Keyword) (text : List ℕ) → keyword (take_while is_
 unfolding BreaksIf
 word_breaks (Some w) text at is = tt
 word_breaks None text at is =
-    breaks_if (ltb 32 (length (take_while is_name_byte text))) (start.Wrong rule.LimitPassed) (start.Found (kind.Name (take_while is_name_byte text)) (length (take_while is_name_byte text))) text
+    breaks_if (ltb 32 (length (take_while is_name_byte text))) (start.Wrong (told.Limit NameBytes)) (start.Found (kind.Name (take_while is_name_byte text)) (length (take_while is_name_byte text))) text
     (λ on. record {
       bytes = take_while is_name_byte text;
       rest = drop (length (take_while is_name_byte text)) text;
@@ -52,18 +53,21 @@ word_breaks None text at is =
     }) (λ _. tt)
 
 number_breaks : (text : List ℕ) → IsRun is_ascii_digit is_ascii_digit (take_while is_ascii_digit text) (drop (length (take_while is_ascii_digit text)) text)
-    → BreaksIf (cond (ltb (decimal_value (take_while is_ascii_digit text)) 4294967296) (start.Found (kind.Number (decimal_value (take_while is_ascii_digit text))) (length (take_while is_ascii_digit text))) (start.Wrong rule.NumberTooLarge)) text
+    → BreaksIf (cond (ltb (decimal_value (take_while is_ascii_digit text)) 4294967296) (start.Found (kind.Number (decimal_value (take_while is_ascii_digit text))) (length (take_while is_ascii_digit text))) (start.Wrong (told.Number 4294967295))) text
 unfolding BreaksIf
 number_breaks text is =
-    breaks_if (ltb (decimal_value (take_while is_ascii_digit text)) 4294967296) (start.Found (kind.Number (decimal_value (take_while is_ascii_digit text))) (length (take_while is_ascii_digit text))) (start.Wrong rule.NumberTooLarge) text
+    breaks_if (ltb (decimal_value (take_while is_ascii_digit text)) 4294967296) (start.Found (kind.Number (decimal_value (take_while is_ascii_digit text))) (length (take_while is_ascii_digit text))) (start.Wrong (told.Number 4294967295)) text
     (λ _. tt)
-    (λ off. record {
-      bytes = take_while is_ascii_digit text;
-      rest = drop (length (take_while is_ascii_digit text)) text;
-      parts = run_parts is_ascii_digit text;
-      digits = is;
-      large = ltb-false _ _ off;
-    })
+    (λ off. (
+      refl,
+      record {
+        bytes = take_while is_ascii_digit text;
+        rest = drop (length (take_while is_ascii_digit text)) text;
+        parts = run_parts is_ascii_digit text;
+        digits = is;
+        large = ltb-false _ _ off;
+      },
+    ))
 
 sign_breaks : (p q : Option Sign) (text : List ℕ) → HasOtherByte text → BreaksIf (pair_or_single p q) text
 unfolding BreaksIf
@@ -81,12 +85,12 @@ start_breaks b bs =
     breaks_if (is_ascii_digit b) _ _ text (λ is. number_breaks (b ∷ bs) (run_is is_ascii_digit is_ascii_digit b bs is is)) (λ no_number.
     sign_breaks (pair_at (b ∷ bs)) (single_at (b ∷ bs)) (b ∷ bs) (record { some = omega arith; no_word = no_word; no_number = no_number })))))
 
-breaks_wrong : (f : Start) (r : TextRule) (text : List ℕ) → wrong f ≡ Some r → BreaksIf f text → Breaks r text
+breaks_wrong : (f : Start) (r : TextCase) (text : List ℕ) → wrong f ≡ Some r → BreaksIf f text → Breaks r text
 unfolding BreaksIf
 breaks_wrong f r text bad is = subst (λ (g : Start). BreaksIf g text) (wrong_is f r bad) is
 
 -- no piece stands where something is wrong
-nothing_stands : (b : ℕ) (bs : List ℕ) (r : TextRule) → wrong (start_of b (b ∷ bs)) ≡ Some r
+nothing_stands : (b : ℕ) (bs : List ℕ) (r : TextCase) → wrong (start_of b (b ∷ bs)) ≡ Some r
     → (k : Option TokenKind) (bytes after : List ℕ) → b ∷ bs ≡ bytes ++ after → IsPiece k bytes after → ⊥
 nothing_stands b bs r bad k bytes after parts is =
     let starts = piece_starts k bytes after is in
@@ -110,7 +114,7 @@ record BrokenFrom (line : ℕ) (text : List ℕ) (f : Fault) : Type 0 where
   parts : text ≡ joined pieces ++ rest
   stand : StandBefore rest pieces
   nothing : (k : Option TokenKind) (bytes after : List ℕ) → rest ≡ bytes ++ after → IsPiece k bytes after → ⊥
-  why : Breaks f.rule rest
+  why : Breaks f.case rest
   at_line : f.line ≡ line_number (line + line_feeds (joined pieces))
   at_left : f.left ≡ length rest
 
@@ -121,18 +125,18 @@ all_err : (us : List Token) (r : Result (List Token) Fault) (f : Fault) → with
 all_err us (Ok ts) f e = absurd cc
 all_err us (Err d) f e = e
 
-broken_here : (b line : ℕ) (bs : List ℕ) (f : Fault) (r : TextRule) → wrong (start_of b (b ∷ bs)) ≡ Some r → tokens_from 0 line (b ∷ bs) ≡ Err f → BrokenFrom line (b ∷ bs) f
+broken_here : (b line : ℕ) (bs : List ℕ) (f : Fault) (r : TextCase) → wrong (start_of b (b ∷ bs)) ≡ Some r → tokens_from 0 line (b ∷ bs) ≡ Err f → BrokenFrom line (b ∷ bs) f
 unfolding tokens_from
 broken_here b line bs f r bad e =
-    let here : tokens_from 0 line (b ∷ bs) ≡ Err (record { rule = r; line = line_number line; left = length (b ∷ bs) }) = ap (λ (g : Start). tokens_by g line (length (b ∷ bs)) (λ n. tokens_from n (line_after line b) bs)) (wrong_is (start_of b (b ∷ bs)) r bad) in
-    let same : (let d : Fault = record { rule = r; line = line_number line; left = length (b ∷ bs) } in d) ≡ f = fault_is _ f (sym here ∙ e) in
+    let here : tokens_from 0 line (b ∷ bs) ≡ Err (record { case = r; line = line_number line; left = length (b ∷ bs) }) = ap (λ (g : Start). tokens_by g line (length (b ∷ bs)) (λ n. tokens_from n (line_after line b) bs)) (wrong_is (start_of b (b ∷ bs)) r bad) in
+    let same : (let d : Fault = record { case = r; line = line_number line; left = length (b ∷ bs) } in d) ≡ f = fault_is _ f (sym here ∙ e) in
     record {
       pieces = [];
       rest = b ∷ bs;
       parts = refl;
       stand = tt;
       nothing = nothing_stands b bs r bad;
-      why = subst (λ (d : Fault). Breaks d.rule (b ∷ bs)) same (breaks_wrong (start_of b (b ∷ bs)) r (b ∷ bs) bad (start_breaks b bs));
+      why = subst (λ (d : Fault). Breaks d.case (b ∷ bs)) same (breaks_wrong (start_of b (b ∷ bs)) r (b ∷ bs) bad (start_breaks b bs));
       at_line = sym (ap (λ (d : Fault). d.line) same) ∙ ap line_number (omega arith);
       at_left = sym (ap (λ (d : Fault). d.left) same);
     }
@@ -152,7 +156,7 @@ broken_later f line text d good stands rest =
       at_left = rest.at_left;
     }
 
-wrong_or : (o : Option TextRule) → ((r : TextRule) × (o ≡ Some r)) ⊎ (o ≡ None)
+wrong_or : (o : Option TextCase) → ((r : TextCase) × (o ≡ Some r)) ⊎ (o ≡ None)
 wrong_or None = inr refl
 wrong_or (Some r) = inl (r, refl)
 
@@ -175,11 +179,11 @@ broken_from (suc n) line (b ∷ bs) f few e =
 
 -- ---- from the place to the fault
 
--- the rule by what the first byte is
-rule_by : Bool → Bool → TextRule
-rule_by true number = rule.LimitPassed
-rule_by false true = rule.NumberTooLarge
-rule_by false false = rule.BadByte
+-- the case by what the first byte is
+case_by : Bool → Bool → TextCase
+case_by true number = told.Limit NameBytes
+case_by false true = told.Number 4294967295
+case_by false false = told.Byte
 
 begins_run : (first each : ℕ → Bool) (bytes rest : List ℕ) → IsRun first each bytes rest → begins first (bytes ++ rest) ≡ true
 begins_run first each [] rest is = absurd (let none : false ≡ true = is.start in cc)
@@ -189,39 +193,33 @@ no_word_begins : (bytes rest : List ℕ) → IsRun is_ascii_digit is_ascii_digit
 no_word_begins [] rest is = absurd (let none : false ≡ true = is.start in cc)
 no_word_begins (b ∷ bs) rest is = no_letter b (digit_high b is.start)
 
-the_rule : (r : TextRule) (text : List ℕ) → Breaks r text → r ≡ rule_by (begins is_ascii_alphabetic text) (begins is_ascii_digit text)
-unfolding rule_by
-the_rule rule.BadByte text is = rw (is.no_word, is.no_number) refl
-the_rule rule.NumberTooLarge text is = rw (is.parts, no_word_begins is.bytes is.rest is.digits, begins_run is_ascii_digit is_ascii_digit is.bytes is.rest is.digits) refl
-the_rule rule.LimitPassed text is = rw (is.parts, begins_run is_ascii_alphabetic is_name_byte is.bytes is.rest is.word) refl
-the_rule rule.UnexpectedToken text is = absurd is
-the_rule rule.DeclaredTwice text is = absurd is
-the_rule rule.NotDeclared text is = absurd is
-the_rule rule.BranchNotOne text is = absurd is
+the_case : (r : TextCase) (text : List ℕ) → Breaks r text → r ≡ case_by (begins is_ascii_alphabetic text) (begins is_ascii_digit text)
+unfolding case_by
+the_case told.Byte text is = rw (is.no_word, is.no_number) refl
+the_case (told.Number most) text (same, is) = rw (is.parts, no_word_begins is.bytes is.rest is.digits, begins_run is_ascii_digit is_ascii_digit is.bytes is.rest is.digits) (ap told.Number same)
+the_case (told.Limit NameBytes) text is = rw (is.parts, begins_run is_ascii_alphabetic is_name_byte is.bytes is.rest is.word) refl
+the_case _ text is = absurd is
 
--- it is the rule that the scan finds
-wrong_here : (f : Start) (text : List ℕ) (r : TextRule) → Breaks r text → Stands f text → BreaksIf f text
+-- it is the case that the scan finds
+wrong_here : (f : Start) (text : List ℕ) (r : TextCase) → Breaks r text → Stands f text → BreaksIf f text
     → ((k : Option TokenKind) (bytes after : List ℕ) → text ≡ bytes ++ after → IsPiece k bytes after → ⊥) → f ≡ start.Wrong r
 unfolding BreaksIf
 wrong_here (start.Gap n) text r why stands breaks nothing = absurd (nothing None (take n text) (drop n text) (sym (take-append-drop n text)) stands)
 wrong_here (start.Found k n) text r why stands breaks nothing = absurd (nothing (Some k) (take n text) (drop n text) (sym (take-append-drop n text)) stands)
-wrong_here (start.Wrong d) text r why stands breaks nothing = ap start.Wrong (the_rule d text breaks ∙ sym (the_rule r text why))
+wrong_here (start.Wrong d) text r why stands breaks nothing = ap start.Wrong (the_case d text breaks ∙ sym (the_case r text why))
 
 no_bytes : {first each : ℕ → Bool} (bytes rest : List ℕ) → [] ≡ bytes ++ rest → IsRun first each bytes rest → ⊥
 no_bytes [] rest e is = absurd (let none : false ≡ true = is.start in cc)
 no_bytes (b ∷ bs) rest e is = absurd cc
 
-fault_at : (line : ℕ) (rest : List ℕ) (r : TextRule) → Breaks r rest
+fault_at : (line : ℕ) (rest : List ℕ) (r : TextCase) → Breaks r rest
     → ((k : Option TokenKind) (bytes after : List ℕ) → rest ≡ bytes ++ after → IsPiece k bytes after → ⊥)
-    → tokens_from 0 line rest ≡ Err (record { rule = r; line = line_number line; left = length rest })
+    → tokens_from 0 line rest ≡ Err (record { case = r; line = line_number line; left = length rest })
 unfolding tokens_from
-fault_at line [] rule.BadByte why nothing = let some = why.some in absurd (omega (arith, some))
-fault_at line [] rule.NumberTooLarge why nothing = absurd (no_bytes why.bytes why.rest why.parts why.digits)
-fault_at line [] rule.LimitPassed why nothing = absurd (no_bytes why.bytes why.rest why.parts why.word)
-fault_at line [] rule.UnexpectedToken why nothing = absurd why
-fault_at line [] rule.DeclaredTwice why nothing = absurd why
-fault_at line [] rule.NotDeclared why nothing = absurd why
-fault_at line [] rule.BranchNotOne why nothing = absurd why
+fault_at line [] told.Byte why nothing = let some = why.some in absurd (omega (arith, some))
+fault_at line [] (told.Number most) why nothing = absurd (no_bytes why.1.bytes why.1.rest why.1.parts why.1.digits)
+fault_at line [] (told.Limit NameBytes) why nothing = absurd (no_bytes why.bytes why.rest why.parts why.word)
+fault_at line [] _ why nothing = absurd why
 fault_at line (b ∷ bs) r why nothing =
     ap (λ (g : Start). tokens_by g line (length (b ∷ bs)) (λ n. tokens_from n (line_after line b) bs)) (wrong_here (start_of b (b ∷ bs)) (b ∷ bs) r why (start_stands b bs) (start_breaks b bs) nothing)
 
@@ -245,6 +243,6 @@ token_faults_stand text f = (
       record { pieces = b.pieces; rest = b.rest; parts = b.parts; stand = b.stand; nothing = b.nothing; why = b.why; line = b.at_line; left = b.at_left },
   λ b.
       ap (tokens_from 0 1) b.parts
-      ∙ fault_after 1 b.pieces b.rest f b.stand (fault_at (1 + line_feeds (joined b.pieces)) b.rest f.rule b.why b.nothing ∙ ap (λ (l : ℕ). let r : Result (List Token) Fault = Err (record { rule = f.rule; line = l; left = length b.rest }) in r) (sym b.line)
-      ∙ ap (λ (n : ℕ). let r : Result (List Token) Fault = Err (record { rule = f.rule; line = f.line; left = n }) in r) (sym b.left)),
+      ∙ fault_after 1 b.pieces b.rest f b.stand (fault_at (1 + line_feeds (joined b.pieces)) b.rest f.case b.why b.nothing ∙ ap (λ (l : ℕ). let r : Result (List Token) Fault = Err (record { case = f.case; line = l; left = length b.rest }) in r) (sym b.line)
+      ∙ ap (λ (n : ℕ). let r : Result (List Token) Fault = Err (record { case = f.case; line = f.line; left = n }) in r) (sym b.left)),
 )

@@ -13,7 +13,8 @@ use Rattle.camac_text_tokens.specs.declared.token.TokenKind.{TokenKind}
 use Rattle.camac_text_tokens.specs.declared.token.TokenKind.TheVariants as kind
 use Rattle.camac_text_tokens.specs.Start.{Start}
 use Rattle.camac_text_tokens.specs.Start as start
-use Rattle.camac_text_tokens.specs.declared.fault.TextRule.TheVariants.{LimitPassed, NumberTooLarge}
+use Rattle.camac_text_tokens.specs.declared.fault.Limit.TheVariants.{NameBytes}
+use Rattle.camac_text_tokens.specs.declared.fault.TextCase.TheVariants as told
 use Rattle.camac_text_tokens.specs.declared.fault.TextFault.{TextFault}
 use Rattle.camac_text_tokens.specs.Fault.{Fault, AnswersList}
 use Rattle.camac_text_tokens.specs.Words.{keyword}
@@ -55,11 +56,11 @@ run_is first each b bs is passes = record {
 pub kind_at : Start → Option TokenKind
 kind_at (start.Gap n) = None
 kind_at (start.Found k n) = Some k
-kind_at (start.Wrong rule) = None
+kind_at (start.Wrong case) = None
 
 -- it is a piece, unless something is wrong with it
 abbrev pub Stands : Start → List ℕ → Type 0
-Stands (start.Wrong rule) text = Unit {0}
+Stands (start.Wrong case) text = Unit {0}
 Stands (start.Gap n) text = IsPiece None (take n text) (drop n text)
 Stands (start.Found k n) text = IsPiece (Some k) (take n text) (drop n text)
 
@@ -77,12 +78,12 @@ run_piece each text P h = subst P (sym (take_run each text)) h
 word_stands : (k : Option Keyword) (text : List ℕ) → keyword (take_while is_name_byte text) ≡ k → IsWord (take_while is_name_byte text) (drop (length (take_while is_name_byte text)) text) → Stands (keyword_or k (take_while is_name_byte text)) text
 word_stands (Some w) text at is = run_piece is_name_byte text (λ bytes. IsKeyword w bytes (drop (length (take_while is_name_byte text)) text)) (record { word = is; kept = at })
 word_stands None text at is =
-    stands_if (ltb 32 (length (take_while is_name_byte text))) (start.Wrong LimitPassed) (start.Found (kind.Name (take_while is_name_byte text)) (length (take_while is_name_byte text))) text (λ _. tt) (λ off.
+    stands_if (ltb 32 (length (take_while is_name_byte text))) (start.Wrong (told.Limit NameBytes)) (start.Found (kind.Name (take_while is_name_byte text)) (length (take_while is_name_byte text))) text (λ _. tt) (λ off.
     run_piece is_name_byte text (λ bytes. IsName (take_while is_name_byte text) bytes (drop (length (take_while is_name_byte text)) text)) (record { word = is; free = at; same = refl; short = short_is _ off }))
 
-number_stands : (text : List ℕ) → IsRun is_ascii_digit is_ascii_digit (take_while is_ascii_digit text) (drop (length (take_while is_ascii_digit text)) text) → Stands (cond (ltb (decimal_value (take_while is_ascii_digit text)) 4294967296) (start.Found (kind.Number (decimal_value (take_while is_ascii_digit text))) (length (take_while is_ascii_digit text))) (start.Wrong NumberTooLarge)) text
+number_stands : (text : List ℕ) → IsRun is_ascii_digit is_ascii_digit (take_while is_ascii_digit text) (drop (length (take_while is_ascii_digit text)) text) → Stands (cond (ltb (decimal_value (take_while is_ascii_digit text)) 4294967296) (start.Found (kind.Number (decimal_value (take_while is_ascii_digit text))) (length (take_while is_ascii_digit text))) (start.Wrong (told.Number 4294967295))) text
 number_stands text is =
-    stands_if (ltb (decimal_value (take_while is_ascii_digit text)) 4294967296) (start.Found (kind.Number (decimal_value (take_while is_ascii_digit text))) (length (take_while is_ascii_digit text))) (start.Wrong NumberTooLarge) text (λ on.
+    stands_if (ltb (decimal_value (take_while is_ascii_digit text)) 4294967296) (start.Found (kind.Number (decimal_value (take_while is_ascii_digit text))) (length (take_while is_ascii_digit text))) (start.Wrong (told.Number 4294967295)) text (λ on.
     run_piece is_ascii_digit text (λ bytes. IsNumber (decimal_value (take_while is_ascii_digit text)) bytes (drop (length (take_while is_ascii_digit text)) text)) (record { digits = is; value = refl; bounded = ltb-true _ _ on })) (λ _. tt)
 
 sign_stands : (p q : Option Sign) (b : ℕ) (bs : List ℕ) → pair_at (b ∷ bs) ≡ p → single_at (b ∷ bs) ≡ q → Stands (pair_or_single p q) (b ∷ bs)
@@ -124,18 +125,18 @@ pub piece_of : (f : Start) (text : List ℕ) → wrong f ≡ None → Stands f t
 unfolding kind_at
 piece_of (start.Gap n) text good h = h
 piece_of (start.Found k n) text good h = h
-piece_of (start.Wrong rule) text good h = absurd cc
+piece_of (start.Wrong case) text good h = absurd cc
 
 added_is : (f : Start) (line left : ℕ) → wrong f ≡ None → added f (line_number line) left ≡ token_at (kind_at f) line left
 unfolding kind_at
 added_is (start.Gap n) line left good = refl
 added_is (start.Found k n) line left good = refl
-added_is (start.Wrong rule) line left good = absurd cc
+added_is (start.Wrong case) line left good = absurd cc
 
 good_start : (f : Start) (line left : ℕ) (more : ℕ → Result (List Token) Fault) (ts : List Token) → tokens_by f line left more ≡ Ok ts → wrong f ≡ None
 good_start (start.Gap n) line left more ts e = refl
 good_start (start.Found k n) line left more ts e = refl
-good_start (start.Wrong rule) line left more ts e = absurd cc
+good_start (start.Wrong case) line left more ts e = absurd cc
 
 cut_step : (f : Start) (line : ℕ) (text : List ℕ) (ts us : List Token) → wrong f ≡ None → Stands f text → ts ≡ added f (line_number line) (length text) ++ us → CutFrom (line + line_feeds (take (size f) text)) (drop (size f) text) us → CutFrom line text ts
 cut_step f line text ts us good stands tokens rest =

@@ -37,7 +37,7 @@ taken_run each none xs = ap line_feeds (take_run each xs) ∙ run_feeds each non
 abbrev pub OnOneLine : Start → List ℕ → Type 0
 OnOneLine (start.Found k n) text = line_feeds (take n text) ≡ 0
 OnOneLine (start.Gap n) text = Unit {0}
-OnOneLine (start.Wrong rule) text = Unit {0}
+OnOneLine (start.Wrong case) text = Unit {0}
 
 one_line_if : (t : Bool) (f g : Start) (text : List ℕ) → OnOneLine f text → OnOneLine g text → OnOneLine (cond t f g) text
 one_line_if true f g text on off = on

@@ -10,7 +10,7 @@ use Rattle.camac_text_tokens.specs.declared.token.Keyword.{Keyword}
 use Rattle.camac_text_tokens.specs.declared.token.Sign.{Sign}
 use Rattle.camac_text_tokens.specs.Start.{Start}
 use Rattle.camac_text_tokens.specs.Start as start
-use Rattle.camac_text_tokens.specs.declared.fault.TextRule.{TextRule}
+use Rattle.camac_text_tokens.specs.declared.fault.TextCase.{TextCase}
 use Rattle.camac_text_tokens.specs.Fault.{Fault}
 use Rattle.camac_text_tokens.specs.Scanning.{is_name_byte, is_blank, is_no_line_feed, keyword_or, pair_at, single_at, pair_or_single, start_of, size, added, wrong, decimal_value, tokens_from, tokens_by, with_first, line_after, line_number}
 use Rattle.camac_text_tokens.specs.Words.{keyword}
@@ -186,7 +186,7 @@ start_step (start.Gap zero) b line bs good some = absurd (omega arith)
 start_step (start.Gap (suc n)) b line bs good some = ap (λ (k : ℕ). tokens_from k (line_after line b) bs) (omega arith) ∙ skip (suc n) line (b ∷ bs) ∙ none_all _
 start_step (start.Found k zero) b line bs good some = absurd (omega arith)
 start_step (start.Found k (suc n)) b line bs good some = ap (λ (m : ℕ). with_first (record { kind = k; line = line_number line; left = length (b ∷ bs) }) (tokens_from m (line_after line b) bs)) (omega arith) ∙ ap (with_first (record { kind = k; line = line_number line; left = length (b ∷ bs) })) (skip (suc n) line (b ∷ bs)) ∙ first_all _ _
-start_step (start.Wrong rule) b line bs good some = absurd cc
+start_step (start.Wrong case) b line bs good some = absurd cc
 
 pub sizes : (rest : List ℕ) → 0 < length rest → Sized (start_of (slice_index rest 0) rest) (length rest)
 sizes [] h = absurd (omega arith)
@@ -199,15 +199,15 @@ goes xs line (b ∷ bs) total some good so_far =
     let f = start_of b (b ∷ bs) in
     sym (all_join xs (added f (line_number line) (length (b ∷ bs))) _) ∙ ap (with_all xs) (sym (start_step f b line bs good (sized_start b bs good).0)) ∙ so_far
 
-pub wrong_is : (f : Start) (rule : TextRule) → wrong f ≡ Some rule → f ≡ start.Wrong rule
-wrong_is (start.Wrong c) rule e = ap start.Wrong cc
-wrong_is (start.Gap n) rule e = absurd cc
-wrong_is (start.Found k n) rule e = absurd cc
+pub wrong_is : (f : Start) (case : TextCase) → wrong f ≡ Some case → f ≡ start.Wrong case
+wrong_is (start.Wrong c) case e = ap start.Wrong cc
+wrong_is (start.Gap n) case e = absurd cc
+wrong_is (start.Found k n) case e = absurd cc
 
-pub fails : (xs : List Token) (line : ℕ) (rest : List ℕ) (total : Result (List Token) Fault) (rule : TextRule) → 0 < length rest → wrong (start_of (slice_index rest 0) rest) ≡ Some rule → with_all xs (tokens_from 0 line rest) ≡ total → total ≡ Err (record { rule = rule; line = line_number line; left = length rest })
+pub fails : (xs : List Token) (line : ℕ) (rest : List ℕ) (total : Result (List Token) Fault) (case : TextCase) → 0 < length rest → wrong (start_of (slice_index rest 0) rest) ≡ Some case → with_all xs (tokens_from 0 line rest) ≡ total → total ≡ Err (record { case = case; line = line_number line; left = length rest })
 unfolding tokens_from
-fails xs line [] total rule some bad so_far = absurd (omega arith)
-fails xs line (b ∷ bs) total rule some bad so_far = sym so_far ∙ ap (λ (f : Start). with_all xs (tokens_by f line (length (b ∷ bs)) (λ n. tokens_from n (line_after line b) bs))) (wrong_is (start_of b (b ∷ bs)) rule bad)
+fails xs line [] total case some bad so_far = absurd (omega arith)
+fails xs line (b ∷ bs) total case some bad so_far = sym so_far ∙ ap (λ (f : Start). with_all xs (tokens_by f line (length (b ∷ bs)) (λ n. tokens_from n (line_after line b) bs))) (wrong_is (start_of b (b ∷ bs)) case bad)
 
 pub ends : (xs : List Token) (line : ℕ) (rest : List ℕ) (total : Result (List Token) Fault) → length rest ≡ 0 → with_all xs (tokens_from 0 line rest) ≡ total → total ≡ Ok xs
 unfolding tokens_from

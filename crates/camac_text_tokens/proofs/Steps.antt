@@ -9,8 +9,9 @@ use Rattle.camac_text_tokens.specs.declared.token.Token.{Token}
 use Rattle.camac_text_tokens.specs.declared.token.TokenKind.{TokenKind}
 use Rattle.camac_text_tokens.specs.Start.{Start}
 use Rattle.camac_text_tokens.specs.Start as start
-use Rattle.camac_text_tokens.specs.declared.fault.TextRule.{TextRule}
-use Rattle.camac_text_tokens.specs.declared.fault.TextRule.TheVariants.{LimitPassed}
+use Rattle.camac_text_tokens.specs.declared.fault.TextCase.{TextCase}
+use Rattle.camac_text_tokens.specs.declared.fault.Limit.TheVariants.{NameBytes}
+use Rattle.camac_text_tokens.specs.declared.fault.TextCase.TheVariants as told
 use Rattle.camac_text_tokens.specs.Fault.{Fault}
 use Rattle.camac_text_tokens.specs.Words.{keyword}
 use Rattle.camac_text_tokens.specs.Scanning.{is_name_byte, is_blank, is_no_line_feed, decimal_value, keyword_or, pair_at, single_at, pair_or_single, start_of, size, added, wrong, tokens_by, tokens_from, line_after, line_number}
@@ -139,7 +140,7 @@ line_feed_is_past line (a ∷ b ∷ bs) some is above = rw is (
 abbrev NoGap : Start → Type 0
 NoGap (start.Gap n) = ⊥
 NoGap (start.Found k n) = Unit {0}
-NoGap (start.Wrong rule) = Unit {0}
+NoGap (start.Wrong case) = Unit {0}
 
 no_gap_if : (t : Bool) (f g : Start) → (t ≡ true → NoGap f) → (t ≡ false → NoGap g) → NoGap (cond t f g)
 no_gap_if true f g on off = on refl
@@ -172,14 +173,14 @@ token_step : (b line : ℕ) (bs : List ℕ) (f : Start) → start_of b (b ∷ bs
 unfolding tokens_from
 token_step b line bs f is = ap (λ (g : Start). tokens_by g line (length (b ∷ bs)) (λ skip. tokens_from skip (line_after line b) bs)) is
 
-wrong_is_wrong : (f : Start) (rule : TextRule) → wrong f ≡ Some rule → f ≡ start.Wrong rule
-wrong_is_wrong (start.Gap n) rule e = absurd cc
-wrong_is_wrong (start.Found k n) rule e = absurd cc
-wrong_is_wrong (start.Wrong r) rule e = cc
+wrong_is_wrong : (f : Start) (case : TextCase) → wrong f ≡ Some case → f ≡ start.Wrong case
+wrong_is_wrong (start.Gap n) case e = absurd cc
+wrong_is_wrong (start.Found k n) case e = absurd cc
+wrong_is_wrong (start.Wrong r) case e = cc
 
-no_fault : (line : ℕ) (rest : List ℕ) (rule : TextRule) → 0 < length rest → tokens_from 0 line rest ≡ Ok (list_of (tokens_from 0 line rest)) → start_of (slice_index rest 0) rest ≡ start.Wrong rule → ⊥
-no_fault line [] rule some cut is = absurd (omega arith)
-no_fault line (b ∷ bs) rule some cut is = let bad = token_step b line bs (start.Wrong rule) is in let both = sym bad ∙ cut in absurd cc
+no_fault : (line : ℕ) (rest : List ℕ) (case : TextCase) → 0 < length rest → tokens_from 0 line rest ≡ Ok (list_of (tokens_from 0 line rest)) → start_of (slice_index rest 0) rest ≡ start.Wrong case → ⊥
+no_fault line [] case some cut is = absurd (omega arith)
+no_fault line (b ∷ bs) case some cut is = let bad = token_step b line bs (start.Wrong case) is in let both = sym bad ∙ cut in absurd cc
 
 found_some : (b : ℕ) (bs : List ℕ) (k : TokenKind) (n : ℕ) → start_of b (b ∷ bs) ≡ start.Found k n → (0 < n) × (n ≤ length (b ∷ bs))
 found_some b bs k n is =
@@ -224,14 +225,14 @@ put_left at rest (Some t) n some put cut =
     record { fits = (found_size rest t.kind n some put.0).1; cut = left.cut; tokens = ap (λ (l : ℕ). record { kind = t.kind; line = l; left = t.left } ∷ list_of (tokens_from 0 at (drop n rest))) put.1 ∙ ap (λ (m : ℕ). record { kind = t.kind; line = line_number at; left = m } ∷ list_of (tokens_from 0 at (drop n rest))) put.2 ∙ left.next }
 
 -- a text without a fault has a token at its start
-pub put_no_fault : (at : ℕ) (rest : List ℕ) (rule : TextRule) (next : Option Token) → 0 < length rest → IsPut (Err rule) next (line_number at) (length rest) (start_of (slice_index rest 0) rest) → tokens_from 0 at rest ≡ Ok (list_of (tokens_from 0 at rest)) → ⊥
-put_no_fault at rest rule next some put cut = no_fault at rest rule some cut (wrong_is_wrong (start_of (slice_index rest 0) rest) rule put)
+pub put_no_fault : (at : ℕ) (rest : List ℕ) (case : TextCase) (next : Option Token) → 0 < length rest → IsPut (Err case) next (line_number at) (length rest) (start_of (slice_index rest 0) rest) → tokens_from 0 at rest ≡ Ok (list_of (tokens_from 0 at rest)) → ⊥
+put_no_fault at rest case next some put cut = no_fault at rest case some cut (wrong_is_wrong (start_of (slice_index rest 0) rest) case put)
 
 -- the bytes of what is no gap have no line feed
 taken_feeds : (f : Start) (text : List ℕ) → NoGap f → OnOneLine f text → line_feeds (take (size f) text) ≡ 0
 taken_feeds (start.Gap n) text no_gap one = absurd no_gap
 taken_feeds (start.Found k n) text no_gap one = one
-taken_feeds (start.Wrong rule) text no_gap one = refl
+taken_feeds (start.Wrong case) text no_gap one = refl
 
 -- so the bytes behind it are on the same line
 pub goes_on : (xs : List Token) (line : ℕ) (rest : List ℕ) (total : Result (List Token) Fault) → 0 < length rest → BeginsNoGap rest → wrong (start_of (slice_index rest 0) rest) ≡ None → with_all xs (tokens_from 0 line rest) ≡ total
@@ -255,11 +256,11 @@ none_left line (b ∷ bs) e = absurd (omega arith)
 
 -- ---- what is wrong at the start, without its token
 
-long_word : (k : Option Keyword) (text : List ℕ) → k ≡ None → 32 < length text → wrong (keyword_or k text) ≡ Some LimitPassed
+long_word : (k : Option Keyword) (text : List ℕ) → k ≡ None → 32 < length text → wrong (keyword_or k text) ≡ Some (told.Limit NameBytes)
 long_word k text none long = rw (none, lt-ltb 32 (length text) long) refl
 
 -- a word that is too long is no keyword
-pub word_too_long : (text : List ℕ) → 32 < length text → wrong (keyword_or (keyword text) text) ≡ Some LimitPassed
+pub word_too_long : (text : List ℕ) → 32 < length text → wrong (keyword_or (keyword text) text) ≡ Some (told.Limit NameBytes)
 word_too_long text long = long_word (keyword text) text (no_long_keyword text (omega arith)) long
 
 short_word : (k : Option Keyword) (text : List ℕ) → length text ≤ 32 → IsExtent (Ok (length text)) (keyword_or k text)

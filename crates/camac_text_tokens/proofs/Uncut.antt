@@ -283,4 +283,4 @@ made_one us ts r p q = list_is us ts (sym p ∙ q) where
 pub answer_only : (text : List ℕ) (r : Result (Vec Token Global) TextFault) → AnswersList r (tokens_of text) → (ts : List Token) → IsCut text ts → HasTokens r ts
 answer_only text (Ok v) made ts c = made_one v.items ts (tokens_of text) made (cut_tokens text ts c)
 answer_only text (Err fault.OutOfMemory) made ts c = tt
-answer_only text (Err (fault.Broken rule line left)) made ts c = let found : tokens_of text ≡ Ok ts = cut_tokens text ts c in let both = sym made ∙ found in absurd cc
+answer_only text (Err (fault.Broken case line left)) made ts c = let found : tokens_of text ≡ Ok ts = cut_tokens text ts c in let both = sym made ∙ found in absurd cc

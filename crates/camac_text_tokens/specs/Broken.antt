@@ -2,8 +2,9 @@
 use Rattle.std.specs.Prelude.{◌≡◌, ◌↔◌, ℕ, ◌+◌, ◌≤◌, ◌<◌, false, ◌==◌, List, [], ◌∷◌, ◌++◌, length, count_by, Option, None, Err}
 use Rattle.std.specs.Char.{is_ascii_digit, is_ascii_alphabetic}
 use Rattle.camac_text_tokens.specs.declared.token.TokenKind.{TokenKind}
-use Rattle.camac_text_tokens.specs.declared.fault.TextRule.{TextRule}
-use Rattle.camac_text_tokens.specs.declared.fault.TextRule.TheVariants as rule
+use Rattle.camac_text_tokens.specs.declared.fault.Limit.TheVariants.{NameBytes}
+use Rattle.camac_text_tokens.specs.declared.fault.TextCase.{TextCase}
+use Rattle.camac_text_tokens.specs.declared.fault.TextCase.TheVariants as told
 use Rattle.camac_text_tokens.specs.Fault.{Fault}
 use Rattle.camac_text_tokens.specs.Words.{keyword}
 use Rattle.camac_text_tokens.specs.Scanning.{decimal_value, line_number, tokens_of}
@@ -38,16 +39,13 @@ pub record HasOtherByte (text : List ℕ) : Type 0 where
   pub no_number : begins is_ascii_digit text ≡ false
 
 -- what is wrong at the start, by the rules of tokens
-abbrev pub Breaks : TextRule → List ℕ → Type 0
-Breaks rule.BadByte text = HasOtherByte text
-Breaks rule.NumberTooLarge text = HasLargeNumber text
-Breaks rule.LimitPassed text = HasLongName text
-Breaks rule.UnexpectedToken text = ⊥
-Breaks rule.DeclaredTwice text = ⊥
-Breaks rule.NotDeclared text = ⊥
-Breaks rule.BranchNotOne text = ⊥
+abbrev pub Breaks : TextCase → List ℕ → Type 0
+Breaks told.Byte text = HasOtherByte text
+Breaks (told.Number most) text = (most ≡ 4294967295) × HasLargeNumber text
+Breaks (told.Limit NameBytes) text = HasLongName text
+Breaks _ text = ⊥
 
--- The text is pieces that stand and a rest. No piece stands at the start of the rest, as the rule says, the line is 1 plus the line
+-- The text is pieces that stand and a rest. No piece stands at the start of the rest, as the case says, the line is 1 plus the line
 -- feeds before it, and the bytes that are left are those of the rest.
 pub record IsBrokenAt (text : List ℕ) (f : Fault) : Type 0 where
   pub pieces : List Piece
@@ -55,7 +53,7 @@ pub record IsBrokenAt (text : List ℕ) (f : Fault) : Type 0 where
   pub parts : text ≡ joined pieces ++ rest
   pub stand : StandBefore rest pieces
   pub nothing : (kind : Option TokenKind) (bytes after : List ℕ) → rest ≡ bytes ++ after → IsPiece kind bytes after → ⊥
-  pub why : Breaks f.rule rest
+  pub why : Breaks f.case rest
   pub line : f.line ≡ line_number (1 + count_by (λ b. b == 10) (joined pieces))
   pub left : f.left ≡ length rest
 

@@ -96,4 +96,4 @@ pub record IsCut (text : List ℕ) (tokens : List Token) : Type 0 where
 abbrev pub HasTokens : Result (Vec Token) TextFault → List Token → Type 0
 HasTokens (Ok v) tokens = v.items ≡ tokens
 HasTokens (Err fault.OutOfMemory) tokens = Unit {0}
-HasTokens (Err (fault.Broken rule line left)) tokens = ⊥
+HasTokens (Err (fault.Broken case line left)) tokens = ⊥

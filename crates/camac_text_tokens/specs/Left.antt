@@ -3,7 +3,7 @@ use Rattle.std.specs.Prelude.{◌≡◌, ℕ, ◌+◌, ◌≤◌, false, ◌==�
 use Rattle.camac_text_tokens.specs.declared.token.Token.{Token}
 use Rattle.camac_text_tokens.specs.Start.{Start}
 use Rattle.camac_text_tokens.specs.Start as start
-use Rattle.camac_text_tokens.specs.declared.fault.TextRule.{TextRule}
+use Rattle.camac_text_tokens.specs.declared.fault.TextCase.{TextCase}
 use Rattle.camac_text_tokens.specs.declared.fault.TextFault.{TextFault}
 use Rattle.camac_text_tokens.specs.declared.fault.TextFault.TheVariants as fault
 use Rattle.camac_text_tokens.specs.Fault.{Fault}
@@ -28,13 +28,13 @@ pub record IsLeft (line : ℕ) (bytes : List ℕ) : Type 0 where
 abbrev pub AnswersTokens : Result (List Token) TextFault → Result (List Token) Fault → Type 0
 AnswersTokens (Ok ts) read = read ≡ Ok ts
 AnswersTokens (Err fault.OutOfMemory) read = ⊥
-AnswersTokens (Err (fault.Broken rule line left)) read = read ≡ Err (record { rule = rule; line = line; left = left })
+AnswersTokens (Err (fault.Broken case line left)) read = read ≡ Err (record { case = case; line = line; left = left })
 
 -- the same, with the line of the text's end
 abbrev pub AnswersWithEnd : Result (List Token × ℕ) TextFault → Result (List Token) Fault → ℕ → Type 0
 AnswersWithEnd (Ok p) read end = (read ≡ Ok p.0) × (p.1 ≡ end)
 AnswersWithEnd (Err fault.OutOfMemory) read end = ⊥
-AnswersWithEnd (Err (fault.Broken rule line left)) read end = read ≡ Err (record { rule = rule; line = line; left = left })
+AnswersWithEnd (Err (fault.Broken case line left)) read end = read ≡ Err (record { case = case; line = line; left = left })
 
 -- bytes that begin with neither a blank nor a comment
 abbrev pub BeginsNoGap : List ℕ → Type 0
@@ -56,15 +56,15 @@ eight_spaces = 32 ∷ 32 ∷ 32 ∷ 32 ∷ 32 ∷ 32 ∷ 32 ∷ 32 ∷ []
 abbrev pub EndOrFault : Result ℕ TextFault → Result (List Token) Fault → ℕ → Type 0
 EndOrFault (Ok line) read end = (read ≡ Ok (list_of read)) × (line ≡ end)
 EndOrFault (Err fault.OutOfMemory) read end = ⊥
-EndOrFault (Err (fault.Broken rule line left)) read end = read ≡ Err (record { rule = rule; line = line; left = left })
+EndOrFault (Err (fault.Broken case line left)) read end = read ≡ Err (record { case = case; line = line; left = left })
 
 -- the token at the start is put in its place, with the line of its bytes and how many are left; or what is wrong there
-abbrev pub IsPut : Result ℕ TextRule → Option Token → ℕ → ℕ → Start → Type 0
+abbrev pub IsPut : Result ℕ TextCase → Option Token → ℕ → ℕ → Start → Type 0
 IsPut (Ok n) (Some t) line left f = (f ≡ start.Found t.kind n) × (t.line ≡ line) × (t.left ≡ left)
 IsPut (Ok n) None line left f = ⊥
-IsPut (Err rule) next line left f = wrong f ≡ Some rule
+IsPut (Err case) next line left f = wrong f ≡ Some case
 
 -- the bytes that are taken at the start, or what is wrong there
-abbrev pub IsExtent : Result ℕ TextRule → Start → Type 0
+abbrev pub IsExtent : Result ℕ TextCase → Start → Type 0
 IsExtent (Ok n) f = (wrong f ≡ None) × (size f ≡ n)
-IsExtent (Err rule) f = wrong f ≡ Some rule
+IsExtent (Err case) f = wrong f ≡ Some case

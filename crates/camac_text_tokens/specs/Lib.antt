@@ -1,4 +1,5 @@
 pub mod Words
+pub mod Rules
 pub mod Fault
 pub mod Start
 pub mod Scanning

@@ -7,8 +7,9 @@ use Rattle.camac_text_tokens.specs.declared.token.Token.{Token}
 use Rattle.camac_text_tokens.specs.declared.token.TokenKind.TheVariants as kind
 use Rattle.camac_text_tokens.specs.Start.{Start}
 use Rattle.camac_text_tokens.specs.Start as start
-use Rattle.camac_text_tokens.specs.declared.fault.TextRule.{TextRule}
-use Rattle.camac_text_tokens.specs.declared.fault.TextRule.TheVariants.{BadByte, NumberTooLarge, LimitPassed}
+use Rattle.camac_text_tokens.specs.declared.fault.Limit.TheVariants.{NameBytes}
+use Rattle.camac_text_tokens.specs.declared.fault.TextCase.{TextCase}
+use Rattle.camac_text_tokens.specs.declared.fault.TextCase.TheVariants as told
 use Rattle.camac_text_tokens.specs.Fault.{Fault}
 use Rattle.camac_text_tokens.specs.Words.{spelled_in, keyword, pair_signs, single_signs}
 
@@ -29,7 +30,7 @@ decimal_value digits = fold (λ n d. 10 * n + (d - 48)) 0 digits
 
 -- a NAME, unless it is longer than 32 bytes
 abbrev pub name_or_fault : List ℕ → Start
-name_or_fault text = if nat_lt 32 (length text) then start.Wrong LimitPassed else start.Found (kind.Name text) (length text)
+name_or_fault text = if nat_lt 32 (length text) then start.Wrong (told.Limit NameBytes) else start.Found (kind.Name text) (length text)
 
 -- a keyword is no NAME
 abbrev pub keyword_or : Option Keyword → List ℕ → Start
@@ -40,7 +41,7 @@ keyword_or None text = name_or_fault text
 abbrev pub number_or_fault : List ℕ → Start
 number_or_fault digits =
     if nat_lt (decimal_value digits) 4294967296 then start.Found (kind.Number (decimal_value digits)) (length digits)
-    else start.Wrong NumberTooLarge
+    else start.Wrong (told.Number 4294967295)
 
 -- the sign that bytes begin with, of two bytes or of one
 abbrev pub pair_at : List ℕ → Option Sign
@@ -54,7 +55,7 @@ single_at _ = None
 abbrev pub pair_or_single : Option Sign → Option Sign → Start
 pair_or_single (Some s) single = start.Found (kind.Sign s) 2
 pair_or_single None (Some s) = start.Found (kind.Sign s) 1
-pair_or_single None None = start.Wrong BadByte
+pair_or_single None None = start.Wrong told.Byte
 
 -- what stands at the start of bytes that begin with b: the longest
 unfoldable pub start_of : ℕ → List ℕ → Start
@@ -69,14 +70,14 @@ start_of b bytes =
 abbrev pub size : Start → ℕ
 size (start.Gap n) = n
 size (start.Found k n) = n
-size (start.Wrong rule) = 0
+size (start.Wrong case) = 0
 
 abbrev pub added : Start → ℕ → ℕ → List Token
 added (start.Found k n) line left = record { kind = k; line = line; left = left } ∷ []
 added _ line left = []
 
-abbrev pub wrong : Start → Option TextRule
-wrong (start.Wrong rule) = Some rule
+abbrev pub wrong : Start → Option TextCase
+wrong (start.Wrong case) = Some case
 wrong _ = None
 
 -- Lines are counted as far as a line number goes.
@@ -94,7 +95,7 @@ with_first t (Err e) = Err e
 abbrev pub tokens_by : Start → ℕ → ℕ → (ℕ → Result (List Token) Fault) → Result (List Token) Fault
 tokens_by (start.Gap n) line left more = more (n - 1)
 tokens_by (start.Found k n) line left more = with_first (record { kind = k; line = line_number line; left = left }) (more (n - 1))
-tokens_by (start.Wrong rule) line left more = Err (record { rule = rule; line = line_number line; left = left })
+tokens_by (start.Wrong case) line left more = Err (record { case = case; line = line_number line; left = left })
 
 -- The tokens after so many bytes that belong to the one before, from a line on.
 unfoldable pub tokens_from : ℕ → ℕ → List ℕ → Result (List Token) Fault

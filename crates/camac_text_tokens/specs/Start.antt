@@ -1,7 +1,7 @@
 -- What stands at the start of a text, with its number of bytes.
 use Rattle.std.specs.Prelude.{ℕ}
 use Rattle.camac_text_tokens.specs.declared.token.TokenKind.{TokenKind}
-use Rattle.camac_text_tokens.specs.declared.fault.TextRule.{TextRule}
+use Rattle.camac_text_tokens.specs.declared.fault.TextCase.{TextCase}
 
 pub data Start : Type 0 where
   -- blanks, or a comment
@@ -9,4 +9,4 @@ pub data Start : Type 0 where
   -- a token
   Found : TokenKind → ℕ → Start
   -- what is no token, and why
-  Wrong : TextRule → Start
+  Wrong : TextCase → Start

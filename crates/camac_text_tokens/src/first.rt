@@ -5,7 +5,7 @@ ghost use Rattle.camac_text_tokens.specs.Words.{keyword};
 ghost use Rattle.camac_text_tokens.specs.Scanning.{keyword_or, number_or_fault, pair_at, single_at, pair_or_single, start_of};
 ghost use Rattle.camac_text_tokens.specs.Left.{BeginsNoGap, IsPut};
 
-use crate::fault::TextRule;
+use crate::fault::{Limit, TextCase};
 use crate::scanner::{digits_text, name_text, number, pair_at, single_at};
 use crate::token::{Token, TokenKind};
 use crate::words::keyword;
@@ -13,7 +13,7 @@ use camac_lang::Name;
 
 /// Puts the token at the start, the longest, in its place, and answers its number of bytes.
 #[tactic(auto, unfolding(crate::specs::Scanning::start_of))]
-pub fn put_token(next: &mut Option<Token>, text: &[u8], line: u32) -> Result<usize, TextRule>
+pub fn put_token(next: &mut Option<Token>, text: &[u8], line: u32) -> Result<usize, TextCase>
     requires some { 0 < length text.now }
     requires begins { BeginsNoGap text.now }
     ensures { IsPut result next.new line (length text.now) (start_of (slice_index text.now 0) text.now) }
@@ -34,7 +34,7 @@ fn put_word(
     text: &[u8],
     line: u32,
     left: usize,
-) -> Result<usize, TextRule>
+) -> Result<usize, TextCase>
     requires { 0 < length text.now }
     ensures { IsPut result next.new line left (keyword_or (keyword text.now) text.now) }
 {
@@ -48,7 +48,7 @@ fn put_word(
                 let kind = TokenKind::Name(name);
                 *next = Some(Token { kind, line, left });
             }
-            None => return Err(TextRule::LimitPassed),
+            None => return Err(TextCase::Limit(Limit::NameBytes)),
         },
     }
     Ok(text.len())
@@ -59,7 +59,7 @@ fn put_number(
     digits: &[u8],
     line: u32,
     left: usize,
-) -> Result<usize, TextRule>
+) -> Result<usize, TextCase>
     ensures { IsPut result next.new line left (number_or_fault digits.now) }
 {
     match number(digits) {
@@ -68,7 +68,7 @@ fn put_number(
             *next = Some(Token { kind, line, left });
             Ok(digits.len())
         }
-        None => Err(TextRule::NumberTooLarge),
+        None => Err(TextCase::Number { most: u32::MAX }),
     }
 }
 
@@ -77,7 +77,7 @@ fn put_sign(
     text: &[u8],
     line: u32,
     left: usize,
-) -> Result<usize, TextRule>
+) -> Result<usize, TextCase>
     ensures { IsPut result next.new line left (pair_or_single (pair_at text.now) (single_at text.now)) }
 {
     match pair_at(text) {
@@ -92,7 +92,7 @@ fn put_sign(
                 *next = Some(Token { kind, line, left });
                 Ok(1)
             }
-            None => Err(TextRule::BadByte),
+            None => Err(TextCase::Byte),
         },
     }
 }

@@ -111,10 +111,10 @@ fn end_line(text: &[u8]) -> Result<u32, TextFault>
                 let (_, after) = rest.split_at(size);
                 (rest, line) = past_gaps(after, line);
             }
-            Err(rule) => {
+            Err(case) => {
                 let line = line_number(line);
                 let left = rest.len();
-                return Err(TextFault::Broken { rule, line, left });
+                return Err(TextFault::Broken { case, line, left });
             }
         }
     }

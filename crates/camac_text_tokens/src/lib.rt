@@ -14,7 +14,7 @@ mod token;
 mod words;
 
 pub use bytes::are_same;
-pub use fault::{TextFault, TextRule};
+pub use fault::{Found, Limit, NameKind, TextCase, TextFault, TextRule};
 pub use left::TokensLeft;
 pub use scanner::{last_line, tokens};
 pub use signs::SIGNS;

@@ -1,5 +1,5 @@
 -- An engine from its plan and script on.
-use Rattle.std.proofs.Common.{◌≡◌, ℕ, List, Option, Bool, true, false, ◌||◌, refl, sym, ap, ◌∙◌, inl, inr}
+use Rattle.std.proofs.Common.{◌≡◌, ℕ, List, Option, Bool, true, false, ◌||◌, refl, sym, ap, subst, ◌∙◌, inl, inr}
 use Rattle.std.specs.Prelude.{Result, Ok, Err}
 use Rattle.std.proofs.Math.Bool.{or-false}
 use Rattle.camac_report_text.specs.Refusal.{refusal_text}
@@ -20,12 +20,15 @@ use Rattle.camac_tool.specs.Run.{Refuses, RunsJudged, RunsOn, StaysQuiet, Runs}
 use Rattle.camac_tool.specs.World.{World}
 
 -- the line of a refusal, as both writers have it
-pub refuses : (r : Result Outcome ToolFault) (why : Refusal) (l m e : Option (List ℕ)) → Shows (refused why) l m r → Refuses why (both l e) (both m e) r
-refuses (Ok outcome) why l m e h = (h.0, sends_listing l m e (refusal_text why) h.1)
-refuses (Err fault.Write) why l m e h = prefix_listing l m e (refusal_text why) h
-refuses (Err fault.Read) why l m e h = absurd h
-refuses (Err fault.Memory) why l m e h = absurd h
-refuses (Err fault.TooLong) why l m e h = absurd h
+pub refuses : (r : Result Outcome ToolFault) (why : Refusal) (l m e f : Option (List ℕ)) → e ≡ f → Shows (refused why) l m r → Refuses why (both l e) (both m f) r
+refuses r why l m e f same h = subst (λ x. Refuses why (both l e) (both m x) r) same (alone r h)
+  where
+    alone : (q : Result Outcome ToolFault) → Shows (refused why) l m q → Refuses why (both l e) (both m e) q
+    alone (Ok outcome) h = (h.0, sends_listing l m e (refusal_text why) h.1)
+    alone (Err fault.Write) h = prefix_listing l m e (refusal_text why) h
+    alone (Err fault.Read) h = absurd h
+    alone (Err fault.Memory) h = absurd h
+    alone (Err fault.TooLong) h = absurd h
 
 -- flags: of two readers one of which was not called, and one failed
 texts_flag : (a b c f : Bool) → a ≡ (b || f) → (a || c) ≡ ((b || c) || f)
@@ -82,18 +85,18 @@ module _ {P : Type 0} (old new : World P) (t : Telling) where
 
   -- this was judged
   module _ (j : Judged) (has : HasJudged old.left old.plan new.plan old.script new.script j) where
-    runs_found : (r : Result Outcome ToolFault) → RunsJudged t j old.answers new.answers old.outputs new.outputs r → RunsOn old new t r
+    runs_found : (r : Result Outcome ToolFault) → RunsJudged old.gathers t j old.answers new.answers old.outputs new.outputs r → RunsOn old new t r
     runs_found (Ok outcome) d = (j, has, d)
     runs_found (Err fault.Write) d = (j, has, d)
     runs_found (Err fault.Read) d = inr (j, has, d)
     runs_found (Err fault.Memory) d = no j d
       where
-        no : (k : Judged) → RunsJudged t k old.answers new.answers old.outputs new.outputs (Err fault.Memory) → RunsOn old new t (Err fault.Memory)
+        no : (k : Judged) → RunsJudged old.gathers t k old.answers new.answers old.outputs new.outputs (Err fault.Memory) → RunsOn old new t (Err fault.Memory)
         no (judged.Accepted c) x = absurd x
         no (judged.Refused why) x = absurd x.1
     runs_found (Err fault.TooLong) d = no j d
       where
-        no : (k : Judged) → RunsJudged t k old.answers new.answers old.outputs new.outputs (Err fault.TooLong) → RunsOn old new t (Err fault.TooLong)
+        no : (k : Judged) → RunsJudged old.gathers t k old.answers new.answers old.outputs new.outputs (Err fault.TooLong) → RunsOn old new t (Err fault.TooLong)
         no (judged.Accepted c) x = absurd x
         no (judged.Refused why) x = absurd x.1
 
@@ -104,7 +107,7 @@ module _ {P : Type 0} (old new : World P) (t : Telling) where
     keeps_found (Err fault.Memory) k = tt
     keeps_found (Err fault.TooLong) k = tt
 
-    pub ends_found : (r : Result Outcome ToolFault) → RunsJudged t j old.answers new.answers old.outputs new.outputs r → JudgedKeeps t j old.answers old.outputs.events new.outputs.events r
+    pub ends_found : (r : Result Outcome ToolFault) → RunsJudged old.gathers t j old.answers new.answers old.outputs new.outputs r → JudgedKeeps t j old.answers old.outputs.events new.outputs.events r
         → new.writers_failed ≡ (old.writers_failed || is_write_fault r) → new.answers_failed ≡ (old.answers_failed || is_read_fault r) → new.texts_failed ≡ (old.texts_failed || false) → Runs old new t r
     ends_found r d k w a s = record {
       runs = runs_found r d;

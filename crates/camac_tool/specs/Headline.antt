@@ -2,7 +2,6 @@
 use Rattle.std.specs.Prelude.{◌≡◌, ◌⊎◌, ℕ, List, [], Option, Result, Ok, Err}
 use Rattle.std.specs.Io.KnownBytes.{Appends}
 use Rattle.camac_answer.specs.Answers.{left_in}
-use Rattle.camac_answer.specs.declared.answers.Stage.TheVariants.{Running}
 use Rattle.camac_check_result.specs.Checked.{CheckedScript}
 use Rattle.camac_check_rules.specs.Accept.{accept}
 use Rattle.camac_tool_check.specs.Found.{HasJudged}
@@ -19,8 +18,8 @@ use Rattle.camac_tool.specs.World.{World}
 -- Of a run that came to its end the headline is true, and where an answer could not be read of the run on the answers before it. The answers'
 -- text is u, and e and f are what the event file holds before the run and after it.
 abbrev pub RunKeeps : Telling → CheckedScript → (u e f : Option (List ℕ)) → Result Outcome ToolFault → Type 0
-RunKeeps telling c u e f (Ok outcome) = PlaysByHeadline c.plan c.script c.bounds (left_in (most_answers telling) Running 0 u) e f
-RunKeeps telling c u e f (Err fault.Read) = PlaysByHeadlineSoFar c.plan c.script c.bounds (left_in (most_answers telling) Running 0 u) e f
+RunKeeps telling c u e f (Ok outcome) = PlaysByHeadline c.plan c.script c.bounds (left_in (most_answers telling) 0 u) e f
+RunKeeps telling c u e f (Err fault.Read) = PlaysByHeadlineSoFar c.plan c.script c.bounds (left_in (most_answers telling) 0 u) e f
 RunKeeps telling c u e f (Err _) = Unit {0}
 
 -- with the bounds that the checker gives; a refused script sends nothing

@@ -5,3 +5,4 @@ pub mod Input
 pub mod Status
 pub mod Gathered
 pub mod Streams
+pub mod Devices

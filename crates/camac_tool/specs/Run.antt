@@ -1,9 +1,8 @@
 -- What `camac run` and `camac drive` take from their readers, write and answer. They differ in how a run is told.
-use Rattle.std.specs.Prelude.{◌≡◌, ◌⊎◌, ℕ, true, false, ◌||◌, List, [], Option, Result, Ok, Err}
+use Rattle.std.specs.Prelude.{◌≡◌, ◌⊎◌, ℕ, Bool, true, false, ◌||◌, List, [], Option, Result, Ok, Err}
 use Rattle.camac_lang.specs.Tree.{Script}
 use Rattle.camac_branch.specs.Plan.{Layout}
 use Rattle.camac_answer.specs.Answers.{left_in}
-use Rattle.camac_answer.specs.declared.answers.Stage.TheVariants.{Running}
 use Rattle.camac_report_text.specs.Refusal.{refusal_text}
 use Rattle.camac_report_text.specs.declared.refusal.Refusal.{Refusal}
 use Rattle.camac_run.specs.declared.progress.End.TheVariants as end
@@ -17,7 +16,7 @@ use Rattle.camac_tool_check.specs.declared.judging.Judged.{Judged}
 use Rattle.camac_tool_check.specs.declared.judging.Judged.TheVariants as judged
 use Rattle.camac_tool_check.specs.declared.outcome.Outcome.{Outcome}
 use Rattle.camac_tool_check.specs.declared.outcome.Outcome.TheVariants.{Good, Refused}
-use Rattle.camac_tool_play.specs.Play.{Plays}
+use Rattle.camac_tool_play.specs.Play.{PlaysOver}
 use Rattle.camac_tool_play.specs.Told.{most_answers}
 use Rattle.camac_tool_play.specs.Sent.{Outputs, Sends, SendsPrefix, to_listing}
 use Rattle.camac_tool_play.specs.declared.ending.Ending.{Ending}
@@ -32,7 +31,7 @@ abbrev pub outcome_of : Ending → Outcome
 outcome_of (how.End end.Ended) = Good
 outcome_of (how.End end.Short) = Good
 outcome_of (how.End (end.Overrun o)) = Refused
-outcome_of (how.Refused rule line) = Refused
+outcome_of (how.Refused f) = Refused
 
 -- the line of a refusal, and nothing else
 abbrev pub Refuses : Refusal → Outputs → Outputs → Result Outcome ToolFault → Type 0
@@ -40,17 +39,17 @@ Refuses r a b (Ok outcome) = (outcome ≡ Refused) × Sends a b (to_listing (ref
 Refuses r a b (Err fault.Write) = SendsPrefix a b (to_listing (refusal_text r))
 Refuses r a b (Err _) = ⊥
 
--- a checked script is run on answers whose text is u before it and v after it
-abbrev pub RunsScript : Telling → Layout → Script → (u v : Option (List ℕ)) → Outputs → Outputs → Result Outcome ToolFault → Type 0
-RunsScript telling plan script u v a b (Ok outcome) = (e : Ending) × (outcome ≡ outcome_of e) × Plays telling plan script (left_in (most_answers telling) Running 0 u) v a b (Ok e)
-RunsScript telling plan script u v a b (Err fault.Write) = Plays telling plan script (left_in (most_answers telling) Running 0 u) v a b (Err play.Write)
-RunsScript telling plan script u v a b (Err fault.Read) = Plays telling plan script (left_in (most_answers telling) Running 0 u) v a b (Err play.Read)
-RunsScript telling plan script u v a b (Err _) = ⊥
+-- A checked script is run on answers whose text is u before it and v after it, with writers that may hold what they are given, or not.
+abbrev pub RunsScript : Bool → Telling → Layout → Script → (u v : Option (List ℕ)) → Outputs → Outputs → Result Outcome ToolFault → Type 0
+RunsScript gathers telling plan script u v a b (Ok outcome) = (e : Ending) × (outcome ≡ outcome_of e) × PlaysOver gathers telling plan script (left_in (most_answers telling) 0 u) v a b (Ok e)
+RunsScript gathers telling plan script u v a b (Err fault.Write) = PlaysOver gathers telling plan script (left_in (most_answers telling) 0 u) v a b (Err play.Write)
+RunsScript gathers telling plan script u v a b (Err fault.Read) = PlaysOver gathers telling plan script (left_in (most_answers telling) 0 u) v a b (Err play.Read)
+RunsScript gathers telling plan script u v a b (Err _) = ⊥
 
 -- of a refused one no answer is read
-abbrev pub RunsJudged : Telling → Judged → (u v : Option (List ℕ)) → Outputs → Outputs → Result Outcome ToolFault → Type 0
-RunsJudged telling (judged.Accepted c) u v a b r = RunsScript telling c.plan c.script u v a b r
-RunsJudged telling (judged.Refused why) u v a b r = (v ≡ u) × Refuses (refusal_of why) a b r
+abbrev pub RunsJudged : Bool → Telling → Judged → (u v : Option (List ℕ)) → Outputs → Outputs → Result Outcome ToolFault → Type 0
+RunsJudged gathers telling (judged.Accepted c) u v a b r = RunsScript gathers telling c.plan c.script u v a b r
+RunsJudged gathers telling (judged.Refused why) u v a b r = (v ≡ u) × Refuses (refusal_of why) a b r
 
 module _ {P : Type 0} (old new : World P) where
   -- nothing is sent, and no answer read
@@ -60,7 +59,7 @@ module _ {P : Type 0} (old new : World P) where
   -- the plan and then the script were read and judged, and what was judged is run
   abbrev pub RunsFound : Telling → Result Outcome ToolFault → Type 0
   RunsFound telling r =
-      (j : Judged) × HasJudged old.left old.plan new.plan old.script new.script j × RunsJudged telling j old.answers new.answers old.outputs new.outputs r
+      (j : Judged) × HasJudged old.left old.plan new.plan old.script new.script j × RunsJudged old.gathers telling j old.answers new.answers old.outputs new.outputs r
 
   -- a fault may come before that
   abbrev pub RunsOn : Telling → Result Outcome ToolFault → Type 0

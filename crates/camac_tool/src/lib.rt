@@ -2,6 +2,7 @@
 #![tactic(auto)]
 
 mod ahead;
+mod devices;
 mod failure;
 mod gathered;
 mod input;
@@ -10,7 +11,6 @@ pub mod laws;
 mod places;
 mod program;
 mod running;
-mod shared;
 mod streams;
 mod target;
 
@@ -20,6 +20,8 @@ pub use camac_tool_check::{
     sample_plan, status,
 };
 pub use camac_tool_words::{Job, JobFault, read_words};
+pub use devices::run_on_devices;
 pub use launch::{ArgumentsFault, arguments};
 pub use program::{exit_status, unread_status};
 pub use running::{engine_drive, engine_run};
+pub use streams::Ran;

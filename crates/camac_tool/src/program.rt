@@ -9,15 +9,13 @@ ghost use Rattle.camac_tool.specs.Status.{Ends, EndsJob, EndsResponse, EndsUsage
 ghost use Rattle.camac_tool.specs.declared.launch.ArgumentsFault.TheVariants.{Memory, NotText};
 ghost use Rattle.camac_tool.specs.Gathered.{has_stopped, held_in};
 
-use crate::ahead::Ahead;
+use crate::devices::run_on_devices;
 use crate::failure::{Failure, Named};
 use crate::gathered::Gathered;
 use crate::input::{Input, open};
 use crate::launch::ArgumentsFault;
 use crate::places::hold_places;
-use crate::running::{engine_drive, engine_run};
-use crate::shared::{FromAnswers, ToListing, ToRecords};
-use crate::streams::Streams;
+use crate::running::engine_drive;
 use crate::target::{Earlier, NewFile, keep_apart, settle};
 use camac_response::{Misuse, read_settings};
 use camac_tool_check::{
@@ -29,20 +27,15 @@ use camac_tool_words::{Job, JobFault, read_words, setting_error};
 use camac_word::Watched;
 use clap::Error;
 use clap::error::ErrorKind;
-use std::alloc::Global;
-use std::cell::RefCell;
 use std::fs::Files;
 use std::io;
-use std::io::{Input as StandardInput, Print, Printer, Read, Write};
+use std::io::{Input as StandardInput, Print, Printer, Write};
 use std::rt::Runtime;
 
 /// The status of a usage fault.
 const USAGE: u8 = 2;
 
 const STANDARD_OUTPUT: &str = "standard output";
-
-/// How many bytes of the answers are asked for at a time.
-const AHEAD: usize = 32_768;
 
 /// Does what the words after the program's name ask for, and returns the exit status: 0 or 1 by the outcome, 2 where the words
 /// ask for nothing that is there, and 3 for a fault. Help and version print and end with 0. A fault is a line on standard error, and below it its file
@@ -199,8 +192,6 @@ fn show_responses<'a, R: Runtime + AllocGlobal>(
     engine_response(rt.alloc(), &mut plan, &mut script, every, within, &mut out)
 }
 
-// What it tells is gathered, and handed on before each read of the answers and at the end. An output that fails, also before a read, is a
-// write fault.
 fn run<'a, R: Runtime + AllocGlobal>(
     rt: &R,
     failure: &Failure<'a>,
@@ -214,36 +205,17 @@ fn run<'a, R: Runtime + AllocGlobal>(
     let answers = open(rt, failure, answers)?;
     keep_apart(rt, failure, events, plan.as_ref(), &script, &answers)?;
     let file = NewFile::named(rt, events, Earlier::Emptied);
-    let file = Named::new(file, events, failure);
-    let streams = RefCell::new(Streams::new(rt.alloc(), answers, output(rt, failure), file)?);
-    let outcome = run_on_streams(rt.alloc(), plan, script, &streams);
-    let (listing, file) = streams.into_inner().finish();
-    if listing.failed() || file.failed() {
-        return Err(ToolFault::Write);
-    }
-    let outcome = outcome?;
-    settle(&file.into_inner())?;
-    Ok(outcome)
-}
-
-// Answers are read ahead as far as they have come.
-fn run_on_streams<I: Read + Drop, W: Write + Drop, E: Write + Drop>(
-    alloc: Global,
-    plan: Option<I>,
-    script: I,
-    streams: &RefCell<Streams<I, W, E>>,
-) -> Result<Outcome, ToolFault> {
-    let Ok(ahead) = Ahead::with_capacity(alloc, AHEAD, FromAnswers::of(streams)) else {
-        return Err(ToolFault::Memory);
-    };
-    engine_run(
-        alloc,
+    let ran = run_on_devices(
+        rt.alloc(),
         &mut source_of(plan),
         &mut Watched::new(script),
-        &mut Watched::new(ahead),
-        &mut ToListing::of(streams),
-        &mut Watched::new(ToRecords::of(streams)),
-    )
+        answers,
+        output(rt, failure),
+        Named::new(file, events, failure),
+    )?;
+    let outcome = ran.outcome?;
+    settle(&ran.records)?;
+    Ok(outcome)
 }
 
 // A request goes out in one write to a writer that keeps nothing back, and no answer is read ahead of its request.

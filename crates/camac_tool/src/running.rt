@@ -1,21 +1,20 @@
 // The engines of a run: from a plan, a script and answers to a listing or to requests, and to an event file.
 
-ghost use Rattle.std.specs.Prelude.{◌≡◌, ◌||◌, false};
+ghost use Rattle.std.specs.Prelude.{◌≡◌, false, is_err};
 ghost use Rattle.camac_tool.specs.Headline.{JudgedKeeps};
 ghost use Rattle.camac_tool.specs.Run.{Runs, RunsJudged, RunsScript, outcome_of};
-ghost use Rattle.camac_tool.specs.World.{world};
+ghost use Rattle.camac_tool.specs.World.{streams, world};
 ghost use Rattle.camac_tool_check.specs.Engine.{Shows, is_write_fault};
 ghost use Rattle.camac_tool_check.specs.Reading.{is_read_fault};
 ghost use Rattle.camac_tool_check.specs.Report.{refused};
 ghost use Rattle.camac_tool_check.specs.declared.judging.Judged.TheVariants.{Accepted};
-ghost use Rattle.camac_tool_play.specs.Sent.{outputs};
-ghost use Rattle.camac_word.specs.Watched.{inner_of, has_failed};
+ghost use Rattle.camac_tool_play.specs.RunIo.{FailsBy, OnlyLists, sent_in};
 
 use camac_check::Checked;
-use camac_report::{Refusal, RunWriter, refusal_line};
+use camac_report::{Refusal, refusal_line};
 use camac_run::End;
 use camac_tool_check::{Judged, Outcome, PlanSource, ToolFault, read_judged};
-use camac_tool_play::{Ending, PlayFault, Telling, play_as};
+use camac_tool_play::{Borrowed, Ending, PlayFault, RunIo, Telling, play_over};
 use camac_word::Watched;
 use std::alloc::Global;
 use std::io::{Read, Write};
@@ -25,18 +24,23 @@ use std::io::{Read, Write};
 /// answer is read. A fault leaves nothing written, but for two. A fault of a writer leaves a prefix of what is sent to both, in one order.
 /// A fault of the reader of the answers leaves what belongs to the answers before it. Where the plan or the script cannot be read, no
 /// answer is.
-pub fn engine_run<P: Read, S: Read, A: Read, L: RunWriter, E: Write>(
+pub fn engine_run<P: Read, S: Read, A: Read, L: Write, E: Write>(
     alloc: Global,
     plan: &mut PlanSource<P>,
     script: &mut Watched<S>,
     answers: &mut Watched<A>,
-    out: &mut L,
+    out: &mut Watched<L>,
     events: &mut Watched<E>,
 ) -> Result<Outcome, ToolFault>
-    ensures { Runs (world P.remaining S.remaining A.remaining L.contents L.failed E.contents plan.old script.old answers.old out.old events.old)
-        (world P.remaining S.remaining A.remaining L.contents L.failed E.contents plan.new script.new answers.new out.new events.new) Telling.Listing result }
+    ensures { Runs (world P.remaining S.remaining plan.old script.old (streams A.remaining L.contents E.contents answers.old out.old events.old))
+        (world P.remaining S.remaining plan.new script.new (streams A.remaining L.contents E.contents answers.new out.new events.new)) Telling.Listing result }
 {
-    run_as(alloc, Telling::Listing, plan, script, answers, out, events)
+    let mut io = Borrowed {
+        answers,
+        out,
+        events,
+    };
+    run_over(alloc, Telling::Listing, plan, script, &mut io)
 }
 
 /// Runs a script live, on a plan and the answers of a branch. The plan is read and judged first, then the script. Then each operation is
@@ -44,91 +48,73 @@ pub fn engine_run<P: Read, S: Read, A: Read, L: RunWriter, E: Write>(
 /// last line, or the line of the first refusal, goes to `requests`. A fault leaves nothing written, but for two. A fault of a writer
 /// leaves a prefix of what the answers that were read call for, to both, in one order. A fault of the reader of the answers leaves all that
 /// the answers before it call for, the open request too.
-pub fn engine_drive<P: Read, S: Read, A: Read, L: RunWriter, E: Write>(
+pub fn engine_drive<P: Read, S: Read, A: Read, L: Write, E: Write>(
     alloc: Global,
     plan: &mut PlanSource<P>,
     script: &mut Watched<S>,
     answers: &mut Watched<A>,
-    requests: &mut L,
+    requests: &mut Watched<L>,
     events: &mut Watched<E>,
 ) -> Result<Outcome, ToolFault>
-    ensures { Runs (world P.remaining S.remaining A.remaining L.contents L.failed E.contents plan.old script.old answers.old requests.old events.old)
-        (world P.remaining S.remaining A.remaining L.contents L.failed E.contents plan.new script.new answers.new requests.new events.new) Telling.Requests result }
+    ensures { Runs (world P.remaining S.remaining plan.old script.old (streams A.remaining L.contents E.contents answers.old requests.old events.old))
+        (world P.remaining S.remaining plan.new script.new (streams A.remaining L.contents E.contents answers.new requests.new events.new)) Telling.Requests result }
 {
-    run_as(
-        alloc,
-        Telling::Requests,
-        plan,
-        script,
+    let mut io = Borrowed {
         answers,
-        requests,
+        out: requests,
         events,
-    )
+    };
+    run_over(alloc, Telling::Requests, plan, script, &mut io)
 }
 
-// What both engines do.
-fn run_as<P: Read, S: Read, A: Read, L: RunWriter, E: Write>(
+/// Both engines over one value for the reader of the answers and both writers.
+pub fn run_over<P: Read, S: Read, I: RunIo>(
     alloc: Global,
     telling: Telling,
     plan: &mut PlanSource<P>,
     script: &mut Watched<S>,
-    answers: &mut Watched<A>,
-    out: &mut L,
-    events: &mut Watched<E>,
+    io: &mut I,
 ) -> Result<Outcome, ToolFault>
-    ensures { Runs (world P.remaining S.remaining A.remaining L.contents L.failed E.contents plan.old script.old answers.old out.old events.old)
-        (world P.remaining S.remaining A.remaining L.contents L.failed E.contents plan.new script.new answers.new out.new events.new) telling result }
+    ensures runs { Runs (world P.remaining S.remaining plan.old script.old (I.state io.old)) (world P.remaining S.remaining plan.new script.new (I.state io.new)) telling result }
+    ensures gathers { (I.state io.new).gathers ≡ (I.state io.old).gathers }
+    ensures same { (I.state io.new).names ≡ (I.state io.old).names }
 {
     let judged = read_judged(alloc, plan, script)?;
-    run_judged(alloc, telling, &judged, answers, out, events)
+    run_judged(telling, &judged, io)
 }
 
-fn run_judged<A: Read, L: RunWriter, E: Write>(
-    alloc: Global,
-    telling: Telling,
-    judged: &Judged,
-    answers: &mut Watched<A>,
-    out: &mut L,
-    events: &mut Watched<E>,
-) -> Result<Outcome, ToolFault>
-    ensures runs { RunsJudged telling judged.now (A.remaining (inner_of answers.old)) (A.remaining (inner_of answers.new))
-        (outputs L.contents E.contents out.old events.old) (outputs L.contents E.contents out.new events.new) result }
-    ensures headline { JudgedKeeps telling judged.now (A.remaining (inner_of answers.old)) (E.contents (inner_of events.old)) (E.contents (inner_of events.new)) result }
-    ensures out_failed { (L.failed out.new || has_failed events.new) ≡ ((L.failed out.old || has_failed events.old) || is_write_fault result) }
-    ensures in_failed { has_failed answers.new ≡ (has_failed answers.old || is_read_fault result) }
+fn run_judged<I: RunIo>(telling: Telling, judged: &Judged, io: &mut I) -> Result<Outcome, ToolFault>
+    ensures runs { RunsJudged (I.state io.old).gathers telling judged.now (I.state io.old).remaining (I.state io.new).remaining (sent_in (I.state io.old)) (sent_in (I.state io.new)) result }
+    ensures headline { JudgedKeeps telling judged.now (I.state io.old).remaining (I.state io.old).recorded (I.state io.new).recorded result }
+    ensures fails { FailsBy (I.state io.old) (I.state io.new) (is_write_fault result) (is_read_fault result) }
 {
     match judged {
-        Judged::Accepted(checked) => run_checked(alloc, telling, checked, answers, out, events),
-        Judged::Refused(finding) => refuse(out, finding.refusal()),
+        Judged::Accepted(checked) => run_checked(telling, checked, io),
+        Judged::Refused(finding) => refuse(io, finding.refusal()),
     }
 }
 
-// Writes the line of a refusal. After a write fault a prefix of it was written.
-fn refuse<L: RunWriter>(out: &mut L, refusal: Refusal) -> Result<Outcome, ToolFault>
-    ensures shows { Shows (refused refusal) (L.contents out.old) (L.contents out.new) result }
-    ensures failed { L.failed out.new ≡ (L.failed out.old || is_write_fault result) }
+// Lists the line of a refusal. After a write fault a prefix of it was listed.
+fn refuse<I: RunIo>(io: &mut I, refusal: Refusal) -> Result<Outcome, ToolFault>
+    ensures shows { Shows (refused refusal) (I.state io.old).listed (I.state io.new).listed result }
+    ensures only { OnlyLists (I.state io.old) (I.state io.new) (is_write_fault result) }
     ensures no_read { is_read_fault result ≡ false }
 {
-    out.write_line(&refusal_line(refusal))?;
+    io.list_line(&refusal_line(refusal))?;
     Ok(Outcome::Refused)
 }
 
-fn run_checked<A: Read, L: RunWriter, E: Write>(
-    alloc: Global,
+fn run_checked<I: RunIo>(
     telling: Telling,
     checked: &Checked,
-    answers: &mut Watched<A>,
-    out: &mut L,
-    events: &mut Watched<E>,
+    io: &mut I,
 ) -> Result<Outcome, ToolFault>
-    ensures runs { RunsScript telling checked.now.plan checked.now.script (A.remaining (inner_of answers.old)) (A.remaining (inner_of answers.new))
-        (outputs L.contents E.contents out.old events.old) (outputs L.contents E.contents out.new events.new) result }
-    ensures headline { JudgedKeeps telling (Accepted checked.now) (A.remaining (inner_of answers.old)) (E.contents (inner_of events.old)) (E.contents (inner_of events.new)) result }
-    ensures out_failed { (L.failed out.new || has_failed events.new) ≡ ((L.failed out.old || has_failed events.old) || is_write_fault result) }
-    ensures in_failed { has_failed answers.new ≡ (has_failed answers.old || is_read_fault result) }
+    ensures runs { RunsScript (I.state io.old).gathers telling checked.now.plan checked.now.script (I.state io.old).remaining (I.state io.new).remaining (sent_in (I.state io.old)) (sent_in (I.state io.new)) result }
+    ensures headline { JudgedKeeps telling (Accepted checked.now) (I.state io.old).remaining (I.state io.old).recorded (I.state io.new).recorded result }
+    ensures fails { FailsBy (I.state io.old) (I.state io.new) (is_write_fault result) (is_read_fault result) }
 {
     checked.is_checked();
-    match play_as(alloc, telling, checked, answers, out, events) {
+    match play_over(telling, checked, io) {
         Ok(ending) => Ok(outcome_of(ending)),
         Err(PlayFault::Read) => Err(ToolFault::Read),
         Err(PlayFault::Write) => Err(ToolFault::Write),
@@ -143,6 +129,6 @@ fn outcome_of(ending: Ending) -> Outcome
         Ending::End(End::Ended) => Outcome::Good,
         Ending::End(End::Short) => Outcome::Good,
         Ending::End(End::Overrun(_)) => Outcome::Refused,
-        Ending::Refused { .. } => Outcome::Refused,
+        Ending::Refused(_) => Outcome::Refused,
     }
 }

@@ -1,55 +1,46 @@
 // The streams of a run: its answers, its listing and its event file.
 
-ghost use Rattle.std.specs.Prelude.{◌≡◌, ◌<◌, ◌≤◌, ◌||◌, ◌++◌, true, false, length, IfOk, OnOk, is_err};
-ghost use Rattle.std.specs.Io.{ReadsAtMost, WritesAtMost};
-ghost use Rattle.std.specs.Io.KnownBytes.{Keeps, ReadConsumes, WriteAppends};
-ghost use Rattle.camac_report.specs.Items.{item_text, unlock_texts};
-ghost use Rattle.camac_run_machine.specs.MachineState.{piece_of};
+ghost use Rattle.std.specs.Prelude.{◌≡◌, ◌⊎◌, ◌≤◌, ◌<◌, ◌||◌, [], true, false, length, take, OnOk, IfOk, is_err};
+ghost use Rattle.std.specs.Io.KnownBytes.{Keeps, Consumes, IsAtEnd};
+ghost use Rattle.camac_answer.specs.Answers.{IsOpen};
+ghost use Rattle.camac_answer.specs.Lines.{first_line};
 ghost use Rattle.camac_tool.specs.Gathered.{device_of, given_to, has_stopped};
-ghost use Rattle.camac_tool.specs.Streams.{answers_of, listing_of, records_of, have_stopped, HoldNothing};
+ghost use Rattle.camac_tool.specs.Devices.{IsHandedOn, before};
+ghost use Rattle.camac_tool.specs.Streams.{answers_of, behind, listing_of, records_of, has_failed_ahead, have_stopped, left_ahead, run_state, HoldNothing};
+ghost use Rattle.camac_tool_play.specs.Play.{is_read_fault, is_write_fault};
 ghost use Rattle.camac_word.specs.Watched.{inner_of, has_failed};
-ghost use Rattle.camac_word.specs.Writing.{Writes};
 
+use crate::ahead::Ahead;
 use crate::gathered::Gathered;
-use crate::gathered::handing::stopped;
+use camac_answer::fill;
 use camac_check::Checked;
+use camac_event::{Usage, write_header, write_record};
 use camac_report::Line;
 use camac_run::Item;
-use camac_word::{CrateNo, Watched, WriteFault};
+use camac_tool_check::{Outcome, ToolFault};
+use camac_tool_play::{PlayFault, RunIo};
+use camac_word::{CrateNo, GlBit, Watched, Word24, WriteFault};
 use std::alloc::{AllocError, Global};
-use std::io;
 use std::io::{Read, Write};
 
-/// The answers of a run, and its listing and its event file, each gathered. Once a call of one output has failed, both are left alone,
-/// and each later call fails.
+/// How a run ended, and its outputs.
 #[derive(Drop)]
-pub struct Streams<R: Drop, W: Drop, E: Drop> {
-    answers: Watched<R>,
+pub struct Ran<W: Drop, E: Drop> {
+    pub outcome: Result<Outcome, ToolFault>,
+    pub listing: W,
+    pub records: E,
+}
+
+/// The answers of a run, which are read ahead, and its listing and its event file, each gathered. Once a call of one output has failed, both
+/// are left alone, and each later call fails.
+#[derive(Drop)]
+pub struct Streams<R: Read + Drop, W: Drop, E: Drop> {
+    answers: Ahead<R>,
     listing: Gathered<W>,
     records: Gathered<E>,
 }
 
-impl<R: Drop, W: Drop, E: Drop> Streams<R, W, E> {
-    pub fn new(
-        alloc: Global,
-        answers: R,
-        listing: W,
-        records: E,
-    ) -> Result<Streams<R, W, E>, AllocError>
-        ensures answers { IfOk result (λ s. inner_of (answers_of s) ≡ answers) }
-        ensures unread { IfOk result (λ s. has_failed (answers_of s) ≡ false) }
-        ensures listing { IfOk result (λ s. device_of (listing_of s) ≡ listing) }
-        ensures records { IfOk result (λ s. device_of (records_of s) ≡ records) }
-        ensures empty { IfOk result (λ s. HoldNothing s) }
-        ensures works { IfOk result (λ s. have_stopped s ≡ false) }
-    {
-        Ok(Streams {
-            answers: Watched::new(answers),
-            listing: Gathered::new(alloc, listing)?,
-            records: Gathered::new(alloc, records)?,
-        })
-    }
-
+impl<R: Read + Drop, W: Drop, E: Drop> Streams<R, W, E> {
     /// Whether a call of either output has failed so far.
     pub fn failed(&self) -> bool
         ensures { result ≡ have_stopped self.now }
@@ -58,60 +49,28 @@ impl<R: Drop, W: Drop, E: Drop> Streams<R, W, E> {
     }
 }
 
-impl<R: Drop, W: Write + Drop, E: Write + Drop> Streams<R, W, E> {
-    /// Gives what a line holds to the listing.
-    pub fn list_line(&mut self, line: &Line) -> Result<(), WriteFault>
-        requires { 0 < length line.now }
-        ensures text { Writes (given_to W.contents (listing_of self.old)) (given_to W.contents (listing_of self.new)) result line.now }
-        ensures answers { answers_of self.new ≡ answers_of self.old }
-        ensures records { records_of self.new ≡ records_of self.old }
-        ensures failed { have_stopped self.new ≡ (have_stopped self.old || is_err result) }
-        ensures stopped { have_stopped self.old ≡ true → (is_err result ≡ true) × (self.new ≡ self.old) }
+impl<R: Read + Drop, W: Write + Drop, E: Write + Drop> Streams<R, W, E> {
+    /// Nothing was read yet, and nothing is held.
+    pub fn new(
+        alloc: Global,
+        answers: R,
+        listing: W,
+        records: E,
+    ) -> Result<Streams<R, W, E>, AllocError>
+        ensures { IfOk result (λ s. run_state R.remaining W.contents E.contents s ≡ before (R.remaining answers) (W.contents listing) (E.contents records)) }
     {
-        if self.failed() {
-            return Err(WriteFault);
-        }
-        self.listing.put_line(line)
-    }
-
-    /// Gives the listing the line of an item, and a line for each crate, at most seven, whose lockout was released after it.
-    pub fn list_items(
-        &mut self,
-        checked: &Checked,
-        item: &Item,
-        unlocks: &[CrateNo],
-    ) -> Result<(), WriteFault>
-        requires { length unlocks.now ≤ 7 }
-        ensures text { Writes (given_to W.contents (listing_of self.old)) (given_to W.contents (listing_of self.new)) result (item_text checked.now.script (piece_of item.now) ++ unlock_texts unlocks.now) }
-        ensures answers { answers_of self.new ≡ answers_of self.old }
-        ensures records { records_of self.new ≡ records_of self.old }
-        ensures failed { have_stopped self.new ≡ (have_stopped self.old || is_err result) }
-        ensures stopped { have_stopped self.old ≡ true → (is_err result ≡ true) × (self.new ≡ self.old) }
-    {
-        if self.failed() {
-            return Err(WriteFault);
-        }
-        self.listing.put_items(checked, item, unlocks)
-    }
-
-    /// Gives bytes to the event file, and returns how many it took: at least one, where there is one.
-    pub fn record(&mut self, bytes: &[u8]) -> io::Result<usize>
-        ensures bound { WritesAtMost result bytes.now }
-        ensures bytes { WriteAppends (given_to E.contents (records_of self.old)) (given_to E.contents (records_of self.new)) result bytes.now }
-        ensures some { IfOk result (λ taken. 0 < length bytes.now → 0 < taken) }
-        ensures answers { answers_of self.new ≡ answers_of self.old }
-        ensures listing { listing_of self.new ≡ listing_of self.old }
-        ensures failed { have_stopped self.new ≡ (have_stopped self.old || is_err result) }
-        ensures stopped { have_stopped self.old ≡ true → (is_err result ≡ true) × (self.new ≡ self.old) }
-    {
-        if self.failed() {
-            return Err(stopped());
-        }
-        self.records.write(bytes)
+        let Ok(answers) = Ahead::new(alloc, answers) else {
+            return Err(AllocError);
+        };
+        Ok(Streams {
+            answers,
+            listing: Gathered::new(alloc, listing)?,
+            records: Gathered::new(alloc, records)?,
+        })
     }
 
     /// Hands on all that was given, first the listing.
-    pub fn hand_on(&mut self) -> io::Result<()>
+    pub fn hand_on(&mut self) -> Result<(), WriteFault>
         ensures empty { OnOk result (HoldNothing self.new) }
         ensures answers { answers_of self.new ≡ answers_of self.old }
         ensures listing { Keeps (given_to W.contents (listing_of self.old)) (given_to W.contents (listing_of self.new)) }
@@ -120,39 +79,103 @@ impl<R: Drop, W: Write + Drop, E: Write + Drop> Streams<R, W, E> {
         ensures failed { have_stopped self.new ≡ (have_stopped self.old || is_err result) }
         ensures stopped { have_stopped self.old ≡ true → (is_err result ≡ true) × (self.new ≡ self.old) }
     {
-        if self.failed() {
-            return Err(stopped());
+        if self.failed() || self.listing.flush().is_err() || self.records.flush().is_err() {
+            return Err(WriteFault);
         }
-        self.listing.flush()?;
-        self.records.flush()
+        Ok(())
     }
 
-    /// Hands on all that was given, and returns both outputs. Where neither has failed all was handed on.
-    pub fn finish(mut self) -> (Watched<W>, Watched<E>)
-        ensures listing { (has_failed result.0 || has_failed result.1) ≡ false → Keeps (given_to W.contents (listing_of self)) (W.contents (inner_of result.0)) }
-        ensures records { (has_failed result.0 || has_failed result.1) ≡ false → Keeps (given_to E.contents (records_of self)) (E.contents (inner_of result.1)) }
-        ensures stopped { have_stopped self ≡ true → (has_failed result.0 || has_failed result.1) ≡ true }
+    /// Hands on all that was given at the end of a run, and returns both outputs. One that fails is a write fault.
+    pub fn finish(mut self, outcome: Result<Outcome, ToolFault>) -> Ran<W, E>
+        ensures { IsHandedOn (run_state R.remaining W.contents E.contents self) (W.contents result.listing) (E.contents result.records) outcome result.outcome }
     {
-        // The output that failed tells it.
-        let _ = self.hand_on();
-        (self.listing.into_watched(), self.records.into_watched())
+        let outcome = match self.hand_on() {
+            Ok(()) => outcome,
+            Err(WriteFault) => Err(ToolFault::Write),
+        };
+        Ran {
+            outcome,
+            listing: self.listing.into_inner(),
+            records: self.records.into_inner(),
+        }
+    }
+
+    /// Gives the bytes of a line. A line that was read ahead is given at once. Else all that was given to the outputs is handed on, and only
+    /// then the reader behind is read; where that fails nothing is read.
+    pub fn fill_line(&mut self, line: &mut [u8]) -> Result<usize, PlayFault>
+        ensures first { is_write_fault result ≡ false → (behind (answers_of self.new) ≡ behind (answers_of self.old)) ⊎ HoldNothing self.new }
+        ensures within { IfOk result (λ n. n ≤ length line.old) }
+        ensures len { length line.new ≡ length line.old }
+        ensures bytes { IfOk result (λ n. Consumes (left_ahead R.remaining (answers_of self.old)) (left_ahead R.remaining (answers_of self.new)) (take n line.new)) }
+        ensures short { IfOk result (λ n. n < length line.old → n ≤ length (first_line (take n line.new)) → IsAtEnd (left_ahead R.remaining (answers_of self.new))) }
+        ensures open { is_read_fault result ≡ true → IsOpen (length line.old) (left_ahead R.remaining (answers_of self.old)) (left_ahead R.remaining (answers_of self.new)) }
+        ensures unread { is_write_fault result ≡ true → answers_of self.new ≡ answers_of self.old }
+        ensures listing { Keeps (given_to W.contents (listing_of self.old)) (given_to W.contents (listing_of self.new)) }
+        ensures records { Keeps (given_to E.contents (records_of self.old)) (given_to E.contents (records_of self.new)) }
+        ensures in_failed { has_failed_ahead (answers_of self.new) ≡ (has_failed_ahead (answers_of self.old) || is_read_fault result) }
+        ensures out_failed { have_stopped self.new ≡ (have_stopped self.old || is_write_fault result) }
+    {
+        if self.answers.take_line(line) {
+            return Ok(line.len());
+        }
+        if self.hand_on().is_err() {
+            return Err(PlayFault::Write);
+        }
+        match fill(&mut self.answers, line) {
+            Ok(len) => Ok(len),
+            Err(_) => Err(PlayFault::Read),
+        }
     }
 }
 
-impl<R: Read + Drop, W: Write + Drop, E: Write + Drop> Streams<R, W, E> {
-    /// Hands on all that was given, and only then reads the answers. Where that fails none is read.
-    pub fn read(&mut self, buf: &mut [u8]) -> io::Result<usize>
-        ensures bound { ReadsAtMost result buf.new }
-        ensures bytes { ReadConsumes (R.remaining (inner_of (answers_of self.old))) (R.remaining (inner_of (answers_of self.new))) result buf.new }
-        ensures first { have_stopped self.new ≡ false → HoldNothing self.new }
-        ensures unread { have_stopped self.new ≡ true → (is_err result ≡ true) × (answers_of self.new ≡ answers_of self.old) }
-        ensures failed { have_stopped self.new ≡ false → has_failed (answers_of self.new) ≡ (has_failed (answers_of self.old) || is_err result) }
-        ensures order { has_stopped (listing_of self.new) ≡ true → records_of self.new ≡ records_of self.old }
-        ensures listing { Keeps (given_to W.contents (listing_of self.old)) (given_to W.contents (listing_of self.new)) }
-        ensures records { Keeps (given_to E.contents (records_of self.old)) (given_to E.contents (records_of self.new)) }
-        ensures stopped { have_stopped self.old ≡ true → self.new ≡ self.old }
-    {
-        self.hand_on()?;
-        self.answers.read(buf)
+impl<R: Read + Drop, W: Write + Drop, E: Write + Drop> RunIo for Streams<R, W, E> {
+    ghost state = { run_state R.remaining W.contents E.contents };
+
+    #[inline(always)]
+    fn read_line(&mut self, line: &mut [u8]) -> Result<usize, PlayFault> {
+        self.fill_line(line)
+    }
+
+    fn list_line(&mut self, line: &Line) -> Result<(), WriteFault> {
+        if line.len() == 0 {
+            return Ok(());
+        }
+        if self.failed() {
+            return Err(WriteFault);
+        }
+        self.listing.put_line(line)
+    }
+
+    #[inline(always)]
+    fn list_items(
+        &mut self,
+        checked: &Checked,
+        item: &Item,
+        unlocks: &[CrateNo],
+    ) -> Result<(), WriteFault> {
+        if self.failed() {
+            return Err(WriteFault);
+        }
+        self.listing.put_items(checked, item, unlocks)
+    }
+
+    fn record_header(&mut self) -> Result<(), WriteFault> {
+        if self.failed() {
+            return Err(WriteFault);
+        }
+        write_header(&mut self.records)
+    }
+
+    fn record_event(
+        &mut self,
+        number: u32,
+        gl: GlBit,
+        usage: Usage,
+        words: &[Word24],
+    ) -> Result<(), WriteFault> {
+        if self.failed() {
+            return Err(WriteFault);
+        }
+        write_record(&mut self.records, number, gl, usage, words)
     }
 }

@@ -3,6 +3,7 @@ use Rattle.std.specs.Prelude.{◌≡◌, List, ℕ, Option, Some, None, Result, 
 use Rattle.camac_lang.specs.Tree.{Script}
 use Rattle.camac_branch.specs.Plan.{Layout}
 use Rattle.camac_text_tokens.specs.Fault.{Fault as TextFault}
+use Rattle.camac_text_tokens.specs.Rules.{rule_of}
 use Rattle.camac_text.specs.Parser.{script_of}
 use Rattle.camac_names.specs.Link.{link_fault}
 use Rattle.camac_names.specs.declared.fault.LinkFault.{LinkFault}
@@ -35,7 +36,7 @@ accepted_linked plan script (Some link_fault_of.OutOfMemory) = None
 -- by what reading the text gives
 abbrev pub accepted_read : Layout → Result Script TextFault → Accepted
 accepted_read plan (Ok script) = accepted_linked plan script (link_fault plan script)
-accepted_read plan (Err flaw) = Some (Err (finding.Text flaw.rule flaw.line flaw.left))
+accepted_read plan (Err flaw) = Some (Err (finding.Text (rule_of flaw.case) flaw.line flaw.left))
 
 abbrev pub accepted : Layout → List ℕ → Accepted
 accepted plan text = accepted_read plan (script_of text)

@@ -3,6 +3,7 @@ use Rattle.std.specs.Prelude.{◌≡◌, ℕ, List, Some, None, Result, Ok, Err}
 use Rattle.camac_lang.specs.Tree.{Script}
 use Rattle.camac_branch.specs.Plan.{Layout}
 use Rattle.camac_text_tokens.specs.Fault.{Fault as TextFault}
+use Rattle.camac_text_tokens.specs.Rules.{rule_of}
 use Rattle.camac_text.specs.Parser.{script_of}
 use Rattle.camac_check.specs.Least.{least}
 use Rattle.camac_check.specs.declared.fault.LeastFault.{LeastFault}
@@ -26,7 +27,7 @@ headings_found (Err least_fault.OutOfMemory) = None
 -- of what reading the text gives
 abbrev pub headings_read : Layout → Result Script TextFault → Report
 headings_read plan (Ok script) = headings_found (least plan script)
-headings_read plan (Err fault) = refused (refusal.Text fault.rule fault.line)
+headings_read plan (Err fault) = refused (refusal.Text (rule_of fault.case) fault.line)
 
 -- of a script's text
 abbrev pub headings_report : Layout → List ℕ → Report

@@ -3,6 +3,7 @@ use Rattle.std.specs.Prelude.{ℕ, List, ◌++◌, Option, Some, None, Result, O
 use Rattle.camac_lang.specs.Tree.{Script}
 use Rattle.camac_branch.specs.Plan.{Layout}
 use Rattle.camac_text_tokens.specs.Fault.{Fault as TextFault}
+use Rattle.camac_text_tokens.specs.Rules.{rule_of}
 use Rattle.camac_plan.specs.declared.fault.PlanRule.{PlanRule}
 use Rattle.camac_text.specs.Parser.{script_of}
 use Rattle.camac_names.specs.Link.{link_fault}
@@ -51,7 +52,7 @@ report_linked plan script (Some link_fault_of.OutOfMemory) = None
 -- of what reading the text gives
 abbrev pub report_read : Layout → Result Script TextFault → Report
 report_read plan (Ok script) = report_linked plan script (link_fault plan script)
-report_read plan (Err fault) = refused (refusal.Text fault.rule fault.line)
+report_read plan (Err fault) = refused (refusal.Text (rule_of fault.case) fault.line)
 
 -- of a script's text
 abbrev pub report : Layout → List ℕ → Report

@@ -85,7 +85,8 @@ fn judge_headings(alloc: Global, plan: &Plan, text: &[u8]) -> Result<Headings, T
     match parse(alloc, text) {
         Ok(script) => find_headings(alloc, plan, script),
         Err(TextFault::OutOfMemory) => Err(ToolFault::Memory),
-        Err(TextFault::Broken { rule, line, .. }) => {
+        Err(TextFault::Broken { case, line, .. }) => {
+            let rule = case.rule();
             Ok(Headings::Refused(Refusal::Text { rule, line }))
         }
     }

@@ -67,7 +67,8 @@ pub fn judge(alloc: Global, plan: &Plan, text: &[u8]) -> Result<Judged, ToolFaul
     match parse(alloc, text) {
         Ok(script) => judge_script(alloc, plan, script),
         Err(TextFault::OutOfMemory) => Err(ToolFault::Memory),
-        Err(TextFault::Broken { rule, line, left }) => {
+        Err(TextFault::Broken { case, line, left }) => {
+            let rule = case.rule();
             Ok(Judged::Refused(Finding::Text { rule, line, left }))
         }
     }

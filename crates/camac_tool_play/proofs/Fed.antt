@@ -1,5 +1,5 @@
 -- A run that is fed, what it has sent, and what it calls for.
-use Rattle.std.proofs.Common.{◌≡◌, ℕ, ◌+◌, ◌<◌, ◌≤◌, ◌^◌, ◌⊎◌, List, [], ◌∷◌, ◌++◌, length, Option, Some, None, refl, sym, ap, subst, ◌∙◌, append_assoc, append-nil, length-append, inl, inr, false, arith}
+use Rattle.std.proofs.Common.{◌≡◌, ℕ, ◌+◌, ◌<◌, ◌≤◌, ◌^◌, ◌⊎◌, List, [], ◌∷◌, ◌++◌, length, Option, Some, None, refl, sym, ap, subst, ◌∙◌, append_assoc, append-nil, length-append, inl, inr, Bool, true, arith}
 use Rattle.std.specs.Prelude.{IfSome, IfNone, Result, Ok, Err, take, option_map, unwrap_or}
 use Rattle.camac_lang.specs.Tree.{Script}
 use Rattle.camac_branch.specs.Branch.{Answer}
@@ -7,23 +7,20 @@ use Rattle.camac_branch.specs.Plan.{Layout}
 use Rattle.camac_branch.specs.declared.answer.Overrun.{Overrun}
 use Rattle.camac_model.specs.Behaviour.{Behaviour, does, ends, stops, Piece, pieces, stop_of, Stop, short, overrun, wrong, more, events, events_in, uses}
 use Rattle.camac_model.specs.Run.{the_run}
-use Rattle.camac_answer.specs.Answers.{left_in, Steps, FailsInOpenLine, is_memory_failure}
+use Rattle.camac_answer.specs.Answers.{left_in, window, IsNext, IsOpen}
 use Rattle.camac_answer.specs.Reading.{Reading}
-use Rattle.camac_answer.specs.declared.answers.Stage.TheVariants.{Running}
 use Rattle.camac_answer.specs.declared.fault.AnswerFault.{AnswerFault}
-use Rattle.camac_answer.specs.declared.fault.AnswerFault.TheVariants.{OutOfMemory, Read, Broken}
-use Rattle.camac_answer.specs.declared.fault.AnswerRule.{AnswerRule}
 use Rattle.camac_run_machine.specs.MachineState.{piece_of, Left}
 use Rattle.camac_run_machine.specs.declared.item.Item.{Item}
 use Rattle.camac_run.specs.Ends.{stop_in}
-use Rattle.camac_run.specs.Holds.{after, HoldsAfter}
+use Rattle.camac_run.specs.Holds.{after, HoldsAfter, told_of}
 use Rattle.camac_run.specs.Operation.{operation_of, wanted_after, Begins, Waits, Wants}
 use Rattle.camac_run.specs.Runner.{RunnerState, GoesOn, Stops, rest, last_words_in, state_in}
 use Rattle.camac_run.specs.declared.progress.End.{End}
 use Rattle.camac_run.specs.declared.progress.End.TheVariants as end
 use Rattle.camac_run.specs.declared.progress.Wanted.{Wanted}
-use Rattle.camac_run.proofs.Holds.{pieces-after, stop_of-after, later, going_on_holds, did_all, wants_are_wanted}
-use Rattle.camac_tool_play.specs.Play.{HasGiven, HasRead, ReadsNoMore, FailsAtWrite, Feeds, with_taken, faulted, failed_by}
+use Rattle.camac_run.proofs.Holds.{pieces-after, stop_of-after, later, going_on_holds, told_all, wants_are_wanted}
+use Rattle.camac_tool_play.specs.Play.{HasGiven, HasRead, ReadsNoMore, FailsAtWrite, Feeds, FeedsOver, with_taken}
 use Rattle.camac_tool_play.specs.Sent.{Outputs, Sends, SendsPrefix, Sent, to_listing}
 use Rattle.camac_tool_play.specs.Told.{most_answers, asked_text, line_of, pieces_sent, open_text, called_for, ending_of}
 use Rattle.camac_tool_play.specs.declared.ending.Ending.{Ending}
@@ -45,17 +42,19 @@ Follows t plan script taken sent =
 -- the answers so far did these pieces, which were sent, and the runner holds the rest
 pub record IsFed (t : Telling) (plan : Layout) (script : Script) (left now : Option Reading) (start sent_now : Outputs) (runner : RunnerState) (count : ℕ) : Type 0 where
   pub taken : List Answer
-  pub holds : HoldsAfter plan script taken runner
-  pub sent : Sends start sent_now (pieces_sent (line_of t script) 1 holds.done)
-  pub counted : count ≡ count_of holds.done
-  pub used : uses holds.done ≡ length taken
+  pub done : List Piece
+  pub holds : HoldsAfter plan script taken done runner
+  pub sent : Sends start sent_now (pieces_sent (line_of t script) 1 done)
+  pub counted : count ≡ count_of done
+  pub used : uses done ≡ length taken
   pub given : HasGiven left now taken
-  pub follows : Follows t plan script taken (pieces_sent (line_of t script) 1 holds.done)
+  pub follows : Follows t plan script taken (pieces_sent (line_of t script) 1 done)
 
 abbrev pub starts : (t : Telling) (plan : Layout) (script : Script) (left : Option Reading) (a : Outputs) (runner : RunnerState) → ((answers : List Answer) → rest runner answers ≡ the_run plan script answers) → IsFed t plan script left left a a runner 0
 starts t plan script left a runner run = record {
   taken = [];
-  holds = record { done = []; goes = λ (answers : List Answer). sym (run answers) };
+  done = [];
+  holds = record { goes = λ (answers : List Answer). sym (run answers) };
   sent = sends_nothing a;
   counted = refl;
   used = refl;
@@ -78,13 +77,13 @@ ends_by end.Short = refl
 ends_by (end.Overrun o) = refl
 
 -- a run that waits for an answer did not stop at a wait
-refused_by : {A : Type 0} (b : Behaviour A) (rule : AnswerRule) (line : ℕ) → Waits b → ending_of (stop_of b) (Some (Broken rule line)) ≡ how.Refused rule line
-refused_by (does p b) rule line h = absurd h
-refused_by (ends x) rule line h = refl
-refused_by (stops short s) rule line h = refl
-refused_by (stops (overrun c w) s) rule line h = absurd h
-refused_by (stops wrong s) rule line h = absurd h
-refused_by (stops more s) rule line h = absurd h
+refused_by : {A : Type 0} (b : Behaviour A) (f : AnswerFault) → Waits b → ending_of (stop_of b) (Some f) ≡ how.Refused f
+refused_by (does p b) f h = absurd h
+refused_by (ends x) f h = refl
+refused_by (stops short s) f h = refl
+refused_by (stops (overrun c w) s) f h = absurd h
+refused_by (stops wrong s) f h = absurd h
+refused_by (stops more s) f h = absurd h
 
 no_overrun : {A : Type 0} (t : Telling) (plan : Layout) (script : Script) (left : Option Reading) (now : Option (List ℕ)) (e : End) (b : Behaviour A) → Waits b → stop_in e ≡ stop_of b → ReadsNoMore t plan script left now (how.End e)
 no_overrun t plan script left now end.Ended b w h = tt
@@ -115,13 +114,13 @@ same_number (Some e) n k m r a h same b d = h.1 ∙ sym d
 
 module _ (t : Telling) (plan : Layout) (script : Script) (left now : Option Reading) (a b : Outputs) (runner : RunnerState) (count : ℕ) (fed : IsFed t plan script left now a b runner count) (o : Wanted) (wants : Wants runner (Some o)) where
   abbrev done : List Piece
-  done = fed.holds.done
+  done = fed.done
 
   abbrev asked : List Sent
   asked = to_listing (asked_text t o)
 
   did : pieces (the_run plan script fed.taken) ≡ done
-  did = did_all plan script fed.taken runner fed.holds wants.1
+  did = told_all plan script fed.taken done runner fed.holds wants.1
 
   stop_now : stop_of (the_run plan script fed.taken) ≡ stop_of (rest runner [])
   stop_now =
@@ -136,7 +135,7 @@ module _ (t : Telling) (plan : Layout) (script : Script) (left now : Option Read
   open_at more' same =
       ap (λ (n : ℕ). unwrap_or (option_map (asked_text t) (wanted_after plan script (take n (fed.taken ++ more')))) []) (ap uses same ∙ fed.used)
       ∙ ap (λ (answers : List Answer). unwrap_or (option_map (asked_text t) (wanted_after plan script answers)) []) (take_all fed.taken more')
-      ∙ ap (λ (x : Option Wanted). unwrap_or (option_map (asked_text t) x) []) (wants_are_wanted plan script fed.taken runner o fed.holds wants)
+      ∙ ap (λ (x : Option Wanted). unwrap_or (option_map (asked_text t) x) []) (wants_are_wanted plan script fed.taken done runner o fed.holds wants)
 
   called_at : (more' : List Answer) → pieces (the_run plan script (fed.taken ++ more')) ≡ done → called_for t plan script (fed.taken ++ more') ≡ pieces_sent (line_of t script) 1 done ++ asked
   called_at more' same =
@@ -164,7 +163,7 @@ module _ (t : Telling) (plan : Layout) (script : Script) (left now : Option Read
   )
 
   -- what asks for the operation was not written whole
-  pub stops_asking : (r : Result (Ending × ℕ) PlayFault) (text : Option (List ℕ)) (c : Outputs) → r ≡ Err fault.Write → now ≡ left_in (most_answers t) Running (length fed.taken) text → SendsPrefix b c asked → Feeds t plan script left text a c r
+  pub stops_asking : (r : Result (Ending × ℕ) PlayFault) (text : Option (List ℕ)) (c : Outputs) → r ≡ Err fault.Write → now ≡ left_in (most_answers t) (length fed.taken) text → SendsPrefix b c asked → Feeds t plan script left text a c r
   stops_asking r text c write same prefix = rw write (stops_after text c (has_read t left now text fed.taken fed.given same) prefix fed.follows)
 
   module _ (c : Outputs) (asks : Sends b c asked) where
@@ -172,7 +171,7 @@ module _ (t : Telling) (plan : Layout) (script : Script) (left now : Option Read
     sends_all = subst (λ (l : List Sent). Sends a c l) (sym called_now) (Sends-trans a b c (pieces_sent (line_of t script) 1 done) asked fed.sent asks)
 
     -- no answer is left
-    pub ends_here : (new : Option Reading) (text : Option (List ℕ)) (e : End) → Steps now (Ok None) new → stop_in e ≡ stop_of (rest runner []) → Feeds t plan script left text a c (Ok (how.End e, count))
+    pub ends_here : (new : Option Reading) (text : Option (List ℕ)) (e : End) → IsNext now (Ok None) new → stop_in e ≡ stop_of (rest runner []) → Feeds t plan script left text a c (Ok (how.End e, count))
     ends_here new text e s stop = (
       record { answers = fed.taken; fault = None },
       given_end left now new fed.taken fed.given s,
@@ -183,21 +182,26 @@ module _ (t : Telling) (plan : Layout) (script : Script) (left now : Option Read
     )
 
     -- the text has a fault where the next answer is wanted
-    pub faults_here : (new : Option Reading) (before text : Option (List ℕ)) (f : AnswerFault) → count < 2 ^ 32 → now ≡ left_in (most_answers t) Running (length fed.taken) before → Steps now (Err f) new → FailsInOpenLine (most_answers t) Running (Err f) (length fed.taken) before text
-        → is_memory_failure (failed_by f) ≡ false → Feeds t plan script left text a c (faulted f count)
-    faults_here new before text OutOfMemory few same s open' fine = cc
-    faults_here new before text Read few same s open' fine =
-        (fed.taken, before, has_read t left now before fed.taken fed.given same, open', (let n = count_now in omega (arith, n, few)), sends_all)
-    faults_here new before text (Broken rule line) few same s open' fine = (
-      record { answers = fed.taken; fault = Some (Broken rule line) },
-      given_fault left now new fed.taken fed.given rule line s,
-      sym (refused_by (rest runner []) rule line wants.1) ∙ ap (λ (x : Option Stop). ending_of x (Some (Broken rule line))) (sym stop_now),
+    pub faults_here : (new : Option Reading) (text : Option (List ℕ)) (f : AnswerFault) → IsNext now (Err f) new → Feeds t plan script left text a c (Ok (how.Refused f, count))
+    faults_here new text f s = (
+      record { answers = fed.taken; fault = Some f },
+      given_fault left now new fed.taken fed.given f s,
+      sym (refused_by (rest runner []) f wants.1) ∙ ap (λ (x : Option Stop). ending_of x (Some f)) (sym stop_now),
       tt,
       count_now,
       sends_all,
     )
 
-    module _ (new : Option Reading) (text : Option (List ℕ)) (answer : Answer) (given : Steps now (Ok (Some answer)) new) where
+    -- it was not read
+    pub unread_here : (gathers : Bool) (before text : Option (List ℕ)) (e : PlayFault) (r : Result (Ending × ℕ) PlayFault) → r ≡ Err e → count < 2 ^ 32 → now ≡ left_in (most_answers t) (length fed.taken) before
+        → (e ≡ fault.Read → IsOpen (window (most_answers t) (length fed.taken)) before text) → (e ≡ fault.Write → (text ≡ before) × (gathers ≡ true)) → FeedsOver gathers t plan script left text a c r
+    unread_here gathers before text fault.Read r is few same open' unread =
+        rw is (inl (fed.taken, before, has_read t left now before fed.taken fed.given same, open' refl, (let n = count_now in omega (arith, n, few)), sends_all))
+    unread_here gathers before text fault.Write r is few same open' unread =
+        let u = unread refl in
+        inr (is, (u.1, (fed.taken, has_read t left now text fed.taken fed.given (same ∙ ap (left_in (most_answers t) (length fed.taken)) (sym u.0)), sends_all)))
+
+    module _ (new : Option Reading) (text : Option (List ℕ)) (answer : Answer) (given : IsNext now (Ok (Some answer)) new) where
       abbrev pub taken : List Answer
       taken = fed.taken ++ answer ∷ []
 
@@ -215,7 +219,7 @@ module _ (t : Telling) (plan : Layout) (script : Script) (left now : Option Read
             )
 
         -- its wait is not permitted
-        pub overruns_here : new ≡ left_in (most_answers t) Running (length taken) text → Feeds t plan script left text a c (Ok (how.End (end.Overrun halt), count))
+        pub overruns_here : new ≡ left_in (most_answers t) (length taken) text → Feeds t plan script left text a c (Ok (how.End (end.Overrun halt), count))
         overruns_here same =
             let more' : List Answer = (known new).answers in
             let s = stopped more' in
@@ -229,8 +233,11 @@ module _ (t : Telling) (plan : Layout) (script : Script) (left now : Option Read
             )
 
       module _ (runner' : RunnerState) (told : Item) (ks : List ℕ) (event : Option Left) (words : List ℕ) (g : GoesOn runner answer told ks event runner') (same_words : words ≡ last_words_in runner') (counted : runner.events ≡ count) where
-        abbrev holds' : HoldsAfter plan script taken runner'
-        holds' = going_on_holds plan script fed.taken answer runner runner' told ks event fed.holds g
+        abbrev done' : List Piece
+        done' = done ++ told_of told ks event (last_words_in runner')
+
+        abbrev holds' : HoldsAfter plan script taken done' runner'
+        holds' = going_on_holds plan script fed.taken answer done runner runner' told ks event fed.holds g
 
         told_is : operation_of (piece_of told) ≡ Some o
         told_is = subst (λ (x : Behaviour (Unit {0})). Begins o answer x) (g.goes []) (wants.2 answer [])
@@ -242,7 +249,7 @@ module _ (t : Telling) (plan : Layout) (script : Script) (left now : Option Read
         numbers = one_on event (count_of done) (next_number event runner.events (count_of done) runner'.events g.next (counted ∙ fed.counted))
 
         -- what was sent of all pieces is what the answers before this one call for, and what it did
-        pub as_called : pieces_sent (line_of t script) 1 holds'.done ≡ called_for t plan script fed.taken ++ text_sent
+        pub as_called : pieces_sent (line_of t script) 1 done' ≡ called_for t plan script fed.taken ++ text_sent
         as_called =
             pieces_sent-append (line_of t script) 1 done (piece_of told ∷ later ks event (last_words_in runner'))
             ∙ ap (λ (l : List ℕ). pieces_sent (line_of t script) 1 done ++ pieces_sent (line_of t script) (1 + count_of done) (piece_of told ∷ later ks event l)) (sym same_words)
@@ -250,7 +257,7 @@ module _ (t : Telling) (plan : Layout) (script : Script) (left now : Option Read
             ∙ sym (append_assoc (pieces_sent (line_of t script) 1 done) asked text_sent)
             ∙ ap (λ (l : List Sent). l ++ text_sent) (sym called_now)
 
-        pub uses_then : uses holds'.done ≡ length taken
+        pub uses_then : uses done' ≡ length taken
         uses_then =
             let sum = uses-append done (piece_of told ∷ later ks event (last_words_in runner')) in
             let one = answer_uses o told ks event (last_words_in runner') told_is in
@@ -262,6 +269,7 @@ module _ (t : Telling) (plan : Layout) (script : Script) (left now : Option Read
         abbrev pub goes_on : (d : Outputs) (n : ℕ) → IfNone event (n ≡ count) → IfSome event (λ e. n ≡ e.0) → Sends c d text_sent → IsFed t plan script left new a d runner' n
         goes_on d n none some sends = record {
           taken = taken;
+          done = done';
           holds = holds';
           sent = subst (λ (l : List Sent). Sends a d l) (sym as_called) (Sends-trans a c d (called_for t plan script fed.taken) text_sent sends_all sends);
           counted = answer_counts told ks event (last_words_in runner') count n none some (next_number event runner.events count runner'.events g.next counted)
@@ -272,16 +280,16 @@ module _ (t : Telling) (plan : Layout) (script : Script) (left now : Option Read
         }
 
         -- a prefix of that was written
-        pub stops_here : (r : Result (Ending × ℕ) PlayFault) (d : Outputs) → r ≡ Err fault.Write → new ≡ left_in (most_answers t) Running (length taken) text → SendsPrefix c d text_sent → Feeds t plan script left text a d r
+        pub stops_here : (r : Result (Ending × ℕ) PlayFault) (d : Outputs) → r ≡ Err fault.Write → new ≡ left_in (most_answers t) (length taken) text → SendsPrefix c d text_sent → Feeds t plan script left text a d r
         stops_here r d write same prefix =
             let more' : List Piece = pieces (rest runner' []) in
-            let did_then : pieces (the_run plan script taken) ≡ holds'.done ++ more' =
-            ap (λ (l : List Answer). pieces (the_run plan script l)) (sym (append-nil taken)) ∙ ap (λ (y : Behaviour (Unit {0})). pieces y) (holds'.goes []) ∙ pieces-after holds'.done (rest runner' []) in
-            let next' : List Sent = pieces_sent (line_of t script) (1 + count_of holds'.done) more' in
+            let did_then : pieces (the_run plan script taken) ≡ done' ++ more' =
+            ap (λ (l : List Answer). pieces (the_run plan script l)) (sym (append-nil taken)) ∙ ap (λ (y : Behaviour (Unit {0})). pieces y) (holds'.goes []) ∙ pieces-after done' (rest runner' []) in
+            let next' : List Sent = pieces_sent (line_of t script) (1 + count_of done') more' in
             let open' : List Sent = to_listing (open_text t plan script taken) in
             let whole : called_for t plan script taken ≡ called_for t plan script fed.taken ++ (text_sent ++ (next' ++ open')) =
             ap (λ (ps : List Piece). pieces_sent (line_of t script) 1 ps ++ open') did_then
-            ∙ ap (λ (l : List Sent). l ++ open') (pieces_sent-append (line_of t script) 1 holds'.done more' ∙ ap (λ (l : List Sent). l ++ next') as_called)
+            ∙ ap (λ (l : List Sent). l ++ open') (pieces_sent-append (line_of t script) 1 done' more' ∙ ap (λ (l : List Sent). l ++ next') as_called)
             ∙ append_assoc (called_for t plan script fed.taken ++ text_sent) next' open'
             ∙ append_assoc (called_for t plan script fed.taken) text_sent (next' ++ open') in
             rw write (inr (

@@ -11,7 +11,8 @@ use Rattle.camac_run_machine.specs.MachineState.{piece_of, Left}
 use Rattle.camac_run.specs.Operation.{operation_of}
 use Rattle.camac_run.specs.declared.progress.Wanted.{Wanted}
 use Rattle.camac_run.specs.declared.progress.Wanted.TheVariants as wanted
-use Rattle.camac_run.proofs.Holds.{event_pieces, later}
+use Rattle.camac_run.specs.Holds.{event_pieces}
+use Rattle.camac_run.proofs.Holds.{later}
 use Rattle.camac_tool_play.specs.Sent.{Sent, to_listing, to_events}
 use Rattle.camac_tool_play.specs.Told.{asked_text, item_line, line_of, record_text, number_after, piece_sent, pieces_sent, event_record}
 use Rattle.camac_tool_play.specs.declared.telling.Telling.{Telling}

@@ -1,8 +1,8 @@
 -- Texts one after another over two writers.
 use Rattle.std.proofs.Common.{◌≡◌, ℕ, ◌<◌, List, [], ◌∷◌, ◌++◌, length, Option, Some, None, refl, sym, ap, subst, ◌∙◌, append_assoc, append-nil, length-append, arith}
 use Rattle.std.specs.Prelude.{Result, Ok, Err}
-use Rattle.std.specs.Io.KnownBytes.{Appends}
-use Rattle.std.proofs.KnownBytes.{Appends-trans}
+use Rattle.std.specs.Io.KnownBytes.{Appends, Keeps}
+use Rattle.std.proofs.KnownBytes.{Appends-trans, Appends-kept}
 use Rattle.camac_word.specs.Writing.{AppendsPrefix, Writes}
 use Rattle.camac_tool_play.specs.Sent.{Sent, listed, recorded, to_listing, to_events, listing_of, events_of, Outputs, Sends, SendsPrefix, SendsLastPart, SendsBy}
 
@@ -83,6 +83,29 @@ prefix_events l e f t (prefix, rest, split, some, p) =
 pub by_listing : {T E : Type 0} (r : Result T E) (l m e : Option (List ℕ)) (t : List ℕ) → Writes l m r t → SendsBy (both l e) (both m e) r (to_listing t)
 by_listing (Ok v) l m e t p = sends_listing l m e t p
 by_listing (Err x) l m e t p = prefix_listing l m e t p
+
+-- where the other writer stays
+pub listing_sent : (l m e f : Option (List ℕ)) (t : List ℕ) → f ≡ e → Appends l m t → Sends (both l e) (both m f) (to_listing t)
+listing_sent l m e f t same p = subst (λ (x : Option (List ℕ)). Sends (both l e) (both m x) (to_listing t)) (sym same) (sends_listing l m e t p)
+
+pub listing_part : (l m e f : Option (List ℕ)) (t : List ℕ) → f ≡ e → AppendsPrefix l m t → SendsPrefix (both l e) (both m f) (to_listing t)
+listing_part l m e f t same p = subst (λ (x : Option (List ℕ)). SendsPrefix (both l e) (both m x) (to_listing t)) (sym same) (prefix_listing l m e t p)
+
+pub listing_by : {T E : Type 0} (r : Result T E) (l m e f : Option (List ℕ)) (t : List ℕ) → f ≡ e → Writes l m r t → SendsBy (both l e) (both m f) r (to_listing t)
+listing_by r l m e f t same p = subst (λ (x : Option (List ℕ)). SendsBy (both l e) (both m x) r (to_listing t)) (sym same) (by_listing r l m e t p)
+
+pub events_sent : (l m e f : Option (List ℕ)) (t : List ℕ) → m ≡ l → Appends e f t → Sends (both l e) (both m f) (to_events t)
+events_sent l m e f t same p = subst (λ (x : Option (List ℕ)). Sends (both l e) (both x f) (to_events t)) (sym same) (sends_events l e f t p)
+
+pub events_part : (l m e f : Option (List ℕ)) (t : List ℕ) → m ≡ l → AppendsPrefix e f t → SendsPrefix (both l e) (both m f) (to_events t)
+events_part l m e f t same p = subst (λ (x : Option (List ℕ)). SendsPrefix (both l e) (both x f) (to_events t)) (sym same) (prefix_events l e f t p)
+
+-- where what is known of both stays
+pub Sends-kept : (a b c : Outputs) (x : List Sent) → Sends a b x → Keeps b.listing c.listing → Keeps b.events c.events → Sends a c x
+Sends-kept a b c x p k l = record {
+  listing = Appends-kept a.listing b.listing c.listing (listing_of x) p.listing k;
+  events = Appends-kept a.events b.events c.events (events_of x) p.events l;
+}
 
 pub Sends-trans : (a b c : Outputs) (x y : List Sent) → Sends a b x → Sends b c y → Sends a c (x ++ y)
 Sends-trans a b c x y p q = record {

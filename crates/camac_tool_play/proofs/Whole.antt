@@ -1,5 +1,5 @@
 -- A whole play: the header, the run, and the last line.
-use Rattle.std.proofs.Common.{◌≡◌, ℕ, ◌<◌, ◌^◌, List, [], ◌∷◌, ◌++◌, length, Option, refl, sym, ap, subst, ◌∙◌, inl, inr, arith}
+use Rattle.std.proofs.Common.{◌≡◌, ℕ, ◌<◌, ◌^◌, List, [], ◌∷◌, ◌++◌, length, Option, refl, sym, ap, subst, ◌∙◌, inl, inr, arith, Bool}
 use Rattle.std.proofs.lemmas.List.{length-map}
 use Rattle.std.specs.Prelude.{Result, Ok, Err, IfOk, IfErr}
 use Rattle.std.specs.Io.KnownBytes.{Appends}
@@ -13,11 +13,10 @@ use Rattle.camac_model.specs.Fine.{Bounds}
 use Rattle.camac_model.specs.Run.{the_run}
 use Rattle.camac_answer.specs.Answers.{left_in}
 use Rattle.camac_answer.specs.Reading.{Reading}
-use Rattle.camac_answer.specs.declared.answers.Stage.TheVariants.{Running}
 use Rattle.camac_run.specs.Headline.{entry_of, run_events, event_file, RunsByHeadline}
 use Rattle.camac_run.specs.Requested.{RequestsAreSafe}
 use Rattle.camac_tool_play.specs.Headline.{IsByHeadline, KeepsHeadline}
-use Rattle.camac_tool_play.specs.Play.{FailsAtWrite, ReadsNoMore, Plays, Feeds}
+use Rattle.camac_tool_play.specs.Play.{FailsAtWrite, ReadsNoMore, Plays, Feeds, FeedsOver, PlaysOver}
 use Rattle.camac_tool_play.specs.Sent.{Outputs, Sends, SendsPrefix, SendsBy, Sent, to_listing, to_events}
 use Rattle.camac_tool_play.specs.Told.{most_answers, used_of, called_for, report, played, ending_text, ending, last_line}
 use Rattle.camac_tool_play.specs.declared.ending.Ending.{Ending}
@@ -29,11 +28,11 @@ use Rattle.camac_tool_play.proofs.Given.{given_none, given_first, has_read}
 use Rattle.camac_tool_play.proofs.Sending.{Sends-trans, SendsPrefix-longer, SendsPrefix-after, last_part, last_part-after}
 
 module _ (t : Telling) (plan : Layout) (script : Script) (left : Option Reading) (text : Option (List ℕ)) where
-  abbrev start : List Sent
+  abbrev pub start : List Sent
   start = to_events (header Two)
 
   -- a prefix of the header was written, and no answer was read
-  pub stops_at_header : (a b : Outputs) (r : Result Ending PlayFault) → r ≡ Err fault.Write → left ≡ left_in (most_answers t) Running 0 text → SendsPrefix a b start → Plays t plan script left text a b r
+  pub stops_at_header : (a b : Outputs) (r : Result Ending PlayFault) → r ≡ Err fault.Write → left ≡ left_in (most_answers t) 0 text → SendsPrefix a b start → Plays t plan script left text a b r
   stops_at_header a b r write same prefix =
       rw write (inl (inl (has_read t left left text [] (given_none left) same, SendsPrefix-longer a b start (called_for t plan script []) prefix)))
 
@@ -92,12 +91,32 @@ module _ (t : Telling) (plan : Layout) (script : Script) (ks : List Bounds) (lef
   keeps_headline a b (Err fault.Read) (taken, before, read, open', few, sends) = (
     taken,
     event_file plan script taken,
-    given_first left (left_in (most_answers t) Running (length taken) before) taken read,
+    given_first left (left_in (most_answers t) (length taken) before) taken read,
     subst (λ (bytes : List ℕ). Appends a.events b.events bytes) (report_file t plan script taken) sends.events,
     by_headline taken few,
   )
 
--- along what is left of the answers
-pub plays_along : (t : Telling) (plan : Layout) (script : Script) (l l' : Option Reading) (x x' : Option (List ℕ)) (a b : Outputs) (r : Result Ending PlayFault) → l ≡ l' → x ≡ x' → Plays t plan script l x a b r → Plays t plan script l' x' a b r
-plays_along t plan script l l' x x' a b r e f d =
-    subst (λ (y : Option (List ℕ)). Plays t plan script l' y a b r) f (subst (λ (y : Option Reading). Plays t plan script y x a b r) e d)
+-- The same over streams that may hold what they are given.
+module _ (gathers : Bool) (t : Telling) (plan : Layout) (script : Script) (left : Option Reading) (text : Option (List ℕ)) where
+  module _ (a b c : Outputs) (begun : Sends a b (start t plan script left text)) where
+    pub stops_over : (f : PlayFault) (r : Result Ending PlayFault) → r ≡ Err f → FeedsOver gathers t plan script left text b c (Err f) → PlaysOver gathers t plan script left text a c r
+    stops_over f r is (inl feeds) = inl (stops_in_run t plan script left text a b begun c f r is feeds)
+    stops_over f r is (inr (write, (holds, (taken, read, sends)))) =
+        let same : f ≡ fault.Write = cc in
+        inr (is ∙ ap (λ (x : PlayFault). Err x) same, (holds, (taken, read, Sends-trans a b c (start t plan script left text) (called_for t plan script taken) begun sends)))
+
+    pub finishes_over : (d : Outputs) (e : Ending) (n : ℕ) (r : Result Ending PlayFault) → n < 2 ^ 32 → FeedsOver gathers t plan script left text b c (Ok (e, n)) → IfOk r (λ x. x ≡ e) → IfErr r (λ f. f ≡ fault.Write)
+        → SendsBy c d r (to_listing (ending_text e n)) → PlaysOver gathers t plan script left text a d r
+    finishes_over d e n r few (inl feeds) is write sent = inl (finishes t plan script left text a b begun c d e n r few feeds is write sent)
+    finishes_over d e n r few (inr (bad, holds)) is write sent = absurd cc
+
+  pub headline_over : (ks : List Bounds) → RunsByHeadline plan script ks → RequestsAreSafe plan script
+      → (a b : Outputs) (r : Result Ending PlayFault) → PlaysOver gathers t plan script left text a b r → KeepsHeadline plan script ks left a.events b.events r
+  headline_over ks law safe a b r (inl plays) = keeps_headline t plan script ks left text law safe a b r plays
+  headline_over ks law safe a b r (inr (write, holds)) = rw write tt
+
+-- along what is left of the answers, and what may be held
+pub feeds_along : (gathers gathers' : Bool) (t : Telling) (plan : Layout) (script : Script) (l l' : Option Reading) (x : Option (List ℕ)) (a b : Outputs) (r : Result (Ending × ℕ) PlayFault)
+    → gathers ≡ gathers' → l ≡ l' → FeedsOver gathers t plan script l x a b r → FeedsOver gathers' t plan script l' x a b r
+feeds_along gathers gathers' t plan script l l' x a b r e f d =
+    subst (λ (y : Option Reading). FeedsOver gathers' t plan script y x a b r) f (subst (λ (g : Bool). FeedsOver g t plan script l x a b r) e d)

@@ -7,7 +7,7 @@ use Rattle.camac_branch.specs.Plan.{Layout}
 use Rattle.camac_model.specs.Fine.{Bounds}
 use Rattle.camac_answer.specs.Reading.{Reading}
 use Rattle.camac_run.specs.Headline.{event_file, Headline}
-use Rattle.camac_run.specs.Requested.{IsSafeRequest}
+use Rattle.camac_run.specs.Requested.{IsSafeRequest, held_after}
 use Rattle.camac_run.specs.Operation.{wanted_after}
 use Rattle.camac_tool_play.specs.Play.{Gives, GivesFirst}
 use Rattle.camac_tool_play.specs.Sent.{events_of}
@@ -26,10 +26,10 @@ abbrev pub PlayedSendsEventFile : Type 0
 PlayedSendsEventFile =
     (telling : Telling) (plan : Layout) (script : Script) (r : Reading) → events_of (played telling plan script r) ≡ event_file plan script r.answers
 
--- of the run on these answers and of these bytes of its event file the headline is true, and the operation that is wanted last is safe too
+-- of the run on these answers and of these bytes of its event file the headline is true, and the operation that is wanted last may be made
 abbrev pub IsByHeadline : Layout → Script → List Bounds → List Answer → List ℕ → Type 0
 IsByHeadline plan script ks answers file =
-    Headline plan script ks answers file × IfSome (wanted_after plan script (used_of plan script answers)) (IsSafeRequest plan)
+    Headline plan script ks answers file × IfSome (wanted_after plan script (used_of plan script answers)) (IsSafeRequest plan (held_after plan script (used_of plan script answers)))
 
 -- the text gives these answers, and the event file has got these bytes
 abbrev pub PlaysByHeadline : Layout → Script → List Bounds → Option Reading → (old new : Option (List ℕ)) → Type 0

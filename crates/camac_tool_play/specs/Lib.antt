@@ -2,3 +2,4 @@ pub mod Sent
 pub mod Told
 pub mod Play
 pub mod Headline
+pub mod RunIo

@@ -6,11 +6,9 @@ use Rattle.camac_branch.specs.Plan.{Layout}
 use Rattle.camac_model.specs.Behaviour.{events}
 use Rattle.camac_model.specs.Run.{the_run}
 use Rattle.camac_answer.specs.Answers.{left_in, window, IsOpen}
-use Rattle.camac_answer.specs.Reading.{Reading, Answered}
-use Rattle.camac_answer.specs.declared.answers.Stage.TheVariants.{Running}
-use Rattle.camac_answer.specs.declared.fault.AnswerFault.{AnswerFault}
-use Rattle.camac_answer.specs.declared.fault.AnswerFault.TheVariants.{OutOfMemory, Read, Broken}
+use Rattle.camac_answer.specs.Reading.{Reading}
 use Rattle.camac_run.specs.declared.progress.End.TheVariants as end
+use Rattle.camac_tool_play.specs.RunIo.{RunState, sent_in}
 use Rattle.camac_tool_play.specs.Sent.{Outputs, Sends, SendsPrefix, SendsLastPart, Sent}
 use Rattle.camac_tool_play.specs.Told.{most_answers, called_for, ending, report, played}
 use Rattle.camac_tool_play.specs.declared.ending.Ending.{Ending}
@@ -37,7 +35,7 @@ HasGiven left now taken = (whole : Reading) → left ≡ Some whole → (r : Rea
 
 -- these answers were read, and no more: this text is left of them
 abbrev pub HasRead : Telling → Option Reading → Option (List ℕ) → List Answer → Type 0
-HasRead telling left now taken = HasGiven left (left_in (most_answers telling) Running (length taken) now) taken
+HasRead telling left now taken = HasGiven left (left_in (most_answers telling) (length taken) now) taken
 
 -- a wait that was not permitted ends a run at once: no answer after it was read
 abbrev pub ReadsNoMore : Telling → Layout → Script → Option Reading → Option (List ℕ) → Ending → Type 0
@@ -45,7 +43,7 @@ ReadsNoMore telling plan script left now (how.End (end.Overrun o)) =
     (taken : List Answer) × HasRead telling left now taken × (ending plan script (record { answers = taken; fault = None }) ≡ how.End (end.Overrun o))
 ReadsNoMore telling plan script left now (how.End end.Ended) = Unit {0}
 ReadsNoMore telling plan script left now (how.End end.Short) = Unit {0}
-ReadsNoMore telling plan script left now (how.Refused rule line) = Unit {0}
+ReadsNoMore telling plan script left now (how.Refused f) = Unit {0}
 
 -- A read failed in the line after these answers, before the line could be judged. All that they call for was sent, and their events can
 -- be numbered.
@@ -81,6 +79,30 @@ Feeds telling plan script left now old new (Ok v) =
 Feeds telling plan script left now old new (Err fault.Write) = FailsAtWrite telling left now old new (called_for telling plan script)
 Feeds telling plan script left now old new (Err fault.Read) = FailsAtRead telling plan script left now old new (called_for telling plan script)
 
+-- What was given could not be handed on, where it is held: all that the answers so far call for was given, and no more was read.
+abbrev pub FailsAtHandingOn : Bool → Telling → Option Reading → Option (List ℕ) → Outputs → Outputs → (List Answer → List Sent) → Type 0
+FailsAtHandingOn gathers telling left now old new calls =
+    (gathers ≡ true) × ((taken : List Answer) × HasRead telling left now taken × Sends old new (calls taken))
+
+-- the same over streams that may hold what they are given
+abbrev pub FeedsOver : Bool → Telling → Layout → Script → Option Reading → Option (List ℕ) → Outputs → Outputs → Result (Ending × ℕ) PlayFault → Type 0
+FeedsOver gathers telling plan script left now old new r =
+    Feeds telling plan script left now old new r ⊎ ((r ≡ Err fault.Write) × FailsAtHandingOn gathers telling left now old new (called_for telling plan script))
+
+abbrev pub PlaysOver : Bool → Telling → Layout → Script → Option Reading → Option (List ℕ) → Outputs → Outputs → Result Ending PlayFault → Type 0
+PlaysOver gathers telling plan script left now old new r =
+    Plays telling plan script left now old new r ⊎ ((r ≡ Err fault.Write) × FailsAtHandingOn gathers telling left now old new (report telling plan script))
+
+-- what the text of the answers gives from here on
+abbrev pub left_of : Telling → RunState → Option Reading
+left_of telling s = left_in (most_answers telling) 0 s.remaining
+
+abbrev pub FeedsIn : Telling → Layout → Script → (old new : RunState) → Result (Ending × ℕ) PlayFault → Type 0
+FeedsIn telling plan script old new r = FeedsOver old.gathers telling plan script (left_of telling old) new.remaining (sent_in old) (sent_in new) r
+
+abbrev pub PlaysIn : Telling → Layout → Script → (old new : RunState) → Result Ending PlayFault → Type 0
+PlaysIn telling plan script old new r = PlaysOver old.gathers telling plan script (left_of telling old) new.remaining (sent_in old) (sent_in new) r
+
 abbrev pub is_write_fault : {T : Type 0} → Result T PlayFault → Bool
 is_write_fault (Err fault.Write) = true
 is_write_fault _ = false
@@ -88,12 +110,3 @@ is_write_fault _ = false
 abbrev pub is_read_fault : {T : Type 0} → Result T PlayFault → Bool
 is_read_fault (Err fault.Read) = true
 is_read_fault _ = false
-
--- after so many events the run wants an answer where the text has this fault
-abbrev pub faulted : AnswerFault → ℕ → Result (Ending × ℕ) PlayFault
-faulted (Broken rule line) n = Ok (how.Refused rule line, n)
-faulted Read n = Err fault.Read
-faulted OutOfMemory n = Err fault.Read
-
-abbrev pub failed_by : AnswerFault → Answered
-failed_by f = Err f

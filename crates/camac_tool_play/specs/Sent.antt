@@ -1,8 +1,6 @@
 -- What is sent to two writers, byte by byte in one order.
 use Rattle.std.specs.Prelude.{◌≡◌, ℕ, ◌<◌, List, [], ◌∷◌, ◌++◌, length, Option, Result, MatchResult}
 use Rattle.std.specs.Io.KnownBytes.{Appends}
-use Rattle.camac_word.specs.Watched.{inner_of}
-use Rattle.camac_word.specs.declared.watched.Watched.{Watched}
 
 -- a byte for the listing, or for the event file
 pub data Sent : Type 0 where
@@ -35,9 +33,6 @@ events_of (recorded b ∷ sent) = b ∷ events_of sent
 pub record Outputs : Type 0 where
   pub listing : Option (List ℕ)
   pub events : Option (List ℕ)
-
-abbrev pub outputs : {L E : Type 0} → (L → Option (List ℕ)) → (E → Option (List ℕ)) → L → Watched E → Outputs
-outputs of_listing of_events out events = record { listing = of_listing out; events = of_events (inner_of events) }
 
 -- each writer has got its part
 pub record Sends (old new : Outputs) (sent : List Sent) : Type 0 where

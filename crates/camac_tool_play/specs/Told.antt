@@ -10,7 +10,6 @@ use Rattle.camac_model.specs.Run.{the_run}
 use Rattle.camac_answer.specs.Reading.{Reading}
 use Rattle.camac_answer.specs.declared.answers.TheConstants.{FILE_ANSWERS, LIVE_ANSWERS}
 use Rattle.camac_answer.specs.declared.fault.AnswerFault.{AnswerFault}
-use Rattle.camac_answer.specs.declared.fault.AnswerFault.TheVariants.{Broken}
 use Rattle.camac_report_text.specs.declared.refusal.Refusal.TheVariants as refusal
 use Rattle.camac_report_text.specs.Refusal.{refusal_text}
 use Rattle.camac_report.specs.Ends.{end_text}
@@ -97,14 +96,14 @@ report telling plan script answers = to_events (header Two) ++ called_for tellin
 -- the end of the answers. A run of a checked script stops for no other reasons.
 abbrev pub ending_of : Option Stop → Option AnswerFault → Ending
 ending_of (Some (overrun c w)) fault = how.End (end.Overrun (record { c = c; wait = w }))
-ending_of stop (Some (Broken broken line)) = how.Refused broken line
+ending_of stop (Some f) = how.Refused f
 ending_of (Some short) fault = how.End end.Short
 ending_of stop fault = how.End end.Ended
 
 -- the last line, after so many events
 abbrev pub ending_text : Ending → ℕ → List ℕ
 ending_text (how.End e) n = end_text (stop_in e) n
-ending_text (how.Refused broken line) n = refusal_text (refusal.Answer broken line)
+ending_text (how.Refused f) n = refusal_text (refusal.Answer f.rule f.line)
 
 abbrev pub ending : Layout → Script → Reading → Ending
 ending plan script r = ending_of (stop_of (the_run plan script r.answers)) r.fault

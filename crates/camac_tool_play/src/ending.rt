@@ -1,6 +1,6 @@
 // How a run comes to its last line.
 
-use camac_answer::AnswerRule;
+use camac_answer::AnswerFault;
 use camac_run::End;
 
 /// How a run comes to its last line (own).
@@ -8,6 +8,6 @@ use camac_run::End;
 pub enum Ending {
     /// The answers were used up, or a wait was not permitted.
     End(End),
-    /// The answer that it needs is not given: a line, from 1, breaks a rule.
-    Refused { rule: AnswerRule, line: u64 },
+    /// The answer that it needs is not given: its line breaks a rule.
+    Refused(AnswerFault),
 }

@@ -6,11 +6,14 @@ mod ending;
 mod fault;
 mod feeding;
 mod laws;
+mod next;
 mod playing;
+mod run_io;
 mod telling;
 
 pub use ending::Ending;
 pub use fault::PlayFault;
 pub use laws::event_file_is_sent;
-pub use playing::{drive, play, play_as};
+pub use playing::play_over;
+pub use run_io::{Borrowed, RunIo};
 pub use telling::Telling;

@@ -125,9 +125,13 @@ class Shares:
             return ""
         if isinstance(it, (For, While)):
             return f" turns {self.turns(it)}"
-        if isinstance(it, Lock):
-            return f" crate {value_of(known, it.crate, it.line)[0]}"
-        register = it.first if isinstance(it, Scan) else it.register if isinstance(it, (Cycle, Block)) else None
+        if isinstance(it, (Lock, CrateCall)):
+            return f" crate {range_text(value_of(known, it.crate, it.line))}"
+        if isinstance(it, Scan):
+            first, last = (known.registers[one] for one in (it.first, it.last))
+            crate = first.crate[0]
+            return f" at {crate} {first.station[0]} {first.sub[0]} to {crate} {last.station[1]} {min(last.sub[1], 15)}"
+        register = it.register if isinstance(it, (Cycle, Block)) else None
         return "" if register is None else " at " + " ".join(range_text(one) for one in known.registers[register])
 
     def head(self, it: Body, cost: Cost) -> str:

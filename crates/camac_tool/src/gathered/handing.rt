@@ -12,6 +12,7 @@ ghost use Rattle.camac_word.specs.Writing.{Writes};
 use super::Gathered;
 use super::room::{ROOM, Room};
 use camac_check::Checked;
+use camac_event::TextWriter;
 use camac_report::{LONGEST_LINE, Line};
 use camac_run::Item;
 use camac_word::{CrateNo, Watched, WriteFault};
@@ -38,12 +39,11 @@ impl<W: Drop> Gathered<W> {
         self.inner.failed()
     }
 
-    /// The writer behind it, watched. What is still held is lost.
-    pub fn into_watched(self) -> Watched<W>
-        ensures inner { inner_of result ≡ device_of self }
-        ensures failed { has_failed result ≡ has_stopped self }
+    /// The writer behind it. What is still held is lost.
+    pub fn into_inner(self) -> W
+        ensures { result ≡ device_of self }
     {
-        self.inner
+        self.inner.into_inner()
     }
 }
 
@@ -108,6 +108,23 @@ impl<W: Write + Drop> Gathered<W> {
     {
         self.make_room(line.len())?;
         self.room.put(line.as_bytes());
+        Ok(())
+    }
+}
+
+impl<W: Write + Drop> TextWriter for Gathered<W> {
+    ghost contents = { given_to W.contents };
+
+    ghost failed = { has_stopped };
+
+    fn put_text(&mut self, text: &[u8]) -> Result<(), WriteFault> {
+        let mut rest = text;
+        while !rest.is_empty() {
+            match self.write(rest) {
+                Ok(taken) => rest = &rest[taken..],
+                Err(_) => return Err(WriteFault),
+            }
+        }
         Ok(())
     }
 }

@@ -7,7 +7,7 @@ pub pieces-preserved : goal.pieces-preserved
 pieces-preserved g c =
     let line = c.pieces.line in
     let len = c.pieces.len in
-    let part = c.read.new.buf in
+    let part = c.read_piece.new.buf in
     let long : length part ≡ length line - len = search rules in
     let few : c.in-Ok.taken ≤ length part = search rules in
     let within : len ≤ length line = omega (arith, c.pieces.invariant.within, c.pieces.invariant.room) in

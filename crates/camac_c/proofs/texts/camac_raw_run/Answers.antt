@@ -1,4 +1,4 @@
-use Rattle.std.proofs.Common.{ℕ, sym, ap, ◌∙◌, subst}
+use Rattle.std.proofs.Common.{ℕ, refl, sym, ap, ◌∙◌, subst}
 use Rattle.std.specs.Prelude.{Some}
 use Rattle.camac_c.specs.Run.{AnswersRun}
 use Rattle.camac_c.proofs.Ran.{held, run_answers}
@@ -12,4 +12,4 @@ returns c =
     (λ (code : ℕ). AnswersRun c.args.plan.now c.args.script.now c.args.answers.now code c.args.text.now c.give_answer.new.text c.give_answer.new.size c.args.file.now c.give_answer-2.new.text c.give_answer-2.new.size)
     (sym c.code_of.ensures)
     (run_answers _ _ c.args.plan.now c.args.script.now c.args.answers.now (ap (λ r. Some r.now) c.new.ensures.inner) (ap (λ r. Some r.now) c.new-script.ensures.inner)
-    (ap (λ r. Some r.now) c.new-answers.ensures.inner) c.deref.result.now c.deref-2.result.now before after _ c.engine_run-answer.ensures _ _ _ _ _ _ c.give_answer.ensures c.give_answer-2.ensures)
+    (ap (λ r. Some r.now) c.new-answers.ensures.inner) refl c.deref.result.now c.deref-2.result.now before after _ c.engine_run-answer.ensures _ _ _ _ _ _ c.give_answer.ensures c.give_answer-2.ensures)

@@ -1,4 +1,4 @@
-use Rattle.std.proofs.Common.{◌∙◌, map, ap, sym}
+use Rattle.std.proofs.Common.{◌∙◌, ap}
 use Rattle.std.specs.List.{flat_map}
 use Rattle.camac_report_text.proofs.Lines.{prefix_longer, Writes-at_err}
 use Rattle.camac_report_text.proofs.Texts.{Writes-after}

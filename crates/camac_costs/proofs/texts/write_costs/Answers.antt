@@ -1,6 +1,5 @@
-use Rattle.std.proofs.Common.{◌∙◌, refl, map}
+use Rattle.std.proofs.Common.{◌∙◌, refl}
 use Rattle.std.proofs.Math.Bool.{or-false}
-use Rattle.camac_lang.specs.View.{procedure_of}
 use Rattle.camac_report_text.proofs.Lines.{under_way_next, under_way_stops, Writes-at_err}
 use Rattle.camac_report_text.proofs.Texts.{flat_map-next, under_way_ends}
 use Rattle.camac_costs.specs.Texts.{body_text}

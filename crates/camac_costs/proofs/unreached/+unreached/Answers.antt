@@ -1,8 +1,8 @@
-use Rattle.std.proofs.Common.{◌≡◌, ◌<◌, ◌+◌, ◌++◌, None, length, drop, refl, sym, ap, ◌∙◌, append_assoc, append-nil, arith}
+use Rattle.std.proofs.Common.{◌<◌, ◌+◌, ◌++◌, None, length, drop, sym, ap, ◌∙◌, append_assoc, arith}
 use Rattle.camac_lang.specs.View.{statement_of, statements_of}
 use Rattle.camac_check_simple.specs.Gives.{by_code}
 use Rattle.camac_check.proofs.Blocks.{next_of}
-use Rattle.camac_costs.specs.Rows.{block_rows, inside, statement_rows}
+use Rattle.camac_costs.specs.Rows.{block_rows, inside}
 use Rattle.camac_costs.proofs.Found.{none_choice, none_next}
 use Rattle.camac_costs.proofs.Trees.{choose_else_is}
 use Rattle.camac_costs.proofs.unreached.+unreached.Goals as goal
@@ -30,9 +30,9 @@ pub unreached_rows-returns-in_ok-push_unreached-in-IfElse-2 : goal.unreached_row
 unreached_rows-returns-in_ok-push_unreached-in-IfElse-2 t c = λ around.
     none_choice (by_code c.args.context.now) around (statement_of c.args.statement.now) c.in-IfElse.line _ _ _
     (statements_of c.deref-in-IfElse.result.now) (statements_of c.deref-in-IfElse-2.result.now)
-    c.new-nothing.result c.detail_of-detail.result c.first_row.result c.else_row.result c.first_arm-first.result c.second_arm-second.result
+    c.new-nothing.result c.in_ok-detail.detail c.first_row.result c.else_row.result c.first_arm-first.result c.second_arm-second.result
     c.new-rows.result.items c.push.new.self.items c.push_unreached-in-IfElse.new.rows.items c.push-in-IfElse.new.self.items c.push_unreached-in-IfElse-2.new.rows.items
     (ap statement_of c.in-IfElse.is ∙ choose_else_is c.in-IfElse.line c.in-IfElse.test c.in-IfElse.then c.in-IfElse.otherwise) (ap statements_of c.deref-in-IfElse.ensures.value) (ap statements_of c.deref-in-IfElse-2.ensures.value)
-    c.new-nothing.ensures c.detail_of-detail.ensures c.first_row.ensures c.else_row.ensures c.first_arm-first.ensures c.second_arm-second.ensures
+    c.new-nothing.ensures c.in_ok-detail.ensures c.first_row.ensures c.else_row.ensures c.first_arm-first.ensures c.second_arm-second.ensures
     c.new-rows.ensures.items c.in_ok-push.ensures.items (c.in_ok-push_unreached-in-IfElse.ensures around)
     c.in_ok-push-in-IfElse.ensures.items (c.in_ok-push_unreached-in-IfElse-2.ensures around)

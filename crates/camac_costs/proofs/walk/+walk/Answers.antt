@@ -1,4 +1,4 @@
-use Rattle.std.proofs.Common.{[], ◌∷◌, map, ◌≡◌, ◌<◌, ◌≤◌, ◌+◌, ◌++◌, length, drop, refl, sym, ap, ap₂, ◌∙◌, subst, append_assoc, append-nil, arith}
+use Rattle.std.proofs.Common.{[], ◌∷◌, map, ◌≡◌, ◌<◌, ◌≤◌, ◌+◌, ◌++◌, length, drop, refl, sym, ap, ◌∙◌, subst, append_assoc, append-nil, arith}
 use Rattle.std.proofs.lemmas.List.{drop_all}
 use Rattle.camac_lang.specs.View.{condition_of, part_of, statement_of, statements_of}
 use Rattle.camac_model.specs.Fine.{Bounds}

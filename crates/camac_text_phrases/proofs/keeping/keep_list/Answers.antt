@@ -16,21 +16,21 @@ use Rattle.camac_text_phrases.proofs.keeping.keep_list.Goals as goal
 pub returns-in_err-keep : goal.returns-in_err-keep
 returns-in_err-keep c =
     let p = err_from_is_err_and c.from_residual-in_err-keep.result c.from_residual-in_err-keep.ensures.1 in
-    let items = map keep_of c.loop-parser.keeps.items in
-    let same : map keep_of c.deref-in-loop-parser.result.now ≡ items = ap (map keep_of) c.deref-in-loop-parser.ensures.value in
-    rw (p.1, p.2) (fails (is_sign sign.Comma) (one_more_keep c.args.own) (keeps_progress c.args.own) items (state c.loop-parser.parser) (keep_list c.args.own (state c.args.parser.now)) c.in_err-keep.field-0.0 (sym c.next_is_sign.ensures ∙ c.loop-parser-test.true)
-    (then_fails c.in_err-keep.field-0.0 (next_keep c.args.own items (state c.loop-parser.parser)) (λ k. give (items ++ k ∷ [])) (subst (λ (ks : List Keep). Fails c.in_err-keep.field-0.0 (next_keep c.args.own ks (state c.loop-parser.parser))) same c.in_err-keep.ensures)) c.loop-parser.invariant)
+    let items = map keep_of c.more.keeps.items in
+    let same : map keep_of c.deref-in-more.result.now ≡ items = ap (map keep_of) c.deref-in-more.ensures.value in
+    rw (p.1, p.2) (fails (is_sign sign.Comma) (one_more_keep c.args.own) (keeps_progress c.args.own) items (state c.more.parser) (keep_list c.args.own (state c.args.parser.now)) c.in_err-keep.field-0.0 (sym c.next_is_sign.ensures ∙ c.more-test.true)
+    (then_fails c.in_err-keep.field-0.0 (next_keep c.args.own items (state c.more.parser)) (λ k. give (items ++ k ∷ [])) (subst (λ (ks : List Keep). Fails c.in_err-keep.field-0.0 (next_keep c.args.own ks (state c.more.parser))) same c.in_err-keep.ensures)) c.more.invariant)
 
-pub loop-parser-smaller : goal.loop-parser-smaller
-loop-parser-smaller c = next_keep_less c.args.own (map keep_of c.deref-in-loop-parser.result.now) (state c.loop-parser.parser) (keep_of c.in_ok-keep.keep, state c.next_keep.new.parser) (sym c.next_is_sign.ensures ∙ c.loop-parser-test.true) c.in_ok-keep.ensures
+pub more-smaller : goal.more-smaller
+more-smaller c = next_keep_less c.args.own (map keep_of c.deref-in-more.result.now) (state c.more.parser) (keep_of c.in_ok-keep.keep, state c.next_keep.new.parser) (sym c.next_is_sign.ensures ∙ c.more-test.true) c.in_ok-keep.ensures
 
-pub loop-parser-preserved : goal.loop-parser-preserved
-loop-parser-preserved c =
-    let items = map keep_of c.loop-parser.keeps.items in
-    let same : map keep_of c.deref-in-loop-parser.result.now ≡ items = ap (map keep_of) c.deref-in-loop-parser.ensures.value in
-    let longer : map keep_of c.push-in-loop-parser.new.self.items ≡ items ++ keep_of c.in_ok-keep.keep ∷ [] = rw c.in_ok-push-2.ensures.items (map_push keep_of c.loop-parser.keeps.items c.in_ok-keep.keep) in
-    rw longer (goes (is_sign sign.Comma) (one_more_keep c.args.own) (keeps_progress c.args.own) items (state c.loop-parser.parser) (keep_list c.args.own (state c.args.parser.now)) (items ++ keep_of c.in_ok-keep.keep ∷ []) (state c.next_keep.new.parser) (sym c.next_is_sign.ensures ∙ c.loop-parser-test.true)
-    (ap (λ (ks : List Keep). then_read (next_keep c.args.own ks (state c.loop-parser.parser)) (λ k. give (items ++ k ∷ []))) (sym same) ∙ ap (λ (r : Result (Keep × State) Fault). then_read r (λ k. give (items ++ k ∷ []))) c.in_ok-keep.ensures) c.loop-parser.invariant)
+pub more-preserved : goal.more-preserved
+more-preserved c =
+    let items = map keep_of c.more.keeps.items in
+    let same : map keep_of c.deref-in-more.result.now ≡ items = ap (map keep_of) c.deref-in-more.ensures.value in
+    let longer : map keep_of c.push-in-more.new.self.items ≡ items ++ keep_of c.in_ok-keep.keep ∷ [] = rw c.in_ok-push-2.ensures.items (map_push keep_of c.more.keeps.items c.in_ok-keep.keep) in
+    rw longer (goes (is_sign sign.Comma) (one_more_keep c.args.own) (keeps_progress c.args.own) items (state c.more.parser) (keep_list c.args.own (state c.args.parser.now)) (items ++ keep_of c.in_ok-keep.keep ∷ []) (state c.next_keep.new.parser) (sym c.next_is_sign.ensures ∙ c.more-test.true)
+    (ap (λ (ks : List Keep). then_read (next_keep c.args.own ks (state c.more.parser)) (λ k. give (items ++ k ∷ []))) (sym same) ∙ ap (λ (r : Result (Keep × State) Fault). then_read r (λ k. give (items ++ k ∷ []))) c.in_ok-keep.ensures) c.more.invariant)
 
 pub returns : goal.returns
-returns c = ends (is_sign sign.Comma) (one_more_keep c.args.own) (keeps_progress c.args.own) (map keep_of c.loop-parser.keeps.items) (state c.loop-parser.parser) (keep_list c.args.own (state c.args.parser.now)) (sym c.next_is_sign.ensures ∙ c.loop-parser-test.false) c.loop-parser.invariant
+returns c = ends (is_sign sign.Comma) (one_more_keep c.args.own) (keeps_progress c.args.own) (map keep_of c.more.keeps.items) (state c.more.parser) (keep_list c.args.own (state c.args.parser.now)) (sym c.next_is_sign.ensures ∙ c.more-test.false) c.more.invariant

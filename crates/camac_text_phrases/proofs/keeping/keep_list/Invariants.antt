@@ -7,8 +7,8 @@ use Rattle.camac_text_phrases.specs.Keeps.{one_more_keep, keep_list}
 use Rattle.camac_text_cursor.specs.Parser.{state}
 use Rattle.camac_text_phrases.proofs.keeping.keep_list.Given as goal
 
-abbrev pub invariant-loop-parser : goal.invariant-loop-parser
-invariant-loop-parser l = while_next (is_sign sign.Comma) (one_more_keep l.own) (map keep_of l.keeps.items) (state l.parser) ≡ keep_list l.fn.own (state l.fn.parser)
+abbrev pub invariant-more : goal.invariant-more
+invariant-more l = while_next (is_sign sign.Comma) (one_more_keep l.own) (map keep_of l.keeps.items) (state l.parser) ≡ keep_list l.fn.own (state l.fn.parser)
 
-abbrev pub decreases-loop-parser : goal.decreases-loop-parser
-decreases-loop-parser l = length (state l.parser).rest
+abbrev pub decreases-more : goal.decreases-more
+decreases-more l = length (state l.parser).rest

@@ -19,7 +19,7 @@ pub returns-in-Err : goal.returns-in-Err
 returns-in-Err c =
     let rest = c.loop-rest.rest.now in
     let some : 0 < length rest = some_left (length rest) (sym c.is_empty.ensures ∙ c.loop-rest-test.true) in
-    rw c.line_number-line.ensures (fails c.loop-rest.invariant.0.0 c.loop-rest.line rest (tokens_of c.args.text.now) c.in-Err.rule some c.in-Err.ensures c.loop-rest.invariant.0.1)
+    rw c.line_number-line.ensures (fails c.loop-rest.invariant.0.0 c.loop-rest.line rest (tokens_of c.args.text.now) c.in-Err.case some c.in-Err.ensures c.loop-rest.invariant.0.1)
 
 pub split_at-requires : goal.split_at-requires
 split_at-requires c =

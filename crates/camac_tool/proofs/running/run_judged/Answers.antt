@@ -1,5 +1,4 @@
-use Rattle.std.proofs.Common.{refl}
-use Rattle.camac_word.specs.Watched.{inner_of}
+use Rattle.std.proofs.Common.{sym}
 use Rattle.camac_tool.proofs.Runs.{refuses}
 use Rattle.camac_tool.proofs.running.run_judged.Goals as goal
 
@@ -8,7 +7,7 @@ returns-in-Accepted-clause-runs g c = rw c.in-Accepted.is c.run_checked.ensures.
 
 pub returns-in-Refused-clause-runs : goal.returns-in-Refused-clause-runs
 returns-in-Refused-clause-runs g c = rw (c.in-Refused.is, ← c.refusal.ensures)
-    (refl, refuses c.refuse.result _ (g.L.RunWriter.contents c.args.out.now) (g.L.RunWriter.contents c.refuse.new.out) (g.E.Write.contents (inner_of c.args.events.now)) c.refuse.ensures.shows)
+    (c.refuse.ensures.only.left, refuses c.refuse.result _ _ _ _ _ (sym c.refuse.ensures.only.records) c.refuse.ensures.shows)
 
 pub returns-in-Accepted-clause-headline : goal.returns-in-Accepted-clause-headline
 returns-in-Accepted-clause-headline g c = rw c.in-Accepted.is c.run_checked.ensures.headline

@@ -1,27 +1,26 @@
-use Rattle.std.proofs.Common.{◌≡◌, ◌≤◌, ◌-◌, ◌||◌, None, length}
-use Rattle.camac_answer.specs.Answers.{left_of, limit_of, stage_of, given_by, reader_failed}
-use Rattle.camac_answer.specs.declared.answers.Stage.TheVariants.{Running}
-use Rattle.camac_word.specs.Watched.{has_failed}
-use Rattle.camac_tool_play.specs.Sent.{outputs}
+use Rattle.std.proofs.Common.{◌≡◌, ◌≤◌, ◌<◌, ◌-◌, ◌^◌, None, length}
+use Rattle.camac_answer.specs.Answers.{left_in}
+use Rattle.camac_tool_play.specs.Play.{left_of}
+use Rattle.camac_tool_play.specs.RunIo.{sent_in}
 use Rattle.camac_tool_play.specs.Told.{most_answers}
 use Rattle.camac_tool_play.proofs.Fed.{IsFed}
 use Rattle.camac_tool_play.proofs.feeding.feed.Given as goal
 
 abbrev pub invariant-answers : goal.invariant-answers
 invariant-answers g l = record {
-  fed : IsFed l.telling l.checked.plan l.checked.script (left_of g.R.Read.remaining l.fn.answers) (left_of g.R.Read.remaining l.answers)
-      (outputs g.L.RunWriter.contents g.E.Write.contents l.fn.out l.fn.events) (outputs g.L.RunWriter.contents g.E.Write.contents l.out l.events) l.runner l.count;
-  number : given_by l.answers ≡ length fed.taken;
-  stage : stage_of l.answers ≡ Running;
-  counted : l.runner.fed ≡ given_by l.answers;
-  limit : limit_of l.answers ≡ most_answers l.telling;
-  few : given_by l.answers ≤ most_answers l.telling;
+  fed : IsFed l.telling l.checked.plan l.checked.script (left_of l.telling (g.I.RunIo.state l.fn.io)) (left_in (most_answers l.telling) l.given (g.I.RunIo.state l.io).remaining)
+      (sent_in (g.I.RunIo.state l.fn.io)) (sent_in (g.I.RunIo.state l.io)) l.runner l.count;
+  number : l.given ≡ length fed.taken;
+  counted : l.runner.fed ≡ l.given;
+  few : l.given ≤ most_answers l.telling;
   events : l.runner.events ≡ l.count;
+  fits : l.count < 2 ^ 32;
   first : l.runner.overrun ≡ None;
-  flags : (g.L.RunWriter.failed l.out || has_failed l.events) ≡ (g.L.RunWriter.failed l.fn.out || has_failed l.fn.events);
-  reader_flag : reader_failed l.answers ≡ reader_failed l.fn.answers;
-  same_reader : l.answers.reader.ghost_name ≡ l.fn.answers.reader.ghost_name;
+  out_flag : (g.I.RunIo.state l.io).write_failed ≡ (g.I.RunIo.state l.fn.io).write_failed;
+  in_flag : (g.I.RunIo.state l.io).read_failed ≡ (g.I.RunIo.state l.fn.io).read_failed;
+  gathers : (g.I.RunIo.state l.io).gathers ≡ (g.I.RunIo.state l.fn.io).gathers;
+  same : (g.I.RunIo.state l.io).names ≡ (g.I.RunIo.state l.fn.io).names;
 }
 
 abbrev pub decreases-answers : goal.decreases-answers
-decreases-answers g l = most_answers l.telling - given_by l.answers
+decreases-answers g l = most_answers l.telling - l.given

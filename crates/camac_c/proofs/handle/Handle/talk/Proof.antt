@@ -1,7 +1,7 @@
 -- `talk` tests the pointer, and has the run stepped for its lifetime. The slice is given up: to the step, or at its end as it is.
 use Rattle.std.proofs.Common.{◌≡◌, ◌<◌, ◌^◌, length, ℕ, List, [], ◌∷◌, ◌++◌, refl, sym, ap, ◌∙◌, subst}
 use lib.Dec.{T}
-use mir.Syntax.{named, ty_ref, ty_int, mut, w32}
+use mir.Syntax.{named, ty_ref, ty_int, mut, w8}
 use mir.Val.{Val, vptr, vstruct, of_list, has_ty, WT}
 use base.Fraction.{full_share}
 use base.Logic.{SProp, ent, emp, id⊢}
@@ -16,7 +16,7 @@ use contract.Running.{tables}
 use denote.Exit.{yes}
 use denote.RattleType.{RattleType, owns}
 use denote.Signature.{types_at, type_at, plain}
-use denote.Builtin.{u32}
+use denote.Builtin.{u8}
 use denote.Slice.{MutSlice, slice_ty, slice_val, finally, res-finally, coded_holeys, heres}
 use denote.RawPtr.{Ptr, block_ptr, null_ptr, ptr_val, tests_null}
 use denote.Steps.{nothing, heard, only}
@@ -65,17 +65,17 @@ abbrev B : RattleType
 B = told_type.the_row
 
 abbrev Slice : List ℕ → RattleType
-Slice κ = MutSlice (named 0) κ u32
+Slice κ = MutSlice (named 0) κ u8
 
 pub talk_spec : {M : Type 1} → statement M
 talk_spec 𝓤 𝓛 𝓜 𝓡 wired =
     let H = 𝓛.H in let 𝓣 = tables 𝓤 H 𝓜 𝓡 𝓡.env in let En = ended in let c = clauses 𝓛 𝓜.mem 𝓡.returns in let fn = code.function in
-    let hs : Stays En.signature.params En.kept = (stay_dropped (plain (λ _. Hr)) yes, (stay_dropped (plain (λ _. A)) yes, (stay_dropped (plain (λ _. B)) yes, (gave_slice (0 ∷ []) tt (plain (λ _. u32)), tt)))) in
-    proved_at 𝓛 En hs c 𝓜 𝓡 (Goes-dropped 𝓛 1 (plain (λ _. Hr)) yes (λ κs x f. refl), (Goes-dropped 𝓛 1 (plain (λ _. A)) yes (λ κs x f. refl), (Goes-dropped 𝓛 1 (plain (λ _. B)) yes (λ κs x f. refl), (Goes-gave_slice 𝓛 1 0 tt (plain (λ _. u32)), tt)))) #self fn (code.unfolded 𝓤 H 𝓜 𝓡 wired) (λ z are.
+    let hs : Stays En.signature.params En.kept = (stay_dropped (plain (λ _. Hr)) yes, (stay_dropped (plain (λ _. A)) yes, (stay_dropped (plain (λ _. B)) yes, (gave_slice (0 ∷ []) tt (plain (λ _. u8)), tt)))) in
+    proved_at 𝓛 En hs c 𝓜 𝓡 (Goes-dropped 𝓛 1 (plain (λ _. Hr)) yes (λ κs x f. refl), (Goes-dropped 𝓛 1 (plain (λ _. A)) yes (λ κs x f. refl), (Goes-dropped 𝓛 1 (plain (λ _. B)) yes (λ κs x f. refl), (Goes-gave_slice 𝓛 1 0 tt (plain (λ _. u8)), tt)))) #self fn (code.unfolded 𝓤 H 𝓜 𝓡 wired) (λ z are.
     let κs = z.0.0 in let κ = z.0.0.0 in let q = z.0.1.0 in let v = z.0.3.0 in let ask = z.0.3.1.0 in let none = z.0.3.1.1.0 in let words = z.0.3.1.1.1.0 in let a = v.alloc in let vs = z.0.4.0 in let Post : Val → SProp 𝓤 = (walk_of 𝓛 En hs c).post z in let Run : List Val → SProp 𝓤 = λ ws. WpFn 𝓤 H 𝓣.C 𝓣.Λ fn ws Post in
     let Out : RattleType = type_at En.signature.result κs in let k = triple_of 𝓛 callee.signature (callee.spec 𝓛 𝓜.mem 𝓡.returns) in
     let nW : Val = slice_val words.ref_ptr (length words.now) in let eW : z.0.4.1.1.1.0 ≡ nW ∷ [] = are.1.1.1.0.0.0 in let count : length words.now < 2 ^ 64 = are.1.1.1.0.0.1.0 in
-    let gW : T (has_ty (slice_ty (ty_ref (named 0) mut (ty_int w32))) nW) × WT nW = (tt, (tt, (record { fits = count }, tt))) in
+    let gW : T (has_ty (slice_ty (ty_ref (named 0) mut (ty_int w8))) nW) × WT nW = (tt, (tt, (record { fits = count }, tt))) in
     qed 𝓛 (((‵ (flft κ q) ⊛ ‵ ftrue) ⊛ ‵ (owns (types_at En.signature.params κs) z.0.3 z.0.4)) ∷ raw ((c κs z.0.3).requires z.1) ∷ []) ∵ split ! $ split ! $ move ! (2 ∷ []) $ fsplit ! $ move ! (1 ∷ []) $ fsplit3 ! $
     word_of ! A refl (ask_laws.the_row_laws.lawful 𝓛) ask z.0.4.1.0 (λ nA eA gA. move ! (1 ∷ []) $ word_of ! B refl (told_laws.the_row_laws.lawful 𝓛) none z.0.4.1.1.0 (λ nB eB gB. move ! (2 ∷ []) $ fsplit ! $
     rewrite ! 0 (λ (us : List Val). ‵ ((Slice κ).own_val words us)) eW refl $ move ! (4 ∷ []) $ handle_out ! v vs (λ h ws gh. either_owned ! a v.run v.script v.value
@@ -92,8 +92,8 @@ talk_spec 𝓤 𝓛 𝓜 𝓡 wired =
     none_owned ! a v.script $ handle_in ! null_ptr v.script h a None $ move ! (0 ∷ 3 ∷ []) $ pair_in Hr B ! d none w nB $
     use0 𝓛 (raw (fact 𝓤 (Talks v.value ask none None words.now words.now none))) (fact_i 𝓤 (Talks v.value ask none None words.now words.now none) (emp 𝓤) (subst (λ (o : Option Running). Talks o ask none None words.now words.now none) (sym empty) (refl, refl, refl))) $
     -- [the fact; the pair; the slice; nothing; what is asked; the slice's lifetime; nothing; the requires]
-    move ! (2 ∷ []) $ fsplit ! $ drop ! $ fsplit ! $ use1 𝓛 (‵ (fres words.ghost_name ((coded_holeys u32).code (heres u32 words.now)))) (𝓛.names.obs-res words.ghost_name ((coded_holeys u32).code (heres u32 words.now))) $
-    use1 𝓛 (‵ (finally u32 words.ghost_name words.now)) (res-finally 𝓛 (named 0) κ u32 words.ghost_name words.now) $ fjoin ! $
+    move ! (2 ∷ []) $ fsplit ! $ drop ! $ fsplit ! $ use1 𝓛 (‵ (fres words.ghost_name ((coded_holeys u8).code (heres u8 words.now)))) (𝓛.names.obs-res words.ghost_name ((coded_holeys u8).code (heres u8 words.now))) $
+    use1 𝓛 (‵ (finally u8 words.ghost_name words.now)) (res-finally 𝓛 (named 0) κ u8 words.ghost_name words.now) $ fjoin ! $
     nothing ! $ move ! (1 ∷ 0 ∷ []) $ fjoin ! $ nothing ! $ fjoin ! $ nothing ! $ fjoin ! $ nothing ! $ fjoin ! $ move ! (5 ∷ 6 ∷ []) $ join ! $
     returns ! (look_at ! 0 refl) $ free_all ! refl $ keep ! (0 ∷ 1 ∷ 3 ∷ 2 ∷ []) $ by ! (leaves 𝓛 En hs c z v₀ (d, none) (tt, (tt, (tt, (words.now, tt)))) (tt, (tt, (tt, (refl, tt)))))) (λ wrong. absurd wrong)))
     -- [the run's box; the run's lifetime; the script's box for later; the handle of the heap; the slice; nothing; what is told of none; what is asked; the slice's lifetime; nothing; the requires]

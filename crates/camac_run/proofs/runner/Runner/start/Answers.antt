@@ -1,4 +1,4 @@
-use Rattle.std.proofs.Common.{◌≡◌, [], refl, sym, ap, subst, ◌∙◌, arith, length, true}
+use Rattle.std.proofs.Common.{◌≡◌, refl, sym, ap, subst, ◌∙◌, arith, length, true}
 use Rattle.std.specs.Prelude.{IsTrue}
 use Rattle.std.specs.Borrow.{Bor}
 use Rattle.camac_lang.specs.Scope.{is_well_formed}
@@ -57,4 +57,4 @@ pub returns-clause-quiet : goal.returns-clause-quiet
 returns-clause-quiet g c = refl
 
 pub returns-clause-holds : goal.returns-clause-holds
-returns-clause-holds g c = record { done = []; goes = λ more. sym (returns-clause-rest g c more) }
+returns-clause-holds g c = record { goes = λ more. sym (returns-clause-rest g c more) }

@@ -1,9 +1,9 @@
-use Rattle.std.proofs.Common.{◌≡◌, None, Some, subst, sym, ◌∙◌}
-use Rattle.camac_run.specs.Operation.{CanLock}
+use Rattle.std.proofs.Common.{◌≡◌, None, subst, sym, ◌∙◌}
+use Rattle.camac_run.specs.Requested.{IsSafeRequest, held_in}
 use Rattle.camac_run.specs.Runner.{RunnerState}
 use Rattle.camac_run.specs.Sound.{runner_state}
 use Rattle.camac_run.specs.declared.progress.Wanted.{Wanted}
-use Rattle.camac_run.proofs.Operation.{not_some, can_lock, wants_some, wants_none}
+use Rattle.camac_run.proofs.Operation.{not_some, can_send, wants_some, wants_none}
 use Rattle.camac_run.proofs.runner.Runner.wants.Goals as goal
 
 pub returns-in-Some-clause-wants : goal.returns-in-Some-clause-wants
@@ -13,12 +13,12 @@ returns-in-Some-clause-wants g c =
     rw (c.operation.ensures, ← c.self.view_is)
     (wants_some r.machine r.fed r.events r.has_event r.overrun first r.pending c.in-Some.pending c.in-Some.is c.self.invariant.awaits)
 
-pub returns-in-Some-clause-lock : goal.returns-in-Some-clause-lock
-returns-in-Some-clause-lock g c =
+pub returns-in-Some-clause-safe : goal.returns-in-Some-clause-safe
+returns-in-Some-clause-safe g c =
     let r = c.self.inside in
-    subst (λ (x : RunnerState). CanLock x (Some c.operation.result)) c.self.view_is
-    (subst (λ (o : Wanted). CanLock (runner_state r.machine r.pending r.fed r.events r.has_event r.overrun) (Some o)) (sym c.operation.ensures)
-    (can_lock r.machine c.in-Some.pending r.pending r.fed r.events r.has_event r.overrun c.in-Some.is c.self.invariant.awaits))
+    subst (λ (x : RunnerState). IsSafeRequest x.checked.plan (held_in x) c.operation.result) c.self.view_is
+    (subst (λ (o : Wanted). IsSafeRequest r.machine.checked.now.plan (held_in (runner_state r.machine r.pending r.fed r.events r.has_event r.overrun)) o) (sym c.operation.ensures)
+    (can_send r.machine c.in-Some.pending r.pending r.fed r.events r.has_event r.overrun c.in-Some.is c.self.invariant.awaits c.self.invariant.fine))
 
 pub returns-in-None-clause-wants : goal.returns-in-None-clause-wants
 returns-in-None-clause-wants g c =

@@ -1,0 +1,198 @@
+/* camac.h: the checker and the runner of camac in your own process.
+ *
+ * A script is checked against the plan of a laboratory, and then played, one answer of the branch at a time. The library makes no operation
+ * itself, opens no file and starts no thread. You ask what is wanted, have your branch driver make it, and hand on its answer:
+ *
+ *     camac_session s = CAMAC_NONE;
+ *     camac_want want = CAMAC_WANT;
+ *     camac_answer answer = CAMAC_ANSWER;
+ *     camac_progress progress = CAMAC_PROGRESS;
+ *     code = camac_open(&s, plan, plan_size, script, script_size, text, sizeof text, &size);
+ *     while (code == CAMAC_OK && (code = camac_wants(&s, &want)) == CAMAC_OK) {
+ *         if (!operate(&want, &answer)) break;
+ *         code = camac_next(&s, &answer, &progress);
+ *         for (const uint8_t *c = progress.unlocked; *c; c++) release(*c);
+ *         if (progress.event) count = camac_words(&s, words, CAMAC_EVENT_WORDS);
+ *     }
+ *     camac_close(&s);
+ *
+ * Compile with: cc program.c $(pkg-config --cflags --libs camac). docs/C.md of the sources has the whole of a program, and so has camac(3).
+ *
+ * NUMBERS   Crate C 1..7, station N 1..30 (28 and 30 are the controller), sub-address A 0..15, function F 0..31 (EUR 4100, IEEE 583). A word
+ *           has 24 bits. Bit k of the graded-L pattern, k 1..24, is 1u << (k - 1) (IEEE 596). A wait, 0..15, counts the cycles of auxiliary
+ *           controllers that came before an operation (IEEE 675). Costs are counted in dataway cycles, never in seconds.
+ * TEXTS     are bytes with a length; no 0 ends them. A plan and a script have at most CAMAC_TEXT_BYTES bytes, an event file CAMAC_FILE_BYTES.
+ *           A text that comes out is cut where your buffer ends, and *size is its whole length, as snprintf tells it. A buffer of no room may
+ *           be NULL, and so may `size`. NULL with a length or a room above 0 is CAMAC_MISUSE: it is a read or a malloc that failed.
+ * STRUCTS   begin with their size and end in spare words that are 0. The initializers CAMAC_NONE, CAMAC_WANT, CAMAC_ANSWER and CAMAC_PROGRESS
+ *           set both; in another language you set them. A struct without its size, and an answer with a spare byte that is not 0, is
+ *           CAMAC_MISUSE. So a later version can tell more, and programs of this one go on.
+ * CODES     CAMAC_OK is 0, and all others are greater. No code is ever given another meaning. Where the code is neither CAMAC_OK nor
+ *           CAMAC_REFUSED, *size is 0 and the buffer stays as it was.
+ * LIFETIME  A session is CAMAC_NONE until camac_open puts a run there, and again after camac_close, which frees all that was taken. To close
+ *           twice is harmless. Between open and close no memory is taken. A session may be moved (memcpy) between calls; from then on only
+ *           one of the copies may be used.
+ * THREADS   Different sessions may be used by different threads at the same time. The calls on one session come one after another, each
+ *           after the one before (by a lock, by a join). No call is for a signal handler, or for the child of a fork of a process with threads.
+ * YOU KEEP  what the proof takes for granted, and nothing can test:
+ *           1. A session is CAMAC_NONE or what camac_open left there, and nobody else changes its bytes.
+ *           2. Each pointer leads to as many bytes as its length says. What the library writes overlaps nothing else that you hand in, and
+ *              nobody reads or writes it during the call.
+ *           3. One call at a time on a session.
+ *           4. malloc, realloc and free belong to one allocator, and align as C demands.
+ *           5. 256 KiB of stack are left.
+ */
+#ifndef CAMAC_CHECKER_H
+#define CAMAC_CHECKER_H
+
+#include <stddef.h>
+#include <stdint.h>
+
+#ifdef __cplusplus
+extern "C" {
+#endif
+
+/* The version of this header. The library's own is camac_version(). They fit where the first two numbers are the same. A session carries that
+ * of its header, and each call compares it. */
+#define CAMAC_VERSION "0.2.0"
+#define CAMAC_VERSION_NUMBER 200u /* 10000 * first + 100 * second + third */
+
+#define CAMAC_TEXT_BYTES 1048576u
+#define CAMAC_FILE_BYTES 16777216u
+#define CAMAC_EVENT_WORDS 4096u
+
+enum camac_code {
+    CAMAC_OK = 0,        /* done */
+    CAMAC_REFUSED = 1,   /* a plan, a script, an answer or an event file broke a rule, a wait was not permitted, or a service may end too late:
+                            the text says which */
+    CAMAC_MISUSE = 2,    /* the session is none, or header and library do not fit; camac_open found it open; a struct or a pointer is wrong
+                            (STRUCTS, TEXTS); what camac_response is told of services is wrong */
+    CAMAC_NO_MEMORY = 3, /* malloc or realloc refused */
+    CAMAC_OVERRUN = 4,   /* a wait that the plan does not permit: the run stays where it was, for good */
+    CAMAC_RANGE = 5,     /* a word or gl above 0xffffff, or a wait above 15 */
+    CAMAC_SPENT = 6,     /* the run has used 4,294,967,295 answers */
+    CAMAC_LONG = 7       /* a text that is longer than it may be */
+};
+
+/* A run of an accepted script. Its parts are the library's. */
+typedef struct camac_session {
+    uint32_t size, version; /* of this header */
+    void *camac_private[6];
+    uint32_t spare[2];
+} camac_session;
+#define CAMAC_NONE {sizeof(camac_session), CAMAC_VERSION_NUMBER, {NULL, NULL, NULL, NULL, NULL, NULL}, {0, 0}}
+
+enum camac_kind {
+    CAMAC_DEMAND = 1, /* a graded-L operation: the answer's gl counts */
+    CAMAC_CYCLE = 2,  /* a dataway cycle: x, q and wait count, and word where it reads; of some of the controller's also gl (docs/LIVE.md) */
+    CAMAC_LOCK = 3,   /* the lockout of auxiliary controllers in a crate: the wait counts */
+    CAMAC_STOPPED = 4 /* none: the run is over, by an overrun */
+};
+enum camac_data { CAMAC_NO_DATA = 0, CAMAC_READ = 1, CAMAC_WRITE = 2 };
+
+/* What the next answer is for. */
+typedef struct camac_want {
+    uint32_t size;
+    uint8_t kind;       /* enum camac_kind */
+    uint8_t c, n, a, f; /* of a cycle; of a lock c alone */
+    uint8_t data;       /* enum camac_data, of a cycle */
+    uint16_t unused;
+    uint32_t word;      /* to write, of a cycle that writes */
+    uint32_t spare[4];
+} camac_want;
+#define CAMAC_WANT {sizeof(camac_want), 0, 0, 0, 0, 0, 0, 0, 0, {0, 0, 0, 0}}
+
+/* An answer. What an operation does not need is left 0. */
+typedef struct camac_answer {
+    uint32_t size;
+    uint32_t word; /* the read lines */
+    uint32_t gl;   /* the graded-L pattern */
+    uint8_t x, q;  /* 0: no; any other: yes */
+    uint8_t wait;
+    uint8_t unused;
+    uint32_t spare[4];
+} camac_answer;
+#define CAMAC_ANSWER {sizeof(camac_answer), 0, 0, 0, 0, 0, 0, {0, 0, 0, 0}}
+
+/* What an answer did. */
+typedef struct camac_progress {
+    uint32_t size;
+    uint8_t kind;          /* what it was for: enum camac_kind */
+    uint8_t c;             /* the crate of a lock or of an overrun */
+    uint8_t wait;          /* that counted */
+    uint8_t x, q;          /* of a cycle, as the run has them: those of the controller's own commands (n 28 and 30) are the run's */
+    uint8_t unused[3];
+    uint8_t unlocked[8];   /* the crates whose lockout is to be released now, before the next operation, in this order: the last that was taken
+                              comes first. A 0 ends them */
+    uint32_t word;         /* of a cycle that reads, as the run has it */
+    uint32_t pattern;      /* of a demand, as the run sees it: what is disabled or in no crate of the plan is 0 */
+    uint32_t service;      /* of a demand: the service that it called, from 1 in the order of the script; 0 for none */
+    uint32_t event;        /* the number of the event that a service left, from 1; 0 for none */
+    uint32_t event_gl;     /* its bit of the graded-L pattern, 1..24 */
+    uint32_t event_words;  /* how many words it has, at most CAMAC_EVENT_WORDS; camac_words has them until the next answer is taken */
+    uint32_t event_cycles; /* the dataway cycles that it cost */
+    uint32_t event_missed; /* how many of these had no X, at most 65535 */
+    uint32_t spare[3];
+} camac_progress;
+#define CAMAC_PROGRESS {sizeof(camac_progress), 0, 0, 0, 0, 0, {0, 0, 0}, {0, 0, 0, 0, 0, 0, 0, 0}, 0, 0, 0, 0, 0, 0, 0, 0, {0, 0, 0}}
+
+#if defined(__GNUC__)
+#define CAMAC_CALL __attribute__((warn_unused_result)) int
+#else
+#define CAMAC_CALL int
+#endif
+
+/* The number of the library, in the form of CAMAC_VERSION_NUMBER. */
+uint32_t camac_version(void);
+
+/* What a code says, in English. */
+const char *camac_code_text(int code);
+
+/* What `camac plan`, `camac explain PLAN`, `check`, `explain`, `bounds` and `costs` print, of texts that are in memory. CAMAC_OK: accepted.
+ * CAMAC_REFUSED: the text says why, that of an explanation at length. */
+CAMAC_CALL camac_plan(const void *plan, size_t plan_size, char *text, size_t room, size_t *size);
+CAMAC_CALL camac_explain_plan(const void *plan, size_t plan_size, char *text, size_t room, size_t *size);
+CAMAC_CALL camac_check(const void *plan, size_t plan_size, const void *script, size_t script_size, char *text, size_t room, size_t *size);
+CAMAC_CALL camac_explain(const void *plan, size_t plan_size, const void *script, size_t script_size, char *text, size_t room, size_t *size);
+CAMAC_CALL camac_bounds(const void *plan, size_t plan_size, const void *script, size_t script_size, char *text, size_t room, size_t *size);
+CAMAC_CALL camac_costs(const void *plan, size_t plan_size, const void *script, size_t script_size, char *text, size_t room, size_t *size);
+
+/* What `camac response` prints: how long look-at-mes wait for their services. `every` and `within` tell what follows these options, as
+ * adc=200 tick=5000: a service, and a number of dataway cycles up to 4294967295, from 1 on in `every`. White space is between two.
+ * CAMAC_REFUSED: the text says why, or has a service that may end above its number in `within`. CAMAC_MISUSE: `every` or `within` has
+ * another form, a service twice, or, of an accepted script, one that it does not have. */
+CAMAC_CALL camac_response(const void *plan, size_t plan_size, const void *script, size_t script_size, const void *every, size_t every_size,
+                          const void *within, size_t within_size, char *text, size_t room, size_t *size);
+
+/* What `camac events` prints of an event file in memory. */
+CAMAC_CALL camac_events(const void *file, size_t file_size, char *text, size_t room, size_t *size);
+
+/* What `camac run` does with the text of all answers: its listing, and its event file. An overrun is CAMAC_REFUSED here, as it is status 1
+ * of the program. */
+CAMAC_CALL camac_run(const void *plan, size_t plan_size, const void *script, size_t script_size, const void *answers, size_t answers_size,
+                     char *text, size_t room, size_t *size, void *file, size_t file_room, size_t *file_size);
+
+/* Checks a script, and opens a session at the beginning of its run. The text is that of camac_check. Where the code is not CAMAC_OK, the
+ * session stays as it was: also CAMAC_MISUSE of a session that is open. */
+CAMAC_CALL camac_open(camac_session *s, const void *plan, size_t plan_size, const void *script, size_t script_size,
+                      char *text, size_t room, size_t *size);
+
+/* What the next answer is for; nothing changes. CAMAC_OVERRUN: nothing, since the run is over. Where the code is not CAMAC_OK, *want is
+ * zeros. */
+CAMAC_CALL camac_wants(const camac_session *s, camac_want *want);
+
+/* Takes the answer to what was wanted, and tells what it did. CAMAC_OVERRUN tells the crate and the wait. At any other code that is not
+ * CAMAC_OK the run stays as it was, and *progress is zeros. */
+CAMAC_CALL camac_next(camac_session *s, const camac_answer *answer, camac_progress *progress);
+
+/* Writes the words of the event that the last answer left, as many as there is room for, and answers how many the event has. 0 where it left
+ * none. An answer that was not taken (CAMAC_RANGE, CAMAC_SPENT, CAMAC_MISUSE) changes nothing here, too. */
+size_t camac_words(const camac_session *s, uint32_t *words, size_t room);
+
+/* Ends the run, and frees what it has. The lockouts that you hold are yours to release. */
+void camac_close(camac_session *s);
+
+#ifdef __cplusplus
+}
+#endif
+#endif

@@ -1,0 +1,204 @@
+// camac.hpp: camac.h for C++17. A session closes itself, texts are strings, codes are exceptions. Compiled without exceptions, the program ends where
+// one would be thrown.
+#ifndef CAMAC_CHECKER_HPP
+#define CAMAC_CHECKER_HPP
+
+#include <camac/camac.h>
+
+#include <algorithm>
+#include <cstdlib>
+#include <stdexcept>
+#include <string>
+#include <string_view>
+#include <utility>
+#include <vector>
+
+#if defined(__cpp_exceptions)
+#define CAMAC_THROW(its) throw its
+#else
+#define CAMAC_THROW(its) (static_cast<void>(its), std::abort())
+#endif
+
+namespace camac {
+
+// A call that failed: its code (enum camac_code), and as what() the text of a refusal, or what the code says.
+class fault : public std::runtime_error {
+    int its_code;
+
+    static std::string without_end(std::string text) {
+        if (!text.empty() && text.back() == '\n') text.pop_back();
+        return text;
+    }
+
+public:
+    explicit fault(int code, const std::string &text = "")
+        : std::runtime_error(text.empty() ? camac_code_text(code) : without_end(text)), its_code(code) {}
+    [[nodiscard]] int code() const noexcept { return its_code; }
+};
+
+// CAMAC_OVERRUN, of the answer that ended the run and of each call after it: the crate, and the wait that is not permitted.
+class overrun : public fault {
+public:
+    unsigned crate, wait;
+    explicit overrun(const camac_progress &p) : fault(CAMAC_OVERRUN), crate(p.c), wait(p.wait) {}
+};
+
+// Whether the texts were accepted, and what the program camac would print.
+struct verdict {
+    bool accepted;
+    std::string text;
+    explicit operator bool() const noexcept { return accepted; }
+};
+
+// The listing of a run with its verdict, and the bytes of its event file.
+struct run_result {
+    verdict listing;
+    std::string events;
+};
+
+namespace detail {
+inline constexpr std::size_t first_room = 4096;
+
+// Calls with a buffer, and once more with one of the right size where it was too small. Returns the code.
+template <class Call> int fill(std::string &text, Call call) {
+    std::size_t size = 0;
+    text.resize(first_room);
+    int code = call(text.data(), text.size(), &size);
+    if (code <= CAMAC_REFUSED && size > text.size()) {
+        text.resize(size);
+        code = call(text.data(), text.size(), &size);
+    }
+    text.resize(size);
+    return code;
+}
+
+template <class Call> verdict judged(Call call) {
+    std::string text;
+    const int code = fill(text, call);
+    if (code > CAMAC_REFUSED) CAMAC_THROW(fault(code));
+    return {code == CAMAC_OK, std::move(text)};
+}
+} // namespace detail
+
+// What the calls of camac.h with these names do. They throw fault at codes other than CAMAC_OK and CAMAC_REFUSED.
+[[nodiscard]] inline verdict plan(std::string_view plan) {
+    return detail::judged([&](char *t, std::size_t room, std::size_t *n) { return camac_plan(plan.data(), plan.size(), t, room, n); });
+}
+[[nodiscard]] inline verdict explain_plan(std::string_view plan) {
+    return detail::judged([&](char *t, std::size_t room, std::size_t *n) { return camac_explain_plan(plan.data(), plan.size(), t, room, n); });
+}
+[[nodiscard]] inline verdict check(std::string_view plan, std::string_view script) {
+    return detail::judged([&](char *t, std::size_t room, std::size_t *n) {
+        return camac_check(plan.data(), plan.size(), script.data(), script.size(), t, room, n);
+    });
+}
+[[nodiscard]] inline verdict explain(std::string_view plan, std::string_view script) {
+    return detail::judged([&](char *t, std::size_t room, std::size_t *n) {
+        return camac_explain(plan.data(), plan.size(), script.data(), script.size(), t, room, n);
+    });
+}
+[[nodiscard]] inline verdict bounds(std::string_view plan, std::string_view script) {
+    return detail::judged([&](char *t, std::size_t room, std::size_t *n) {
+        return camac_bounds(plan.data(), plan.size(), script.data(), script.size(), t, room, n);
+    });
+}
+[[nodiscard]] inline verdict costs(std::string_view plan, std::string_view script) {
+    return detail::judged([&](char *t, std::size_t room, std::size_t *n) {
+        return camac_costs(plan.data(), plan.size(), script.data(), script.size(), t, room, n);
+    });
+}
+[[nodiscard]] inline verdict response(std::string_view plan, std::string_view script, std::string_view every = {}, std::string_view within = {}) {
+    return detail::judged([&](char *t, std::size_t room, std::size_t *n) {
+        return camac_response(plan.data(), plan.size(), script.data(), script.size(), every.data(), every.size(), within.data(), within.size(), t,
+                              room, n);
+    });
+}
+[[nodiscard]] inline verdict events(std::string_view file) {
+    return detail::judged([&](char *t, std::size_t room, std::size_t *n) { return camac_events(file.data(), file.size(), t, room, n); });
+}
+
+// A run of an accepted script. It can be moved, and not copied; one that was moved from is none.
+class session {
+    camac_session its = CAMAC_NONE;
+    camac_progress its_last = CAMAC_PROGRESS;
+    std::string its_verdict;
+
+    [[noreturn]] void fail(int code) const {
+        if (code == CAMAC_OVERRUN) CAMAC_THROW(overrun(its_last));
+        CAMAC_THROW(fault(code));
+    }
+
+    void swap(session &other) noexcept {
+        std::swap(its, other.its);
+        std::swap(its_last, other.its_last);
+        its_verdict.swap(other.its_verdict);
+    }
+
+public:
+    // Throws fault, with the text of the refusal where a plan or a script is refused.
+    session(std::string_view plan, std::string_view script) : its_verdict(detail::first_room, '\0') {
+        std::size_t size = 0;
+        const int code =
+            camac_open(&its, plan.data(), plan.size(), script.data(), script.size(), its_verdict.data(), its_verdict.size(), &size);
+        its_verdict.resize(std::min(size, its_verdict.size())); // no verdict is longer
+        if (code != CAMAC_OK) CAMAC_THROW(fault(code, its_verdict));
+    }
+    ~session() { camac_close(&its); }
+    session(session &&other) noexcept { swap(other); }
+    session &operator=(session &&other) noexcept {
+        if (this != &other) {
+            session none(std::move(*this));
+            swap(other);
+        }
+        return *this;
+    }
+    session(const session &) = delete;
+    session &operator=(const session &) = delete;
+
+    // What check prints of the two texts.
+    [[nodiscard]] const std::string &verdict() const noexcept { return its_verdict; }
+
+    // What the next answer is for. Throws overrun where the run is over, and fault (CAMAC_MISUSE) where the session is none.
+    [[nodiscard]] camac_want wants() const {
+        camac_want want = CAMAC_WANT;
+        const int code = camac_wants(&its, &want);
+        if (code != CAMAC_OK) fail(code);
+        return want;
+    }
+
+    // Takes an answer, and tells what it did. Throws overrun, or fault at any other code, which leaves the run as it was.
+    camac_progress next(const camac_answer &answer) {
+        camac_progress progress = CAMAC_PROGRESS;
+        const int code = camac_next(&its, &answer, &progress);
+        if (code == CAMAC_OVERRUN) its_last = progress;
+        if (code != CAMAC_OK) fail(code);
+        return progress;
+    }
+
+    // The words of the event that the last answer left; none where it left none.
+    [[nodiscard]] std::vector<std::uint32_t> words() const {
+        std::vector<std::uint32_t> its_words(camac_words(&its, nullptr, 0));
+        camac_words(&its, its_words.data(), its_words.size());
+        return its_words;
+    }
+};
+
+// What camac run does with the text of all answers.
+[[nodiscard]] inline run_result run(std::string_view plan, std::string_view script, std::string_view answers) {
+    std::string file(detail::first_room, '\0');
+    std::size_t file_size = 0;
+    const auto call = [&](char *t, std::size_t room, std::size_t *n) {
+        return camac_run(plan.data(), plan.size(), script.data(), script.size(), answers.data(), answers.size(), t, room, n, file.data(),
+                         file.size(), &file_size);
+    };
+    verdict listing = detail::judged(call);
+    if (file_size > file.size()) {
+        file.resize(file_size);
+        listing = detail::judged(call);
+    }
+    file.resize(file_size);
+    return {std::move(listing), std::move(file)};
+}
+
+} // namespace camac
+#endif

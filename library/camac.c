@@ -1,0 +1,183 @@
+/* camac.c: the calls of camac.h. Each tests what C hands in, which no proof can see, and calls an export of the proved crate camac_c. Those take
+ * no NULL; of a struct they see what stands between its size and its spare words.
+ *
+ * tools/library compiles it, and hides the exports. */
+#include <camac/camac.h>
+#include <string.h>
+
+typedef uint32_t of_text(const uint8_t *text, size_t text_size, uint8_t *out, size_t room, size_t *size);
+typedef uint32_t of_script(const uint8_t *plan, size_t plan_size, const uint8_t *script, size_t script_size, uint8_t *out, size_t room, size_t *size);
+
+of_text camac_raw_plan, camac_raw_explain_plan, camac_raw_events;
+of_script camac_raw_check, camac_raw_explain, camac_raw_bounds, camac_raw_costs;
+uint32_t camac_raw_version(void);
+uint32_t camac_raw_response(const uint8_t *plan, size_t plan_size, const uint8_t *script, size_t script_size, const uint8_t *every,
+                            size_t every_size, const uint8_t *within, size_t within_size, uint8_t *out, size_t room, size_t *size);
+uint32_t camac_raw_run(const uint8_t *plan, size_t plan_size, const uint8_t *script, size_t script_size, const uint8_t *answers,
+                       size_t answers_size, uint8_t *out, size_t room, size_t *size, uint8_t *file, size_t file_room, size_t *file_size);
+uint32_t camac_raw_open(void *run, const uint8_t *plan, size_t plan_size, const uint8_t *script, size_t script_size, uint8_t *out, size_t room,
+                        size_t *size);
+uint32_t camac_raw_wants(void *run, void *want);
+uint32_t camac_raw_next(void *run, const void *answer, void *progress);
+size_t camac_raw_words(void *run, uint8_t *bytes, size_t room);
+void camac_raw_close(void *run);
+
+/* What an export takes in the place of NULL. */
+#define IN(bytes, size) (bytes) ? (const uint8_t *)(bytes) : (const uint8_t *)"", (size)
+#define OUT(buffer, room) (buffer) ? (uint8_t *)(buffer) : nowhere, (room)
+#define IS_NULL(bytes, size) (!(bytes) && (size) > 0)
+
+/* No struct of a later version is larger. */
+#define MOST_BYTES 4096u
+
+/* Whether a struct is as large as here, or larger, as in a later version. */
+#define IS_KNOWN(its) ((its) && (its)->size >= sizeof *(its) && (its)->size <= MOST_BYTES)
+
+/* Puts zeros behind the size of a struct. */
+#define CLEAR(its) memset(&(its)->size + 1, 0, (its)->size - sizeof (its)->size)
+
+/* Puts zeros into the spare words of a struct, and where this library does not know it. */
+#define CLEAR_SPARE(its) (memset((its)->spare, 0, sizeof (its)->spare), (its)->size > sizeof *(its) ? clear_rest((its), (its)->size, sizeof *(its)) : (void)0)
+
+static void clear_rest(void *its, size_t size, size_t known) { memset((char *)its + known, 0, size - known); }
+
+static int is_session(const camac_session *s) {
+    return s && s->size >= sizeof *s && s->version / 100u == CAMAC_VERSION_NUMBER / 100u;
+}
+
+/* The run of a session. An export changes it only where its call takes a session that is not const. */
+static void *run_of(const camac_session *s) { return (void *)(uintptr_t)&s->camac_private; }
+
+/* Whether there is nothing in an answer that this library does not know. */
+static int is_known(const camac_answer *answer) {
+    uint32_t rest = answer->unused;
+    for (size_t i = 0; i < sizeof answer->spare / sizeof *answer->spare; i++) rest |= answer->spare[i];
+    for (size_t i = sizeof *answer; i < answer->size; i++) rest |= ((const uint8_t *)answer)[i];
+    return rest == 0;
+}
+
+uint32_t camac_version(void) { return camac_raw_version(); }
+
+const char *camac_code_text(int code) {
+    switch (code) {
+    case CAMAC_OK: return "done";
+    case CAMAC_REFUSED: return "refused";
+    case CAMAC_MISUSE: return "misuse";
+    case CAMAC_NO_MEMORY: return "no memory";
+    case CAMAC_OVERRUN: return "overrun";
+    case CAMAC_RANGE: return "a number out of its range";
+    case CAMAC_SPENT: return "all answers are spent";
+    case CAMAC_LONG: return "a text too long";
+    default: return "no code of camac";
+    }
+}
+
+/* Where a size is told that nobody asks for. */
+static size_t *told(size_t *size, size_t *unasked) {
+    size = size ? size : unasked;
+    *size = 0;
+    return size;
+}
+
+static int call_of_text(of_text *call, const void *text, size_t text_size, char *out, size_t room, size_t *size) {
+    uint8_t nowhere[1];
+    size_t unasked;
+    size = told(size, &unasked);
+    if (IS_NULL(text, text_size) || IS_NULL(out, room)) return CAMAC_MISUSE;
+    return (int)call(IN(text, text_size), OUT(out, room), size);
+}
+
+static int call_of_script(of_script *call, const void *plan, size_t plan_size, const void *script, size_t script_size, char *out, size_t room,
+                          size_t *size) {
+    uint8_t nowhere[1];
+    size_t unasked;
+    size = told(size, &unasked);
+    if (IS_NULL(plan, plan_size) || IS_NULL(script, script_size) || IS_NULL(out, room)) return CAMAC_MISUSE;
+    return (int)call(IN(plan, plan_size), IN(script, script_size), OUT(out, room), size);
+}
+
+int camac_plan(const void *plan, size_t plan_size, char *text, size_t room, size_t *size) {
+    return call_of_text(camac_raw_plan, plan, plan_size, text, room, size);
+}
+
+int camac_explain_plan(const void *plan, size_t plan_size, char *text, size_t room, size_t *size) {
+    return call_of_text(camac_raw_explain_plan, plan, plan_size, text, room, size);
+}
+
+int camac_events(const void *file, size_t file_size, char *text, size_t room, size_t *size) {
+    return call_of_text(camac_raw_events, file, file_size, text, room, size);
+}
+
+int camac_check(const void *plan, size_t plan_size, const void *script, size_t script_size, char *text, size_t room, size_t *size) {
+    return call_of_script(camac_raw_check, plan, plan_size, script, script_size, text, room, size);
+}
+
+int camac_explain(const void *plan, size_t plan_size, const void *script, size_t script_size, char *text, size_t room, size_t *size) {
+    return call_of_script(camac_raw_explain, plan, plan_size, script, script_size, text, room, size);
+}
+
+int camac_bounds(const void *plan, size_t plan_size, const void *script, size_t script_size, char *text, size_t room, size_t *size) {
+    return call_of_script(camac_raw_bounds, plan, plan_size, script, script_size, text, room, size);
+}
+
+int camac_costs(const void *plan, size_t plan_size, const void *script, size_t script_size, char *text, size_t room, size_t *size) {
+    return call_of_script(camac_raw_costs, plan, plan_size, script, script_size, text, room, size);
+}
+
+int camac_response(const void *plan, size_t plan_size, const void *script, size_t script_size, const void *every, size_t every_size,
+                   const void *within, size_t within_size, char *text, size_t room, size_t *size) {
+    uint8_t nowhere[1];
+    size_t unasked;
+    size = told(size, &unasked);
+    if (IS_NULL(plan, plan_size) || IS_NULL(script, script_size) || IS_NULL(every, every_size) || IS_NULL(within, within_size) ||
+        IS_NULL(text, room))
+        return CAMAC_MISUSE;
+    return (int)camac_raw_response(IN(plan, plan_size), IN(script, script_size), IN(every, every_size), IN(within, within_size), OUT(text, room),
+                                   size);
+}
+
+int camac_run(const void *plan, size_t plan_size, const void *script, size_t script_size, const void *answers, size_t answers_size, char *text,
+              size_t room, size_t *size, void *file, size_t file_room, size_t *file_size) {
+    uint8_t nowhere[1], nowhere_else[1];
+    size_t unasked, unasked_too;
+    size = told(size, &unasked);
+    file_size = told(file_size, &unasked_too);
+    if (IS_NULL(plan, plan_size) || IS_NULL(script, script_size) || IS_NULL(answers, answers_size) || IS_NULL(text, room) || IS_NULL(file, file_room))
+        return CAMAC_MISUSE;
+    return (int)camac_raw_run(IN(plan, plan_size), IN(script, script_size), IN(answers, answers_size), OUT(text, room), size,
+                              file ? (uint8_t *)file : nowhere_else, file_room, file_size);
+}
+
+int camac_open(camac_session *s, const void *plan, size_t plan_size, const void *script, size_t script_size, char *text, size_t room, size_t *size) {
+    uint8_t nowhere[1];
+    size_t unasked;
+    size = told(size, &unasked);
+    if (!is_session(s) || IS_NULL(plan, plan_size) || IS_NULL(script, script_size) || IS_NULL(text, room)) return CAMAC_MISUSE;
+    return (int)camac_raw_open(run_of(s), IN(plan, plan_size), IN(script, script_size), OUT(text, room), size);
+}
+
+int camac_wants(const camac_session *s, camac_want *want) {
+    if (!IS_KNOWN(want)) return CAMAC_MISUSE;
+    if (!is_session(s)) return CLEAR(want), CAMAC_MISUSE;
+    CLEAR_SPARE(want);
+    return (int)camac_raw_wants(run_of(s), &want->kind);
+}
+
+int camac_next(camac_session *s, const camac_answer *answer, camac_progress *progress) {
+    if (!IS_KNOWN(progress)) return CAMAC_MISUSE;
+    if (!is_session(s) || !IS_KNOWN(answer) || !is_known(answer)) return CLEAR(progress), CAMAC_MISUSE;
+    CLEAR_SPARE(progress);
+    return (int)camac_raw_next(run_of(s), &answer->word, &progress->kind);
+}
+
+size_t camac_words(const camac_session *s, uint32_t *words, size_t room) {
+    uint32_t nowhere[1];
+    if (!is_session(s)) return 0;
+    if (!words) words = nowhere, room = 0;
+    if (room > CAMAC_EVENT_WORDS) room = CAMAC_EVENT_WORDS;
+    return camac_raw_words(run_of(s), (uint8_t *)words, room * sizeof *words);
+}
+
+void camac_close(camac_session *s) {
+    if (is_session(s)) camac_raw_close(run_of(s));
+}

@@ -1,0 +1,220 @@
+"""Finds what the loops of a script have to keep, so that the checker accepts it. The search is not proved, and need not be: the checker judges what
+it finds."""
+from typing import AbstractSet, Dict, List, Optional, Sequence, Set
+
+from camac.drive import File, Refused
+from camac.edits import edited
+from camac.headings import least_headings
+from camac.loops.causes import causes_before, causes_of, foreseen
+from camac.loops.changes import Change, Changes, Kind
+from camac.loops.guards import GuardFinder, loops_around
+from camac.loops.heads import FULL, Known, Least
+from camac.loops.lessen import leave_out, narrow
+from camac.loops.proposals import Found, Proposal, Proposals, Remaining
+from camac.loops.ranges import MOST, Cause
+from camac.loops.trials import Stopped, Trials
+from camac.loops.widths import Widths
+from camac.output import bytes_output
+from camac.program import verdict
+from camac.reader import read_script
+from camac.scripts import parse_bounds
+from camac.texts import GREATEST_TEXT
+from camac.tree import Assign, Body, Loop, Range, Statement, all_in
+
+# So often the checker is asked at most; the last calls are for headings.
+MOST_CALLS, LAST_CALLS = 200, 8
+# A longer script is left as it is: with what is tried it might be too long.
+MOST_BYTES = GREATEST_TEXT - 100_000
+# By "bounds" headings are not looked at.
+CHECK, BOUNDS = "check", "bounds"
+
+
+def propose(plan: File, script: bytes, program: Optional[File] = None, keeps_only: bool = False) -> Proposals:
+    """Returns what the loops of a script have to keep, so that the checker accepts it, or that its first refusal comes later: the fewest ranges,
+    and the least. Where no range can be kept, statements get another form, but for `keeps_only`. Nothing is proposed for a script that is accepted,
+    or is refused for what no range mends. If its headings are too small, and else it would be accepted, the least ones are proposed, too.
+
+    Raises ProgramFault and OSError as `camac.check`, and Refused where the plan is refused."""
+    is_long = len(script) > MOST_BYTES
+    told = verdict(CHECK if is_long else BOUNDS, plan, script, program)
+    refusal = None if told.accepted else Refused(told.text.partition("\n")[0])
+    if refusal and refusal.line is None:
+        raise refusal
+    if is_long or refusal and refusal.code[0] == "S":
+        return Proposals((), _remaining(refusal, refusal.line) if refusal else None, 1)
+    search = _Search(plan, script, program, keeps_only)
+    search.run()
+    proposals = sorted([*search.found.proposals(), *search.headings], key=lambda it: (it.line, it.edits))
+    return Proposals(tuple(proposals), search.remaining, search.trials.calls + 1)
+
+
+def _remaining(refusal: Refused, line: Optional[int]) -> Remaining:
+    return Remaining(refusal.code, line, str(refusal).partition(": ")[2])
+
+
+def write_keeps(plan: File, script: str, program: Optional[File] = None) -> List[Proposal]:
+    """Puts what the loops of a script have to keep into it, as `propose` finds it, and returns that. Nothing else of the text changes, and nothing
+    that it does at run time. Where there is nothing to keep, the file is not touched.
+
+    Raises as `propose`, with nothing written, and OSError where the file cannot be read or written."""
+    with open(script, "rb") as file:
+        text = file.read()
+    found = [it for it in propose(plan, text, program, keeps_only=True).proposals if it.kind is Kind.KEEP]
+    if found:
+        with bytes_output(script) as out:
+            out.write(edited(text, [edit for it in found for edit in it.edits]))
+    return found
+
+
+class _Search:
+    """A search for what one script has to keep."""
+
+    def __init__(self, plan: File, text: bytes, program: Optional[File], keeps_only: bool) -> None:
+        self.text, self.keeps_only = text, keeps_only
+        self.bodies = read_script(text).bodies
+        self.trials = Trials(plan, text, self.bodies, program)
+        self.widths = Widths(plan, program)
+        loops = [it for body in self.bodies for it in all_in(body.statements) if isinstance(it, Loop)]
+        self.given: Dict[Cause, Range] = {(loop, it.name): it.range for loop in loops for it in loop.keeps}
+        # What is given and is not kept, as it is refused; and ranges that were the only ones to help.
+        self.broken: Set[Cause] = set()
+        self.sure: Set[Cause] = set()
+        self.found = Found(text)
+        # Guards that leave out a last step; and the least ranges of bodies, as long as no statement changes.
+        self.tight: Dict[Statement, Change] = {}
+        self.least: Dict[int, Least] = {}
+        self.headings: List[Proposal] = []
+        self.remaining: Optional[Remaining] = None
+
+    def run(self) -> None:
+        stopped = self.go_on(BOUNDS)
+        self.lessen(BOUNDS, stopped)
+        if stopped is None:
+            self.fit_headings()
+        else:
+            self.remaining = _remaining(stopped.refusal, stopped.about.line if stopped.about else None)
+
+    def go_on(self, command: str) -> Optional[Stopped]:
+        """Helps as long as something helps. Leaves what brings the first refusal latest, and returns that."""
+        stopped = best = self.stopped(command)
+        found = self.found.copy()
+        while stopped is not None and self.may_ask() and self.help(stopped):
+            stopped = self.stopped(command)
+            if stopped is None or best is None or stopped.when > best.when:
+                best, found = stopped, self.found.copy()
+        self.found = found
+        return best
+
+    def lessen(self, command: str, best: Optional[Stopped]) -> None:
+        """Leaves out and makes less what may be, so that the first refusal does not come earlier than `best`."""
+
+        def is_good() -> bool:
+            if not self.may_ask():
+                return False
+            stopped = self.stopped(command)
+            return stopped is None or best is not None and stopped.when >= best.when
+
+        if best is not None:
+            self.found.cut(best.when[0])
+        leave_out(self.found, self.sure, is_good)
+        narrow(self.found, [cause for it in self.least.values() for cause in it.widened], is_good)
+
+    def stopped(self, command: str) -> Optional[Stopped]:
+        return self.trials.stopped(command, self.found.edits())
+
+    def may_ask(self) -> bool:
+        return self.trials.calls < MOST_CALLS - LAST_CALLS
+
+    def help(self, stopped: Stopped) -> bool:
+        """Keeps or changes something more because of a refusal, and tells whether there was something."""
+        about = stopped.about
+        body = next((it for it in self.bodies if about is not None and it.start <= about.start < it.end), None)
+        if body is None:
+            return False
+        known = Known(body, self.widths, self.found.statements(), {**self.given, **self.found.kept})
+        if self.keep(body, [causes_of(stopped, known) | self.break_given(stopped, known), *foreseen(known)]):
+            return True
+        if isinstance(about, Statement) and not self.keeps_only and self.change(body, about, stopped, known):
+            return True
+        return self.keep(body, [causes_before(stopped, known)])
+
+    def break_given(self, stopped: Stopped, known: Known) -> Set[Cause]:
+        """The given ranges of a loop that are refused. They count no more."""
+        loop = stopped.about
+        if stopped.code not in ("E8", "E9") or not isinstance(loop, Loop):
+            return set()
+        state = known.before.get(loop) if stopped.code == "E8" else known.ends.get(loop)
+        values = {(loop, it.name): state.variables[it.name] for it in loop.keeps} if state else {}
+        new = {it for it, (low, high, _) in values.items() if low < self.given[it][0] or high > self.given[it][1]} - self.broken
+        if new:
+            self.broken |= new
+            self.least.clear()
+        return new
+
+    def keep(self, body: Body, groups: Sequence[AbstractSet[Cause]]) -> bool:
+        """Keeps the least ranges of what loops forget. One that is a group by itself is sure to be needed, as a rule."""
+        causes: Set[Cause] = set().union(*groups)
+        is_new = not self.keeps_only and any(self.range(body, *it)[1] == MOST for it in causes) and self.guard(body)
+        ranges = {it: self.range(body, *it) for it in causes}
+        new = {it: its for it, its in ranges.items() if its != FULL and self.found.kept.get(it) != its}
+        self.found.kept.update(new)
+        self.sure.update(it for group in groups if len(group) == 1 for it in group)
+        return is_new or bool(new)
+
+    def range(self, body: Body, loop: Loop, name: str) -> Range:
+        return self.least_of(body).found.get(loop, {}).get(name, FULL)
+
+    def least_of(self, body: Body) -> Least:
+        if body.start not in self.least:
+            floors = {cause: its for cause, its in self.given.items() if cause not in self.broken}
+            self.least[body.start] = Least(body, self.widths, self.found.statements(), floors)
+        return self.least[body.start]
+
+    def guard(self, body: Body) -> bool:
+        """Puts guards around the statements by which variables grow without end. Behind those of one loop others may have limits, too."""
+        is_new, goes_on = False, True
+        while goes_on:
+            ranges = {(loop, name): its for loop, found in self.least_of(body).found.items() for name, its in found.items()}
+            finder = GuardFinder(self.text, body, Known(body, self.widths, self.found.statements(), ranges))
+            new: Dict[Statement, Change] = {}
+            for loop, name in [it for it, its in ranges.items() if its[1] == MOST]:
+                wide, tight = finder.find(loop, name)
+                new.update((it, change) for it, change in wide if it not in self.found.changed)
+                self.tight.update((it, change) for it, change in tight if it not in self.found.changed)
+            goes_on = bool(new)
+            is_new |= goes_on
+            self.replace(body, new)
+        return is_new
+
+    def replace(self, body: Body, new: Dict[Statement, Change]) -> None:
+        """Changes statements, and so the least ranges in their body."""
+        self.found.changed.update(new)
+        self.least.pop(body.start, None)
+        for loop, name in self.found.kept if new else ():
+            if body.start <= loop.start < body.end:
+                self.found.kept[loop, name] = self.range(body, loop, name)
+
+    def change(self, body: Body, about: Statement, stopped: Stopped, known: Known) -> bool:
+        """Changes the statement that is refused, or leaves out the last step of what it may look at."""
+        # A measure falls as it is written.
+        is_measure = isinstance(about, Assign) and any(about.name == loop.name for loop in loops_around(body.statements, about))
+        change = None if is_measure or about in self.found.changed else Changes(self.text).at(stopped, known)
+        tight = next((it for it in self.tight if body.start <= it.start < body.end), None)
+        if change:
+            self.replace(body, {about: change})
+        elif tight:
+            self.replace(body, {tight: self.tight.pop(tight)})
+        return bool(change or tight)
+
+    def fit_headings(self) -> None:
+        """Where the headings of a script refuse it, keeps what lowers its costs, or proposes the least headings."""
+        if self.stopped(CHECK) is None:
+            return
+        found = self.found.copy()
+        if self.go_on(CHECK) is None:
+            self.lessen(CHECK, None)
+            return
+        self.found = found
+        told = self.trials.judged(BOUNDS, self.found.edits())
+        for it in least_headings(self.text, parse_bounds(told.text)):
+            self.headings.append(Proposal(Kind.HEADING, it.line, it.heading, it.edits))

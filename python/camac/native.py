@@ -1,0 +1,154 @@
+"""The library for C as ctypes sees it: its structs, its calls, and where its file is.
+
+The library is `libcamac.so.0`: the one that the environment variable CAMAC_LIBRARY names, else the one in this package or in the folder where
+./install put both, else the system's."""
+import ctypes
+import functools
+import os
+import pathlib
+from ctypes import POINTER, c_char_p, c_size_t, c_uint8, c_uint16, c_uint32, c_void_p
+from typing import Any, Dict, List, NamedTuple, Tuple
+
+NAME = "libcamac.so.0"
+# The version whose structs stand here. A library fits whose first two numbers are the same.
+VERSION = 200
+OK, REFUSED, MISUSE, NO_MEMORY, OVERRUN, RANGE, SPENT, LONG = range(8)
+DEMAND, CYCLE, LOCK, STOPPED = range(1, 5)
+NO_DATA, READ, WRITE = range(3)
+EVENT_WORDS = 4096
+
+
+class _Sized(ctypes.Structure):
+    """A struct that begins with its size and ends in spare words."""
+
+    def __init__(self, **fields: int) -> None:
+        super().__init__(size=ctypes.sizeof(self), **fields)
+
+
+def _fields(kind: Any, names: str) -> List[Tuple[str, Any]]:
+    return [(name, kind) for name in names.split()]
+
+
+class SessionStruct(_Sized):
+    """A session: none, until it is opened."""
+
+    _fields_ = [("size", c_uint32), ("version", c_uint32), ("private", c_void_p * 6), ("spare", c_uint32 * 2)]
+
+    def __init__(self) -> None:
+        super().__init__(version=VERSION)
+
+
+class Want(_Sized):
+    """What the next answer is for: `kind`, and of a CYCLE `c`, `n`, `a`, `f`, `data` and the `word` to write, of a LOCK `c`."""
+
+    _fields_ = [("size", c_uint32), *_fields(c_uint8, "kind c n a f data"), ("unused", c_uint16), ("word", c_uint32), ("spare", c_uint32 * 4)]
+
+
+class AnswerStruct(_Sized):
+    """An answer, as C has it."""
+
+    _fields_ = [*_fields(c_uint32, "size word gl"), *_fields(c_uint8, "x q wait unused"), ("spare", c_uint32 * 4)]
+
+
+class Progress(_Sized):
+    """What an answer did, as camac.h tells it. Of an overrun `kind` is STOPPED, with its crate `c` and its `wait`."""
+
+    _fields_ = [
+        ("size", c_uint32),
+        *_fields(c_uint8, "kind c wait x q"),
+        ("unused", c_uint8 * 3),
+        # Python reads one number faster than four
+        *_fields(c_uint32, "first_unlocked more_unlocked word pattern service event event_gl event_words event_cycles event_missed"),
+        ("spare", c_uint32 * 3),
+    ]
+
+    @property
+    def unlocked(self) -> Tuple[int, ...]:
+        """The crates whose lockout is to be released now, in this order."""
+        return tuple(it for it in (self.first_unlocked | self.more_unlocked << 32).to_bytes(8, "little") if it)
+
+
+class Calls(NamedTuple):
+    """The calls of the library. Those on texts let other threads of Python run meanwhile. Those on a session do not: they are short, and so one
+    session may be closed by another thread."""
+
+    texts: ctypes.CDLL
+    sessions: ctypes.PyDLL
+
+
+_TEXT, _BUFFER, _SESSION = [c_char_p, c_size_t], [c_char_p, c_size_t, POINTER(c_size_t)], POINTER(SessionStruct)
+_OF_TEXTS: Dict[str, List[Any]] = {
+    **{name: [*_TEXT, *_BUFFER] for name in ("plan", "explain_plan", "events")},
+    **{name: [*_TEXT, *_TEXT, *_BUFFER] for name in ("check", "explain", "bounds", "costs")},
+    "response": [*_TEXT, *_TEXT, *_TEXT, *_TEXT, *_BUFFER],
+    "run": [*_TEXT, *_TEXT, *_TEXT, *_BUFFER, *_BUFFER],
+    "open": [_SESSION, *_TEXT, *_TEXT, *_BUFFER],
+}
+_OF_SESSIONS: Dict[str, List[Any]] = {
+    "wants": [_SESSION, POINTER(Want)],
+    "next": [_SESSION, POINTER(AnswerStruct), POINTER(Progress)],
+    "words": [_SESSION, POINTER(c_uint32), c_size_t],
+    "close": [_SESSION],
+}
+_RESULTS = {"words": c_size_t, "close": None}
+
+
+def find_library() -> str:
+    """The file of the library; its name alone where the system has to find it."""
+    named = os.environ.get("CAMAC_LIBRARY")
+    if named:
+        return named
+    here = pathlib.Path(__file__).resolve()
+    for folder in (here.parent, *list(here.parents)[3:4]):
+        if (folder / NAME).is_file():
+            return str(folder / NAME)
+    return NAME
+
+
+def version_text(number: int) -> str:
+    """The number of a version, as 200, in the form 0.2.0."""
+    return f"{number // 10_000}.{number // 100 % 100}.{number % 100}"
+
+
+def _check_version(library: ctypes.CDLL, found: str) -> None:
+    """Raises OSError where a library is of a version that does not fit."""
+    try:
+        tell = library.camac_version
+    except AttributeError:
+        raise OSError(f"{found} is an older library of camac, or none") from None
+    tell.argtypes, tell.restype = [], c_uint32
+    number = tell()
+    if number // 100 != VERSION // 100:
+        raise OSError(f"{found} has the version {version_text(number)}, which does not fit {version_text(VERSION)}")
+
+
+def _declare(library: ctypes.CDLL, forms: Dict[str, List[Any]]) -> None:
+    for name, form in forms.items():
+        call = getattr(library, f"camac_{name}")
+        call.argtypes, call.restype = form, _RESULTS.get(name, ctypes.c_int)
+
+
+@functools.lru_cache(maxsize=None)
+def load() -> Calls:
+    """The library, with the types of its calls. Raises OSError where it cannot be loaded, or is of a version that does not fit."""
+    found = find_library()
+    try:
+        library = ctypes.CDLL(found)
+    except OSError as why:
+        if found != NAME:
+            raise
+        raise FileNotFoundError(f"{NAME} is nowhere to be found: ./install puts it in place, and CAMAC_LIBRARY may name it") from why
+    _check_version(library, found)
+    calls = Calls(library, ctypes.PyDLL(found))
+    _declare(calls.texts, _OF_TEXTS)
+    _declare(calls.sessions, _OF_SESSIONS)
+    return calls
+
+
+def is_there() -> bool:
+    """Whether the library can be loaded."""
+    try:
+        load()
+    except OSError:
+        return False
+    return True

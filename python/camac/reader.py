@@ -1,0 +1,249 @@
+"""Reads a script that is no refused text into a tree."""
+from typing import Callable, Dict, List, Tuple
+
+from camac.tokens import Token, tokens_of
+from camac.tree import (
+    Assign, Body, Cycle, Expression, For, If, Keep, Lock, Loop, Name, Number, Operation, Part, Plain, Range, Script, SetRegister, Statement, Transfer, While,
+    all_in, written_by,
+)
+
+OPPOSITE = {"<": ">=", ">=": "<", "<=": ">", ">": "<=", "==": "!=", "!=": "=="}
+CRATE_CALLS = frozenset(("cccz", "cccc", "ctci", "ctcd", "ctgl", "ccci", "cccd"))
+LAM_CALLS = frozenset(("cclm", "cclc", "ctlm"))
+SWITCHED = frozenset(("ccci", "cccd", "cclm"))
+END = Token("", 0, 0, 0)
+
+
+def read_script(text: bytes) -> Script:
+    return _Reader(tokens_of(text)).script()
+
+
+def read_statements(text: bytes) -> List[Statement]:
+    """The statements of a text that has nothing else."""
+    reader = _Reader(tokens_of(text))
+    return reader.statements_until("")
+
+
+class _Reader:
+    """Tokens, of which those before `at` are read."""
+
+    def __init__(self, tokens: List[Token]) -> None:
+        self.tokens, self.at = tokens, 0
+        self.variables: Dict[str, Range] = {}
+
+    def next(self) -> Token:
+        token = self.tokens[self.at] if self.at < len(self.tokens) else END
+        self.at += 1
+        return token
+
+    def word(self) -> str:
+        """The text of the token that comes next, which is not taken."""
+        return self.tokens[self.at].text if self.at < len(self.tokens) else ""
+
+    def takes(self, *words: str) -> bool:
+        """Takes the next token if it is one of these."""
+        is_there = self.word() in words
+        self.at += is_there
+        return is_there
+
+    def expect(self, word: str) -> Token:
+        token = self.next()
+        if token.text != word:
+            raise ValueError(f"line {token.line}: `{token.text}` in the place of `{word}`")
+        return token
+
+    def end(self) -> int:
+        """Where the last token ends that was taken."""
+        return self.tokens[self.at - 1].end
+
+    def number(self) -> int:
+        return int(self.next().text)
+
+    def script(self) -> Script:
+        script = Script({}, [])
+        while self.word():
+            if self.word() in ("service", "proc"):
+                script.bodies.append(self.body())
+            elif self.takes("cdlam"):
+                name, _, crate, station = self.next().text, self.next(), self.number(), self.number()
+                script.lams[name] = crate, station
+            elif self.takes("var"):
+                # The next declaration begins with a word of the language.
+                while self.word() not in ("", "table", "cdlam", "var", "proc", "service"):
+                    self.variables[self.next().text] = (0, 0)
+            else:
+                self.next()
+        return script
+
+    def body(self) -> Body:
+        first, name = self.next(), self.next().text
+        variables = dict(self.variables) if first.text == "service" else self.parameters()
+        numbers: List[Number] = []
+        while self.word() != "{":
+            token = self.next()
+            if token.text.isdigit():
+                numbers.append(Number(int(token.text), token.start, token.end))
+        statements = self.block()
+        return Body(name, first.text == "service", first.line, first.start, self.end(), numbers, variables, statements)
+
+    def parameters(self) -> Dict[str, Range]:
+        found = {}
+        self.expect("(")
+        while not self.takes(")"):
+            name = self.next().text
+            self.expect("in")
+            low = self.number()
+            self.expect("..")
+            found[name] = low, self.number()
+            self.takes(",")
+        return found
+
+    def block(self) -> List[Statement]:
+        self.expect("{")
+        found = self.statements_until("}")
+        self.expect("}")
+        return found
+
+    def statements_until(self, word: str) -> List[Statement]:
+        found = []
+        while self.word() != word:
+            found.append(self.statement())
+        return found
+
+    def statement(self) -> Statement:
+        first = self.next()
+        made = self.made(first, first.text)
+        made.end = self.end()
+        return made
+
+    def made(self, first: Token, word: str) -> Statement:
+        at = first.line, first.start
+        if word == "cdreg":
+            register = self.next().text
+            self.next()
+            return SetRegister(*at, register=register, address=(self.expression(), self.expression(), self.expression()))
+        if word in ("cfsa", "cssa"):
+            return self.cycle(first)
+        if word in ("cfmad", "cfubc", "cfubr"):
+            return self.transfer(first)
+        if word == "put":
+            return Plain(*at, word=word, values=(self.expression(),))
+        if word in CRATE_CALLS:
+            return Plain(*at, word=word, values=(self.expression(),), switch=self.next().text if word in SWITCHED else "")
+        if word in LAM_CALLS:
+            return Plain(*at, word=word, name=self.next().text, switch=self.next().text if word in SWITCHED else "")
+        if word == "call":
+            return self.call(first)
+        if word == "if":
+            parts, body = self.condition(), self.block()
+            return If(*at, parts=parts, body=body, other=self.block() if self.takes("else") else [])
+        if word == "lock":
+            return Lock(*at, crate=self.expression(), body=self.block())
+        if word in ("for", "while"):
+            return self.loop(first)
+        self.expect("=")
+        return Assign(*at, name=word, value=self.expression())
+
+    def cycle(self, first: Token) -> Cycle:
+        function, registers = self.number(), (self.next().text,)
+        into = self.next().text if self.takes("->") else None
+        value = self.expression() if self.takes("<-") else None
+        return Cycle(first.line, first.start, is_short=first.text == "cssa", function=function, registers=registers, into=into, value=value)
+
+    def transfer(self, first: Token) -> Transfer:
+        function, registers = self.number(), [self.next().text]
+        if first.text == "cfmad":
+            registers.append(self.next().text)
+        if self.takes("table"):
+            self.next()
+        self.expect("max")
+        most = self.expression()
+        limit = self.expression() if self.takes("limit") else None
+        self.expect("tally")
+        return Transfer(first.line, first.start, function=function, registers=tuple(registers), most=most, limit=limit, tally=self.next().text)
+
+    def call(self, first: Token) -> Plain:
+        name = self.next().text
+        self.expect("(")
+        values = []
+        while not self.takes(")"):
+            values.append(self.expression())
+            self.takes(",")
+        return Plain(first.line, first.start, word="call", name=name, values=tuple(values))
+
+    def loop(self, first: Token) -> Loop:
+        loop: Loop
+        if first.text == "for":
+            name = self.next().text
+            self.expect("=")
+            begin = self.expression()
+            self.expect("to")
+            loop = For(first.line, first.start, name=name, first=begin, last=self.expression())
+        else:
+            parts = self.condition()
+            self.expect("turns")
+            turns = self.number()
+            self.expect("by")
+            loop = While(first.line, first.start, name=self.next().text, parts=parts, turns=turns)
+        if self.takes("keep"):
+            loop.keep = self.tokens[self.at - 1].start
+            loop.keeps.append(self.keep())
+            while self.takes(","):
+                loop.keeps.append(self.keep())
+        loop.block = self.tokens[self.at].start
+        loop.body = self.block()
+        loop.written = frozenset(name for it in all_in(loop.body) for name in [written_by(it)] if name is not None and name != loop.name)
+        loop.registers = frozenset(it.register for it in all_in(loop.body) if isinstance(it, SetRegister))
+        return loop
+
+    def keep(self) -> Keep:
+        name = self.next()
+        self.expect("in")
+        low = self.next()
+        self.expect("..")
+        high = self.next()
+        places = (low.start, low.end), (high.start, high.end)
+        return Keep(name.text, (int(low.text), int(high.text)), *places, name.start, high.end)
+
+    def condition(self) -> Tuple[Part, ...]:
+        parts = [self.part()]
+        while self.takes("and"):
+            parts.append(self.part())
+        return tuple(parts)
+
+    def part(self) -> Part:
+        begin = self.tokens[self.at].start
+        is_negated = self.takes("not")
+        if self.takes("q", "x"):
+            return Part(None, "", begin, self.end())
+        left, sign, right = self.expression(), self.next().text, self.expression()
+        return Part((left, right), OPPOSITE[sign] if is_negated else sign, begin, self.end())
+
+    def expression(self) -> Expression:
+        found = self.term()
+        while self.word() in ("+", "-"):
+            found = self.operation(found, self.term)
+        return found
+
+    def term(self) -> Expression:
+        found = self.factor()
+        while self.word() in ("*", "/", "%"):
+            found = self.operation(found, self.factor)
+        return found
+
+    def operation(self, left: Expression, read: Callable[[], Expression]) -> Operation:
+        sign = self.next().text
+        right = read()
+        return Operation(sign, left, right, left.start, self.end())
+
+    def factor(self) -> Expression:
+        token = self.next()
+        if token.text != "(":
+            place = token.start, token.end
+            return Number(int(token.text), *place) if token.text.isdigit() else Name(token.text, *place)
+        found = self.expression()
+        self.expect(")")
+        place = token.start, self.end()
+        if isinstance(found, Number):
+            return Number(found.value, *place)
+        return Name(found.name, *place) if isinstance(found, Name) else Operation(found.sign, found.left, found.right, *place)
