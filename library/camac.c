@@ -19,7 +19,17 @@ uint32_t camac_raw_open(void *run, const uint8_t *plan, size_t plan_size, const 
                         size_t *size);
 uint32_t camac_raw_wants(void *run, void *want);
 uint32_t camac_raw_next(void *run, const void *answer, void *progress);
+uint32_t camac_raw_step(void *run, const void *answer, void *progress, void *want);
 size_t camac_raw_words(void *run, uint8_t *bytes, size_t room);
+uint32_t camac_raw_record(void *run, uint8_t *bytes, size_t room, size_t *size);
+uint32_t camac_raw_item(void *run, uint8_t *text, size_t room, size_t *size);
+size_t camac_raw_held(void *run, uint8_t *bytes, size_t room);
+size_t camac_raw_answers_left(void *run);
+size_t camac_raw_services(void *run);
+uint32_t camac_raw_service_name(void *run, uint32_t number, uint8_t *text, size_t room, size_t *size);
+uint32_t camac_raw_service_numbers(void *run, uint32_t number, uint8_t *bytes, size_t room, size_t *size);
+uint32_t camac_raw_rewind(void *run);
+void camac_raw_file_header(uint8_t *bytes, size_t room, size_t *size);
 void camac_raw_close(void *run);
 
 /* What an export takes in the place of NULL. */
@@ -170,13 +180,62 @@ int camac_next(camac_session *s, const camac_answer *answer, camac_progress *pro
     return (int)camac_raw_next(run_of(s), &answer->word, &progress->kind);
 }
 
-size_t camac_words(const camac_session *s, uint32_t *words, size_t room) {
+int camac_step(camac_session *s, const camac_answer *answer, camac_progress *progress, camac_want *want) {
+    if (!IS_KNOWN(progress) || !IS_KNOWN(want)) return CAMAC_MISUSE;
+    if (!is_session(s) || !IS_KNOWN(answer) || !is_known(answer)) return CLEAR(progress), CLEAR(want), CAMAC_MISUSE;
+    CLEAR_SPARE(progress);
+    CLEAR_SPARE(want);
+    return (int)camac_raw_step(run_of(s), &answer->word, &progress->kind, &want->kind);
+}
+
+/* Numbers of 32 bits, which an export writes as bytes. */
+static size_t call_of_words(size_t (*call)(void *, uint8_t *, size_t), const camac_session *s, uint32_t *words, size_t room) {
     uint32_t nowhere[1];
     if (!is_session(s)) return 0;
     if (!words) words = nowhere, room = 0;
     if (room > CAMAC_EVENT_WORDS) room = CAMAC_EVENT_WORDS;
-    return camac_raw_words(run_of(s), (uint8_t *)words, room * sizeof *words);
+    return call(run_of(s), (uint8_t *)words, room * sizeof *words);
 }
+
+size_t camac_words(const camac_session *s, uint32_t *words, size_t room) { return call_of_words(camac_raw_words, s, words, room); }
+
+size_t camac_held(const camac_session *s, uint32_t *crates, size_t room) { return call_of_words(camac_raw_held, s, crates, room); }
+
+/* What is told of the last answer, as bytes. */
+static int call_of_last(uint32_t (*call)(void *, uint8_t *, size_t, size_t *), const camac_session *s, void *bytes, size_t room, size_t *size) {
+    uint8_t nowhere[1];
+    size_t unasked;
+    size = told(size, &unasked);
+    if (!is_session(s) || IS_NULL(bytes, room)) return CAMAC_MISUSE;
+    return (int)call(run_of(s), OUT(bytes, room), size);
+}
+
+int camac_item(const camac_session *s, char *text, size_t room, size_t *size) { return call_of_last(camac_raw_item, s, text, room, size); }
+
+int camac_record(const camac_session *s, void *bytes, size_t room, size_t *size) { return call_of_last(camac_raw_record, s, bytes, room, size); }
+
+size_t camac_file_header(void *bytes, size_t room) {
+    uint8_t nowhere[1];
+    size_t size;
+    camac_raw_file_header(OUT(bytes, bytes ? room : 0), &size);
+    return size;
+}
+
+uint32_t camac_answers_left(const camac_session *s) { return is_session(s) ? (uint32_t)camac_raw_answers_left(run_of(s)) : 0; }
+
+size_t camac_services(const camac_session *s) { return is_session(s) ? camac_raw_services(run_of(s)) : 0; }
+
+int camac_service(const camac_session *s, uint32_t number, camac_service_info *info) {
+    size_t size;
+    if (!IS_KNOWN(info)) return CAMAC_MISUSE;
+    CLEAR(info);
+    if (!is_session(s)) return CAMAC_MISUSE;
+    const uint32_t code = camac_raw_service_name(run_of(s), number, (uint8_t *)info->name, sizeof info->name - 1, &size);
+    /* the numbers stand one after another, from c to most_words */
+    return code ? (int)code : (int)camac_raw_service_numbers(run_of(s), number, (uint8_t *)info + offsetof(camac_service_info, c), 10 * sizeof info->c, &size);
+}
+
+int camac_rewind(camac_session *s) { return is_session(s) ? (int)camac_raw_rewind(run_of(s)) : CAMAC_MISUSE; }
 
 void camac_close(camac_session *s) {
     if (is_session(s)) camac_raw_close(run_of(s));

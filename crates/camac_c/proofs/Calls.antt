@@ -1,22 +1,74 @@
 -- What C is told of a run, from what passes between a call and the run.
-use Rattle.std.proofs.Common.{ℕ, List, [], refl}
-use Rattle.std.specs.Prelude.{Option, Some, None}
+use Rattle.std.proofs.Common.{◌≡◌, ℕ, List, [], length, refl, ap, ◌∙◌, subst, arith}
+use Rattle.std.specs.Prelude.{Option, Some, None, min, reverse}
+use Rattle.camac_run.specs.Runner.{last_words_in}
+use Rattle.camac_c.specs.Filled.{filled, filled_words, over, over_words}
+use Rattle.camac_c.specs.Last.{last_lines, last_record}
 use Rattle.camac_c.specs.Plain.{only_code}
-use Rattle.camac_c.specs.Talk.{AnswersNext, AnswersWants, AnswersWords, Talks}
+use Rattle.camac_c.specs.Service.{name_at, numbers_at}
+use Rattle.camac_c.specs.Talk.{AnswersBytes, AnswersCode, AnswersCount, AnswersNext, AnswersStep, AnswersText, AnswersWants, Lists, Talks, TellsIf, TellsWords}
+use Rattle.camac_c.specs.declared.plain.Ask.{Ask}
 use Rattle.camac_c.specs.declared.plain.Ask.TheVariants as ask
 use Rattle.camac_c.specs.declared.plain.CamacAnswer.{CamacAnswer}
 use Rattle.camac_c.specs.declared.plain.Told.{Told}
 use Rattle.camac_c.specs.declared.session.Session.{Session}
 
+-- nothing is written into no room
+none_of : (n : ℕ) → min n 0 ≡ 0
+none_of n = omega arith
+
+filled_none : (text : List ℕ) → filled text [] ≡ []
+filled_none text = ap (λ (n : ℕ). over n text []) (none_of (length text))
+
+filled_words_none : (words : List ℕ) → filled_words words [] ≡ []
+filled_words_none words = ap (λ (n : ℕ). over_words n words []) (none_of (length words))
+
+listed_none : (its : Option (List ℕ)) (told : Told) (ws : List ℕ) → TellsIf Lists its [] ws told → ws ≡ []
+listed_none None told ws h = h.0
+listed_none (Some its) told ws h = h.0 ∙ filled_none its
+
+numbered_none : (its : Option (List ℕ)) (told : Told) (ws : List ℕ) → TellsIf TellsWords its [] ws told → ws ≡ []
+numbered_none None told ws h = h.0
+numbered_none (Some its) told ws h = h.0 ∙ filled_words_none its
+
+written : (v after : Option Session) (a : Ask) (none told : Told) (ws : List ℕ) → Talks v a none after [] ws told → ws ≡ []
+written None after a none told ws h = h.1
+written (Some s) None a none told ws h = absurd h
+written (Some s) (Some after) ask.Wants none told ws h = h.0
+written (Some s) (Some after) (ask.Next a) none told ws h = h.0
+written (Some s) (Some after) (ask.Step a) none told ws h = h.0
+written (Some s) (Some after) ask.Words none told ws h = h.1.0 ∙ filled_words_none (last_words_in s.runner)
+written (Some s) (Some after) ask.Record none told ws h = h.1.0 ∙ filled_none (last_record s.last (last_words_in s.runner))
+written (Some s) (Some after) ask.Item none told ws h = h.1.0 ∙ filled_none (last_lines s.checked.now.script s.last)
+written (Some s) (Some after) ask.Held none told ws h = h.1.0 ∙ filled_words_none (reverse s.held.items)
+written (Some s) (Some after) ask.Left none told ws h = h.0
+written (Some s) (Some after) ask.Services none told ws h = h.0
+written (Some s) (Some after) (ask.Name k) none told ws h = listed_none (name_at s.checked.now.script k) told ws h.1
+written (Some s) (Some after) (ask.Numbers k) none told ws h = numbered_none (numbers_at s.checked.now k) told ws h.1
+written (Some s) (Some after) ask.Rewind none told ws h = h.0
+
+asked : (v after : Option Session) (a : Ask) (told : Told) (ws : List ℕ) → Talks v a (only_code 2) after [] ws told → Talks v a (only_code 2) after [] [] told
+asked v after a told ws h = subst (λ (l : List ℕ). Talks v a (only_code 2) after [] l told) (written v after a (only_code 2) told ws h) h
+
 pub wants_answers : (v after : Option Session) (ws : List ℕ) (told : Told) → Talks v ask.Wants (only_code 2) after [] ws told → AnswersWants v after told.code told.want
-wants_answers None after ws told h = (told, (h.0, refl, h.2), refl, refl)
-wants_answers (Some s) (Some after) ws told h = (told, (refl, h.1), refl, refl)
-wants_answers (Some s) None ws told h = absurd h
+wants_answers v after ws told h = (told, asked v after ask.Wants told ws h, refl, refl)
 
 pub next_answers : (v after : Option Session) (a : CamacAnswer) (ws : List ℕ) (told : Told) → Talks v (ask.Next a) (only_code 2) after [] ws told → AnswersNext v a after told.code told.progress
-next_answers None after a ws told h = (told, (h.0, refl, h.2), refl, refl)
-next_answers (Some s) (Some after) a ws told h = (told, (refl, h.1), refl, refl)
-next_answers (Some s) None a ws told h = absurd h
+next_answers v after a ws told h = (told, asked v after (ask.Next a) told ws h, refl, refl)
 
-pub words_answers : (v after : Option Session) (old new : List ℕ) (told : Told) → Talks v ask.Words (only_code 2) after old new told → AnswersWords v after old new told.words
-words_answers v after old new told h = (told, h, refl)
+pub step_answers : (v after : Option Session) (a : CamacAnswer) (ws : List ℕ) (told : Told) → Talks v (ask.Step a) (only_code 2) after [] ws told
+    → AnswersStep v a after told.code told.progress told.want
+step_answers v after a ws told h = (told, asked v after (ask.Step a) told ws h, refl, refl, refl)
+
+pub count_answers : (v after : Option Session) (a : Ask) (ws : List ℕ) (told : Told) → Talks v a (only_code 2) after [] ws told → AnswersCount v a after told.count
+count_answers v after a ws told h = (told, asked v after a told ws h, refl)
+
+pub code_answers : (v after : Option Session) (a : Ask) (ws : List ℕ) (told : Told) → Talks v a (only_code 2) after [] ws told → AnswersCode v a after told.code
+code_answers v after a ws told h = (told, asked v after a told ws h, refl)
+
+pub bytes_answer : (v after : Option Session) (a : Ask) (old new : List ℕ) (told : Told) → Talks v a (only_code 2) after old new told → AnswersBytes v a after old new told.count
+bytes_answer v after a old new told h = (told, h, refl)
+
+pub text_answers : (v after : Option Session) (a : Ask) (old new : List ℕ) (told : Told) → Talks v a (only_code 2) after old new told
+    → AnswersText v a after told.code old new told.count
+text_answers v after a old new told h = (told, h, refl, refl)

@@ -1,9 +1,12 @@
 pub mod Filled
+pub mod Held
+pub mod Last
 pub mod Open
 pub mod Owned
 pub mod Plain
 pub mod Response
 pub mod Run
+pub mod Service
 pub mod Talk
 pub mod Texts
 pub mod Told

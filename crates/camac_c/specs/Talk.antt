@@ -1,17 +1,21 @@
 -- What the calls of a session say.
-use Rattle.std.specs.Prelude.{◌≡◌, ◌<◌, ◌≤◌, ℕ, List, [], length, Option, None, Some, IfSome}
+use Rattle.std.specs.Prelude.{◌≡◌, ◌<◌, ◌≤◌, ◌-◌, ℕ, List, [], length, reverse, Option, None, Some, IfSome, nat_eq, if◌then◌else◌}
 use Rattle.camac_branch.specs.Branch.{Answer}
+use Rattle.camac_branch.specs.declared.answer.Overrun.{Overrun}
 use Rattle.camac_check_result.specs.Checked.{CheckedScript}
 use Rattle.camac_model.specs.Run.{the_run}
 use Rattle.camac_run.specs.Holds.{HoldsAfter}
 use Rattle.camac_run.specs.Operation.{Wants}
 use Rattle.camac_run.specs.Requested.{IsSafeRequest, held_in}
-use Rattle.camac_run.specs.Runner.{rest, last_words_in, Progresses}
+use Rattle.camac_run.specs.Runner.{RunnerState, rest, last_words_in, Progresses}
 use Rattle.camac_run.specs.declared.progress.Progress.{Progress}
 use Rattle.camac_run.specs.declared.progress.Wanted.{Wanted}
-use Rattle.camac_c.specs.Filled.{filled_words}
+use Rattle.camac_c.specs.Filled.{filled, filled_words}
+use Rattle.camac_c.specs.Held.{held_then}
+use Rattle.camac_c.specs.Last.{last_lines, last_record}
 use Rattle.camac_c.specs.Plain.{only_code}
-use Rattle.camac_c.specs.Told.{InRange, answer_in, asked, did}
+use Rattle.camac_c.specs.Service.{name_at, numbers_at}
+use Rattle.camac_c.specs.Told.{InRange, answer_in, asked, counted, did}
 use Rattle.camac_c.specs.declared.plain.Ask.{Ask}
 use Rattle.camac_c.specs.declared.plain.Ask.TheVariants as ask
 use Rattle.camac_c.specs.declared.plain.CamacAnswer.{CamacAnswer}
@@ -25,10 +29,13 @@ pub record StartsOn (c : CheckedScript) (s : Session) : Type 0 where
   pub runs : (answers : List Answer) → rest s.runner answers ≡ the_run c.plan c.script answers
   pub holds : HoldsAfter c.plan c.script [] [] s.runner
   pub checked : s.runner.checked ≡ c
+  pub script : s.checked.now ≡ c
   pub fed : s.runner.fed ≡ 0
   pub events : s.runner.events ≡ 0
   pub overrun : s.runner.overrun ≡ None
   pub quiet : last_words_in s.runner ≡ []
+  pub last : s.last ≡ None
+  pub held : s.held.items ≡ []
 
 -- what the run wants its next answer for, which may be made; nothing changes
 abbrev pub TellsWant : Session → Session → Told → Type 0
@@ -40,9 +47,14 @@ TellsWant s after told =
 abbrev pub Declines : ℕ → Session → Session → Told → Type 0
 Declines code s after told = (after ≡ s) × (told ≡ only_code code)
 
--- it is taken, and told is what it did
-abbrev pub Takes : CamacAnswer → Session → Session → Told → Type 0
-Takes a s after told = (p : Progress) × Progresses s.runner (answer_in a) p after.runner × (told ≡ did p (length (last_words_in after.runner)))
+-- it is taken, and told and kept is what it did
+pub record Takes (a : CamacAnswer) (s after : Session) (told : Told) : Type 0 where
+  pub progress : Progress
+  pub progresses : Progresses s.runner (answer_in a) progress after.runner
+  pub told_is : told ≡ did progress (length (last_words_in after.runner))
+  pub last : after.last ≡ Some progress
+  pub held : after.held.items ≡ held_then progress s.held.items
+  pub checked : after.checked ≡ s.checked
 
 -- 5 where it is out of its range, 6 where the run has used the most answers
 pub record TellsNext (a : CamacAnswer) (s after : Session) (told : Told) : Type 0 where
@@ -50,16 +62,52 @@ pub record TellsNext (a : CamacAnswer) (s after : Session) (told : Told) : Type 
   pub spent : InRange a → 4294967295 ≤ s.runner.fed → Declines 6 s after told
   pub taken : InRange a → s.runner.fed < 4294967295 → Takes a s after told
 
--- the words of the event that the last answer left; nothing changes
-abbrev pub TellsWords : Session → Session → (old new : List ℕ) → Told → Type 0
-TellsWords s after old new told =
-    (after ≡ s) × (new ≡ filled_words (last_words_in s.runner) old) × (told ≡ record (only_code 0) { words = length (last_words_in s.runner) })
+-- where that is done, told is also what the run wants then
+abbrev pub with_want : (next wants : Told) → Told
+with_want next wants = if nat_eq next.code 0 then record next { want = wants.want } else next
 
--- words are written where they are asked for
+pub record TellsStep (a : CamacAnswer) (s after : Session) (told : Told) : Type 0 where
+  pub next : Told
+  pub takes : TellsNext a s after next
+  pub wants : Told
+  pub tells : TellsWant after after wants
+  pub told_is : told ≡ with_want next wants
+
+-- words, as many as there is room for
+abbrev pub TellsWords : List ℕ → (old new : List ℕ) → Told → Type 0
+TellsWords words old new told = (new ≡ filled_words words old) × (told ≡ counted (length words))
+
+-- a text, as far as there is room
+abbrev pub Lists : List ℕ → (old new : List ℕ) → Told → Type 0
+Lists text old new told = (new ≡ filled text old) × (told ≡ counted (length text))
+
+-- 5 where there are none
+abbrev pub TellsIf : (List ℕ → (old new : List ℕ) → Told → Type 0) → Option (List ℕ) → (old new : List ℕ) → Told → Type 0
+TellsIf Tells None old new told = (new ≡ old) × (told ≡ only_code 5)
+TellsIf Tells (Some its) old new told = Tells its old new told
+
+-- how many answers a run may still use: none after a wait that was not permitted
+abbrev pub left_from : Option Overrun → (fed : ℕ) → ℕ
+left_from None fed = 4294967295 - fed
+left_from (Some o) fed = 0
+
+abbrev pub answers_left : RunnerState → ℕ
+answers_left h = left_from h.overrun h.fed
+
+-- where bytes are asked for, they are written, and nothing changes
 abbrev pub Steps : Session → Ask → Session → (old new : List ℕ) → Told → Type 0
 Steps s ask.Wants after old new told = (new ≡ old) × TellsWant s after told
 Steps s (ask.Next a) after old new told = (new ≡ old) × TellsNext a s after told
-Steps s ask.Words after old new told = TellsWords s after old new told
+Steps s (ask.Step a) after old new told = (new ≡ old) × TellsStep a s after told
+Steps s ask.Words after old new told = (after ≡ s) × TellsWords (last_words_in s.runner) old new told
+Steps s ask.Record after old new told = (after ≡ s) × Lists (last_record s.last (last_words_in s.runner)) old new told
+Steps s ask.Item after old new told = (after ≡ s) × Lists (last_lines s.checked.now.script s.last) old new told
+Steps s ask.Held after old new told = (after ≡ s) × TellsWords (reverse s.held.items) old new told
+Steps s ask.Left after old new told = (new ≡ old) × (after ≡ s) × (told ≡ counted (answers_left s.runner))
+Steps s ask.Services after old new told = (new ≡ old) × (after ≡ s) × (told ≡ counted (length s.checked.now.script.services))
+Steps s (ask.Name k) after old new told = (after ≡ s) × TellsIf Lists (name_at s.checked.now.script k) old new told
+Steps s (ask.Numbers k) after old new told = (after ≡ s) × TellsIf TellsWords (numbers_at s.checked.now k) old new told
+Steps s ask.Rewind after old new told = (new ≡ old) × StartsOn s.checked.now after × (told ≡ only_code 0)
 
 abbrev pub Talks : Option Session → Ask → Told → Option Session → (old new : List ℕ) → Told → Type 0
 Talks None ask none after old new told = (after ≡ None) × (new ≡ old) × (told ≡ none)
@@ -76,8 +124,23 @@ AnswersWants v after code want = (told : Told) × Asks v ask.Wants after [] [] t
 abbrev pub AnswersNext : Option Session → CamacAnswer → Option Session → ℕ → CamacProgress → Type 0
 AnswersNext v a after code progress = (told : Told) × Asks v (ask.Next a) after [] [] told × (code ≡ told.code) × (progress ≡ told.progress)
 
-abbrev pub AnswersWords : Option Session → Option Session → (old new : List ℕ) → ℕ → Type 0
-AnswersWords v after old new n = (told : Told) × Asks v ask.Words after old new told × (n ≡ told.words)
+abbrev pub AnswersStep : Option Session → CamacAnswer → Option Session → ℕ → CamacProgress → CamacWant → Type 0
+AnswersStep v a after code progress want =
+    (told : Told) × Asks v (ask.Step a) after [] [] told × (code ≡ told.code) × (progress ≡ told.progress) × (want ≡ told.want)
+
+-- what is only counted, or only done
+abbrev pub AnswersCount : Option Session → Ask → Option Session → ℕ → Type 0
+AnswersCount v ask after n = (told : Told) × Asks v ask after [] [] told × (n ≡ told.count)
+
+abbrev pub AnswersCode : Option Session → Ask → Option Session → ℕ → Type 0
+AnswersCode v ask after code = (told : Told) × Asks v ask after [] [] told × (code ≡ told.code)
+
+-- what goes out into a buffer, without a code and with one
+abbrev pub AnswersBytes : Option Session → Ask → Option Session → (old new : List ℕ) → ℕ → Type 0
+AnswersBytes v ask after old new n = (told : Told) × Asks v ask after old new told × (n ≡ told.count)
+
+abbrev pub AnswersText : Option Session → Ask → Option Session → ℕ → (old new : List ℕ) (size : ℕ) → Type 0
+AnswersText v ask after code old new size = (told : Told) × Asks v ask after old new told × (code ≡ told.code) × (size ≡ told.count)
 
 -- there is a session, and it is so
 abbrev pub Holds : Option Session → (Session → Type 0) → Type 0

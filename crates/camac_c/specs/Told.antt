@@ -49,6 +49,10 @@ abbrev pub asked : Option Wanted → Told
 asked (Some wanted) = record (only_code 0) { want = want_in wanted }
 asked None = only_code 4
 
+-- so many there are
+abbrev pub counted : ℕ → Told
+counted count = record (only_code 0) { count = count }
+
 -- crates in their order, and zeros behind them: there are seven at most
 abbrev pub crates_in : List ℕ → List ℕ
 crates_in crates = filled crates (replicate 8 0)

@@ -3,10 +3,10 @@
 ghost use Rattle.std.specs.Prelude.{◌≡◌, Option, None, Some, IfNone, IfOk, IfErr};
 ghost use Rattle.camac_c.specs.Owned.{session_owns, held_coded};
 ghost use Rattle.camac_c.specs.declared.session.Session.{Session};
-ghost use Rattle.camac_c.specs.Talk.{StartsOn, Talks, Holds};
+ghost use Rattle.camac_c.specs.Talk.{Asks, StartsOn, Talks, Holds};
 
 use crate::loose::Loose;
-use crate::plain::{Ask, Told};
+use crate::plain::{Ask, MISUSE, Told, only_code};
 use crate::session::{Session, finish, start, step};
 use camac_check_result::Checked;
 use std::alloc::Global;
@@ -90,6 +90,17 @@ impl Handle {
                 told,
             )
         }
+    }
+
+    /// Asks the run, where there is one, else tells `MISUSE`.
+    #[inline(always)]
+    pub fn ask(&mut self, alloc: Global, ask: Ask, bytes: &mut [u8]) -> Told
+        ensures { Asks self.old.value ask self.new.value bytes.old bytes.new result }
+    {
+        let held = std::mem::replace(self, Handle::none(alloc));
+        let (after, told) = held.talk(ask, only_code(MISUSE), bytes);
+        *self = after;
+        told
     }
 
     /// Ends the run, and gives the script back.

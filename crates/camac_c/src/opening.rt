@@ -8,7 +8,7 @@ ghost use Rattle.camac_c.specs.Talk.{Holds, StartsOn};
 
 use crate::handle::Handle;
 use crate::loose::Loose;
-use crate::plain::{Ask, MISUSE, only_code};
+use crate::plain::{Ask, MISUSE};
 use camac_check_result::Checked;
 use camac_report_text::write_verdict;
 use camac_tool_check::{Judged, PlanSource, ToolFault, read_judged, refuse};
@@ -20,10 +20,7 @@ pub fn is_open(alloc: Global, handle: &mut Handle) -> bool
     ensures same { handle.new.value ≡ handle.old.value }
     ensures open { result ≡ is_some handle.old.value }
 {
-    let held = std::mem::replace(handle, Handle::none(alloc));
-    let (after, told) = held.talk(Ask::Wants, only_code(MISUSE), &mut []);
-    *handle = after;
-    told.code != MISUSE
+    handle.ask(alloc, Ask::Wants, &mut []).code != MISUSE
 }
 
 /// Judges the two texts, writes what `check` prints to `out`, and begins a run of an accepted script. None where it is refused.

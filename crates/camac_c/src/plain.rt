@@ -1,7 +1,7 @@
 // What crosses to C, in numbers, and what passes between a call and a run.
 
 ghost use Rattle.std.specs.Prelude.{◌≡◌};
-ghost use Rattle.camac_c.specs.Plain.{no_want, no_progress, only_code};
+ghost use Rattle.camac_c.specs.Plain.{only_code};
 
 /// An answer of the branch. `x` and `q` are true where they are not 0.
 #[repr(C)]
@@ -58,8 +58,26 @@ pub enum Ask {
     Wants,
     /// To take an answer.
     Next(CamacAnswer),
+    /// To take an answer, and then what the next one is for.
+    Step(CamacAnswer),
     /// The words of the event that the last answer left.
     Words,
+    /// The record of that event in an event file.
+    Record,
+    /// The lines of the listing for the last answer.
+    Item,
+    /// The crates whose lockout is held.
+    Held,
+    /// How many answers may still come.
+    Left,
+    /// How many services the script has.
+    Services,
+    /// The name of one of them, from 1 on.
+    Name(u32),
+    /// Its numbers.
+    Numbers(u32),
+    /// To begin anew.
+    Rewind,
 }
 
 /// What a run tells: a code, and what was asked for. The rest is zeros.
@@ -68,8 +86,8 @@ pub struct Told {
     pub code: u32,
     pub want: CamacWant,
     pub progress: CamacProgress,
-    /// How many words the event has.
-    pub words: usize,
+    /// How many there are: bytes, words or numbers, of which as many were written as there is room for, answers, services.
+    pub count: usize,
 }
 
 /// Done.
@@ -136,6 +154,7 @@ pub const NO_PROGRESS: CamacProgress = CamacProgress {
 };
 
 /// Nothing but a code.
+#[inline(always)]
 pub fn only_code(code: u32) -> Told
     ensures { result ≡ only_code code }
 {
@@ -143,6 +162,6 @@ pub fn only_code(code: u32) -> Told
         code,
         want: NO_WANT,
         progress: NO_PROGRESS,
-        words: 0,
+        count: 0,
     }
 }

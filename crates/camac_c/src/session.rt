@@ -3,14 +3,21 @@
 ghost use Rattle.std.specs.Prelude.{◌≡◌, ◌↔◌, length, IfOk, IfSome, IsSome};
 ghost use Rattle.camac_run.specs.Runner.{last_words_in};
 ghost use Rattle.camac_c.specs.Filled.{filled_words};
-ghost use Rattle.camac_c.specs.Talk.{StartsOn, Steps, TellsNext, TellsWant};
-ghost use Rattle.camac_c.specs.Told.{InRange, answer_in, crates_in, did, event_in, flag_in, item_in, movement_in, service_in, want_in, word_in, written_in};
+ghost use Rattle.camac_c.specs.Last.{last_lines, last_record};
+ghost use Rattle.camac_c.specs.Plain.{only_code};
+ghost use Rattle.camac_c.specs.Service.{name_at, numbers_at};
+ghost use Rattle.camac_c.specs.Talk.{Lists, StartsOn, Steps, TellsNext, TellsIf, TellsStep, TellsWant, TellsWords, answers_left};
+ghost use Rattle.camac_c.specs.Told.{InRange, answer_in, counted, crates_in, did, event_in, flag_in, item_in, movement_in, service_in, want_in, word_in, written_in};
 
+use crate::filling::give;
+use crate::held::{Held, keep_held, write_held};
+use crate::last::{give_lines, give_record};
 use crate::loose::Loose;
 use crate::plain::{
     Ask, CYCLE, CamacAnswer, CamacProgress, CamacWant, DEMAND, LOCK, NO_PROGRESS, NO_WANT, OK,
     OVERRUN, RANGE, SPENT, STOPPED, Told, only_code,
 };
+use crate::service::{name_of, numbers_of, write_numbers};
 use byteorder::{ByteOrder, LittleEndian};
 use camac_branch::{Answer, Command, CycleDone};
 use camac_check_result::Checked;
@@ -28,6 +35,10 @@ const MOST_ANSWERS: u32 = 4_294_967_295;
 #[derive(Drop)]
 pub struct Session<'a> {
     runner: FullRunner<'a>,
+    checked: &'a Checked,
+    // what the last answer did
+    last: Option<Progress>,
+    held: Held,
 }
 
 /// A run before its first demand, or the allocator where there is no memory.
@@ -39,6 +50,9 @@ pub fn start<'a>(alloc: Global, checked: &'a Checked) -> Result<Loose<Session<'a
         alloc,
         Session {
             runner: FullRunner::start(checked),
+            checked,
+            last: None,
+            held: Held::new(),
         },
     ) {
         Ok(session) => Ok(Loose::of(session)),
@@ -59,10 +73,16 @@ pub fn step<'a>(
     let told = match ask {
         Ask::Wants => wants(&session),
         Ask::Next(answer) => next(&mut session, answer),
-        Ask::Words => Told {
-            words: write_words(session.runner.last_words(), bytes),
-            ..only_code(OK)
-        },
+        Ask::Step(answer) => next_and_wants(&mut session, answer),
+        Ask::Words => counted(write_words(session.runner.last_words(), bytes)),
+        Ask::Record => record(&session, bytes),
+        Ask::Item => item(&session, bytes),
+        Ask::Held => counted(write_held(session.held.as_slice(), bytes)),
+        Ask::Left => counted(left(&session) as usize),
+        Ask::Services => counted(session.checked.services()),
+        Ask::Name(number) => name(&session, number, bytes),
+        Ask::Numbers(number) => numbers(&session, number, bytes),
+        Ask::Rewind => rewind(&mut session),
     };
     (Loose::of(session), told)
 }
@@ -90,6 +110,7 @@ fn wants(session: &Session) -> Told
     }
 }
 
+#[inline(always)]
 fn want_of(wanted: Wanted) -> CamacWant
     ensures { result ≡ want_in wanted }
 {
@@ -107,6 +128,7 @@ fn want_of(wanted: Wanted) -> CamacWant
     }
 }
 
+#[inline(always)]
 fn cycle_of(command: Command) -> CamacWant
     ensures { result ≡ want_in (Wanted.Cycle command) }
 {
@@ -152,7 +174,99 @@ fn next(session: &mut Session, answer: CamacAnswer) -> Told
         return only_code(SPENT);
     }
     let progress = session.runner.next(answer);
-    told_of(&progress, session.runner.last_words().len() as u32)
+    let told = told_of(&progress, session.runner.last_words().len() as u32);
+    if let Progress::Went { item, unlocks, .. } = &progress {
+        keep_held(&mut session.held, item, unlocks.as_slice());
+    }
+    session.last = Some(progress);
+    told
+}
+
+// Takes an answer. Where that is done, told is also what the next one is for.
+#[inline(always)]
+fn next_and_wants(session: &mut Session, answer: CamacAnswer) -> Told
+    ensures { TellsStep answer session.old session.new result }
+{
+    let told = next(session, answer);
+    let wanted = wants(session);
+    if told.code == OK {
+        Told {
+            want: wanted.want,
+            ..told
+        }
+    } else {
+        told
+    }
+}
+
+// So many there are.
+fn counted(count: usize) -> Told
+    ensures { result ≡ counted count }
+{
+    Told {
+        count,
+        ..only_code(OK)
+    }
+}
+
+fn item(session: &Session, bytes: &mut [u8]) -> Told
+    ensures { Lists (last_lines session.now.checked.now.script session.now.last) bytes.old bytes.new result }
+{
+    let mut size = 0;
+    give_lines(session.checked, &session.last, bytes, &mut size);
+    counted(size)
+}
+
+fn record(session: &Session, bytes: &mut [u8]) -> Told
+    ensures { Lists (last_record session.now.last (last_words_in session.now.runner)) bytes.old bytes.new result }
+{
+    let mut size = 0;
+    give_record(&session.last, session.runner.last_words(), bytes, &mut size);
+    counted(size)
+}
+
+// How many answers may still come.
+fn left(session: &Session) -> u32
+    ensures { result ≡ answers_left session.now.runner }
+{
+    match session.runner.wants() {
+        Some(_) => MOST_ANSWERS - session.runner.fed(),
+        None => 0,
+    }
+}
+
+fn name(session: &Session, number: u32, bytes: &mut [u8]) -> Told
+    ensures { TellsIf Lists (name_at session.now.checked.now.script number) bytes.old bytes.new result }
+{
+    match name_of(session.checked, number) {
+        None => only_code(RANGE),
+        Some(name) => {
+            let mut size = 0;
+            give(name, bytes, &mut size);
+            counted(size)
+        }
+    }
+}
+
+fn numbers(session: &Session, number: u32, bytes: &mut [u8]) -> Told
+    ensures { TellsIf TellsWords (numbers_at session.now.checked.now number) bytes.old bytes.new result }
+{
+    match numbers_of(session.checked, number) {
+        None => only_code(RANGE),
+        Some(numbers) => counted(write_numbers(&numbers, bytes)),
+    }
+}
+
+// Begins anew.
+fn rewind(session: &mut Session) -> Told
+    ensures told { result ≡ only_code 0 }
+    ensures begins { StartsOn session.old.checked.now session.new }
+{
+    session.checked.fits_greatest();
+    session.runner = FullRunner::start(session.checked);
+    session.last = None;
+    session.held = Held::new();
+    only_code(OK)
 }
 
 fn answer_of(answer: CamacAnswer) -> Option<Answer>
@@ -196,6 +310,7 @@ fn told_of(progress: &Progress, words: u32) -> Told
     }
 }
 
+#[inline(always)]
 fn item_of(item: &Item) -> CamacProgress
     ensures { result ≡ item_in item.now }
 {
@@ -250,6 +365,7 @@ fn service_of(service: Option<usize>) -> u32
     }
 }
 
+#[inline(always)]
 fn with_event(told: CamacProgress, event: &Option<(u32, GlBit, Usage)>, words: u32) -> CamacProgress
     ensures { result ≡ event_in event.now words told }
 {

@@ -1,5 +1,5 @@
 -- What is told of each rule: why it is there, and what to do where it is broken.
-use Rattle.std.specs.Prelude.{ℕ, ◌^◌, ◌-◌, ◌&&◌, Bool, false, List, ◌++◌, codes, nat_lt, nat_le, if◌then◌else◌}
+use Rattle.std.specs.Prelude.{ℕ, ◌-◌, ◌&&◌, ◌||◌, Bool, true, false, List, codes, nat_eq, nat_lt, nat_le, if◌then◌else◌}
 use Rattle.camac_plan.specs.declared.fault.PlanRule.{PlanRule}
 use Rattle.camac_plan.specs.declared.fault.PlanRule.TheVariants as plan
 use Rattle.camac_text_tokens.specs.declared.fault.TextRule.{TextRule}
@@ -10,9 +10,11 @@ use Rattle.camac_check_rules.specs.declared.rule.CheckRule.{CheckRule}
 use Rattle.camac_check_rules.specs.declared.rule.CheckRule.TheVariants as check
 use Rattle.camac_func.specs.declared.code.FunctionClass.{FunctionClass}
 use Rattle.camac_func.specs.declared.code.FunctionClass.TheVariants.{Read, Write, Control}
+use Rattle.camac_range.specs.Number.{greatest}
 use Rattle.camac_check_rules.specs.Loops.{turn_limit}
 use Rattle.camac_check_rules.specs.declared.case.Case.{Case}
-use Rattle.camac_check_rules.specs.declared.case.Case.TheVariants.{Direction, Operation, Turns, Budget}
+use Rattle.camac_check_rules.specs.declared.case.Body.TheVariants.{Procedure}
+use Rattle.camac_check_rules.specs.declared.case.Case.TheVariants.{Direction, Operation, Turns, Budget, Width, Word}
 use Rattle.camac_check_rules.specs.declared.case.Numbers.{Numbers}
 use Rattle.camac_check_rules.specs.declared.case.Operator.TheVariants.{Sub}
 use Rattle.camac_report_text.specs.Codes.{plan_code, text_code, link_code, check_code}
@@ -104,15 +106,53 @@ direction_mend case = class_mend Control
 abbrev pub is_open : Numbers → Bool
 is_open n = nat_lt n.low n.high
 
--- E4: a difference of two unknown numbers
+-- nothing is known above the lowest number
+abbrev pub is_forgotten : Numbers → Bool
+is_forgotten n = is_open n && nat_eq n.high greatest
+
+-- the greatest numbers have a sum
+abbrev pub has_room : (left right : Numbers) → Bool
+has_room left right = nat_le left.high (greatest - right.high)
+
+-- E4: a difference of two unknown numbers, whose form of its own fits
 abbrev pub is_difference : Case → Bool
-is_difference (Operation Sub left right) = is_open left && is_open right
+is_difference (Operation Sub left right) = is_open left && is_open right && has_room left right
 is_difference case = false
+
+abbrev pub known_mend : Case → List ℕ
+known_mend case =
+    if is_difference case then codes "ranges know no relation between two variables: add the greatest number of the right side first, as in `v + 4095 - w`, and test the result by `if`."
+    else codes "test the variables by `if` before, or in the condition of a `while`, bound them by `%`, or let a loop `keep` them in a range."
+
+abbrev pub is_right_forgotten : Case → Bool
+is_right_forgotten (Operation Sub left right) = is_forgotten right
+is_right_forgotten case = false
+
+abbrev pub is_side_forgotten : Case → Bool
+is_side_forgotten (Operation operator left right) = is_forgotten left || is_forgotten right
+is_side_forgotten case = false
 
 abbrev pub operation_mend : Case → List ℕ
 operation_mend case =
-    if is_difference case then codes "ranges know no relation between two variables: add the greatest number of the right side first, as in `v + 4095 - w`, and test the result by `if`."
-    else codes "test the variables by `if` before, or in the condition of a `while`, bound them by `%`, or let a loop `keep` them in a range."
+    if is_right_forgotten case then codes "a loop forgets what its body writes: let it `keep` the right side in a range; then add its greatest number first, as in `v + 4095 - w`, and test the result by `if`. `camac-check --keeps` finds what a loop has to keep."
+    else if is_side_forgotten case then codes "a loop forgets what its body writes: let it `keep` the variable in a range, or bound the variable by `if` or `%` before. `camac-check --keeps` finds what a loop has to keep."
+    else known_mend case
+
+-- E5, E16: of a value that may be any number
+abbrev pub is_any : Case → Bool
+is_any (Width most bits) = nat_eq most greatest
+is_any (Word most) = nat_eq most greatest
+is_any case = false
+
+abbrev pub width_mend : Case → List ℕ
+width_mend case =
+    if is_any case then codes "a loop forgets what its body writes: let it `keep` the variable in a range, or bound the value by `%` or `if`. `camac-check --keeps` finds what a loop has to keep."
+    else codes "bound the value by `%` or `if`, write a smaller word into the table, or correct the `width` in the plan."
+
+abbrev pub word_mend : Case → List ℕ
+word_mend case =
+    if is_any case then codes "a loop forgets what its body writes: write `keep v in 0..16777215` after its head, or bound the value by `% 16777216` or `if`. `camac-check --keeps` finds what a loop has to keep."
+    else codes "bound the value by `% 16777216` or `if`, let a loop `keep` it in a range, or put it as two words."
 
 -- E10: a larger number after `turns`, where that is allowed
 abbrev pub turns_mend : Case → List ℕ
@@ -122,23 +162,34 @@ turns_mend (Turns needed allowed) =
 turns_mend case = codes "write at most 65535 after `turns`; for more turns write two loops, one in the other."
 
 -- E11, E12, E18: a larger number in the heading, where one is large enough
-abbrev pub can_be_allowed : Case → Bool
-can_be_allowed (Budget body needed allowed) = nat_lt needed (2 ^ 32)
-can_be_allowed case = false
+abbrev pub is_within : (most : ℕ) → Case → Bool
+is_within most (Budget body needed allowed) = nat_le needed most
+is_within most case = false
 
+-- the greatest buffer of a plan
 abbrev pub words_mend : Case → List ℕ
 words_mend case =
-    if can_be_allowed case then codes "write a larger number after `event`, as `camac bounds` prints it, or keep fewer words."
-    else codes "keep fewer words, or make fewer turns: no number after `event` is so large."
+    if is_within 4096 case then codes "write a larger number after `event`, as `camac bounds` prints it, or keep fewer words."
+    else codes "keep fewer words: the plan's buffer holds at most 4096."
+
+-- a procedure has no `lock`
+abbrev pub is_of_procedure : Case → Bool
+is_of_procedure (Budget (Procedure p) needed allowed) = true
+is_of_procedure case = false
+
+abbrev pub larger_cycles : Case → List ℕ
+larger_cycles case =
+    if is_of_procedure case then codes "write a larger number after `within`, as `camac bounds` prints it, or make fewer cycles."
+    else codes "write a larger number after `within`, as `camac bounds` prints it, make fewer cycles, or make several in one `lock`."
 
 abbrev pub cycles_mend : Case → List ℕ
 cycles_mend case =
-    if can_be_allowed case then codes "write a larger number after `within`, as `camac bounds` prints it, make fewer cycles, or make several in one `lock`."
+    if is_within greatest case then larger_cycles case
     else codes "make fewer cycles, or fewer turns: no number after `within` is so large."
 
 abbrev pub steps_mend : Case → List ℕ
 steps_mend case =
-    if can_be_allowed case then codes "write a larger number after `steps`, as `camac bounds` prints it, or make fewer turns."
+    if is_within greatest case then codes "write a larger number after `steps`, as `camac bounds` prints it, or make fewer turns."
     else codes "make fewer turns: no heading allows more than 4294967295 steps."
 
 abbrev pub check_told : CheckRule → Case → Told
@@ -156,19 +207,19 @@ check_told check.ValueOutOfRange case =
     (operation_mend case)
 check_told check.ValueTooWide case =
     told (codes "a write sends all bits of its value, so the value has to fit the register's width in the plan, and for `cssa` 16 bits.")
-    (codes "bound the value by `%` or `if`, write a smaller word into the table, or correct the `width` in the plan.")
+    (width_mend case)
 check_told check.RegisterUnset case =
     told (codes "on some way to this line no `cdreg` has set the register; at the beginning of a loop's turn, those that its body sets count as unset.")
-    (codes "set it before the `if` or the loop, or in the same block before it is used.")
+    (codes "set it in the same block before this line, as in `cdreg r 1 c n a`.")
 check_told check.MeasureBroken case =
     told (codes "the variable after `by` shows that the loop ends: its body lowers it once, by a number from 1, and nothing else in it writes it.")
     (codes "write one `m = m - 1` into the body itself, in no `if` and no inner loop, and let nothing else write `m`.")
 check_told check.KeepFailsAtEntry case =
     told (codes "a kept variable is in its range when the loop begins, for all values that it may have.")
-    (codes "set the variable before the loop, or widen its range after `keep`.")
+    (codes "set the variable before the loop, or widen its range after `keep`. `camac-check --keeps` finds what a loop has to keep.")
 check_told check.KeepFailsAfterTurn case =
     told (codes "a kept variable is in its range again after each turn, for all values that it may have.")
-    (codes "change it in the body only where an `if` bounds it, or widen its range after `keep`.")
+    (codes "a sum grows in each turn, so a wider range is refused again: add only where an `if` leaves room, as in `if k <= 49140 - 4095 { k = k + v }`. A value that is set anew wants a bound or a wider range. `camac-check --keeps` finds what a loop has to keep.")
 check_told check.TooManyTurns case =
     told (codes "a loop makes at most 65535 turns, and a `while` at most those after `turns`.")
     (turns_mend case)
@@ -189,7 +240,7 @@ check_told check.CrateUnfit case =
     (codes "write the number of a crate of the plan, or remove the inner `lock`.")
 check_told check.WordTooWide case =
     told (codes "a word of an event has 24 bits.")
-    (codes "bound the value by `% 16777216` or `if`, let a loop `keep` it in a range, or put it as two words.")
+    (word_mend case)
 check_told check.LoopVariableAssigned case =
     told (codes "a `for` counts its variable itself, so nothing in its body may write it.")
     (codes "use another variable in the body.")

@@ -1,5 +1,6 @@
 -- The line of a script as it is shown.
-use Rattle.std.specs.Prelude.{ℕ, zero, suc, ◌+◌, ◌-◌, Bool, ◌&&◌, ◌||◌, not, List, [], ◌∷◌, ◌++◌, codes, decimal, drop, take, take_while, length, map, min, nat_eq, nat_lt, if◌then◌else◌}
+use Rattle.std.specs.Prelude.{ℕ, zero, suc, ◌+◌, ◌-◌, Bool, ◌&&◌, ◌||◌, not, List, [], ◌∷◌, ◌++◌, codes, decimal, drop, take, take_while, length, map, min, nat_eq, nat_le, nat_lt, if◌then◌else◌}
+use Rattle.std.specs.List.{flat_map}
 use Rattle.camac_text_tokens.specs.Scanning.{is_no_line_feed}
 use Rattle.camac_explain.specs.declared.finding.Finding.{Finding}
 use Rattle.camac_explain.specs.declared.finding.Finding.TheVariants.{Plan, Text, Link, Check}
@@ -55,9 +56,29 @@ number_column n = drop (min (length (decimal n)) 5) (codes "     ") ++ decimal n
 abbrev pub source_text : (text : List ℕ) → (number column : ℕ) → List ℕ
 source_text text n column = number_column n ++ shown_or_end (first_line text) column ++ codes "\n"
 
--- of a script's text; of a token, which stands at so many bytes before the text's end, the line around it
+-- below a tab a tab, below the first byte of any other character a blank, below its others nothing
+abbrev pub blank_below : ℕ → List ℕ
+blank_below b = if nat_eq b 9 then 9 ∷ [] else if nat_lt b 128 || nat_le 192 b then codes " " else []
+
+-- below what is left out
+abbrev pub gap : Bool → List ℕ
+gap left_out = if left_out then codes "  " else []
+
+-- the line below a line that is shown, with a `^` below the byte of the column
+abbrev pub mark_from : (line : List ℕ) → (column begin : ℕ) → List ℕ
+mark_from line column begin =
+    codes "      | " ++ gap (nat_lt 0 begin) ++ flat_map blank_below (take (column - begin) (drop begin line)) ++ codes "^\n"
+
+abbrev pub mark_line : (line : List ℕ) → (column : ℕ) → List ℕ
+mark_line line column = mark_from line column (begin_of line column)
+
+-- a line that is shown, and its mark
+abbrev pub marked_text : (text : List ℕ) → (number column : ℕ) → List ℕ
+marked_text text n column = source_text text n column ++ mark_line (first_line text) column
+
+-- of a script's text; of a token, which stands at so many bytes before the text's end, the line around it with its mark
 abbrev pub source_of : List ℕ → Finding → List ℕ
 source_of text (Plan rule) = []
-source_of text (Text rule line left) = source_text (from_line line text) line (length (from_line line text) - left)
+source_of text (Text rule line left) = marked_text (from_line line text) line (length (from_line line text) - left)
 source_of text (Link rule line case) = source_text (from_line line text) line 0
 source_of text (Check rule line case) = source_text (from_line line text) line 0

@@ -1,16 +1,19 @@
 // Why each rule is there, and what to do where it is broken. The page docs/REFUSALS.md has the same texts: tests/explain_test.py compares
 // them.
 
-ghost use Rattle.std.specs.Prelude.{◌≡◌, if◌then◌else◌};
+ghost use Rattle.std.specs.Prelude.{◌≡◌};
 ghost use Rattle.camac_explain.specs.Advice.{plan_told, text_told, link_told, check_told};
-ghost use Rattle.camac_explain.specs.Advice.{direction_mend, is_difference, operation_mend, turns_mend, can_be_allowed};
+ghost use Rattle.camac_explain.specs.Advice.{direction_mend, operation_mend, is_right_forgotten, is_side_forgotten, is_forgotten, is_difference, has_room, turns_mend, width_mend, word_mend, is_any, words_mend, cycles_mend, steps_mend, is_within, is_of_procedure};
 
-use camac_check_rules::{Case, CheckRule, Operator};
+use camac_check_rules::{Body, Case, CheckRule, Numbers, Operator};
 use camac_func::FunctionClass;
 use camac_lang::limits;
 use camac_names::LinkRule;
 use camac_plan::PlanRule;
 use camac_text::TextRule;
+
+// The greatest number of words that a plan's buffer holds.
+const BUFFER: u32 = 4096;
 
 /// What is told of a rule.
 #[derive(Clone, Copy, Debug)]
@@ -155,11 +158,11 @@ pub fn check_advice(rule: CheckRule, case: Case) -> Advice
         ),
         CheckRule::ValueTooWide => (
             "a write sends all bits of its value, so the value has to fit the register's width in the plan, and for `cssa` 16 bits.",
-            "bound the value by `%` or `if`, write a smaller word into the table, or correct the `width` in the plan.",
+            width_mend(case),
         ),
         CheckRule::RegisterUnset => (
             "on some way to this line no `cdreg` has set the register; at the beginning of a loop's turn, those that its body sets count as unset.",
-            "set it before the `if` or the loop, or in the same block before it is used.",
+            "set it in the same block before this line, as in `cdreg r 1 c n a`.",
         ),
         CheckRule::MeasureBroken => (
             "the variable after `by` shows that the loop ends: its body lowers it once, by a number from 1, and nothing else in it writes it.",
@@ -167,11 +170,11 @@ pub fn check_advice(rule: CheckRule, case: Case) -> Advice
         ),
         CheckRule::KeepFailsAtEntry => (
             "a kept variable is in its range when the loop begins, for all values that it may have.",
-            "set the variable before the loop, or widen its range after `keep`.",
+            "set the variable before the loop, or widen its range after `keep`. `camac-check --keeps` finds what a loop has to keep.",
         ),
         CheckRule::KeepFailsAfterTurn => (
             "a kept variable is in its range again after each turn, for all values that it may have.",
-            "change it in the body only where an `if` bounds it, or widen its range after `keep`.",
+            "a sum grows in each turn, so a wider range is refused again: add only where an `if` leaves room, as in `if k <= 49140 - 4095 { k = k + v }`. A value that is set anew wants a bound or a wider range. `camac-check --keeps` finds what a loop has to keep.",
         ),
         CheckRule::TooManyTurns => (
             "a loop makes at most 65535 turns, and a `while` at most those after `turns`.",
@@ -179,19 +182,11 @@ pub fn check_advice(rule: CheckRule, case: Case) -> Advice
         ),
         CheckRule::TooManyWords => (
             "each `put` is a word, and so is each that a block read or an address scan may keep.",
-            budget_mend(
-                case,
-                "write a larger number after `event`, as `camac bounds` prints it, or keep fewer words.",
-                "keep fewer words, or make fewer turns: no number after `event` is so large.",
-            ),
+            words_mend(case),
         ),
         CheckRule::TooManyCycles => (
             "auxiliary controllers may take up to the crate's `waits` before each of ours, and each of their cycles counts.",
-            budget_mend(
-                case,
-                "write a larger number after `within`, as `camac bounds` prints it, make fewer cycles, or make several in one `lock`.",
-                "make fewer cycles, or fewer turns: no number after `within` is so large.",
-            ),
+            cycles_mend(case),
         ),
         CheckRule::ScanCratesDiffer => (
             "an address scan goes from station to station of one crate.",
@@ -205,21 +200,14 @@ pub fn check_advice(rule: CheckRule, case: Case) -> Advice
             "a crate call or a `lock` is for one crate of the plan, which is known before the run, and no crate is locked twice.",
             "write the number of a crate of the plan, or remove the inner `lock`.",
         ),
-        CheckRule::WordTooWide => (
-            "a word of an event has 24 bits.",
-            "bound the value by `% 16777216` or `if`, let a loop `keep` it in a range, or put it as two words.",
-        ),
+        CheckRule::WordTooWide => ("a word of an event has 24 bits.", word_mend(case)),
         CheckRule::LoopVariableAssigned => (
             "a `for` counts its variable itself, so nothing in its body may write it.",
             "use another variable in the body.",
         ),
         CheckRule::TooManySteps => (
             "each statement, each turn of a loop and each cycle of a transfer is a step; a service may take 4294967295.",
-            budget_mend(
-                case,
-                "write a larger number after `steps`, as `camac bounds` prints it, or make fewer turns.",
-                "make fewer turns: no heading allows more than 4294967295 steps.",
-            ),
+            steps_mend(case),
         ),
         CheckRule::ArgumentOutOfRange => (
             "a procedure's body is checked once, for the ranges in its heading, so each argument has to be in the range of its parameter.",
@@ -248,17 +236,51 @@ fn direction_mend(case: Case) -> &'static str
     }
 }
 
-// E4: a difference of two unknown numbers has a form of its own.
+// E4: a loop forgets what its body writes; a difference of two unknown numbers has a form of its own.
 fn operation_mend(case: Case) -> &'static str
     ensures { result.now ≡ operation_mend case }
 {
-    if is_difference(case) {
+    if is_right_forgotten(case) {
+        "a loop forgets what its body writes: let it `keep` the right side in a range; then add its greatest number first, as in `v + 4095 - w`, and test the result by `if`. `camac-check --keeps` finds what a loop has to keep."
+    } else if is_side_forgotten(case) {
+        "a loop forgets what its body writes: let it `keep` the variable in a range, or bound the variable by `if` or `%` before. `camac-check --keeps` finds what a loop has to keep."
+    } else if is_difference(case) {
         "ranges know no relation between two variables: add the greatest number of the right side first, as in `v + 4095 - w`, and test the result by `if`."
     } else {
         "test the variables by `if` before, or in the condition of a `while`, bound them by `%`, or let a loop `keep` them in a range."
     }
 }
 
+fn is_right_forgotten(case: Case) -> bool
+    ensures { result ≡ is_right_forgotten case }
+{
+    match case {
+        Case::Operation {
+            operator: Operator::Sub,
+            right,
+            ..
+        } => is_forgotten(right),
+        _ => false,
+    }
+}
+
+fn is_side_forgotten(case: Case) -> bool
+    ensures { result ≡ is_side_forgotten case }
+{
+    match case {
+        Case::Operation { left, right, .. } => is_forgotten(left) || is_forgotten(right),
+        _ => false,
+    }
+}
+
+// Whether nothing is known above the lowest number.
+fn is_forgotten(numbers: Numbers) -> bool
+    ensures { result ≡ is_forgotten numbers }
+{
+    numbers.low < numbers.high && numbers.high == u32::MAX
+}
+
+// A difference of two unknown numbers whose greatest have a sum.
 fn is_difference(case: Case) -> bool
     ensures { result ≡ is_difference case }
 {
@@ -267,7 +289,47 @@ fn is_difference(case: Case) -> bool
             operator: Operator::Sub,
             left,
             right,
-        } => left.low < left.high && right.low < right.high,
+        } => left.low < left.high && right.low < right.high && has_room(left, right),
+        _ => false,
+    }
+}
+
+// Whether the greatest numbers have a sum.
+fn has_room(left: Numbers, right: Numbers) -> bool
+    ensures { result ≡ has_room left right }
+{
+    left.high <= u32::MAX - right.high
+}
+
+// E5: of a value of which nothing is known, too.
+fn width_mend(case: Case) -> &'static str
+    ensures { result.now ≡ width_mend case }
+{
+    if is_any(case) {
+        "a loop forgets what its body writes: let it `keep` the variable in a range, or bound the value by `%` or `if`. `camac-check --keeps` finds what a loop has to keep."
+    } else {
+        "bound the value by `%` or `if`, write a smaller word into the table, or correct the `width` in the plan."
+    }
+}
+
+// E16: of a word of which nothing is known, too.
+fn word_mend(case: Case) -> &'static str
+    ensures { result.now ≡ word_mend case }
+{
+    if is_any(case) {
+        "a loop forgets what its body writes: write `keep v in 0..16777215` after its head, or bound the value by `% 16777216` or `if`. `camac-check --keeps` finds what a loop has to keep."
+    } else {
+        "bound the value by `% 16777216` or `if`, let a loop `keep` it in a range, or put it as two words."
+    }
+}
+
+// Whether a value may be any number.
+fn is_any(case: Case) -> bool
+    ensures { result ≡ is_any case }
+{
+    match case {
+        Case::Width { greatest, .. } => greatest == u32::MAX,
+        Case::Word { greatest } => greatest == u32::MAX,
         _ => false,
     }
 }
@@ -286,12 +348,59 @@ fn turns_mend(case: Case) -> &'static str
     }
 }
 
-// E11, E12, E18: the first, which is a larger number in the heading, where one is large enough; else the second.
-fn budget_mend(case: Case, larger: &'static str, fewer: &'static str) -> &'static str
-    ensures { result.now ≡ if can_be_allowed case then larger.now else fewer.now }
+// E11: a larger number in the heading, where a plan's buffer can hold it.
+fn words_mend(case: Case) -> &'static str
+    ensures { result.now ≡ words_mend case }
+{
+    if is_within(BUFFER, case) {
+        "write a larger number after `event`, as `camac bounds` prints it, or keep fewer words."
+    } else {
+        "keep fewer words: the plan's buffer holds at most 4096."
+    }
+}
+
+// E12: a larger number in the heading, where one is large enough. A procedure has no `lock`.
+fn cycles_mend(case: Case) -> &'static str
+    ensures { result.now ≡ cycles_mend case }
+{
+    if !is_within(u32::MAX, case) {
+        "make fewer cycles, or fewer turns: no number after `within` is so large."
+    } else if is_of_procedure(case) {
+        "write a larger number after `within`, as `camac bounds` prints it, or make fewer cycles."
+    } else {
+        "write a larger number after `within`, as `camac bounds` prints it, make fewer cycles, or make several in one `lock`."
+    }
+}
+
+// E18: a larger number in the heading, where one is large enough.
+fn steps_mend(case: Case) -> &'static str
+    ensures { result.now ≡ steps_mend case }
+{
+    if is_within(u32::MAX, case) {
+        "write a larger number after `steps`, as `camac bounds` prints it, or make fewer turns."
+    } else {
+        "make fewer turns: no heading allows more than 4294967295 steps."
+    }
+}
+
+// Whether a body needs at most so much.
+fn is_within(most: u32, case: Case) -> bool
+    ensures { result ≡ is_within most case }
 {
     match case {
-        Case::Budget { needed, .. } if needed <= u64::from(u32::MAX) => larger,
-        _ => fewer,
+        Case::Budget { needed, .. } => needed <= u64::from(most),
+        _ => false,
+    }
+}
+
+fn is_of_procedure(case: Case) -> bool
+    ensures { result ≡ is_of_procedure case }
+{
+    match case {
+        Case::Budget {
+            body: Body::Procedure(_),
+            ..
+        } => true,
+        _ => false,
     }
 }

@@ -109,7 +109,7 @@ fn push_advice(lines: &mut Vec<u8>, code: &str, advice: Advice) -> Result<(), Al
     ensures { OnOk result (lines.new.items ≡ lines.old.items ++ advice_text (told advice.why.now advice.mend.now) code.now) }
 {
     push_line(lines, "Why: ", advice.why)?;
-    push_line(lines, "Mend: ", advice.mend)?;
+    push_line(lines, "Fix: ", advice.mend)?;
     push_line(lines, "More: docs/REFUSALS.md, ", code)
 }
 

@@ -17,8 +17,12 @@ pub fn plan_sentence(
         Err(error) if error.is_memory() => Err(AllocError),
         Err(error) => match case {
             PlanCase::Text { at } => {
-                let before = &text[..at.min(text.len())];
-                Ok(Some(toml_sentence(alloc, before, error.message())?))
+                let (before, rest) = text.split_at(at.min(text.len()));
+                let sentence = toml_sentence(alloc, before, error.message())?;
+                match hint_of_text(text, before, rest) {
+                    Some(hint) => Ok(Some(format!(in alloc; "{sentence} {hint}")?)),
+                    None => Ok(Some(sentence)),
+                }
             }
             _ => Ok(None),
         },
@@ -33,6 +37,39 @@ fn toml_sentence(alloc: Global, before: &[u8], message: &str) -> Result<String, 
     let line = lines.saturating_add(1);
     let column = characters.saturating_add(1);
     format!(in alloc; "Line {line}, column {column}: {message}.")
+}
+
+const DOUBLE_BRACKETS: &str =
+    "Crates, stations and types stand in double brackets: `[[crate]]`, `[[crate.station]]`, `[[type]]`.";
+
+// What is to be known of a text that is no TOML.
+fn hint_of_text(text: &[u8], before: &[u8], rest: &[u8]) -> Option<&'static str> {
+    if begins_like_a_script(text) {
+        return Some("This begins like a script: PLAN comes first, then SCRIPT.");
+    }
+    let line_start = before.iter().rev().take_while(|b| **b != b'\n').count();
+    let own = text.get(before.len().saturating_sub(line_start)..)?;
+    let is_table = own.starts_with(b"[") && !own.starts_with(b"[[");
+    (is_table && !rest.is_empty()).then_some(DOUBLE_BRACKETS)
+}
+
+// The words that begin a script.
+const DECLARATIONS: [&str; 5] = ["cdlam", "var", "table", "proc", "service"];
+
+// Whether a text's first line that is neither empty nor a comment begins with one of them.
+fn begins_like_a_script(text: &[u8]) -> bool {
+    for line in text.split(|byte| *byte == b'\n') {
+        let line = line.trim_ascii();
+        if !line.is_empty() && !line.starts_with(b"#") {
+            let word = line
+                .iter()
+                .take_while(|b| b.is_ascii_alphanumeric())
+                .count();
+            let first = line.get(..word).unwrap_or(line);
+            return DECLARATIONS.iter().any(|it| it.as_bytes() == first);
+        }
+    }
+    false
 }
 
 // What has to stand at a key.
@@ -87,17 +124,7 @@ fn told(
             key,
             kind: wanted,
             ..
-        } => {
-            let kind = value.map_or("?", |value| value.type_str());
-            let needed = Needed(wanted);
-            let more = match key {
-                PlanKey::A => " A range is written as `a = 0, to = 11`.",
-                _ => "",
-            };
-            format!(in alloc;
-                "the value is of the kind {kind}, and {needed} has to stand here.{more}"
-            )
-        }
+        } => kind_told(alloc, value, key, wanted),
         PlanCase::Range {
             found,
             low,
@@ -112,24 +139,81 @@ fn told(
         }
         PlanCase::Full { .. } => String::from_str(alloc, "there are at most 64 types."),
         PlanCase::Twice { key, first, .. } => {
-            // what a table is known by is no way to the first one
+            // what a table is known by is no way to the first one, but its home has a name
             let is_known_by = matches!(key, PlanKey::Number | PlanKey::N | PlanKey::Name);
-            let first = Path(if is_known_by { None } else { Some(top) }, first);
+            let first = Path {
+                top: Some(top),
+                own: if is_known_by { None } else { Some(top) },
+                table: first,
+            };
             format!(in alloc; "the value is {shown}, which stands before already, at {first}.")
         }
         PlanCase::Command { f, a, first, .. } => {
-            let first = Path(None, first);
-            format!(in alloc; "F{f} at A{a} stands before already, at {first}.")
+            let first = match first {
+                PlanTable::Command { place, .. } => place,
+                _ => 0,
+            };
+            let command = Nth {
+                place: first,
+                of: "command",
+            };
+            format!(in alloc; "F{f} at A{a} stands before already, at the {command}.")
         }
         _ => format!(in alloc; "the value is {shown}."),
     }
 }
 
-// The way to a key, or to its table where the key is empty.
+// What is told of a value of another kind.
+fn kind_told(
+    alloc: Global,
+    value: Option<&Value>,
+    key: PlanKey,
+    wanted: ValueKind,
+) -> Result<String, AllocError> {
+    let kind = value.map_or("?", |value| value.type_str());
+    let entries = value.and_then(|value| value.as_array());
+    if let (ValueKind::Tables, Some(entries)) = (wanted, entries) {
+        for (place, entry) in entries.iter().enumerate() {
+            if entry.as_table().is_none() {
+                let kind = entry.type_str();
+                let nth = Nth { place, of: "entry" };
+                return format!(in alloc;
+                    "the {nth} is of the kind {kind}, and a table has to stand here, as `{{ f = 0, a = 0 }}`."
+                );
+            }
+        }
+    }
+    let needed = Needed(wanted);
+    let sentence = format!(in alloc;
+        "the value is of the kind {kind}, and {needed} has to stand here."
+    )?;
+    match key {
+        PlanKey::A => format!(in alloc; "{sentence} A range is written as `a = 0, to = 11`."),
+        PlanKey::Crates | PlanKey::Stations | PlanKey::Types => {
+            format!(in alloc; "{sentence} {DOUBLE_BRACKETS}")
+        }
+        _ => Ok(sentence),
+    }
+}
+
+// The way to a key, or to its table where the key is empty. What a table is known by is no way to it.
 fn path_to(alloc: Global, top: &Table, table: PlanTable, key: &str) -> Result<String, AllocError> {
     let is_alone = table == PlanTable::Top || key.is_empty();
     let comma = if is_alone { "" } else { ", " };
-    format!(in alloc; "{}{comma}{key}", Path(Some(top), table))
+    let is_of_type = matches!(table, PlanTable::ModuleType { .. });
+    let known = if is_of_type && key == PlanKey::Name.text() {
+        None
+    } else {
+        Some(top)
+    };
+    format!(in alloc;
+        "{}{comma}{key}",
+        Path {
+            top: known,
+            own: known,
+            table
+        }
+    )
 }
 
 // A value of a plan as it is told.
@@ -227,56 +311,92 @@ fn kind_of(table: PlanTable) -> &'static str {
     }
 }
 
-// The way to a table: the types and commands by their places in the text, from 1; the crates and stations by their numbers, where the plan is
-// given and has them.
+// The way to a table: types by their names, crates and stations by their numbers, where the plan is given and has them; else by their
+// places in the text, as commands are.
 #[derive(Clone, Copy)]
-struct Path<'a>(Option<&'a Table>, PlanTable);
-
-impl Path<'_> {
-    fn number(&self, table: PlanTable, key: PlanKey, place: usize) -> Number {
-        let table = self.0.and_then(|top| table_at(top, table));
-        let own = table.and_then(|it| it.get(key.text())?.as_integer());
-        Number { own, place }
-    }
+struct Path<'a> {
+    // Where the tables around it are known by.
+    top: Option<&'a Table>,
+    // The same of the table itself.
+    own: Option<&'a Table>,
+    table: PlanTable,
 }
 
 impl fmt::Display for Path<'_> {
     fn fmt<W: fmt::Write>(&self, f: &mut fmt::Formatter<W>) -> fmt::Result {
-        match self.1 {
+        let own = Step(self.own, self.table);
+        match self.table {
             PlanTable::Top => Ok(()),
-            PlanTable::ModuleType { place } => write!(f, "type {}", nth(place)),
-            PlanTable::Command { type_place, place } => {
-                write!(f, "type {}, command {}", nth(type_place), nth(place))
+            PlanTable::ModuleType { .. } | PlanTable::Crate { .. } => write!(f, "{own}"),
+            PlanTable::Command { type_place, .. } => {
+                let home = PlanTable::ModuleType { place: type_place };
+                write!(f, "{}, {own}", Step(self.top, home))
             }
-            PlanTable::Crate { place } => {
-                write!(f, "crate {}", self.number(self.1, PlanKey::Number, place))
-            }
-            PlanTable::Station { crate_place, place } => {
+            PlanTable::Station { crate_place, .. } => {
                 let home = PlanTable::Crate { place: crate_place };
-                let crate_no = self.number(home, PlanKey::Number, crate_place);
-                let station = self.number(self.1, PlanKey::N, place);
-                write!(f, "crate {crate_no}, station {station}")
+                write!(f, "{}, {own}", Step(self.top, home))
             }
         }
     }
 }
 
-// The number that a table has of its own, else that of its place in the text.
+// The last step of the way to a table.
 #[derive(Clone, Copy)]
-struct Number {
-    own: Option<i64>,
-    place: usize,
+struct Step<'a>(Option<&'a Table>, PlanTable);
+
+impl Step<'_> {
+    // What the table is known by, if the plan is given and has it.
+    fn value(&self, key: PlanKey) -> Option<&Value> {
+        table_at(self.0?, self.1)?.get(key.text())
+    }
 }
 
-fn nth(place: usize) -> Number {
-    Number { own: None, place }
-}
-
-impl fmt::Display for Number {
+impl fmt::Display for Step<'_> {
     fn fmt<W: fmt::Write>(&self, f: &mut fmt::Formatter<W>) -> fmt::Result {
-        match self.own {
-            Some(own) => write!(f, "{own}"),
-            None => write!(f, "number {}", self.place.saturating_add(1)),
+        match self.1 {
+            PlanTable::Top => Ok(()),
+            PlanTable::Command { place, .. } => write!(
+                f,
+                "{}",
+                Nth {
+                    place,
+                    of: "command"
+                }
+            ),
+            PlanTable::ModuleType { place } => match self.value(PlanKey::Name) {
+                Some(Value::String(name)) => {
+                    write!(f, "type {}", Quote(name.as_str().as_bytes()))
+                }
+                _ => write!(f, "{} of `type`", Nth { place, of: "entry" }),
+            },
+            PlanTable::Crate { place } => match self.value(PlanKey::Number) {
+                Some(Value::Integer(number)) => write!(f, "crate {number}"),
+                _ => write!(f, "{} of `crate`", Nth { place, of: "entry" }),
+            },
+            PlanTable::Station { place, .. } => match self.value(PlanKey::N) {
+                Some(Value::Integer(number)) => write!(f, "station {number}"),
+                _ => write!(f, "{} of `station`", Nth { place, of: "entry" }),
+            },
+        }
+    }
+}
+
+const ORDINALS: [&str; 10] = [
+    "first", "second", "third", "fourth", "fifth", "sixth", "seventh", "eighth", "ninth", "tenth",
+];
+
+// An entry by its place in the text, from 0.
+#[derive(Clone, Copy)]
+struct Nth {
+    place: usize,
+    of: &'static str,
+}
+
+impl fmt::Display for Nth {
+    fn fmt<W: fmt::Write>(&self, f: &mut fmt::Formatter<W>) -> fmt::Result {
+        match ORDINALS.get(self.place) {
+            Some(ordinal) => write!(f, "{ordinal} {}", self.of),
+            None => write!(f, "{} number {}", self.of, self.place.saturating_add(1)),
         }
     }
 }

@@ -1,7 +1,8 @@
 // The line of a script as it is shown.
 
 ghost use Rattle.std.specs.Prelude.{◌≡◌, ◌≤◌, ◌++◌, length, map, take, OnOk};
-ghost use Rattle.camac_explain.specs.Source.{shown_byte, line_length, first_line, after_line, from_line, dots, shown_line, shown_or_end, number_column, source_text, source_of};
+ghost use Rattle.std.specs.List.{flat_map};
+ghost use Rattle.camac_explain.specs.Source.{shown_byte, line_length, first_line, after_line, from_line, begin_of, dots, gap, blank_below, mark_line, shown_line, shown_or_end, number_column, source_text, source_of};
 
 use crate::finding::Finding;
 use itoa::Buffer;
@@ -11,8 +12,8 @@ use std::alloc::AllocError;
 const LONGEST_SHOWN: usize = 120;
 
 /// Puts the line of a finding at the end: its number in five columns, and at most 120 of its bytes, control bytes other than tabs as `?`.
-/// They are its first bytes; or, where the place of a token is known, those around it. `..` stands for the others. An empty line is told
-/// as the end of the script, since a rule is broken on no other.
+/// They are its first bytes; or, where the place of a token is known, those around it, and a `^` on a line below the token. `..` stands for
+/// the others. An empty line is told as the end of the script, since a rule is broken on no other.
 pub fn push_source(lines: &mut Vec<u8>, text: &[u8], finding: Finding) -> Result<(), AllocError>
     ensures { OnOk result (lines.new.items ≡ lines.old.items ++ source_of text.now finding) }
 {
@@ -20,7 +21,9 @@ pub fn push_source(lines: &mut Vec<u8>, text: &[u8], finding: Finding) -> Result
         Finding::Plan(_) => Ok(()),
         Finding::Text { line, left, .. } => {
             let rest = from_line(text, line);
-            push_line(lines, rest, line, rest.len().saturating_sub(left))
+            let column = rest.len().saturating_sub(left);
+            push_line(lines, rest, line, column)?;
+            push_mark(lines, first_line(rest), column)
         }
         Finding::Link { line, .. } | Finding::Check { line, .. } => {
             push_line(lines, from_line(text, line), line, 0)
@@ -105,10 +108,62 @@ fn push_part(lines: &mut Vec<u8>, line: &[u8], column: usize) -> Result<(), Allo
     ensures { OnOk result (lines.new.items ≡ lines.old.items ++ shown_line line.now column) }
 {
     let last_begin = line.len().saturating_sub(LONGEST_SHOWN);
-    let begin = column.saturating_sub(LONGEST_SHOWN / 2).min(last_begin);
+    let begin = begin_of(line, column);
     push_dots(lines, begin > 0)?;
-    push_shown(lines, prefix(&line[begin..]))?;
+    push_shown(lines, prefix(&line[begin..], LONGEST_SHOWN))?;
     push_dots(lines, begin < last_begin)
+}
+
+// The first byte of a line that is shown.
+fn begin_of(line: &[u8], column: usize) -> usize
+    ensures begin { result ≡ begin_of line.now column }
+    ensures fits { result ≤ length line.now }
+{
+    let last_begin = line.len().saturating_sub(LONGEST_SHOWN);
+    column.saturating_sub(LONGEST_SHOWN / 2).min(last_begin)
+}
+
+// Puts a `^` below the byte of this column of a line that is shown, on a line of its own. A tab stands below each tab before it.
+fn push_mark(lines: &mut Vec<u8>, line: &[u8], column: usize) -> Result<(), AllocError>
+    ensures { OnOk result (lines.new.items ≡ lines.old.items ++ mark_line line.now column) }
+{
+    let begin = begin_of(line, column);
+    lines.extend_from_slice(b"      | ")?;
+    push_gap(lines, begin > 0)?;
+    push_blanks(lines, prefix(&line[begin..], column.saturating_sub(begin)))?;
+    lines.extend_from_slice(b"^\n")
+}
+
+// Puts two blanks at the end below the `..`.
+fn push_gap(lines: &mut Vec<u8>, left_out: bool) -> Result<(), AllocError>
+    ensures { OnOk result (lines.new.items ≡ lines.old.items ++ gap left_out) }
+{
+    if left_out {
+        lines.extend_from_slice(b"  ")?;
+    }
+    Ok(())
+}
+
+// Puts what stands below bytes at the end.
+fn push_blanks(lines: &mut Vec<u8>, bytes: &[u8]) -> Result<(), AllocError>
+    ensures { OnOk result (lines.new.items ≡ lines.old.items ++ flat_map blank_below bytes.now) }
+{
+    'bytes: for byte in bytes {
+        push_blank(lines, *byte)?;
+    }
+    Ok(())
+}
+
+// Puts a tab below a tab at the end, a blank below the first byte of any other character, nothing below its others.
+fn push_blank(lines: &mut Vec<u8>, byte: u8) -> Result<(), AllocError>
+    ensures { OnOk result (lines.new.items ≡ lines.old.items ++ blank_below byte) }
+{
+    if byte == b'\t' {
+        lines.push(b'\t')?;
+    } else if byte < 128 || byte >= 192 {
+        lines.push(b' ')?;
+    }
+    Ok(())
 }
 
 // Puts `..` at the end in the place of what is left out.
@@ -121,14 +176,14 @@ fn push_dots(lines: &mut Vec<u8>, left_out: bool) -> Result<(), AllocError>
     Ok(())
 }
 
-// The bytes that are shown of these.
-fn prefix(bytes: &[u8]) -> &[u8]
-    ensures { result.now ≡ take LONGEST_SHOWN bytes.now }
+// At most so many of the first bytes of these.
+fn prefix(bytes: &[u8], most: usize) -> &[u8]
+    ensures { result.now ≡ take most bytes.now }
 {
-    if bytes.len() < LONGEST_SHOWN {
+    if bytes.len() < most {
         bytes
     } else {
-        &bytes[..LONGEST_SHOWN]
+        &bytes[..most]
     }
 }
 

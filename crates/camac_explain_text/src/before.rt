@@ -1,33 +1,11 @@
 // What stands before a place of a script.
 
-use crate::trial::{Beginnings, is_operator};
+use crate::trial::{begins_declaration, begins_statement, is_operator};
 use camac_lang::Name;
 use camac_report_text::is_near;
+use camac_text::NameKind;
 use camac_text_tokens::{Keyword, Sign, TokenKind, TokensLeft};
 use std::alloc::{AllocError, Global};
-
-/// What a name is declared as. A parameter is a variable.
-#[derive(Clone, Copy, Debug, PartialEq, Eq)]
-pub enum NameKind {
-    Lam,
-    Procedure,
-    Register,
-    Table,
-    Variable,
-}
-
-impl NameKind {
-    /// What it is called.
-    pub fn noun(self) -> &'static str {
-        match self {
-            NameKind::Lam => "LAM",
-            NameKind::Procedure => "procedure",
-            NameKind::Register => "register",
-            NameKind::Table => "table",
-            NameKind::Variable => "variable",
-        }
-    }
-}
 
 /// A name, what it is declared as, and the line on which it stands first.
 #[derive(Drop)]
@@ -64,7 +42,7 @@ pub struct Before {
 
 impl Before {
     /// What stands in a text.
-    pub fn new(alloc: Global, text: &[u8], words: &Beginnings) -> Result<Self, AllocError> {
+    pub fn new(alloc: Global, text: &[u8]) -> Result<Self, AllocError> {
         let mut before = Before {
             heading: Vec::new(alloc),
             phrase: Vec::new(alloc),
@@ -80,7 +58,7 @@ impl Before {
             let Some(token) = tokens.first() else {
                 break;
             };
-            before.take(&token.kind, token.line, words)?;
+            before.take(&token.kind, token.line)?;
             tokens.advance();
         }
         Ok(before)
@@ -91,8 +69,31 @@ impl Before {
         word_of(self.phrase.first())
     }
 
-    /// Whether it ends in the list of what a loop keeps.
-    pub fn is_keeping(&self) -> bool {
+    /// The procedure that the statement in hand calls.
+    pub fn called(&self) -> Option<&[u8]> {
+        match self.phrase.as_slice() {
+            [TokenKind::Keyword(Keyword::Call), TokenKind::Name(name), ..] => {
+                Some(name.as_bytes())
+            }
+            _ => None,
+        }
+    }
+
+    /// Whether a name that is new, or that of a variable, has to stand next.
+    pub fn wants_new_name(&self) -> bool {
+        let is_variable = match self.phrase.last() {
+            Some(TokenKind::Keyword(word)) => matches!(
+                word,
+                Keyword::For | Keyword::Keep | Keyword::By | Keyword::Tally
+            ),
+            Some(TokenKind::Sign(sign)) => *sign == Sign::Into,
+            _ => false,
+        };
+        is_variable || self.kind_declared_next().is_some()
+    }
+
+    // Whether it ends in the list of what a loop keeps.
+    fn is_keeping(&self) -> bool {
         let mut words = self.phrase.iter().map(|kind| word_of(Some(kind)));
         words.any(|word| word == Some(Keyword::Keep))
     }
@@ -121,7 +122,7 @@ impl Before {
     /// How many parameters the procedure in hand has.
     pub fn parameters(&self) -> usize {
         let own = self.names.iter().skip(self.outside);
-        own.filter(|it| it.kind == NameKind::Variable).count()
+        own.filter(|it| it.kind == NameKind::Parameter).count()
     }
 
     /// What a name is declared as.
@@ -129,12 +130,23 @@ impl Before {
         self.names.iter().find(|it| it.name.as_bytes() == name)
     }
 
+    /// Whether a name is declared before the declaration or the statement in hand.
+    pub fn is_declared_before(&self, name: &[u8]) -> bool {
+        let known = if self.in_body() {
+            self.names.len()
+        } else {
+            self.outside
+        };
+        let mut before = self.names.iter().take(known);
+        before.any(|it| it.name.as_bytes() == name)
+    }
+
     /// The first name of a kind that is near a word, of those that the body in hand sees: a procedure sees no variable of the script.
     pub fn near(&self, word: &[u8], kind: NameKind) -> Option<&Declared> {
         let is_hidden = self.in_procedure && kind == NameKind::Variable;
         let hidden = if is_hidden { self.outside } else { 0 };
         let mut seen = self.names.iter().skip(hidden);
-        seen.find(|it| it.kind == kind && is_near(word, it.name.as_bytes()))
+        seen.find(|it| is_of_kind(it, kind) && is_near(word, it.name.as_bytes()))
     }
 
     /// A short text after which the parser goes on as after the whole one: the names that are in use, the heading, an `if` for each block, and
@@ -159,7 +171,7 @@ impl Before {
         Ok(text)
     }
 
-    fn take(&mut self, kind: &TokenKind, line: u32, words: &Beginnings) -> Result<(), AllocError> {
+    fn take(&mut self, kind: &TokenKind, line: u32) -> Result<(), AllocError> {
         match kind {
             TokenKind::Sign(Sign::LeftBrace) => return self.open_block(line),
             TokenKind::Sign(Sign::RightBrace) => return self.close_block(),
@@ -168,7 +180,7 @@ impl Before {
             TokenKind::Sign(Sign::Comma) => self.shorten_kept(),
             TokenKind::Sign(_) | TokenKind::Number(_) => {}
             TokenKind::Keyword(Keyword::And) => self.shorten_part()?,
-            TokenKind::Keyword(word) => self.begin(*word, words),
+            TokenKind::Keyword(word) => self.begin(*word),
             TokenKind::Name(name) => self.declare(name, line)?,
         }
         self.add(kind.duplicate())
@@ -218,11 +230,11 @@ impl Before {
     }
 
     // A word that begins a declaration or a statement ends the one before.
-    fn begin(&mut self, word: Keyword, words: &Beginnings) {
-        if self.in_body() && words.statements.contains(&word) {
+    fn begin(&mut self, word: Keyword) {
+        if self.in_body() && begins_statement(word) {
             self.phrase.clear();
         }
-        if !self.in_body() && words.declarations.contains(&word) {
+        if !self.in_body() && begins_declaration(word) {
             self.phrase.clear();
             self.outside = self.names.len();
         }
@@ -262,7 +274,8 @@ impl Before {
             (Keyword::Cdlam, TokenKind::Keyword(_)) => NameKind::Lam,
             (Keyword::Table, TokenKind::Keyword(_)) => NameKind::Table,
             (Keyword::Proc, TokenKind::Keyword(Keyword::Proc)) => NameKind::Procedure,
-            (Keyword::Proc, TokenKind::Sign(Sign::LeftBracket | Sign::Comma)) => NameKind::Variable,
+            (Keyword::Proc, TokenKind::Sign(Sign::LeftBracket | Sign::Comma)) =>
+                NameKind::Parameter,
             (Keyword::Var, _) => NameKind::Variable,
             _ => return None,
         })
@@ -323,6 +336,11 @@ pub fn word_of(kind: Option<&TokenKind>) -> Option<Keyword> {
     }
 }
 
+// A parameter serves as a variable.
+fn is_of_kind(declared: &Declared, kind: NameKind) -> bool {
+    declared.kind == kind || (kind == NameKind::Variable && declared.kind == NameKind::Parameter)
+}
+
 fn is_among(name: &Name, kinds: &[TokenKind]) -> bool {
     kinds.iter().any(|kind| match kind {
         TokenKind::Name(other) => other.as_bytes() == name.as_bytes(),
@@ -336,7 +354,7 @@ fn add_declaration(text: &mut String, declared: &Declared) -> Result<(), AllocEr
         NameKind::Lam => write!(text, "cdlam {name} 1 1 1 0 "),
         NameKind::Register => write!(text, "cdreg {name} 1 1 1 0 "),
         NameKind::Table => write!(text, "table {name} = 0 "),
-        NameKind::Variable => write!(text, "var {name} "),
+        NameKind::Variable | NameKind::Parameter => write!(text, "var {name} "),
         NameKind::Procedure => {
             write!(text, "proc {name}(")?;
             for number in 0..declared.parameters {

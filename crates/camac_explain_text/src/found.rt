@@ -1,8 +1,9 @@
 // The token at which a fault shows.
 
-use crate::before::{Before, NameKind, word_of};
-use crate::trial::{Beginnings, Trial};
-use camac_text::{TextCase, TextFault, TokenKind, TokensLeft};
+use crate::absent::{Absent, absent_sign, absent_word};
+use crate::before::{Before, word_of};
+use crate::trial::Trial;
+use camac_text::{NameKind, TextCase, TextFault, TokenKind, TokensLeft};
 use camac_text_tokens::Keyword;
 use std::alloc::{AllocError, Global};
 
@@ -13,12 +14,11 @@ pub struct Found<'a> {
     pub word: &'a [u8],
     /// None where it is no token of the language.
     pub kind: Option<TokenKind>,
-    /// The texts before and behind it.
+    /// The texts before it, from it on, and behind it.
     pub text: &'a [u8],
+    pub rest: &'a [u8],
     pub behind: &'a [u8],
     pub before: Before,
-    /// The words that begin something.
-    pub words: Beginnings,
     /// What may stand in its place.
     pub trial: Trial,
 }
@@ -28,19 +28,18 @@ impl<'a> Found<'a> {
     pub fn new(alloc: Global, text: &'a [u8], left: usize) -> Result<Self, AllocError> {
         let (text, rest) = text.split_at(text.len().saturating_sub(left));
         let (word, kind) = token_at(rest);
-        let words = Beginnings::new(alloc)?;
         // A fault of a token is the first of its text, and needs nothing of what stands before.
         let is_known = kind.is_some() || word.is_empty();
         let read = if is_known { text } else { &text[..0] };
-        let before = Before::new(alloc, read, &words)?;
+        let before = Before::new(alloc, read)?;
         let short = before.short_text(alloc)?;
         Ok(Found {
             word,
             kind,
             text,
+            rest,
             behind: &rest[word.len().min(rest.len())..],
             before,
-            words,
             trial: Trial { alloc, text: short },
         })
     }
@@ -50,9 +49,51 @@ impl<'a> Found<'a> {
         self.before.phrase.last()
     }
 
+    /// The word of the language that it is.
+    pub fn keyword(&self) -> Option<Keyword> {
+        word_of(self.kind.as_ref())
+    }
+
     /// Whether it stands right after a name, a word or a number.
     pub fn adjoins_word(&self) -> bool {
         self.text.last().is_some_and(|b| is_name_byte(*b))
+    }
+
+    /// Whether it is the first of its line.
+    pub fn begins_line(&self) -> bool {
+        let mut blanks = self
+            .text
+            .iter()
+            .rev()
+            .take_while(|b| b.is_ascii_whitespace());
+        blanks.any(|b| *b == b'\n')
+    }
+
+    /// Whether these bytes stand behind it, after blanks.
+    pub fn is_before(&self, bytes: &[u8]) -> bool {
+        self.behind.trim_ascii_start().starts_with(bytes)
+    }
+
+    /// Whether an `=` that sets follows it.
+    pub fn is_assigned(&self) -> bool {
+        self.is_before(b"=") && !self.is_before(b"==")
+    }
+
+    /// The sign of another language that stands here. It is longer than a token of the language.
+    pub fn absent_sign(&self) -> Option<Absent<'static>> {
+        let absent = absent_sign(self.text, self.rest)?;
+        let is_longer = self.kind.is_none() || absent.spelled.len() > 1;
+        is_longer.then_some(absent)
+    }
+
+    /// The word of another language that it is, unless the script declares it.
+    pub fn absent_word(&self) -> Option<Absent<'a>> {
+        let is_name = matches!(self.kind, Some(TokenKind::Name(_)));
+        if is_name && self.before.declared(self.word).is_none() {
+            absent_word(self.word)
+        } else {
+            None
+        }
     }
 
     /// The kind of name that its place needs.
@@ -78,15 +119,19 @@ pub fn token_at(text: &[u8]) -> (&[u8], Option<TokenKind>) {
             Some(token) => (size_of(&token.kind, text), Some(token.kind.duplicate())),
             None => (0, None),
         },
-        Err(
-            TextFault::Broken {
-                case: TextCase::Byte,
-                ..
-            },
-        ) => (1, None),
-        Err(_) => (text.iter().take_while(|b| is_name_byte(**b)).count(), None),
+        Err(TextFault::Broken { case, .. }) => (size_of_fault(case, text), None),
+        Err(TextFault::OutOfMemory) => (0, None),
     };
     (&text[..size.min(text.len())], kind)
+}
+
+// The number of bytes at the start of a text that are no token.
+fn size_of_fault(case: TextCase, text: &[u8]) -> usize {
+    match case {
+        TextCase::Byte => 1,
+        TextCase::Number { .. } => text.iter().take_while(|b| b.is_ascii_digit()).count(),
+        _ => text.iter().take_while(|b| is_name_byte(**b)).count(),
+    }
 }
 
 // The number of bytes of the token at the start of a text.

@@ -1,11 +1,11 @@
 // What may be meant where a text is refused.
 
-use crate::before::word_of;
+use crate::absent::Absent;
 use crate::found::Found;
-use crate::mistake::usual_mistake;
-use crate::trial::Expected;
+use crate::mistake::{told_of_kind, usual_mistake};
+use crate::trial::{Expected, begins_declaration, begins_statement};
 use camac_report_text::{Quote, is_near};
-use camac_text::TokenKind;
+use camac_text::{NameKind, TokenKind};
 use camac_text_tokens::{KEYWORDS, Keyword, Sign};
 use std::alloc::AllocError;
 use std::fmt;
@@ -21,8 +21,24 @@ pub enum Hint<'a> {
     MeantBefore { word: &'a [u8], meant: &'static str },
     /// A block is still open, from this line on.
     Open { line: u32 },
+    /// This word begins a declaration, and a block is still open, from this line on.
+    Inside { word: &'static str, line: u32 },
     /// A procedure takes so many arguments.
     Takes { procedure: &'a [u8], count: usize },
+    /// The arguments of a procedure stand in brackets.
+    Brackets(&'a [u8]),
+    /// How a procedure is called.
+    Called(&'a [u8]),
+    /// The same where its value is wanted.
+    NoResult(&'a [u8]),
+    /// What a register is for.
+    Address(&'a [u8]),
+    /// Before this, the arrow of a cycle.
+    NoArrow(&'a [u8]),
+    /// A word where a name has to stand.
+    OfLanguage(&'static str),
+    /// What the language does not have.
+    Absent(Absent<'a>),
 }
 
 impl fmt::Display for Hint<'_> {
@@ -35,6 +51,10 @@ impl fmt::Display for Hint<'_> {
                 write!(f, "Perhaps {} is to be `{meant}`.", Quote(word))
             }
             Hint::Open { line } => write!(f, "The `{{` of line {line} is still open."),
+            Hint::Inside { word, line } => write!(
+                f,
+                "`{word}` stands outside of services and procedures, and the `{{` of line {line} is still open."
+            ),
             Hint::Takes { procedure, count } => {
                 let noun = if *count == 1 { "argument" } else { "arguments" };
                 write!(
@@ -43,7 +63,45 @@ impl fmt::Display for Hint<'_> {
                     Quote(procedure)
                 )
             }
+            Hint::Brackets(name) => { write!(f, "Arguments stand in brackets: {}.", Call(name)) }
+            Hint::Called(name) => write!(f, "A procedure is called by {}.", Call(name)),
+            Hint::NoResult(name) => write!(
+                f,
+                "A procedure has no result, and is called by {}.",
+                Call(name)
+            ),
+            Hint::Address(name) => write!(
+                f,
+                "A register holds an address: `cfsa 0 {} -> v` reads from it into `v`.",
+                str::from_utf8(name).unwrap_or("?")
+            ),
+            Hint::NoArrow(name) => {
+                let name = str::from_utf8(name).unwrap_or("?");
+                write!(
+                    f,
+                    "Before `{name}` an arrow is missing: `-> {name}` reads, `<- {name}` writes."
+                )
+            }
+            Hint::OfLanguage(word) => write!(
+                f,
+                "`{word}` is a word of the language: choose another name."
+            ),
+            Hint::Absent(Absent { spelled, write }) => write!(
+                f,
+                "camac has no {}; write {write}.",
+                Quote(spelled)
+            ),
         }
+    }
+}
+
+// How a procedure is called.
+#[derive(Clone, Copy)]
+struct Call<'a>(&'a [u8]);
+
+impl fmt::Display for Call<'_> {
+    fn fmt<W: fmt::Write>(&self, f: &mut fmt::Formatter<W>) -> fmt::Result {
+        write!(f, "`call {}(..)`", str::from_utf8(self.0).unwrap_or("?"))
     }
 }
 
@@ -56,7 +114,13 @@ pub fn unexpected_hint<'a>(
     if let Some(sign) = meant_by_sign(found, expected) {
         return Some(Hint::Meant(sign));
     }
-    if let Some(told) = decimal(found).or_else(|| usual_mistake(found, expected)) {
+    if let Some(told) = decimal(found) {
+        return Some(Hint::Told(told));
+    }
+    if let Some(hint) = missing_arrow(found, expected) {
+        return Some(hint);
+    }
+    if let Some(told) = usual_mistake(found, expected) {
         return Some(Hint::Told(told));
     }
     if let Some(word) = near {
@@ -71,28 +135,41 @@ pub fn unexpected_hint<'a>(
 }
 
 /// What may be meant by a name that is not declared: the near word of the language, which may stand there, else the near name.
-pub fn name_hint<'a>(found: &'a Found<'_>, near: Option<&'static str>) -> Option<Hint<'a>> {
+pub fn name_hint<'a>(
+    found: &'a Found<'_>,
+    wanted: NameKind,
+    near: Option<&'static str>,
+) -> Option<Hint<'a>> {
     if let Some(told) = decimal(found) {
         return Some(Hint::Told(told));
     }
     if let Some(word) = near {
         return Some(Hint::Meant(word));
     }
-    let name = found.before.near(found.word, found.needed())?;
-    Some(Hint::MeantName(name.name.as_bytes()))
+    if let Some(near) = found.before.near(found.word, wanted) {
+        return Some(Hint::MeantName(near.name.as_bytes()));
+    }
+    let is_called = wanted == NameKind::Variable && found.is_before(b"(");
+    is_called.then_some(Hint::Called(found.word))
 }
 
-/// One of the two words before, where it is near a word that begins what may stand there.
+/// One of the two words before, where it is near a word that begins what may stand there, and no name that was declared before.
 pub fn word_before<'a>(found: &'a Found<'_>) -> Option<Hint<'a>> {
-    let beginnings = if found.before.in_body() {
-        &found.words.statements
-    } else {
-        &found.words.declarations
+    let is_beginning = |word: &Keyword| {
+        if found.before.in_body() {
+            begins_statement(*word)
+        } else {
+            begins_declaration(*word)
+        }
     };
     for kind in found.before.phrase.iter().rev().take(2) {
         if let TokenKind::Name(name) = kind {
             let word = name.as_bytes();
-            let mut near = beginnings.iter().map(|it| it.spelling());
+            if found.before.is_declared_before(word) {
+                continue;
+            }
+            let beginnings = KEYWORDS.iter().filter(|it| is_beginning(it));
+            let mut near = beginnings.map(|it| it.spelling());
             if let Some(meant) = near.find(|it| is_near(word, it.as_bytes())) {
                 return Some(Hint::MeantBefore { word, meant });
             }
@@ -146,25 +223,61 @@ fn meant_by_sign(found: &Found<'_>, expected: &[Expected]) -> Option<&'static st
     None
 }
 
-// How many arguments the procedure of a call takes, unless they are complete.
-fn arguments<'a>(found: &'a Found<'_>) -> Option<Hint<'a>> {
-    match found.before.phrase.as_slice() {
-        [.., TokenKind::Sign(Sign::RightBracket)] => None,
-        [TokenKind::Keyword(Keyword::Call), TokenKind::Name(name), ..] => {
-            let procedure = name.as_bytes();
-            let count = found.before.declared(procedure)?.parameters;
-            Some(Hint::Takes { procedure, count })
-        }
+// What stands where the arrow of a cycle is missing: a name that then begins an assignment, or a number.
+fn missing_arrow<'a>(found: &'a Found<'_>, expected: &[Expected]) -> Option<Hint<'a>> {
+    use TokenKind::{Keyword as Word, Name, Number};
+    let is_set = expected.contains(&Expected::Token(Sign::Equals.spelling()));
+    match (found.before.phrase.as_slice(), &found.kind) {
+        (
+            [
+                Word(Keyword::Cfsa | Keyword::Cssa),
+                Number(_),
+                Name(_),
+                Name(value),
+            ],
+            _,
+        ) if is_set => { Some(Hint::NoArrow(value.as_bytes())) }
+        ([Word(Keyword::Cfsa | Keyword::Cssa), Number(_), Name(_)], Some(Number(_))) => Some(
+            Hint::NoArrow(found.word),
+        ),
         _ => None,
     }
 }
 
-// The `{` that is open where a declaration, or nothing, follows.
+/// What a procedure or a register is for, in the place of a variable, where a statement may begin or not.
+pub fn kind_hint<'a>(
+    found: &'a Found<'_>,
+    wanted: NameKind,
+    kind: NameKind,
+    begins: bool,
+) -> Option<Hint<'a>> {
+    if wanted == NameKind::Variable {
+        match kind {
+            NameKind::Procedure if begins => return Some(Hint::Called(found.word)),
+            NameKind::Procedure => return Some(Hint::NoResult(found.word)),
+            NameKind::Register => return Some(Hint::Address(found.word)),
+            _ => {}
+        }
+    }
+    let told = told_of_kind(wanted, kind)?;
+    Some(Hint::Told(told))
+}
+
+// How many arguments the procedure of a call takes, unless they are complete.
+fn arguments<'a>(found: &'a Found<'_>) -> Option<Hint<'a>> {
+    let procedure = found.before.called()?;
+    match found.before.phrase.as_slice() {
+        [.., TokenKind::Sign(Sign::RightBracket)] => None,
+        [_, _] => Some(Hint::Brackets(procedure)),
+        _ => {
+            let count = found.before.declared(procedure)?.parameters;
+            Some(Hint::Takes { procedure, count })
+        }
+    }
+}
+
+// The `{` that is open where the text ends.
 fn open_block<'a>(found: &'a Found<'_>) -> Option<Hint<'a>> {
-    let is_end = match word_of(found.kind.as_ref()) {
-        Some(word) => found.words.declarations.contains(&word),
-        None => found.word.is_empty(),
-    };
     let line = found.before.open_line()?;
-    is_end.then_some(Hint::Open { line })
+    found.word.is_empty().then_some(Hint::Open { line })
 }

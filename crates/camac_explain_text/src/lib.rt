@@ -2,6 +2,7 @@
 // A crate of its own beside the explanations of rules, so that both are proved at once, and a change of one leaves the other.
 #![tactic(auto)]
 
+mod absent;
 mod before;
 mod found;
 mod hint;

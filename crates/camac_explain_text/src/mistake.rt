@@ -1,37 +1,65 @@
 // Mistakes that are made often.
 
-use crate::before::{NameKind, word_of};
+use crate::before::word_of;
 use crate::found::Found;
-use crate::trial::{Expected, is_comparison, is_operator};
-use camac_text::TokenKind;
+use crate::hint::{Hint, word_before};
+use crate::trial::{Expected, begins_declaration, begins_statement, is_comparison, is_operator};
+use camac_text::{NameKind, TokenKind};
 use camac_text_tokens::{Keyword, Sign};
 
-const NO_OR: &str =
-    "There is no `or`: put the second `if` into the `else` of the first, or set a variable in both and test it.";
-
-/// What takes the place of a byte that other languages use.
+/// What is to be known of a byte that begins no token.
 pub fn told_of_byte(byte: u8) -> Option<&'static str> {
-    Some(match byte {
-        b';' => "A statement ends without a sign.",
-        b'&' => "Conditions are joined by `and`.",
-        b'|' => {
-            "Conditions have no `or`: put the second `if` into the `else` of the first. Bits are taken apart by `/` and `%`."
-        }
-        b'!' => "Write `not` before a condition, and `!=` between two numbers.",
-        b'[' | b']' => "There are no lists but a `table`, which a block write sends as a whole.",
-        b'"' | b'\'' => "There are no texts in quotes.",
-        b':' => "A value is set by `=`.",
-        b'.' => "Numbers are whole; a range is written `A..B`.",
-        b'_' => "A name begins with a letter.",
-        _ => return None,
-    })
+    match byte {
+        b'_' => Some("A name begins with a letter."),
+        _ => None,
+    }
+}
+
+/// What is to be known of a name of one kind in the place of another.
+pub fn told_of_kind(wanted: NameKind, found: NameKind) -> Option<&'static str> {
+    match (wanted, found) {
+        (NameKind::Variable, NameKind::Table) => Some(
+            "A table cannot be read: it is for block writes.",
+        ),
+        (NameKind::Register, _) => Some("A register is set to an address before, by `cdreg`."),
+        (NameKind::Lam, _) => Some("Here stands the name of a LAM, which `cdlam` declares."),
+        _ => None,
+    }
+}
+
+/// What takes the place of all that might stand where a token may not: a word or a sign of another language, a declaration in a body, a word
+/// of the language where a name has to stand.
+pub fn own_sentence<'a>(found: &'a Found<'_>) -> Option<Hint<'a>> {
+    if let Some(absent) = found.absent_word() {
+        return Some(Hint::Absent(absent));
+    }
+    if let (Some(TokenKind::Sign(_)), Some(absent)) = (&found.kind, found.absent_sign()) {
+        return Some(Hint::Absent(absent));
+    }
+    let keyword = found.keyword()?;
+    let word = keyword.spelling();
+    let is_declaration = begins_declaration(keyword)
+        && (keyword != Keyword::Table || found.begins_line());
+    if let (true, Some(line)) = (is_declaration, found.before.open_line()) {
+        return Some(Hint::Inside { word, line });
+    }
+    if found.before.wants_new_name() && !found.begins_line() && word_before(found).is_none() {
+        return Some(Hint::OfLanguage(word));
+    }
+    match keyword {
+        _ if !found.is_assigned() || begins_statement(keyword) => None,
+        Keyword::Q | Keyword::X => Some(Hint::Told(
+            "A flag is set by each cycle, and by nothing else.",
+        )),
+        _ => Some(Hint::OfLanguage(word)),
+    }
 }
 
 /// Of a statement that stands outside of services and procedures.
 pub fn outside_of_bodies(found: &Found<'_>) -> Option<&'static str> {
     let is_statement = match found.kind.as_ref()? {
-        TokenKind::Keyword(word) => found.words.statements.contains(word),
-        TokenKind::Name(_) => found.behind.iter().find(|b| **b != b' ') == Some(&b'='),
+        TokenKind::Keyword(word) => begins_statement(*word),
+        TokenKind::Name(_) => found.is_assigned(),
         _ => false,
     };
     (is_statement && !found.before.in_body()).then_some(
@@ -41,12 +69,52 @@ pub fn outside_of_bodies(found: &Found<'_>) -> Option<&'static str> {
 
 /// What is to be known where a token may not stand.
 pub fn usual_mistake(found: &Found<'_>, expected: &[Expected]) -> Option<&'static str> {
-    if found.word == b"or".as_slice() {
-        return Some(NO_OR);
-    }
     outside_of_bodies(found)
+        .or_else(|| mistake_at(found, expected))
         .or_else(|| mistake_after(found, expected))
         .or_else(|| mistake_in(found, expected))
+}
+
+// What is wrong with a token in a declaration or a statement of this kind.
+fn mistake_at(found: &Found<'_>, expected: &[Expected]) -> Option<&'static str> {
+    use TokenKind::{Keyword as Word, Sign as Mark};
+    let first = found.before.first_word()?;
+    Some(match (first, found.kind.as_ref()?) {
+        (Keyword::Var, Mark(Sign::Comma)) => "Names stand without commas, as in `var v k`.",
+        (Keyword::Var, Mark(Sign::Equals)) =>
+            "A variable begins as 0: a service sets it, as in `v = 3`.",
+        (Keyword::Table, Mark(Sign::Comma)) => "Words stand without commas, as in `table t = 1 2`.",
+        (Keyword::Put, Mark(Sign::Comma)) => "A `put` has one value: write `put` before each.",
+        (Keyword::Cfsa | Keyword::Cssa, Mark(Sign::Comma))
+            if expected.contains(&Expected::Statement) => {
+            "A read sets one variable, and the flags `q` and `x` by themselves."
+        }
+        (Keyword::For, _) if found.before.phrase.len() == 2 => {
+            "A `for` is written `for i = A to B { .. }`."
+        }
+        (Keyword::If | Keyword::While, Word(Keyword::In)) => {
+            "A range is tested by two comparisons: `v >= A and v <= B`."
+        }
+        (Keyword::If | Keyword::While, Mark(Sign::LeftBrace))
+            if expected.contains(&Expected::Comparison) => {
+            "A condition compares, as in `v != 0`."
+        }
+        (_, Mark(sign))
+            if is_comparison(*sign)
+                && expected.contains(&Expected::Token("and"))
+                && is_value(found.last()) => {
+            "Comparisons are joined by `and`: `a < v and v < b`."
+        }
+        _ => return None,
+    })
+}
+
+// Whether a token ends an expression.
+fn is_value(kind: Option<&TokenKind>) -> bool {
+    matches!(
+        kind,
+        Some(TokenKind::Name(_) | TokenKind::Number(_) | TokenKind::Sign(Sign::RightBracket))
+    )
 }
 
 // What is wrong with a token after the one before.
@@ -67,6 +135,7 @@ fn mistake_after(found: &Found<'_>, expected: &[Expected]) -> Option<&'static st
             if is_comparison(*sign) || *sign == Sign::Equals => {
             "A flag stands alone: `q`, or `not q`."
         }
+        (Word(Keyword::Not), Word(Keyword::Not)) => "After `not` stands a comparison, `q` or `x`.",
         (Word(Keyword::Else), Word(Keyword::If)) => {
             "The block of `else` stands in braces, and an `if` may stand in it."
         }
@@ -78,6 +147,9 @@ fn mistake_after(found: &Found<'_>, expected: &[Expected]) -> Option<&'static st
         }
         (TokenKind::Sign(Sign::Over | Sign::Modulo), _) => "A divisor is a number from 1 on.",
         (_, TokenKind::Sign(Sign::Minus)) if is_value => "There are no numbers below 0.",
+        (_, Word(Keyword::Q | Keyword::X)) if is_value && !found.before.is_in_brackets() => {
+            "A flag is no number: write `v = 0  if q { v = 1 }`."
+        }
         _ => return None,
     })
 }
@@ -86,9 +158,6 @@ fn mistake_after(found: &Found<'_>, expected: &[Expected]) -> Option<&'static st
 fn mistake_in(found: &Found<'_>, expected: &[Expected]) -> Option<&'static str> {
     let kind = found.kind.as_ref()?;
     let is_value = expected.contains(&Expected::Expression) || expected.contains(&Expected::Number);
-    if found.before.in_procedure && word_of(Some(kind)) == Some(Keyword::Lock) {
-        return Some("A procedure has no `lock`.");
-    }
     Some(match found.before.first_word()? {
         Keyword::If | Keyword::While if is_of_condition(kind) && found.before.is_in_brackets() => {
             "Brackets enclose expressions, and no conditions."

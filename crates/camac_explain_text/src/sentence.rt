@@ -1,38 +1,79 @@
 // The sentence on a text's fault.
 
-use crate::before::NameKind;
 use crate::found::Found;
-use crate::hint::{Hint, name_hint, near_word, unexpected_hint, word_before};
+use crate::hint::{Hint, kind_hint, name_hint, near_word, unexpected_hint, word_before};
 use crate::limit::limit_told;
-use crate::mistake::{outside_of_bodies, told_of_byte};
+use crate::mistake::{outside_of_bodies, own_sentence, told_of_byte};
 use crate::trial::expected_after;
 use camac_report_text::{Quote, before_item};
-use camac_text::TextRule;
+use camac_text::{NameKind, TextCase, TextFault, parse};
 use std::alloc::{AllocError, Global};
 
-/// What the rule that a text breaks knows at its token: the byte, the token and what might stand there, the number and its range, the name,
-/// or the limit; and then what may be meant. The token is told by how many bytes of the text stand from its first byte on. None where the rule
-/// is not broken there.
-pub fn text_sentence(
-    alloc: Global,
-    text: &[u8],
-    rule: TextRule,
-    left: usize,
-) -> Result<Option<String>, AllocError> {
-    let mut found = Found::new(alloc, text, left)?;
+const PLAN_FIRST: &str = "This begins like a plan: PLAN comes first, then SCRIPT.";
+
+/// What the first rule that a text breaks knew, and what may be meant. None where the text is a script.
+pub fn text_sentence(alloc: Global, text: &[u8]) -> Result<Option<String>, AllocError> {
+    match parse(alloc, text) {
+        Ok(_script) => Ok(None),
+        Err(TextFault::OutOfMemory) => Err(AllocError),
+        Err(TextFault::Broken { .. }) if begins_like_a_plan(text) => Ok(Some(String::from_str(
+            alloc, PLAN_FIRST,
+        )?)),
+        Err(TextFault::Broken { case, left, .. }) => {
+            let mut found = Found::new(alloc, text, left)?;
+            Ok(Some(case_told(alloc, &mut found, case)?))
+        }
+    }
+}
+
+// Whether a text's first line that is neither empty nor a comment is one of a plan.
+fn begins_like_a_plan(text: &[u8]) -> bool {
+    for line in text.split(|byte| *byte == b'\n') {
+        let line = line.trim_ascii();
+        if !line.is_empty() && !line.starts_with(b"#") {
+            return line.starts_with(b"[") || line.starts_with(b"buffer");
+        }
+    }
+    false
+}
+
+fn case_told(alloc: Global, found: &mut Found<'_>, case: TextCase) -> Result<String, AllocError> {
     let word = Quote(found.word);
-    let sentence = match rule {
-        TextRule::BadByte => byte_told(alloc, found.word.first().copied().unwrap_or(0)),
-        TextRule::UnexpectedToken => unexpected(alloc, &mut found),
-        TextRule::NumberTooLarge => number_told(alloc, &mut found),
-        TextRule::DeclaredTwice => return declared_twice(alloc, &found),
-        TextRule::NotDeclared => not_declared(alloc, &mut found),
-        TextRule::LimitPassed => limit_told(alloc, &found),
-        TextRule::BranchNotOne => {
+    match case {
+        TextCase::Byte => byte_told(alloc, found),
+        TextCase::Unexpected => unexpected(alloc, found),
+        TextCase::ZeroDivisor => {
+            format!(in alloc; "Found {word}. A divisor is a number from 1 on.")
+        }
+        TextCase::LockInProcedure => {
+            format!(in alloc; "A procedure has no `lock`: put the `call` into one.")
+        }
+        TextCase::ArgumentCount { wanted } => arguments_told(alloc, found, wanted),
+        TextCase::Number { most: u32::MAX } => {
+            format!(in alloc; "The number {word} is above 4294967295, the greatest of all.")
+        }
+        TextCase::Number { most } => {
+            format!(in alloc;
+                "The number {word} is above {most}, the greatest that may stand here."
+            )
+        }
+        TextCase::Taken { by } => taken(alloc, found, by),
+        TextCase::KeptTwice => format!(in alloc; "The variable {word} is kept twice."),
+        TextCase::CounterKept => {
+            format!(in alloc; "The variable {word} is counted by the `for`, and needs no `keep`.")
+        }
+        TextCase::MeasureKept => {
+            format!(in alloc; "The variable {word} is the measure after `by`, and needs no `keep`.")
+        }
+        TextCase::Undeclared {
+            wanted,
+            found: what,
+        } => undeclared(alloc, found, wanted, what),
+        TextCase::Limit(limit) => limit_told(alloc, found.word, limit),
+        TextCase::Branch => {
             format!(in alloc; "The branch is {word} here, and there is branch 1 alone.")
         }
-    };
-    Ok(Some(sentence?))
+    }
 }
 
 fn with_hint(
@@ -46,11 +87,14 @@ fn with_hint(
     }
 }
 
-fn byte_told(alloc: Global, byte: u8) -> Result<String, AllocError> {
-    let sentence = if byte.is_ascii_graphic() {
-        format!(in alloc; "The byte {} begins no token.", Quote(&[byte]))?
-    } else {
-        format!(in alloc; "The byte {byte} begins no token.")?
+fn byte_told(alloc: Global, found: &Found<'_>) -> Result<String, AllocError> {
+    if let Some(absent) = found.absent_sign() {
+        return format!(in alloc; "{}", Hint::Absent(absent));
+    }
+    let byte = found.word.first().copied().unwrap_or(0);
+    let sentence = match character(found.rest) {
+        Some(shown) => format!(in alloc; "The character {} begins no token.", Quote(shown))?,
+        None => format!(in alloc; "The byte {byte} begins no token.")?,
     };
     match told_of_byte(byte) {
         Some(told) => with_hint(alloc, sentence, Some(Hint::Told(told))),
@@ -58,8 +102,25 @@ fn byte_told(alloc: Global, byte: u8) -> Result<String, AllocError> {
     }
 }
 
+// The bytes of the character with which a text begins, where it is one that can be shown.
+fn character(text: &[u8]) -> Option<&[u8]> {
+    let size = match text.first()? {
+        byte if byte.is_ascii_graphic() => 1,
+        0xC3..=0xDF => 2,
+        0xE0..=0xEF => 3,
+        0xF0..=0xF7 => 4,
+        _ => return None,
+    };
+    let bytes = text.get(..size)?;
+    str::from_utf8(bytes).ok()?;
+    Some(bytes)
+}
+
 fn unexpected(alloc: Global, found: &mut Found<'_>) -> Result<String, AllocError> {
-    let expected = expected_after(&mut found.trial, &found.words)?;
+    if let Some(own) = own_sentence(found) {
+        return format!(in alloc; "{own}");
+    }
+    let expected = expected_after(&mut found.trial)?;
     let near = near_word(found)?;
     let mut sentence = if found.word.is_empty() {
         String::from_str(alloc, "Found the end of the script")?
@@ -75,58 +136,94 @@ fn unexpected(alloc: Global, found: &mut Found<'_>) -> Result<String, AllocError
     with_hint(alloc, sentence, unexpected_hint(found, &expected, near))
 }
 
-fn number_told(alloc: Global, found: &mut Found<'_>) -> Result<String, AllocError> {
-    let number = Quote(found.word);
-    if found.kind.is_none() {
-        let greatest = u32::MAX;
-        return format!(in alloc; "The number {number} is above {greatest}, the greatest of all.");
-    }
-    // that of a sub-address, a function, a word, or any
-    let mut most = u32::MAX;
-    for (greatest, above) in [(16_777_215, "16777216"), (31, "32"), (15, "16")] {
-        if found.trial.rule_at(above)? == Some(TextRule::NumberTooLarge) {
-            most = greatest;
+fn arguments_told(alloc: Global, found: &Found<'_>, wanted: usize) -> Result<String, AllocError> {
+    let word = Quote(found.word);
+    match found.before.called() {
+        Some(procedure) => {
+            let count = wanted;
+            let takes = Hint::Takes { procedure, count };
+            format!(in alloc; "Found {word}. {takes}")
         }
+        None => format!(in alloc; "Found {word}."),
     }
-    format!(in alloc; "The number {number} is above {most}, the greatest that may stand here.")
 }
 
-fn declared_twice(alloc: Global, found: &Found<'_>) -> Result<Option<String>, AllocError> {
+fn taken(alloc: Global, found: &Found<'_>, by: NameKind) -> Result<String, AllocError> {
     let name = Quote(found.word);
-    if found.before.is_keeping() {
-        return Ok(Some(format!(in alloc;
-            "The variable {name} is kept already, or is the loop's own."
-        )?));
-    }
-    let Some(declared) = found.before.declared(found.word) else {
-        return Ok(None);
+    let kind = noun(by);
+    let sentence = match found.before.declared(found.word) {
+        Some(declared) => {
+            let line = declared.line;
+            format!(in alloc;
+                "The name {name} is taken: it is declared on line {line} as a {kind}."
+            )?
+        }
+        None => format!(in alloc; "The name {name} is taken: it is declared as a {kind}.")?,
     };
-    let line = declared.line;
-    let sentence = format!(in alloc; "The name {name} is taken: it stands first on line {line}.")?;
-    if let Some(told) = outside_of_bodies(found) {
-        return Ok(Some(with_hint(alloc, sentence, Some(Hint::Told(told)))?));
+    match outside_of_bodies(found) {
+        Some(told) => with_hint(alloc, sentence, Some(Hint::Told(told))),
+        None => with_hint(alloc, sentence, word_before(found)),
     }
-    Ok(Some(with_hint(alloc, sentence, word_before(found))?))
 }
 
-fn not_declared(alloc: Global, found: &mut Found<'_>) -> Result<String, AllocError> {
+fn undeclared(
+    alloc: Global,
+    found: &mut Found<'_>,
+    wanted: NameKind,
+    what: camac_text::Found,
+) -> Result<String, AllocError> {
     let name = Quote(found.word);
-    let needed = found.needed();
-    let wanted = needed.noun();
-    let Some(declared) = found.before.declared(found.word) else {
-        let sentence = format!(in alloc; "The name {name} is not declared before as a {wanted}.")?;
-        let near = near_word(found)?;
-        return with_hint(alloc, sentence, name_hint(found, near));
-    };
-    let kind = declared.kind.noun();
-    let line = declared.line;
-    match declared.kind {
-        found if found != needed => format!(in alloc;
-            "The name {name} is declared on line {line} as a {kind}, and here may stand a {wanted}."
-        ),
-        NameKind::Procedure => {
+    let needed = noun(wanted);
+    match what {
+        camac_text::Found::Nothing => not_there(alloc, found, wanted),
+        camac_text::Found::Other(kind) => {
+            let is = noun(kind);
+            let line = found.before.declared(found.word).map_or(0, |it| it.line);
+            let sentence = format!(in alloc;
+                "The name {name} is declared on line {line} as a {is}, and here may stand a {needed}."
+            )?;
+            let begins = found.trial.may_follow("put")?;
+            with_hint(alloc, sentence, kind_hint(found, wanted, kind, begins))
+        }
+        camac_text::Found::Itself => {
             format!(in alloc; "The procedure {name} can be called after its end alone.")
         }
-        _ => format!(in alloc; "The {kind} {name} of the script is not seen in a procedure."),
+        camac_text::Found::Hidden => {
+            format!(in alloc; "The variable {name} of the script is not seen in a procedure.")
+        }
+    }
+}
+
+fn not_there(alloc: Global, found: &mut Found<'_>, wanted: NameKind) -> Result<String, AllocError> {
+    if let (NameKind::Variable, Some(absent)) = (wanted, found.absent_word()) {
+        let begins = found.trial.may_follow("put")?;
+        if is_of_another_language(found, begins) {
+            return format!(in alloc; "{}", Hint::Absent(absent));
+        }
+    }
+    let name = Quote(found.word);
+    let needed = noun(wanted);
+    let sentence = format!(in alloc; "The name {name} is not declared before as a {needed}.")?;
+    let near = near_word(found)?;
+    with_hint(alloc, sentence, name_hint(found, wanted, near))
+}
+
+// Whether a word stands as in another language, and is no name of a variable that is not declared: it begins a statement that is no
+// assignment, or is called, or is a truth value.
+fn is_of_another_language(found: &Found<'_>, begins: bool) -> bool {
+    let is_truth = found.word.eq_ignore_ascii_case(b"true")
+        || found.word.eq_ignore_ascii_case(b"false");
+    is_truth || found.is_before(b"(") || (begins && !found.is_assigned())
+}
+
+// What a name of a kind is called.
+fn noun(kind: NameKind) -> &'static str {
+    match kind {
+        NameKind::Lam => "LAM",
+        NameKind::Parameter => "parameter",
+        NameKind::Procedure => "procedure",
+        NameKind::Register => "register",
+        NameKind::Table => "table",
+        NameKind::Variable => "variable",
     }
 }

@@ -35,36 +35,41 @@ impl Trial {
     }
 }
 
-/// A service whose body begins at the text's end.
-const BODY: &str = "cdlam n 1 1 1 0 service n within 0 cycles event 0 words {";
-
-/// The words that begin a declaration, and those that begin a statement.
-#[derive(Drop)]
-pub struct Beginnings {
-    pub declarations: Vec<Keyword>,
-    pub statements: Vec<Keyword>,
+/// Whether a word begins a declaration.
+pub fn begins_declaration(word: Keyword) -> bool {
+    matches!(
+        word,
+        Keyword::Table | Keyword::Cdlam | Keyword::Var | Keyword::Proc | Keyword::Service
+    )
 }
 
-impl Beginnings {
-    /// Those of the language.
-    pub fn new(alloc: Global) -> Result<Self, AllocError> {
-        Ok(Beginnings {
-            declarations: words_after(alloc, "")?,
-            statements: words_after(alloc, BODY)?,
-        })
-    }
-}
-
-fn words_after(alloc: Global, text: &str) -> Result<Vec<Keyword>, AllocError> {
-    let text = String::from_str(alloc, text)?;
-    let mut trial = Trial { alloc, text };
-    let mut words = Vec::new(alloc);
-    for word in KEYWORDS {
-        if trial.may_follow(word.spelling())? {
-            words.push(word)?;
-        }
-    }
-    Ok(words)
+/// Whether a word begins a statement.
+pub fn begins_statement(word: Keyword) -> bool {
+    matches!(
+        word,
+        Keyword::Cdreg
+            | Keyword::Cfsa
+            | Keyword::Cssa
+            | Keyword::Cfmad
+            | Keyword::Cfubc
+            | Keyword::Cfubr
+            | Keyword::Put
+            | Keyword::Cccz
+            | Keyword::Cccc
+            | Keyword::Ctci
+            | Keyword::Ctcd
+            | Keyword::Ctgl
+            | Keyword::Ccci
+            | Keyword::Cccd
+            | Keyword::Cclm
+            | Keyword::Cclc
+            | Keyword::Ctlm
+            | Keyword::If
+            | Keyword::For
+            | Keyword::While
+            | Keyword::Lock
+            | Keyword::Call
+    )
 }
 
 /// What might stand at a place of a script.
@@ -102,11 +107,14 @@ impl fmt::Display for Expected {
 }
 
 /// What might stand after a text, by a trial of a token of each group, and of each token that is in none of those that are found.
-pub fn expected_after(trial: &mut Trial, words: &Beginnings) -> Result<Vec<Expected>, AllocError> {
+pub fn expected_after(trial: &mut Trial) -> Result<Vec<Expected>, AllocError> {
     let mut found = Vec::new(trial.alloc);
     add(trial, "cdlam", Expected::Declaration, &mut found)?;
     add(trial, "put", Expected::Statement, &mut found)?;
-    add(trial, "q", Expected::Condition, &mut found)?;
+    // no second `not` may stand after one
+    if trial.may_follow("q")? {
+        add(trial, "not", Expected::Condition, &mut found)?;
+    }
     if !found.contains(&Expected::Condition) {
         add_operand(trial, &mut found)?;
     }
@@ -119,7 +127,7 @@ pub fn expected_after(trial: &mut Trial, words: &Beginnings) -> Result<Vec<Expec
         }
     }
     for word in KEYWORDS {
-        if !is_word_of(word, &found, words) {
+        if !is_word_of(word, &found) {
             let token = word.spelling();
             add(trial, token, Expected::Token(token), &mut found)?;
         }
@@ -179,9 +187,9 @@ fn is_sign_of(sign: Sign, found: &[Expected]) -> bool {
         || (is_comparison(sign) && found.contains(&Expected::Comparison))
 }
 
-fn is_word_of(word: Keyword, found: &[Expected], words: &Beginnings) -> bool {
+fn is_word_of(word: Keyword, found: &[Expected]) -> bool {
     let is_test = matches!(word, Keyword::Not | Keyword::Q | Keyword::X);
     (is_test && found.contains(&Expected::Condition))
-        || (words.declarations.contains(&word) && found.contains(&Expected::Declaration))
-        || (words.statements.contains(&word) && found.contains(&Expected::Statement))
+        || (begins_declaration(word) && found.contains(&Expected::Declaration))
+        || (begins_statement(word) && found.contains(&Expected::Statement))
 }

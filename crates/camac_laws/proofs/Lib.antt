@@ -9,15 +9,16 @@ pub mod Kept
 pub mod Calls
 mod CallRows
 mod Refused
-pub mod ShownHeadings
 pub mod ShownArguments
 pub mod ShownExpressions
 pub mod ShownTurns
 pub mod ShownAddresses
 pub mod ShownWindows
 pub mod Places
+pub mod RefusedAt
 pub mod Regions
 pub mod Judged
+pub mod Values
 pub mod Windows
 pub mod ScansJudged
 mod AddressRows

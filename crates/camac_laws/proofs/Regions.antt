@@ -1,15 +1,10 @@
 -- What the rules of a command at the addresses of a register come to.
-use Rattle.std.proofs.Common.{◌≡◌, ℕ, zero, suc, ◌+◌, ◌-◌, ◌^◌, ◌<◌, ◌≤◌, Bool, true, false, List, [], ◌∷◌, map, Option, Some, None, refl, sym, ap, ◌∙◌, subst, arith, ◌⊎◌, inl, inr, ⊎_elim}
-use Rattle.std.specs.Prelude.{◌↔◌, ◌&&◌, ◌||◌, not, max, min, nat_eq, nat_lt, nat_le, Contains, is_some, option_map, slice_get, unwrap_or, if◌then◌else◌}
+use Rattle.std.proofs.Common.{◌≡◌, ℕ, zero, suc, ◌+◌, ◌-◌, ◌<◌, ◌≤◌, Bool, true, false, List, ◌∷◌, map, Option, Some, None, refl, sym, ap, ◌∙◌, subst, arith, ◌⊎◌, inl, inr, ⊎_elim}
+use Rattle.std.specs.Prelude.{◌↔◌, ◌&&◌, ◌||◌, not, max, min, nat_eq, nat_lt, nat_le, is_some, option_map, unwrap_or, if◌then◌else◌}
 use Rattle.std.specs.List.{range_with_len}
-use Rattle.std.proofs.Math.Nat.{pow-le-pow_right}
-use Rattle.std.proofs.lemmas.Nat.{pow_pos}
 use Rattle.std.proofs.lemmas.Option.{same_Some}
-use Rattle.std.proofs.lemmas.Bool.{and_parts, and_from, or_cases, or_left, or_right, cond_both, cases_lt, eqb-true, eq-eqb, lt-ltb, ltb-true, le-leb, leb-true, false≢true}
+use Rattle.std.proofs.lemmas.Bool.{and_parts, and_from, or_cases, or_left, or_right, cond_both, cases_lt, eqb-true, eq-eqb, lt-ltb, le-leb, leb-true, false≢true}
 use Rattle.camac_crate.specs.Lock.{permitted}
-use Rattle.camac_lang.specs.declared.word.WordSize.{WordSize}
-use Rattle.camac_lang.specs.declared.word.WordSize.TheVariants.{Full, Short}
-use Rattle.camac_lang.specs.Tests.{each}
 use Rattle.camac_range.specs.Interval.{Interval, interval, hull, IsWithin}
 use Rattle.camac_module.specs.Commands.{extremes, least_and_greatest}
 use Rattle.camac_branch.specs.declared.plan.Crate.{Crate}
@@ -19,16 +14,13 @@ use Rattle.camac_branch.specs.Allowed.{allowed, widths, AllowsCommands}
 use Rattle.camac_branch.specs.Plan.{Layout, IsPlan, crate_at, crate_waits, installed, station}
 use Rattle.camac_branch.proofs.Allowed.{allows_commands, installed-in_range}
 use Rattle.camac_branch.proofs.Numbered.{numbered-in_range}
-use Rattle.camac_model.specs.Cycle.{sized}
-use Rattle.camac_model.specs.Meaning.{fits_size}
 use Rattle.camac_check_rules.specs.Known.{Region}
-use Rattle.camac_check_rules.specs.Transfers.{words_fit, words_sent}
 use Rattle.camac_check_rules.specs.Walks.{count_below, all_from, greatest_from, hull_with, hull_from}
 use Rattle.camac_check_rules.specs.Addresses.{crate_end, station_end, sub_address_end, in_plan, is_station, all_in, are_stations_in, are_stations, station_widths, crate_widths, region_widths, has_command, is_among, waits_in}
 use Rattle.camac_check_rules.proofs.Walks.{all_in_at, IsPart, hull_from_at, greatest_from_at}
 use Rattle.camac_check_rules.proofs.Regions.{widths_at}
 use Rattle.camac_laws.specs.ShownAddresses.{HasAddresses}
-use Rattle.camac_laws.specs.Regions.{IsInstalled, IsIn, AreInstalled, HasUndeclared, StationsAreAll, HasWidths, WidthsAreAll, FitsAll, ValuesAreFit, ReadsAreAll, WaitsMayCome, CostIsGreatest}
+use Rattle.camac_laws.specs.Regions.{IsInstalled, IsIn, AreInstalled, HasUndeclared, StationsAreAll, HasWidths, WidthsAreAll, WaitsMayCome, CostIsGreatest}
 use Rattle.camac_laws.proofs.ShownAddresses.{all_from_each, at_one, undeclared_shown}
 
 -- ---- the numbers of a plan
@@ -287,7 +279,7 @@ first_undeclared plan is f g has there e =
       none_allowed plan (allows_commands plan is) f _ _ _ sub.fails,
     )
 
-same_width : {x y : ℕ} (o : Option ℕ) → o ≡ Some x → o ≡ Some y → x ≡ y
+pub same_width : {x y : ℕ} (o : Option ℕ) → o ≡ Some x → o ≡ Some y → x ≡ y
 same_width o e h = same_Some _ _ (sym e ∙ h)
 
 -- widths are not there, where one address has none
@@ -337,90 +329,6 @@ widths_are_all plan is f g has there = record {
   some = λ w. (λ e. has_widths plan f g w e there, λ h. widths_from plan is f g has there w h);
   none = (λ e. first_undeclared plan is f g has there e, λ t. none_there plan f g there t.0 t.1 t.2 t.3 t.4);
 }
-
--- ---- a value at each address
-
--- a value in so many bits, of which a short action sends 16 at most
-fits_in : (size : WordSize) (v k : ℕ) → v < 2 ^ k → fits_size size v ≡ true → v < 2 ^ sized size k
-fits_in Full v k lt e = lt
-fits_in Short v k lt e =
-    let le : v ≤ 65535 = leb-true v 65535 e in
-    ⊎_elim (λ few. let same : k ≡ min k 16 = omega arith in subst (λ m. v < 2 ^ m) same lt)
-    (λ many. let same : 16 ≡ min k 16 = omega arith in let small : v < 2 ^ 16 = omega arith in subst (λ m. v < 2 ^ m) same small)
-    (cases_lt k 16)
-
-fits_back : (size : WordSize) (v k : ℕ) → v < 2 ^ sized size k → (v < 2 ^ k) × (fits_size size v ≡ true)
-fits_back Full v k lt = (lt, refl)
-fits_back Short v k lt =
-    let pos : 0 < 2 = omega arith in
-    let one : 2 ^ min k 16 ≤ 2 ^ k = pow-le-pow_right pos (omega arith) in
-    let small : min k 16 ≤ 16 = omega arith in
-    let two : 2 ^ min k 16 ≤ 2 ^ 16 = pow-le-pow_right pos small in
-    (omega arith, le-leb v 65535 (omega arith))
-
-each_in : (test : ℕ → Bool) (xs : List ℕ) → each test xs ≡ true → (x : ℕ) → Contains xs x → test x ≡ true
-each_in test [] e x (k, below, is) = absurd (omega arith)
-each_in test (y ∷ ys) e x (zero, below, is) = subst (λ z. test z ≡ true) is (and_parts (test y) (each test ys) e).0
-each_in test (y ∷ ys) e x (suc k, below, is) = each_in test ys (and_parts (test y) (each test ys) e).1 x (k, omega arith, is)
-
-each_from : (test : ℕ → Bool) (xs : List ℕ) → ((x : ℕ) → Contains xs x → test x ≡ true) → each test xs ≡ true
-each_from test [] h = refl
-each_from test (y ∷ ys) h =
-    and_from (test y) (each test ys) (h y (0, omega arith, refl)) (each_from test ys (λ x i. h x (suc i.0, (let below = i.1 in omega arith), i.2)))
-
-module _ (plan : Layout) (f : ℕ) (g : Region) (w : Interval) (h : HasWidths plan f g w) where
-  fits_all : (size : WordSize) (v : ℕ) → v < 2 ^ w.lo → fits_size size v ≡ true → FitsAll plan f g size v
-  fits_all size v fits e c n a k i at =
-      let found = h.each c n a i in
-      let same : found.0 ≡ k = same_width (allowed plan (address c n a) f) found.1 at in
-      let low = found.2.low in
-      let pos : 0 < 2 = omega arith in
-      let more : 2 ^ w.lo ≤ 2 ^ k = pow-le-pow_right pos (omega arith) in
-      fits_in size v k (omega arith) e
-
-  all_fit : (size : WordSize) (v : ℕ) → FitsAll plan f g size v → (v < 2 ^ w.lo) × (fits_size size v ≡ true)
-  all_fit size v all = let t = h.least in fits_back size v w.lo (all t.0 t.1 t.2 w.lo t.3 t.4)
-
-  single : (size : WordSize) (v : ℕ) → ((nat_lt v (2 ^ w.lo) && fits_size size v) ≡ true) ↔ FitsAll plan f g size v
-  single size v = (
-    λ e. let p = and_parts (nat_lt v (2 ^ w.lo)) (fits_size size v) e in fits_all size v (ltb-true v (2 ^ w.lo) p.0) p.1,
-    λ all. let p = all_fit size v all in and_from (nat_lt v (2 ^ w.lo)) (fits_size size v) (lt-ltb v (2 ^ w.lo) p.0) p.1,
-  )
-
-  block : (tables : List (List ℕ)) (t : Option ℕ) → (words_fit tables t w.lo ≡ true) ↔ ((word : ℕ) → Contains (words_sent tables t) word → FitsAll plan f g Full word)
-  block tables None = (λ e word (k, below, is). absurd (omega arith), λ all. refl)
-  block tables (Some t) = (
-    λ e word i. fits_all Full word (ltb-true word (2 ^ w.lo) (each_in (λ v. nat_lt v (2 ^ w.lo)) (unwrap_or (slice_get tables t) []) e word i)) refl,
-    λ all. each_from (λ v. nat_lt v (2 ^ w.lo)) (unwrap_or (slice_get tables t) []) (λ word i. lt-ltb word (2 ^ w.lo) (all_fit Full word (all word i)).0),
-  )
-
-pub values_are_fit : ValuesAreFit
-values_are_fit plan f g w h = record { single = single plan f g w h; block = block plan f g w h }
-
--- ---- the words that are read
-
-more_bits : (size : WordSize) (j k : ℕ) → j ≤ k → sized size j ≤ sized size k
-more_bits Full j k le = le
-more_bits Short j k le = omega arith
-
-pub reads_are_all : ReadsAreAll
-reads_are_all plan f g w size word h = (to, λ t. back t.0 t.1 t.2 t.3 t.4 t.5 t.6)
-  where
-    to : IsWithin (interval 0 (2 ^ sized size w.hi - 1)) word → (c n a k : ℕ) × IsIn g c n a × (allowed plan (address c n a) f ≡ Some k) × (word < 2 ^ sized size k)
-    to i =
-        let high = i.high in
-        let some : 0 < 2 ^ sized size w.hi = pow_pos (sized size w.hi) in
-        let t = h.greatest in
-        (t.0, t.1, t.2, w.hi, t.3, t.4, omega arith)
-
-    back : (c n a k : ℕ) → IsIn g c n a → allowed plan (address c n a) f ≡ Some k → word < 2 ^ sized size k → IsWithin (interval 0 (2 ^ sized size w.hi - 1)) word
-    back c n a k i at lt =
-        let found = h.each c n a i in
-        let same : found.0 ≡ k = same_width (allowed plan (address c n a) f) found.1 at in
-        let high = found.2.high in
-        let pos : 0 < 2 = omega arith in
-        let more : 2 ^ sized size k ≤ 2 ^ sized size w.hi = pow-le-pow_right pos (more_bits size k w.hi (omega arith)) in
-        record { low = omega arith; high = omega arith }
 
 -- ---- the cost of a cycle
 

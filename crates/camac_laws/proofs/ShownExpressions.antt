@@ -2,7 +2,7 @@
 use Rattle.std.proofs.Common.{◌≡◌, ℕ, ◌/◌, ◌-◌, Bool, true, false, List, [], ◌∷◌, Option, Some, None, Ok, Err, refl, sym, ap, ◌∙◌, subst, inl, inr, ⊎_elim}
 use Rattle.std.specs.Prelude.{nat_eq, nat_le, nat_lt, if◌then◌else◌}
 use Rattle.std.proofs.lemmas.Bool.{eqb-true, leb-false}
-use Rattle.camac_lang.specs.Tree.{Expression, number, variable, group, add, subtract, multiply, divide, remainder, Part, Condition}
+use Rattle.camac_lang.specs.Tree.{Expression, number, variable, group, add, subtract, multiply, divide, remainder, Test, flag_q, flag_x, compare, Part, plain, negated, Condition}
 use Rattle.camac_range.specs.Interval.{Interval, interval}
 use Rattle.camac_range.specs.Number.{greatest}
 use Rattle.camac_range.specs.Operators as range
@@ -13,13 +13,13 @@ use Rattle.camac_check_rules.specs.declared.case.Operator.TheVariants.{Add, Sub,
 use Rattle.camac_check_rules.specs.declared.rule.CheckRule.{CheckRule}
 use Rattle.camac_check_rules.specs.declared.rule.CheckRule.TheVariants.{ValueOutOfRange}
 use Rattle.camac_check_rules.specs.Cases.{operation}
-use Rattle.camac_check_rules.specs.Conditions.{Branches, branches, split, split_part}
+use Rattle.camac_check_rules.specs.Conditions.{Branches, branches, split, split_part, split_test}
 use Rattle.camac_check_rules.specs.Expressions.{range_of}
 use Rattle.camac_check_rules.specs.Fault.{Fault, broken}
 use Rattle.camac_check_rules.specs.Joined.{join}
 use Rattle.camac_check_rules.specs.Known.{Facts}
 use Rattle.camac_check_rules.specs.Refusal.{go_on, required, given, if_reached}
-use Rattle.camac_laws.specs.ShownExpressions.{HasPart, applied, result_of, IsOfNoText, ExpressionShown, ExpressionsAreShown, IsRefusedThere, ConditionsAreShown}
+use Rattle.camac_laws.specs.ShownExpressions.{HasPart, applied, result_of, IsOfNoText, ExpressionShown, ExpressionsAreShown, IsRefusedThere, ConditionsAreShown, IsSide, PartsAreShown}
 use Rattle.camac_laws.proofs.Refused.{go_err, required_err, given_err, reached_err, reached_is}
 use Rattle.camac_laws.proofs.Steps.{go_is}
 
@@ -158,6 +158,21 @@ later_refused line p ps k there first fault judged holds h = record {
   hold = h.hold;
   refused = h.refused;
 }
+
+-- ---- the two sides of a comparison
+
+test_refused : (line : ℕ) (t : Test) (k : Facts) (fault : Fault) → split_test line t k ≡ Err fault → (e : Expression) × IsSide e t × (range_of line e k.ranges ≡ Err fault)
+test_refused line flag_q k fault e = absurd (cc)
+test_refused line flag_x k fault e = absurd (cc)
+test_refused line (compare a c b) k fault e =
+    ⊎_elim (λ h. (a, inl refl, h))
+    (λ r. ⊎_elim (λ h. (b, inr refl, h)) (λ s. absurd (let bad = s.2 in cc)) (go_err (range_of line b k.ranges) _ fault r.2))
+    (go_err (range_of line a k.ranges) _ fault e)
+
+pub parts_are_shown : PartsAreShown
+parts_are_shown line (plain t) k fault e = test_refused line t k fault e
+parts_are_shown line (negated t) k fault e =
+    ⊎_elim (λ h. test_refused line t k fault h) (λ b. absurd (let bad = b.2 in cc)) (go_err (split_test line t k) _ fault e)
 
 pub conditions_are_shown : ConditionsAreShown
 conditions_are_shown line [] k fault e = absurd (cc)

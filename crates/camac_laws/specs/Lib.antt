@@ -7,7 +7,9 @@ pub mod ShownExpressions
 pub mod ShownAddresses
 pub mod ShownWindows
 pub mod Places
+pub mod Refused
 pub mod Regions
+pub mod Values
 pub mod Windows
 pub mod Scans
 pub mod SampleText

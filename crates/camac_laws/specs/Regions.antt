@@ -1,20 +1,15 @@
 -- What the rules of a command at the addresses of a register come to.
-use Rattle.std.specs.Prelude.{◌≡◌, ◌↔◌, ℕ, ◌+◌, ◌-◌, ◌^◌, ◌<◌, ◌≤◌, ◌&&◌, true, List, Option, Some, None, Ok, Err, Contains, nat_lt}
-use Rattle.camac_lang.specs.declared.word.WordSize.{WordSize}
-use Rattle.camac_lang.specs.declared.word.WordSize.TheVariants.{Full}
-use Rattle.camac_range.specs.Interval.{Interval, interval, IsWithin}
+use Rattle.std.specs.Prelude.{◌≡◌, ◌↔◌, ℕ, ◌+◌, ◌≤◌, true, List, Some, None, Ok, Err}
+use Rattle.camac_range.specs.Interval.{Interval, IsWithin}
 use Rattle.camac_crate.specs.Lock.{permitted}
 use Rattle.camac_branch.specs.Address.{address}
 use Rattle.camac_branch.specs.Allowed.{allowed}
 use Rattle.camac_branch.specs.Plan.{Layout, IsPlan, crate_waits}
-use Rattle.camac_model.specs.Cycle.{sized}
-use Rattle.camac_model.specs.Meaning.{fits_size}
 use Rattle.camac_check_rules.specs.declared.case.Case.{Case}
 use Rattle.camac_check_rules.specs.declared.rule.CheckRule.TheVariants.{StationNotInstalled, CommandNotDeclared}
 use Rattle.camac_check_rules.specs.Addresses.{in_plan, is_station, are_stations, region_widths, command_widths, is_among, waits_in, cycle_cost}
 use Rattle.camac_check_rules.specs.Fault.{broken}
 use Rattle.camac_check_rules.specs.Known.{Region}
-use Rattle.camac_check_rules.specs.Transfers.{words_fit, words_sent}
 use Rattle.camac_laws.specs.ShownAddresses.{HasAddresses}
 
 -- an installed station: its crate is in the plan, and it has a module or is one of those that the controller answers for
@@ -71,28 +66,6 @@ pub record IsJudged (plan : Layout) (line f : ℕ) (g : Region) : Type 0 where
 
 abbrev pub CommandsAreJudged : Type 0
 CommandsAreJudged = (plan : Layout) → IsPlan plan → (line f : ℕ) (g : Region) → HasAddresses g → IsJudged plan line f g
-
--- a value fits at each address: it has no more bits than are sent there, in 16 bits no more than 16
-abbrev pub FitsAll : Layout → ℕ → Region → WordSize → ℕ → Type 0
-FitsAll plan f g size value = (c n a k : ℕ) → IsIn g c n a → allowed plan (address c n a) f ≡ Some k → value < 2 ^ sized size k
-
--- A write passes E5 exactly where the greatest value of its expression fits at each address, and a block write exactly where each word of its
--- table does.
-pub record FitByWidths (plan : Layout) (f : ℕ) (g : Region) (w : Interval) : Type 0 where
-  pub single : (size : WordSize) (greatest : ℕ) → ((nat_lt greatest (2 ^ w.lo) && fits_size size greatest) ≡ true) ↔ FitsAll plan f g size greatest
-  pub block :
-      (tables : List (List ℕ)) (t : Option ℕ)
-      → (words_fit tables t w.lo ≡ true) ↔ ((word : ℕ) → Contains (words_sent tables t) word → FitsAll plan f g Full word)
-
-abbrev pub ValuesAreFit : Type 0
-ValuesAreFit = (plan : Layout) (f : ℕ) (g : Region) (w : Interval) → HasWidths plan f g w → FitByWidths plan f g w
-
--- A variable that is read gets the range of the words that have no more bits than come from some address.
-abbrev pub ReadsAreAll : Type 0
-ReadsAreAll =
-    (plan : Layout) (f : ℕ) (g : Region) (w : Interval) (size : WordSize) (word : ℕ) → HasWidths plan f g w
-    → IsWithin (interval 0 (2 ^ sized size w.hi - 1)) word
-    ↔ ((c n a k : ℕ) × IsIn g c n a × (allowed plan (address c n a) f ≡ Some k) × (word < 2 ^ sized size k))
 
 -- Before a cycle in a crate of the plan so many auxiliary cycles may come exactly where they are at most the crate's waits, and none in a
 -- locked crate.

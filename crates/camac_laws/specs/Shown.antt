@@ -1,48 +1,20 @@
--- What the case of a refusal shows of a heading, of arguments and kept variables, and of turns.
-use Rattle.std.specs.Prelude.{◌≡◌, ℕ, ◌/◌, ◌<◌, ◌≤◌, List, Option, Some, None, Ok, Err, true, false, length, slice_get}
+-- What the case of a refusal shows of arguments and kept variables, and of turns.
+use Rattle.std.specs.Prelude.{◌≡◌, ℕ, ◌/◌, ◌<◌, ◌≤◌, List, Some, Ok, Err, true, false, length, slice_get}
 use Rattle.camac_lang.specs.Tree.{Expression, Parameter, Keep, Block}
 use Rattle.camac_range.specs.Interval.{Interval, is_inside}
-use Rattle.camac_model.specs.Fine.{Bounds}
 use Rattle.camac_check_rules.specs.declared.case.Body.{Body}
 use Rattle.camac_check_rules.specs.declared.case.Case.{Case}
 use Rattle.camac_check_rules.specs.declared.case.Case.TheVariants.{Argument, Kept, Turns, Annotation}
 use Rattle.camac_check_rules.specs.declared.case.Numbers.{Numbers}
-use Rattle.camac_check_rules.specs.declared.rule.CheckRule.{CheckRule}
-use Rattle.camac_check_rules.specs.declared.rule.CheckRule.TheVariants.{TooManyWords, TooManyCycles, TooManySteps, TooManyTurns}
-use Rattle.camac_check_rules.specs.Cases.{budget, numbers_of}
+use Rattle.camac_check_rules.specs.declared.rule.CheckRule.TheVariants.{TooManyTurns}
+use Rattle.camac_check_rules.specs.Cases.{numbers_of}
 use Rattle.camac_check_rules.specs.Cycles.{Around}
 use Rattle.camac_check_rules.specs.Expressions.{range_of}
 use Rattle.camac_check_rules.specs.Fault.{broken}
 use Rattle.camac_check_rules.specs.Known.{Facts, range_at}
 use Rattle.camac_check_rules.specs.Loops.{turn_limit, kept_range, keeps_hold, unkept, limits, turns_between, for_limits, while_head}
-use Rattle.camac_check_rules.specs.Procedures.{parameter_range, arguments_fit, unfit, within}
+use Rattle.camac_check_rules.specs.Procedures.{parameter_range, arguments_fit, unfit}
 use Rattle.camac_check_rules.specs.Writes.{fall_of}
-
--- ---- headings
-
--- the number that a rule on headings is about
-abbrev pub number_of : CheckRule → Bounds → Option ℕ
-number_of TooManyWords b = Some b.words
-number_of TooManyCycles b = Some b.cycles
-number_of TooManySteps b = Some b.steps
-number_of rule b = None
-
--- The rule is about one number, which costs more than the heading has. The case shows both.
-pub record IsAboveHeading (place : Body) (most found : Bounds) (rule : CheckRule) (case : Case) : Type 0 where
-  pub needed : ℕ
-  pub allowed : ℕ
-  pub is_needed : number_of rule found ≡ Some needed
-  pub is_allowed : number_of rule most ≡ Some allowed
-  pub above : allowed < needed
-  pub shown : case ≡ budget place needed allowed
-  -- a heading with any number that is at least the cost is not refused by this rule
-  pub mended : (other : Bounds) (n : ℕ) → number_of rule other ≡ Some n → needed ≤ n
-      → (line at : ℕ) (c : Case) → within place other found line ≡ Err (broken rule at c) → ⊥
-
-abbrev pub HeadingsAreShown : Type 0
-HeadingsAreShown =
-    (place : Body) (most found : Bounds) (line at : ℕ) (rule : CheckRule) (case : Case)
-    → within place most found line ≡ Err (broken rule at case) → IsAboveHeading place most found rule case
 
 -- ---- arguments
 

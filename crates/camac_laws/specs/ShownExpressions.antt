@@ -1,6 +1,6 @@
 -- What the case of a refusal shows of an expression and of a condition.
 use Rattle.std.specs.Prelude.{◌≡◌, ◌⊎◌, ℕ, ◌<◌, List, ◌∷◌, ◌++◌, Option, Some, None, Ok, Err}
-use Rattle.camac_lang.specs.Tree.{Expression, number, variable, group, add, subtract, multiply, divide, remainder, Part, Condition}
+use Rattle.camac_lang.specs.Tree.{Expression, number, variable, group, add, subtract, multiply, divide, remainder, Test, compare, Part, plain, negated, Condition}
 use Rattle.camac_range.specs.Interval.{Interval}
 use Rattle.camac_range.specs.Number.{greatest}
 use Rattle.camac_range.specs.Operators as range
@@ -82,3 +82,18 @@ pub record IsRefusedThere (line : ℕ) (ps : Condition) (k : Facts) (fault : Fau
 abbrev pub ConditionsAreShown : Type 0
 ConditionsAreShown =
     (line : ℕ) (ps : Condition) (k : Facts) (fault : Fault) → split line ps k ≡ Err fault → IsRefusedThere line ps k fault
+
+-- an expression on one side of the comparison in a part
+abbrev pub IsSide : Expression → Test → Type 0
+IsSide e (compare a c b) = (e ≡ a) ⊎ (e ≡ b)
+IsSide e t = ⊥
+
+abbrev pub HasSide : Expression → Part → Type 0
+HasSide e (plain t) = IsSide e t
+HasSide e (negated t) = IsSide e t
+
+-- The fault of a part is that of one of the two expressions in it.
+abbrev pub PartsAreShown : Type 0
+PartsAreShown =
+    (line : ℕ) (p : Part) (k : Facts) (fault : Fault) → split_part line p k ≡ Err fault
+    → (e : Expression) × HasSide e p × (range_of line e k.ranges ≡ Err fault)

@@ -4,12 +4,14 @@ ghost use Rattle.camac_laws.specs.Calls.{AcceptedCallsKeep, CallsKeepToRanges, G
 ghost use Rattle.camac_laws.specs.Grow.{CostsGrow};
 ghost use Rattle.camac_laws.specs.Least.{CheckedHaveLeast, LeastAreLeast, RefusedHaveNone};
 ghost use Rattle.camac_laws.specs.Places.{RegistersHaveAddresses};
-ghost use Rattle.camac_laws.specs.Regions.{CommandsAreJudged, CostIsGreatest, ReadsAreAll, StationsAreAll, ValuesAreFit, WaitsMayCome, WidthsAreAll};
+ghost use Rattle.camac_laws.specs.Refused.{HeadingsAreShown, RefusedAtPlaces};
+ghost use Rattle.camac_laws.specs.Regions.{CommandsAreJudged, CostIsGreatest, StationsAreAll, WaitsMayCome, WidthsAreAll};
 ghost use Rattle.camac_laws.specs.Scans.{ScansAreJudged};
-ghost use Rattle.camac_laws.specs.Shown.{ArgumentsAreShown, ForTurnsAreShown, HeadingsAreShown, KeptAreShown, UnfitHaveOne, UnkeptHaveOne, WhileTurnsAreShown};
+ghost use Rattle.camac_laws.specs.Shown.{ArgumentsAreShown, ForTurnsAreShown, KeptAreShown, UnfitHaveOne, UnkeptHaveOne, WhileTurnsAreShown};
 ghost use Rattle.camac_laws.specs.ShownAddresses.{MissingAreShown, UndeclaredAreShown};
-ghost use Rattle.camac_laws.specs.ShownExpressions.{ConditionsAreShown, ExpressionsAreShown};
+ghost use Rattle.camac_laws.specs.ShownExpressions.{ConditionsAreShown, ExpressionsAreShown, PartsAreShown};
 ghost use Rattle.camac_laws.specs.ShownWindows.{MissingOverAreShown, UndeclaredOverAreShown};
+ghost use Rattle.camac_laws.specs.Values.{BlocksAreFit, ReadsAreAll, WritesAreFit};
 ghost use Rattle.camac_laws.specs.Windows.{WindowsAreCounted, WindowsAreDeclared, WindowsAreInstalled};
 
 use camac_check::Checked;
@@ -59,8 +61,15 @@ pub fn calls_keep_to_ranges(checked: &Checked)
     checked.plan().is_plan();
 }
 
-/// Where a cost is above the number of its heading (E11, E12, E18), the case shows both. A heading with any number that is at least the cost is
-/// not refused by that rule.
+/// Where a script is refused, all procedures and services before one are accepted, and this one is refused. A statement of its body, to which
+/// the checker comes as all before it are accepted, has this fault, on its line, and none of those in its blocks has one. Or its body is
+/// accepted and costs more than its heading has.
+pub fn refused_at_places()
+    ensures { RefusedAtPlaces }
+{}
+
+/// Where the body of a procedure or service is accepted and the whole is not (E11, E12, E18), the case shows what the body costs and the lower
+/// number of its heading. A heading with any number that is at least the cost is not refused by that rule.
 pub fn headings_are_shown()
     ensures { HeadingsAreShown }
 {}
@@ -101,6 +110,11 @@ pub fn expressions_are_shown()
 /// Where a condition is refused, one of its parts is, in the state in which all parts before it hold.
 pub fn conditions_are_shown()
     ensures { ConditionsAreShown }
+{}
+
+/// Where a part of a condition is refused, its fault is that of one of the two expressions in it.
+pub fn parts_are_shown()
+    ensures { PartsAreShown }
 {}
 
 /// Where a station may not be installed (E1), the case shows the first crate of the addresses not all of whose stations are there. Where that
@@ -152,13 +166,16 @@ pub fn commands_are_judged()
     ensures { CommandsAreJudged }
 {}
 
-/// A value passes E5 exactly where it fits at each address of the register, and a table exactly where each of its words does.
+/// A single write is accepted only where the greatest value of its expression fits at each address of its register, and a block transfer only
+/// where each word that it sends does. E5 refuses them only where the value, or the greatest word, does not fit at some address: the case shows
+/// it, and the bits that are sent there.
 pub fn values_are_fit()
-    ensures { ValuesAreFit }
+    ensures single { WritesAreFit }
+    ensures block { BlocksAreFit }
 {}
 
-/// A variable that is read has the range of the words that have no more bits than the function has at some address of the register, and for
-/// `cssa` no more than 16.
+/// After a read its variable has the range of the words that have no more bits than the function has at some address of the register, and for
+/// `cssa` no more than 16. All else is known as before it.
 pub fn reads_are_all()
     ensures { ReadsAreAll }
 {}

@@ -1,3 +1,5 @@
 pub mod Places
 pub mod Rules
 pub mod Documents
+mod Firsts
+mod Twice

@@ -5,3 +5,4 @@ pub mod Commands
 pub mod Types
 pub mod Crates
 pub mod Reading
+pub mod Twice

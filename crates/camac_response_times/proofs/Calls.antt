@@ -1,11 +1,37 @@
 -- The search by rounds, step by step.
-use Rattle.std.proofs.Common.{◌≡◌, ℕ, suc, ◌+◌, ◌-◌, ◌*◌, ◌^◌, ◌<◌, ◌≤◌, List, Option, Some, None, sym, ◌∙◌, ap, arith}
-use Rattle.std.specs.Prelude.{max, false}
+use Rattle.std.proofs.Common.{◌≡◌, ℕ, zero, suc, ◌+◌, ◌-◌, ◌*◌, ◌^◌, ◌<◌, ◌≤◌, List, Option, Some, None, Bool, refl, sym, ◌∙◌, ap, arith}
+use Rattle.std.specs.Prelude.{max, true, false, nat_eq, nat_le, if◌then◌else◌}
+use Rattle.std.proofs.lemmas.Option.{same_Some}
 use Rattle.camac_response_times.specs.declared.source.Source.{Source}
 use Rattle.camac_response_times.specs.declared.search.Settled.{Settled}
-use Rattle.camac_response_times.specs.Response.{calls_within, period, before, stretch_wants, start_wants}
-use Rattle.camac_response_times.specs.Rounds.{settle, greatest_wait, response_in}
-use Rattle.camac_response_times.specs.Found.{wants}
+use Rattle.camac_response_times.specs.declared.search.Wanted.{Wanted}
+use Rattle.camac_response_times.specs.Response.{called_within, calls_within, period, before, stretch_wants, start_wants}
+use Rattle.camac_response_times.specs.Rounds.{settle, greatest_wait, response_in, most_cycles}
+use Rattle.camac_response_times.specs.Found.{gathered, is_meant, wants, within}
+
+-- a number that does not stand still is put in again
+pub round_on : (w : ℕ → ℕ) (left e n : ℕ) → 1 ≤ left → Some n ≡ within (w e) → nat_eq n e ≡ false → settle w left e ≡ settle w (left - 1) n
+round_on w zero e n one is not = absurd (omega (arith, one))
+round_on w (suc r) e n one is not = go (nat_le (w e) most_cycles) is
+  where
+    go : (fits : Bool) → Some n ≡ (if fits then Some (w e) else None) → elim fits [ true ↦ elim (nat_eq (w e) e) [ true ↦ Some (record { cycles = e; rounds = r }) | false ↦ settle w r (w e) ] | false ↦ None ] ≡ settle w (suc r - 1) n
+    go false is' = absurd (cc)
+    go true is' =
+        let same : n ≡ w e = same_Some n (w e) is' in
+        let one_less : r ≡ suc r - 1 = omega arith in
+        ap (λ b. elim b [ true ↦ Some (record { cycles = e; rounds = r }) | false ↦ settle w r (w e) ]) (ap (λ x. nat_eq x e) (sym same) ∙ not) ∙ ap (settle w r) (sym same)
+        ∙ ap (λ i. settle w i n) one_less
+
+-- what wants as much settles alike
+pub settle_alike : (v w : ℕ → ℕ) → ((e : ℕ) → v e ≡ w e) → (r e : ℕ) → settle v r e ≡ settle w r e
+settle_alike v w same zero e = refl
+settle_alike v w same (suc r) e =
+    ap (λ n. elim (nat_le n most_cycles) [ true ↦ elim (nat_eq n e) [ true ↦ Some (record { cycles = e; rounds = r }) | false ↦ settle v r n ] | false ↦ None ]) (same e)
+    ∙ ap (λ o. elim (nat_le (w e) most_cycles) [ true ↦ elim (nat_eq (w e) e) [ true ↦ Some (record { cycles = e; rounds = r }) | false ↦ o ] | false ↦ None ]) (settle_alike v w same r (w e))
+
+-- services that are laid out want as much
+pub laid_out : (first g : ℕ) (own : Bool) (ts : List Source) (w : Wanted) → ((e : ℕ) → gathered e w ≡ called_within (is_meant g own) e ts) → (r : ℕ) → settle (λ e. first + gathered e w) r 0 ≡ settle (wants first g own ts) r 0
+laid_out first g own ts w same r = settle_alike (λ e. first + gathered e w) (wants first g own ts) (λ e. ap (λ n. first + n) (same e)) r 0
 
 module _ (ts : List Source) (s : Source) where
   -- the n-th call is next, and what is left gives the whole

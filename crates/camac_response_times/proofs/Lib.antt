@@ -6,3 +6,4 @@ pub mod Calls
 pub mod Answered
 pub mod Words
 pub mod Load
+pub mod Gathered

@@ -1,7 +1,9 @@
 -- What the search computes, in one form for a stretch and for a call.
-use Rattle.std.specs.Prelude.{ℕ, ◌+◌, ◌*◌, ◌^◌, ◌≤◌, Bool, List, Option, Some, None, nat_le, option_and_then, option_map, slice_get, if◌then◌else◌}
+use Rattle.std.specs.Prelude.{ℕ, ◌+◌, ◌*◌, ◌/◌, ◌^◌, ◌≤◌, Bool, List, [], ◌∷◌, Option, Some, None, nat_le, option_and_then, option_map, slice_get, if◌then◌else◌}
 use Rattle.camac_response_times.specs.declared.source.Source.{Source}
+use Rattle.camac_response_times.specs.declared.search.Caller.{Caller}
 use Rattle.camac_response_times.specs.declared.search.Response.{Response}
+use Rattle.camac_response_times.specs.declared.search.Wanted.{Wanted}
 use Rattle.camac_response_times.specs.Response.{is_up_to, is_below, called_within}
 use Rattle.camac_response_times.specs.Rounds.{longest, most_cycles, response}
 
@@ -11,6 +13,15 @@ is_meant g own t = if own then is_up_to g t else is_below g t
 
 abbrev pub wants : (first bit : ℕ) → (own : Bool) → List Source → ℕ → ℕ
 wants first g own ts e = first + called_within (is_meant g own) e ts
+
+-- the cycles of all calls within e cycles but the first ones
+abbrev pub repeated : ℕ → List Caller → ℕ
+repeated e [] = 0
+repeated e (c ∷ cs) = e / c.rate * c.cycles + repeated e cs
+
+-- what services want that are laid out for the rounds
+abbrev pub gathered : ℕ → Wanted → ℕ
+gathered e w = w.once + repeated e w.callers.items + called_within (is_meant w.bit w.own) e w.rest.now
 
 -- a number up to the limit
 abbrev pub within : ℕ → Option ℕ

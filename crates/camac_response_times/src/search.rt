@@ -3,9 +3,10 @@
 ghost use Rattle.std.specs.Prelude.{◌≡◌, ◌+◌, ◌-◌, ◌*◌, ◌^◌, ◌<◌, ◌≤◌, ◌∷◌, [], ℕ, IsTrue};
 ghost use Rattle.camac_response_times.specs.Response.{before, called_within, calls_within, is_up_to, period};
 ghost use Rattle.camac_response_times.specs.Rounds.{greatest_wait, settle};
-ghost use Rattle.camac_response_times.specs.Found.{TakesAll, is_meant, response_at, wants, within};
+ghost use Rattle.camac_response_times.specs.Found.{TakesAll, gathered, is_meant, repeated, response_at, within};
 
 use crate::source::{Rate, Source};
+use arrayvec::ArrayVec;
 use camac_word::GlBit;
 
 /// The most rounds for one service: each number of cycles that is put in counts as one (own).
@@ -18,6 +19,24 @@ pub struct Response {
     pub start: u32,
     pub end: u32,
     pub longest: u32,
+}
+
+// A service with a rate, of those that are meant.
+#[derive(Clone, Copy, Debug, Default, PartialEq, Eq)]
+struct Caller {
+    rate: Rate,
+    cycles: u32,
+}
+
+// The services up to a bit, or with `own` false below it, laid out for the rounds: those of the first 24 (a pattern has no more bits) by one call
+// of each and by what calls again, and the rest as they are.
+#[derive(Drop)]
+struct Wanted<'a> {
+    bit: GlBit,
+    own: bool,
+    once: u64,
+    callers: ArrayVec<Caller, 24>,
+    rest: &'a [Source],
 }
 
 // A number of cycles that stands still, and the rounds that are left.
@@ -40,7 +59,7 @@ pub fn response_of(sources: &[Source], number: usize) -> Option<Response>
         return None;
     }
     let blocked = u64::from(most_before(source.bit, sources));
-    let longest = settle_from(blocked, source.bit, true, sources, MOST_ROUNDS)?;
+    let longest = settle_from(blocked, &gather(source.bit, true, sources), MOST_ROUNDS)?;
     let start = most_wait(sources, *source, blocked, longest)?;
     Some(Response {
         start: start as u32,
@@ -82,12 +101,13 @@ fn most_wait(sources: &[Source], source: Source, blocked: u64, longest: Settled)
 {
     let calls = most_calls(source.every, longest.cycles);
     let period = period_of(source.every);
+    let below = gather(source.bit, false, sources);
     let mut left = longest.rounds;
     let mut start: u64 = 0;
     let mut n: u64 = 1;
     while n <= calls {
         let first = blocked + (n - 1) * u64::from(source.cycles);
-        let at = settle_from(first, source.bit, false, sources, left)?;
+        let at = settle_from(first, &below, left)?;
         start = start.max(u64::from(at.cycles).saturating_sub((n - 1) * period));
         left = at.rounds;
         n += 1;
@@ -95,21 +115,42 @@ fn most_wait(sources: &[Source], source: Source, blocked: u64, longest: Settled)
     Some(start)
 }
 
-// The fewest cycles that are enough for what is wanted, found in so many rounds.
-fn settle_from(
-    first: u64,
-    bit: GlBit,
-    own: bool,
-    sources: &[Source],
-    rounds: u32,
-) -> Option<Settled>
-    ensures { result ≡ settle (wants first bit own sources.now) rounds 0 }
+// The services that are meant, laid out.
+fn gather(bit: GlBit, own: bool, sources: &[Source]) -> Wanted<'_>
+    ensures { (e : ℕ) → gathered e result ≡ called_within (is_meant bit own) e sources.now }
+{
+    let (near, rest) = sources.split_at(sources.len().min(24));
+    let mut once = 0;
+    let mut callers = ArrayVec::new();
+    'services: for source in near {
+        if is_meant(bit, own, *source) {
+            once += u64::from(source.cycles);
+            if let Some(rate) = source.every {
+                callers.push(Caller {
+                    rate,
+                    cycles: source.cycles,
+                });
+            }
+        }
+    }
+    Wanted {
+        bit,
+        own,
+        once,
+        callers,
+        rest,
+    }
+}
+
+// The fewest cycles that are enough for so many and for what is wanted, found in so many rounds.
+fn settle_from(first: u64, wanted: &Wanted<'_>, rounds: u32) -> Option<Settled>
+    ensures { result ≡ settle (λ e. first + gathered e wanted.now) rounds 0 }
 {
     let mut cycles = 0;
     let mut left = rounds;
     while left > 0 {
         left -= 1;
-        let next = sum_within(first, bit, own, cycles, sources)?;
+        let next = wanted_within(first, wanted, cycles)?;
         if next == cycles {
             return Some(Settled {
                 cycles,
@@ -121,6 +162,35 @@ fn settle_from(
     None
 }
 
+// So many cycles and what is wanted within so many; none above the limit.
+fn wanted_within(first: u64, wanted: &Wanted<'_>, cycles: u32) -> Option<u32>
+    ensures { result ≡ within (first + gathered cycles wanted.now) }
+{
+    let once = first.checked_add(wanted.once)?;
+    let again = repeated_within(once, &wanted.callers, cycles)?;
+    sum_within(
+        u64::from(again),
+        wanted.bit,
+        wanted.own,
+        cycles,
+        wanted.rest,
+    )
+}
+
+// So many cycles and those of all calls of these but their first ones; none above the limit.
+fn repeated_within(first: u64, callers: &[Caller], cycles: u32) -> Option<u32>
+    ensures { result ≡ within (first + repeated cycles callers.now) }
+{
+    let mut all = first;
+    'callers: for caller in callers {
+        if all > u64::from(u32::MAX) {
+            return None;
+        }
+        all += u64::from(caller.rate.times_in(cycles)) * u64::from(caller.cycles);
+    }
+    u32::try_from(all).ok()
+}
+
 // So many cycles and those of all calls of services below the bit, and with `own` of the bit too; none above the limit.
 fn sum_within(first: u64, bit: GlBit, own: bool, cycles: u32, sources: &[Source]) -> Option<u32>
     ensures { result ≡ within (first + called_within (is_meant bit own) cycles sources.now) }
@@ -130,11 +200,18 @@ fn sum_within(first: u64, bit: GlBit, own: bool, cycles: u32, sources: &[Source]
         if all > u64::from(u32::MAX) {
             return None;
         }
-        if source.bit < bit || own && source.bit == bit {
+        if is_meant(bit, own, *source) {
             all += most_calls(source.every, cycles) * u64::from(source.cycles);
         }
     }
     u32::try_from(all).ok()
+}
+
+// Whether a service is one up to a bit, or with `own` false below it.
+fn is_meant(bit: GlBit, own: bool, source: Source) -> bool
+    ensures { result ≡ is_meant bit own source }
+{
+    source.bit < bit || own && source.bit == bit
 }
 
 // The most cycles of a service of a greater bit.

@@ -25,6 +25,18 @@ impl Model for Rate {
     ghost inverse = { λ n. record { cycles = n; share = (2 ^ 64 - 1) / n } };
 }
 
+impl Default for Rate {
+    ghost is_default = { λ rate. rate ≡ 4294967295 };
+
+    /// The longest, so that a fixed table can be filled before its rates are known.
+    fn default() -> Self {
+        Rate {
+            cycles: u32::MAX,
+            share: u64::MAX / u64::from(u32::MAX),
+        }
+    }
+}
+
 impl Rate {
     /// The rate of so many cycles. Of 0 there is none.
     pub fn new(cycles: u32) -> Option<Self>

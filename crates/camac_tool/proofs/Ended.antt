@@ -1,46 +1,43 @@
 -- The exit status of what was done.
-use Rattle.std.proofs.Common.{◌≡◌, ℕ, List, Bor, refl, inl, inr, subst, sym}
+use Rattle.std.proofs.Common.{◌≡◌, ℕ, List, Bor, Option, refl, inl, inr, subst, sym}
 use Rattle.std.specs.Prelude.{Result, Ok, Err}
 use Rattle.std.specs.Global.{Vec}
 use Rattle.clap.specs.declared.error.kind.ErrorKind.{ErrorKind}
 use Rattle.clap.specs.declared.error.kind.ErrorKind.TheVariants as kind
-use Rattle.camac_tool_check.specs.Engine.{status_of}
+use Rattle.camac_response_times.specs.declared.setting.Misuse.{Misuse}
 use Rattle.camac_tool_check.specs.declared.fault.ToolFault.{ToolFault}
+use Rattle.camac_tool_check.specs.declared.fault.ToolFault.TheVariants.{Memory, Read}
 use Rattle.camac_tool_check.specs.declared.outcome.Outcome.{Outcome}
-use Rattle.camac_tool_check.specs.declared.outcome.Outcome.TheVariants.{Good, Refused}
+use Rattle.camac_tool_check.specs.declared.response.Responded.{Responded}
+use Rattle.camac_tool_check.specs.declared.response.Responded.TheVariants.{Told}
 use Rattle.camac_tool_words.specs.declared.words.Job.{Job}
 use Rattle.camac_tool_words.specs.declared.words.Job.TheVariants as job
-use Rattle.camac_tool.specs.Status.{EndsEngine, EndsJob, EndsResponse, EndsUsage}
+use Rattle.camac_tool.specs.Status.{EndsAs, EndsJob, EndsResponse, EndsUsage}
 
-ends : (r : Result Outcome ToolFault) → EndsEngine (status_of r)
-ends (Ok Good) = inl refl
-ends (Ok Refused) = inr (inl refl)
-ends (Err f) = inr (inr refl)
+-- an answer of an engine is one of `response`, too
+by_engine : (j : Job) (r : Result Outcome ToolFault) (s : ℕ) → EndsAs r s → EndsJob j s
+by_engine (job.Response plan script every within) (Ok outcome) s e = (Ok (Told outcome), e)
+by_engine (job.Response plan script every within) (Err fault) s e = (Err fault, e)
+by_engine (job.Plan plan) r s e = (r, e)
+by_engine (job.Commands plan) r s e = (r, e)
+by_engine (job.Check plan script) r s e = (r, e)
+by_engine (job.Explain plan script) r s e = (r, e)
+by_engine (job.ExplainPlan plan) r s e = (r, e)
+by_engine (job.Bounds plan script) r s e = (r, e)
+by_engine (job.Costs plan script) r s e = (r, e)
+by_engine (job.Run plan script answers events) r s e = (r, e)
+by_engine (job.Drive plan script events) r s e = (r, e)
+by_engine (job.Events file) r s e = (r, e)
 
-by_engine : (s : ℕ) (j : Job) → EndsEngine s → EndsJob j s
-by_engine s (job.Response plan script every within) e = inr e
-by_engine s (job.Plan plan) e = e
-by_engine s (job.Commands plan) e = e
-by_engine s (job.Check plan script) e = e
-by_engine s (job.Explain plan script) e = e
-by_engine s (job.ExplainPlan plan) e = e
-by_engine s (job.Bounds plan script) e = e
-by_engine s (job.Costs plan script) e = e
-by_engine s (job.Run plan script answers events) e = e
-by_engine s (job.Drive plan script events) e = e
-by_engine s (job.Events file) e = e
+pub engine_ends : (j : Job) (r : Result Outcome ToolFault) (s : ℕ) → EndsAs r s → EndsJob j s
+engine_ends = by_engine
 
-pub engine_ends : (j : Job) (r : Result Outcome ToolFault) (s : ℕ) → s ≡ status_of r → EndsJob j s
-engine_ends j r s e = by_engine s j (subst EndsEngine (sym e) (ends r))
+pub response_job : (j : Job) (plan script : Bor (List ℕ)) (every within : Vec (Bor (List ℕ))) (r : Result Responded ToolFault) (s : ℕ) → j ≡ job.Response plan script every within → EndsResponse r s → EndsJob j s
+response_job j plan script every within r s is e = subst (λ k. EndsJob k s) (sym is) (r, e)
 
-pub response_ends : (r : Result Outcome ToolFault) (s : ℕ) → s ≡ status_of r → EndsResponse s
-response_ends r s e = inr (subst EndsEngine (sym e) (ends r))
+-- of memory and of what cannot be read the status is 3, whichever call failed last
+pub memory_ends : (s : ℕ) → EndsAs (Err Memory) s → s ≡ 3
+memory_ends s e = e.1
 
-pub stopped_ends : (s : ℕ) → s ≡ 3 → EndsResponse s
-stopped_ends s e = inr (inr (inr e))
-
-pub usage_ends : (k : ErrorKind) (s : ℕ) → k ≡ kind.ValueValidation → EndsUsage k s → EndsResponse s
-usage_ends k s e h = inl (subst (λ l. EndsUsage l s) e h)
-
-pub response_job : (j : Job) (plan script : Bor (List ℕ)) (every within : Vec (Bor (List ℕ))) (s : ℕ) → j ≡ job.Response plan script every within → EndsResponse s → EndsJob j s
-response_job j plan script every within s is e = subst (λ k. EndsJob k s) (sym is) e
+pub read_ends : (s : ℕ) → EndsAs (Err Read) s → s ≡ 3
+read_ends s e = e.1

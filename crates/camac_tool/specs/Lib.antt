@@ -6,3 +6,4 @@ pub mod Status
 pub mod Gathered
 pub mod Streams
 pub mod Devices
+pub mod Files

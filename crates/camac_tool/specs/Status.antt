@@ -1,31 +1,52 @@
 -- The exit status, and the reason for it.
-use Rattle.std.specs.Prelude.{◌≡◌, ◌≤◌, ◌⊎◌, ℕ, List}
+use Rattle.std.specs.Prelude.{◌≡◌, ◌≤◌, ◌⊎◌, ℕ, List, Bool, true, Result, Ok, Err}
 use Rattle.clap.specs.Words.{Text, kind_of, subcommand_of}
 use Rattle.clap.specs.declared.error.kind.ErrorKind.{ErrorKind}
 use Rattle.clap.specs.declared.error.kind.ErrorKind.TheVariants as kind
+use Rattle.camac_response_times.specs.declared.setting.Misuse.{Misuse}
+use Rattle.camac_response_times.specs.declared.setting.Misuse.TheVariants.{Form}
+use Rattle.camac_tool_check.specs.Engine.{status_of}
+use Rattle.camac_tool_check.specs.declared.fault.ToolFault.{ToolFault}
+use Rattle.camac_tool_check.specs.declared.fault.ToolFault.TheVariants.{Write}
+use Rattle.camac_tool_check.specs.declared.outcome.Outcome.{Outcome}
+use Rattle.camac_tool_check.specs.declared.response.Responded.{Responded}
+use Rattle.camac_tool_check.specs.declared.response.Responded.TheVariants.{Told, Misused}
 use Rattle.camac_tool_words.specs.Words.{IsFaultOf, IsJob, camac_app, input_count_of}
 use Rattle.camac_tool_words.specs.declared.words.Job.{Job}
 use Rattle.camac_tool_words.specs.declared.words.Job.TheVariants.{Response}
 use Rattle.camac_tool_words.specs.declared.words.JobFault.{JobFault}
 use Rattle.camac_tool_words.specs.declared.words.JobFault.TheVariants.{Usage, InTwice}
 
--- of an engine: accepted or done, refused, a fault
-abbrev pub EndsEngine : ℕ → Type 0
-EndsEngine s = (s ≡ 0) ⊎ ((s ≡ 1) ⊎ (s ≡ 3))
+-- after a fault 3, and after a write to a pipe that its reader closed what a shell tells of a tool that is ended by SIGPIPE (own)
+abbrev pub fault_status : ToolFault → (is_closed : Bool) → ℕ
+fault_status Write true = 141
+fault_status fault is_closed = 3
 
--- the words of `response` may be wrong, too
-abbrev pub EndsResponse : ℕ → Type 0
-EndsResponse s = (s ≡ 2) ⊎ EndsEngine s
+-- by the outcome, or by the fault and whether the last call that failed found its pipe closed
+abbrev pub EndsAs : Result Outcome ToolFault → ℕ → Type 0
+EndsAs (Ok outcome) s = s ≡ status_of (Ok outcome)
+EndsAs (Err fault) s = (is_closed : Bool) × (s ≡ fault_status fault is_closed)
+
+-- words that are wrong; the text on those of a wrong form takes memory
+abbrev pub EndsMisuse : Misuse → ℕ → Type 0
+EndsMisuse (Form option word) s = (s ≡ 2) ⊎ (s ≡ 3)
+EndsMisuse misuse s = s ≡ 2
+
+-- of `response`, whose words may be wrong
+abbrev pub EndsResponse : Result Responded ToolFault → ℕ → Type 0
+EndsResponse (Ok (Told outcome)) s = EndsAs (Ok outcome) s
+EndsResponse (Ok (Misused misuse)) s = EndsMisuse misuse s
+EndsResponse (Err fault) s = EndsAs (Err fault) s
 
 abbrev pub EndsJob : Job → ℕ → Type 0
-EndsJob (Response plan script every within) s = EndsResponse s
-EndsJob job s = EndsEngine s
+EndsJob (Response plan script every within) s = (answer : Result Responded ToolFault) × EndsResponse answer s
+EndsJob job s = (answer : Result Outcome ToolFault) × EndsAs answer s
 
 -- Of what `clap` answers in place of a job: out of memory; help or version, which end well unless they cannot be written; a mistake.
 abbrev pub EndsUsage : ErrorKind → ℕ → Type 0
 EndsUsage kind.OutOfMemory s = s ≡ 3
-EndsUsage kind.DisplayHelp s = (s ≡ 0) ⊎ (s ≡ 3)
-EndsUsage kind.DisplayVersion s = (s ≡ 0) ⊎ (s ≡ 3)
+EndsUsage kind.DisplayHelp s = (s ≡ 0) ⊎ EndsAs (Err Write) s
+EndsUsage kind.DisplayVersion s = (s ≡ 0) ⊎ EndsAs (Err Write) s
 EndsUsage k s = s ≡ 2
 
 abbrev pub EndsFault : JobFault → ℕ → Type 0

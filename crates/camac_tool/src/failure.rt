@@ -1,10 +1,11 @@
 // Why a call on a file or a standard stream failed: what stands below the line of a fault.
 
-ghost use Rattle.std.specs.Prelude.{◌≡◌};
+ghost use Rattle.std.specs.Prelude.{◌≡◌, Err};
+ghost use Rattle.camac_tool.specs.Status.{EndsAs, fault_status};
 ghost use Rattle.camac_tool_check.specs.declared.fault.ToolFault.TheVariants.{Read as read-fault, Write as write-fault};
 
 use arrayvec::ArrayString;
-use camac_tool_check::ToolFault;
+use camac_tool_check::{ToolFault, status};
 use std::cell::Cell;
 use std::fmt::Write as TextWrite;
 use std::io;
@@ -12,6 +13,9 @@ use std::io::{Eprint, Error, ErrorKind, Read, Write};
 
 /// What stands between the system's text of an error and its number, as the kit writes them.
 const NUMBER: &str = " (os error ";
+
+/// The status of a tool that is ended by SIGPIPE, as a shell tells it.
+const CLOSED: u8 = 141;
 
 /// The last call that failed, if any: the name of its file, and why. The readers and the writers of the program share it.
 #[derive(Drop)]
@@ -38,20 +42,33 @@ impl<'a> Failure<'a> {
         ToolFault::Write
     }
 
-    /// Tells a fault on standard error, and which file it is of. Of a pipe that its reader closed nothing is told.
-    pub fn tell<R: Eprint>(&self, rt: &R, fault: ToolFault) {
+    /// Tells a fault on standard error, and which file it is of, and answers the exit status. Of a pipe that its reader closed nothing is told.
+    pub fn tell<R: Eprint>(&self, rt: &R, fault: ToolFault) -> u8
+        ensures { EndsAs (Err fault) result }
+    {
         let Some((name, why)) = self.0.get() else {
             let _ = eprintln!(rt; "{fault}");
-            return;
+            return fault_status(fault, false);
         };
-        if why.kind() == ErrorKind::BrokenPipe {
-            return;
+        let status = fault_status(fault, why.kind() == ErrorKind::BrokenPipe);
+        if status != CLOSED {
+            let mut text = ArrayString::<128>::new();
+            let _ = write!(text, "{why}");
+            let text = text.as_str();
+            let reason = text.rsplit_once(NUMBER).map_or(text, |(reason, _)| reason);
+            let _ = eprintln!(rt; "{fault}\n  {name}: {reason}");
         }
-        let mut text = ArrayString::<128>::new();
-        let _ = write!(text, "{why}");
-        let text = text.as_str();
-        let reason = text.rsplit_once(NUMBER).map_or(text, |(reason, _)| reason);
-        let _ = eprintln!(rt; "{fault}\n  {name}: {reason}");
+        status
+    }
+}
+
+// The exit status after a fault, and whether the last call that failed found its pipe closed.
+fn fault_status(fault: ToolFault, is_closed: bool) -> u8
+    ensures { result ≡ fault_status fault is_closed }
+{
+    match fault {
+        ToolFault::Write if is_closed => CLOSED,
+        _ => status(&Err(fault)),
     }
 }
 

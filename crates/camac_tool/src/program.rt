@@ -1,13 +1,13 @@
 // The program, from its words to its exit status.
 
-ghost use Rattle.std.specs.Prelude.{◌≡◌, ◌||◌, [], IfOk, IfErr, OnOk, codes, is_err, is_none, map, string_bytes};
+ghost use Rattle.std.specs.Prelude.{◌≡◌, ◌||◌, [], Err, IfOk, IfErr, OnOk, codes, is_err, is_none, map, string_bytes};
 ghost use Rattle.std.specs.Str.{bytes_eq};
-ghost use Rattle.camac_tool_check.specs.Engine.{status_of};
 ghost use Rattle.camac_tool_check.specs.declared.fault.ToolFault.TheVariants.{Read as read-fault, Write};
 ghost use Rattle.clap.specs.Words.{kind_of};
-ghost use Rattle.camac_tool.specs.Status.{Ends, EndsJob, EndsResponse, EndsUsage};
+ghost use Rattle.camac_tool.specs.Status.{Ends, EndsAs, EndsJob, EndsMisuse, EndsResponse, EndsUsage};
 ghost use Rattle.camac_tool.specs.declared.launch.ArgumentsFault.TheVariants.{Memory, NotText};
 ghost use Rattle.camac_tool.specs.Gathered.{has_stopped, held_in};
+ghost use Rattle.camac_tool.specs.Input.{IsSourceOf};
 
 use crate::devices::run_on_devices;
 use crate::failure::{Failure, Named};
@@ -38,8 +38,8 @@ const USAGE: u8 = 2;
 const STANDARD_OUTPUT: &str = "standard output";
 
 /// Does what the words after the program's name ask for, and returns the exit status: 0 or 1 by the outcome, 2 where the words
-/// ask for nothing that is there, and 3 for a fault. Help and version print and end with 0. A fault is a line on standard error, and below it its file
-/// and the reason.
+/// ask for nothing that is there, 3 for a fault, and 141 where a pipe was written that its reader closed. Help and version print and end with 0. A
+/// fault is a line on standard error, and below it its file and the reason.
 pub fn exit_status<R: Runtime + AllocGlobal>(rt: &R, words: &[String]) -> u8
     ensures { Ends (map string_bytes words.now) result }
 {
@@ -72,12 +72,12 @@ fn serve<'a, R: Runtime + AllocGlobal>(rt: &R, failure: &Failure<'a>, job: Job<'
     ensures { EndsJob job.entry result }
 {
     let answer = match job {
-        Job::Plan(plan) => show_plan(rt, failure, plan),
-        Job::Commands(plan) => show_commands(rt, failure, plan),
-        Job::Check(plan, script) => check(rt, failure, plan, script),
-        Job::Explain(plan, script) => explain(rt, failure, plan, script),
-        Job::ExplainPlan(plan) => explain_plan(rt, failure, plan),
-        Job::Bounds(plan, script) => show_bounds(rt, failure, plan, script),
+        Job::Plan(plan) => show_plan(rt, failure, AskPlan::Show, plan),
+        Job::Commands(plan) => show_plan(rt, failure, AskPlan::Commands, plan),
+        Job::ExplainPlan(plan) => show_plan(rt, failure, AskPlan::Explain, plan),
+        Job::Check(plan, script) => judge(rt, failure, Ask::Check, plan, script),
+        Job::Explain(plan, script) => judge(rt, failure, Ask::Explain, plan, script),
+        Job::Bounds(plan, script) => judge(rt, failure, Ask::Bounds, plan, script),
         Job::Costs(plan, script) => show_costs(rt, failure, plan, script),
         Job::Response(plan, script, every, within) => {
             let answer = show_responses(rt, failure, plan, script, &every, &within);
@@ -92,73 +92,53 @@ fn serve<'a, R: Runtime + AllocGlobal>(rt: &R, failure: &Failure<'a>, job: Job<'
     finished(rt, failure, answer)
 }
 
+// What is asked of a plan alone.
+#[derive(Clone, Copy)]
+enum AskPlan {
+    Show,
+    Commands,
+    Explain,
+}
+
 fn show_plan<'a, R: Runtime + AllocGlobal>(
     rt: &R,
     failure: &Failure<'a>,
+    ask: AskPlan,
     plan: &'a str,
 ) -> Result<Outcome, ToolFault> {
     let mut plan = source_of(plan_input(rt, failure, plan)?);
     let mut out = Watched::new(Gathered::new(rt.alloc(), output(rt, failure))?);
-    let outcome = engine_plan(rt.alloc(), &mut plan, &mut out)?;
+    let outcome = match ask {
+        AskPlan::Show => engine_plan(rt.alloc(), &mut plan, &mut out)?,
+        AskPlan::Commands => engine_commands(rt.alloc(), &mut plan, &mut out)?,
+        AskPlan::Explain => engine_explain_plan(rt.alloc(), &mut plan, &mut out)?,
+    };
     handed_on(&mut out.into_inner(), outcome)
 }
 
-fn show_commands<'a, R: Runtime + AllocGlobal>(
-    rt: &R,
-    failure: &Failure<'a>,
-    plan: &'a str,
-) -> Result<Outcome, ToolFault> {
-    let mut plan = source_of(plan_input(rt, failure, plan)?);
-    let mut out = Watched::new(Gathered::new(rt.alloc(), output(rt, failure))?);
-    let outcome = engine_commands(rt.alloc(), &mut plan, &mut out)?;
-    handed_on(&mut out.into_inner(), outcome)
+// What is asked of a plan and a script, and answered in a few lines.
+#[derive(Clone, Copy)]
+enum Ask {
+    Check,
+    Explain,
+    Bounds,
 }
 
-fn check<'a, R: Runtime + AllocGlobal>(
+fn judge<'a, R: Runtime + AllocGlobal>(
     rt: &R,
     failure: &Failure<'a>,
+    ask: Ask,
     plan: &'a str,
     script: &'a str,
 ) -> Result<Outcome, ToolFault> {
     let mut plan = source_of(plan_input(rt, failure, plan)?);
     let mut script = Watched::new(open(rt, failure, script)?);
     let mut out = Watched::new(output(rt, failure));
-    engine_check(rt.alloc(), &mut plan, &mut script, &mut out)
-}
-
-fn explain<'a, R: Runtime + AllocGlobal>(
-    rt: &R,
-    failure: &Failure<'a>,
-    plan: &'a str,
-    script: &'a str,
-) -> Result<Outcome, ToolFault> {
-    let mut plan = source_of(plan_input(rt, failure, plan)?);
-    let mut script = Watched::new(open(rt, failure, script)?);
-    let mut out = Watched::new(output(rt, failure));
-    engine_explain(rt.alloc(), &mut plan, &mut script, &mut out)
-}
-
-fn explain_plan<'a, R: Runtime + AllocGlobal>(
-    rt: &R,
-    failure: &Failure<'a>,
-    plan: &'a str,
-) -> Result<Outcome, ToolFault> {
-    let mut plan = source_of(plan_input(rt, failure, plan)?);
-    let mut out = Watched::new(Gathered::new(rt.alloc(), output(rt, failure))?);
-    let outcome = engine_explain_plan(rt.alloc(), &mut plan, &mut out)?;
-    handed_on(&mut out.into_inner(), outcome)
-}
-
-fn show_bounds<'a, R: Runtime + AllocGlobal>(
-    rt: &R,
-    failure: &Failure<'a>,
-    plan: &'a str,
-    script: &'a str,
-) -> Result<Outcome, ToolFault> {
-    let mut plan = source_of(plan_input(rt, failure, plan)?);
-    let mut script = Watched::new(open(rt, failure, script)?);
-    let mut out = Watched::new(output(rt, failure));
-    engine_bounds(rt.alloc(), &mut plan, &mut script, &mut out)
+    match ask {
+        Ask::Check => engine_check(rt.alloc(), &mut plan, &mut script, &mut out),
+        Ask::Explain => engine_explain(rt.alloc(), &mut plan, &mut script, &mut out),
+        Ask::Bounds => engine_bounds(rt.alloc(), &mut plan, &mut script, &mut out),
+    }
 }
 
 fn show_costs<'a, R: Runtime + AllocGlobal>(
@@ -290,7 +270,9 @@ fn plan_input<'f, 'a, R: Files + StandardInput>(
     Ok(Some(open(rt, failure, word)?))
 }
 
-fn source_of<I: Drop>(input: Option<I>) -> PlanSource<I> {
+fn source_of<I: Drop>(input: Option<I>) -> PlanSource<I>
+    ensures { IsSourceOf input result }
+{
     match input {
         None => PlanSource::Sample,
         Some(input) => PlanSource::Text(Watched::new(input)),
@@ -300,22 +282,21 @@ fn source_of<I: Drop>(input: Option<I>) -> PlanSource<I> {
 // What standard error does not take is lost: there is no other place to tell it.
 
 fn finished<R: Runtime>(rt: &R, failure: &Failure<'_>, answer: Result<Outcome, ToolFault>) -> u8
-    ensures { result ≡ status_of answer }
+    ensures { EndsAs answer result }
 {
-    if let Err(fault) = &answer {
-        failure.tell(rt, *fault);
+    match answer {
+        Ok(_) => status(&answer),
+        Err(fault) => failure.tell(rt, fault),
     }
-    status(&answer)
 }
 
 // Of `response`, whose words may be wrong.
-#[tactic(auto, using(crate::proofs::Ended::response_ends, crate::proofs::Ended::stopped_ends))]
 fn responded<R: Runtime + AllocGlobal>(
     rt: &R,
     failure: &Failure<'_>,
     answer: Result<Responded<'_>, ToolFault>,
 ) -> u8
-    ensures { EndsResponse result }
+    ensures { EndsResponse answer.entry result }
 {
     match answer {
         Ok(Responded::Told(outcome)) => finished(rt, failure, Ok(outcome)),
@@ -324,9 +305,9 @@ fn responded<R: Runtime + AllocGlobal>(
     }
 }
 
-#[tactic(auto, using(crate::proofs::Ended::usage_ends, crate::proofs::Ended::stopped_ends))]
+#[tactic(auto, using(crate::proofs::Ended::memory_ends))]
 fn misused_words<R: Runtime + AllocGlobal>(rt: &R, failure: &Failure<'_>, misuse: Misuse<'_>) -> u8
-    ensures { EndsResponse result }
+    ensures { EndsMisuse misuse.entry result }
 {
     let Misuse::Form(option, word) = misuse else {
         let _ = eprintln!(rt; "{misuse}");
@@ -339,7 +320,7 @@ fn misused_words<R: Runtime + AllocGlobal>(rt: &R, failure: &Failure<'_>, misuse
 }
 
 fn stopped<R: Runtime>(rt: &R, failure: &Failure<'_>, fault: ToolFault) -> u8
-    ensures { result ≡ 3 }
+    ensures { EndsAs (Err fault) result }
 {
     finished(rt, failure, Err(fault))
 }

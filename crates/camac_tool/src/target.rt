@@ -1,6 +1,7 @@
 // The event file of a run. No input and no standard stream is lost by it, and no run ends well before it is on the disk.
 
-ghost use Rattle.std.specs.Prelude.{◌≡◌, ◌&&◌, ◌==◌, None, IfErr};
+ghost use Rattle.std.specs.Prelude.{◌≡◌, None, IfErr};
+ghost use Rattle.camac_tool.specs.Files.{SaysRegular, SaysSame};
 ghost use Rattle.camac_tool_check.specs.declared.fault.ToolFault.TheVariants.{Write as write-fault};
 
 use crate::failure::{Failure, Named};
@@ -34,12 +35,12 @@ pub fn keep_apart<'a, R: Files, S: Drop>(
         return Ok(());
     };
     for (output, refusal) in STANDARD_OUTPUTS {
-        if is_same(&there, failure, output, fs::metadata(rt, output))? {
+        if is_same(there, failure, output, id_at(rt, output))? {
             return Err(failure.write(name, Error::other(refusal)));
         }
     }
     for input in [plan, Some(script), Some(answers)].into_iter().flatten() {
-        if is_same(&there, failure, input.name, after(rt, &input.device))? {
+        if is_same(there, failure, input.name, id_of_input(rt, &input.device))? {
             return Err(failure.write(name, Error::other("it is an input")));
         }
     }
@@ -127,47 +128,69 @@ fn sync<R: Files>(events: &NewFile<'_, R>) -> io::Result<()> {
     Ok(())
 }
 
+// By what the system knows a file: its device, and its number there.
+#[derive(Clone, Copy, PartialEq, Eq)]
+struct FileId {
+    device: u64,
+    number: u64,
+}
+
+fn id_of(about: &Metadata) -> FileId {
+    FileId {
+        device: about.dev(),
+        number: about.ino(),
+    }
+}
+
+fn id_at<R: Files>(rt: &R, name: &str) -> io::Result<FileId> {
+    Ok(id_of(&fs::metadata(rt, name)?))
+}
+
+fn id_of_input<R: Files, S: Drop>(rt: &R, input: &Input<S, R::File>) -> io::Result<FileId> {
+    match input {
+        Input::Standard(_) => id_at(rt, STANDARD_INPUT),
+        Input::File(file) => Ok(id_of(&file.metadata()?)),
+    }
+}
+
 // The regular file of this name, if there is one.
 fn file_at<'a, R: Files>(
     rt: &R,
     failure: &Failure<'a>,
     name: &'a str,
-) -> Result<Option<Metadata>, ToolFault>
+) -> Result<Option<FileId>, ToolFault>
     ensures { IfErr result (λ fault. fault ≡ write-fault) }
 {
-    match fs::metadata(rt, name) {
-        Ok(about) if about.is_file() => Ok(Some(about)),
-        Ok(_) => Ok(None),
-        Err(why) if why.kind() == ErrorKind::NotFound => Ok(None),
+    match regular(fs::metadata(rt, name)) {
+        Ok(Some(about)) => Ok(Some(id_of(&about))),
+        Ok(None) => Ok(None),
         Err(why) => Err(failure.write(name, why)),
     }
 }
 
-fn after<R: Files, S: Drop>(rt: &R, input: &Input<S, R::File>) -> io::Result<Metadata> {
-    match input {
-        Input::Standard(_) => fs::metadata(rt, STANDARD_INPUT),
-        Input::File(file) => file.metadata(),
+// What was found, if it is a regular file. That nothing is there is no fault.
+fn regular(found: io::Result<Metadata>) -> io::Result<Option<Metadata>>
+    ensures { SaysRegular found result }
+{
+    match found {
+        Ok(about) if about.is_file() => Ok(Some(about)),
+        Ok(_) => Ok(None),
+        Err(why) if why.kind() == ErrorKind::NotFound => Ok(None),
+        Err(why) => Err(why),
     }
 }
 
 // A file of which the system says nothing may be any file.
 fn is_same<'a>(
-    file: &Metadata,
+    file: FileId,
     failure: &Failure<'a>,
     name: &'a str,
-    other: io::Result<Metadata>,
+    other: io::Result<FileId>,
 ) -> Result<bool, ToolFault>
-    ensures { IfErr result (λ fault. fault ≡ write-fault) }
+    ensures { SaysSame file other result }
 {
     match other {
-        Ok(other) => Ok(is_one((file.dev(), file.ino()), (other.dev(), other.ino()))),
+        Ok(other) => Ok(file == other),
         Err(why) => Err(failure.write(name, why)),
     }
-}
-
-// Whether two devices with the number of a file on each name one file.
-fn is_one(file: (u64, u64), other: (u64, u64)) -> bool
-    ensures { result ≡ (file.0 == other.0 && file.1 == other.1) }
-{
-    file == other
 }

@@ -124,7 +124,7 @@ fn sentence_of_text(
     finding: Finding,
 ) -> Result<Option<String>, AllocError> {
     match finding {
-        Finding::Text { rule, left, .. } => text_sentence(alloc, text, rule, left),
+        Finding::Text { .. } => text_sentence(alloc, text),
         Finding::Plan(_) | Finding::Link { .. } | Finding::Check { .. } => Ok(None),
     }
 }

@@ -54,7 +54,8 @@ pub const EVENTS_OF_DRIVE: &str =
 pub const FILE: &str = "An event file, at most 16777216 bytes: a file, or @in, standard input";
 
 pub const AFTER_PROGRAM: &str =
-    "Status: 0 accepted, or done; 1 refused; 2 usage; 3 a file or memory failed.
+    "Status: 0 accepted, or done; 1 refused; 2 usage; 3 a file or memory failed;
+141 the reader of a pipe is gone.
 
 Examples:
   camac plan plan.toml

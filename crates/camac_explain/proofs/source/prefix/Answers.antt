@@ -2,6 +2,6 @@ use Rattle.std.proofs.Common.{sym, ◌≤◌, length, arith}
 use Rattle.std.proofs.lemmas.List.{take_all}
 use Rattle.camac_explain.proofs.source.prefix.Goals as goal
 
-pub returns-then-bytes-lt-LONGEST_SHOWN : goal.returns-then-bytes-lt-LONGEST_SHOWN
-returns-then-bytes-lt-LONGEST_SHOWN c =
-    let short = c.if-bytes-lt-LONGEST_SHOWN.true in sym (take_all 120 c.args.bytes.now (omega arith))
+pub returns-then-bytes-most : goal.returns-then-bytes-most
+returns-then-bytes-most c =
+    let short = c.if-bytes-most.true in sym (take_all c.args.most c.args.bytes.now (omega arith))

@@ -1,4 +1,4 @@
-use Rattle.camac_laws.proofs.ShownHeadings as shown
+use Rattle.camac_laws.proofs.RefusedAt as shown
 use Rattle.camac_laws.proofs.laws.headings_are_shown.Goals as goal
 
 pub returns : goal.returns

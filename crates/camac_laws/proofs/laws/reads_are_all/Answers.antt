@@ -1,4 +1,4 @@
-use Rattle.camac_laws.proofs.Regions as shown
+use Rattle.camac_laws.proofs.Values as shown
 use Rattle.camac_laws.proofs.laws.reads_are_all.Goals as goal
 
 pub returns : goal.returns

@@ -1,0 +1,81 @@
+-- Services, laid out for the rounds, one after the other.
+use Rattle.std.proofs.Common.{◌≡◌, ℕ, zero, suc, ◌+◌, ◌*◌, ◌/◌, ◌^◌, ◌<◌, ◌≤◌, List, [], ◌∷◌, ◌++◌, take, drop, length, slice_index_or, Option, Some, None, Bool, true, false, refl, sym, ◌∙◌, ap, arith}
+use Rattle.std.specs.Prelude.{if◌then◌else◌}
+use Rattle.camac_response_times.specs.declared.source.Source.{Source}
+use Rattle.camac_response_times.specs.declared.search.Caller.{Caller}
+use Rattle.camac_response_times.specs.Response.{called_within, calls_within}
+use Rattle.camac_response_times.specs.Found.{repeated}
+
+repeated_more : (e : ℕ) (cs : List Caller) (c : Caller) → repeated e (cs ++ c ∷ []) ≡ repeated e cs + e / c.rate * c.cycles
+repeated_more e [] c = omega arith
+repeated_more e (d ∷ cs) c = let rest = repeated_more e cs c in omega (arith, rest)
+
+length_more : (cs : List Caller) (c : Caller) → length (cs ++ c ∷ []) ≡ length cs + 1
+length_more [] c = refl
+length_more (d ∷ cs) c = let rest = length_more cs c in omega (arith, rest)
+
+pub next_is : (ts : List Source) (i : ℕ) (t : Source) → i < length ts → t ≡ slice_index_or ts i t → drop i ts ≡ t ∷ drop (i + 1) ts
+next_is [] i t less at = absurd (omega (arith, less))
+next_is (u ∷ ts) zero t less at = ap (λ v. v ∷ ts) (sym at)
+next_is (u ∷ ts) (suc i) t less at =
+    let on : suc i + 1 ≡ suc (i + 1) = omega arith in
+    next_is ts i t (omega (arith, less)) at ∙ ap (λ n. t ∷ drop n (u ∷ ts)) (sym on)
+
+pub split : (m : Source → Bool) (e n : ℕ) (ts : List Source) → called_within m e (take n ts) + called_within m e (drop n ts) ≡ called_within m e ts
+split m e zero ts = omega arith
+split m e (suc n) [] = refl
+split m e (suc n) (t ∷ ts) = let rest = split m e n ts in omega (arith, rest)
+
+module _ (m : Source → Bool) where
+  -- those before a place are laid out
+  pub record IsGathered (ts : List Source) (i once : ℕ) (cs : List Caller) : Type 0 where
+    pub same : (e : ℕ) → once + repeated e cs + called_within m e (drop i ts) ≡ called_within m e ts
+    pub few : once ≤ i * 2 ^ 32
+    pub count : length cs ≤ i
+
+  module _ (ts : List Source) (i once : ℕ) (cs : List Caller) (t : Source) (at : IsGathered ts i once cs) (next : drop i ts ≡ t ∷ drop (i + 1) ts) where
+    left : (e : ℕ) → once + repeated e cs + ((if m t then calls_within t.every e * t.cycles else 0) + called_within m e (drop (i + 1) ts)) ≡ called_within m e ts
+    left e = ap (λ us. once + repeated e cs + called_within m e us) (sym next) ∙ at.same e
+
+    pub not_meant : m t ≡ false → (once' : ℕ) (cs' : List Caller) → once' ≡ once → cs' ≡ cs → IsGathered ts (i + 1) once' cs'
+    not_meant is once' cs' once_is cs_is =
+        let few = at.few in
+        let count = at.count in
+        record {
+          same = λ e.
+              let none = ap (λ b. if b then calls_within t.every e * t.cycles else 0) is in
+              let all = left e in
+              let callers = ap (repeated e) cs_is in
+              omega (arith, all, none, once_is, callers);
+          few = omega (arith, few, once_is);
+          count = let long = ap length cs_is in omega (arith, count, long);
+        }
+
+    module _ (is : m t ≡ true) (fits : t.cycles < 2 ^ 32) (once' : ℕ) (cs' : List Caller) (once_is : once' ≡ once + t.cycles) where
+      pub meant_once : t.every ≡ None → cs' ≡ cs → IsGathered ts (i + 1) once' cs'
+      meant_once never cs_is =
+          let few = at.few in
+          let count = at.count in
+          record {
+            same = λ e.
+                let one = ap (λ b. if b then calls_within t.every e * t.cycles else 0) is ∙ ap (λ r. calls_within r e * t.cycles) never in
+                let all = left e in
+                let callers = ap (repeated e) cs_is in
+                omega (arith, all, one, once_is, callers);
+            few = omega (arith, few, fits, once_is);
+            count = let long = ap length cs_is in omega (arith, count, long);
+          }
+
+      pub meant_again : (c : Caller) → t.every ≡ Some c.rate → t.cycles ≡ c.cycles → cs' ≡ cs ++ c ∷ [] → IsGathered ts (i + 1) once' cs'
+      meant_again c rate cycles cs_is =
+          let few = at.few in
+          let count = at.count in
+          record {
+            same = λ e.
+                let here = ap (λ b. if b then calls_within t.every e * t.cycles else 0) is ∙ ap (λ r. calls_within r e * t.cycles) rate ∙ ap (λ n. (e / c.rate + 1) * n) cycles in
+                let all = left e in
+                let callers = ap (repeated e) cs_is ∙ repeated_more e cs c in
+                omega (arith, all, here, callers, cycles, once_is);
+            few = omega (arith, few, fits, once_is);
+            count = let long = ap length cs_is ∙ length_more cs c in omega (arith, count, long);
+          }
