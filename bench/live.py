@@ -1,13 +1,17 @@
 #!/usr/bin/env python3
-"""Measures how many operations a second a live run makes through pipes, beside `cat` at the other end of the same pipes.
+"""Measures how many operations a second a live run makes, beside `cat` at the other end of the same pipes.
 
 usage: bench/live.py [PROGRAM]     PROGRAM is, unless given, what CAMAC_PROGRAM names, or `camac` in PATH, or that of this clone
 
 Each operation is one request that is read and one answer that is written, in turn. `cat` gives each line back, so its loop is what the
-pipes and this computer take for themselves. The third loop is that of `camac.drive` with a branch whose operations take no time. The
-script makes one service of 99,999 cycles, without words.
+pipes and this computer take for themselves. The third loop is that of `camac.drive` with a branch whose operations take no time, and the
+last one that of `camac.play`, in one process, where the library for C is (CAMAC_LIBRARY). The script makes one service of 99,999 cycles,
+without words. Beside each rate stands the processor's time for an operation, of both processes: where others wait for the processors, it
+alone tells.
 """
+import contextlib
 import os
+import resource
 import subprocess
 import sys
 import tempfile
@@ -46,46 +50,59 @@ class Branch:
         return self.reply
 
 
+def spent():
+    """Seconds since some moment, and those of the processor, of this process and of those that ended."""
+    its = [resource.getrusage(who) for who in (resource.RUSAGE_SELF, resource.RUSAGE_CHILDREN)]
+    return time.perf_counter(), sum(it.ru_utime + it.ru_stime for it in its)
+
+
+@contextlib.contextmanager
+def told(name):
+    """Prints the rate of what is done in the block."""
+    began, before = spent()
+    yield
+    ended, after = spent()
+    print(f"{name:34} {CYCLES / (ended - began):9.0f} operations a second, {(after - before) / CYCLES * 1e6:6.2f} microseconds of the processor")
+
+
 def exchange(words, first=b""):
-    """Seconds of a loop that reads a line and then writes an answer, CYCLES times. `first` is written before all else."""
+    """Reads a line and then writes an answer, CYCLES times. `first` is written before all else."""
     with subprocess.Popen(words, stdin=subprocess.PIPE, stdout=subprocess.PIPE, bufsize=0) as process:
-        answer, request = process.stdin.fileno(), process.stdout.fileno()
-        os.write(answer, first)
-        os.read(request, 4096)
-        os.write(answer, DEMAND)
-        began = time.perf_counter()
+        process.stdin.write(first)
+        process.stdout.read(4096)
+        process.stdin.write(DEMAND)
         for _ in range(CYCLES):
-            os.read(request, 4096)
-            os.write(answer, CYCLE)
-        os.read(request, 4096)
-        seconds = time.perf_counter() - began
+            process.stdout.read(4096)
+            process.stdin.write(CYCLE)
+        process.stdout.read(4096)
         process.stdin.close()
         process.stdout.read()
-    return seconds
 
 
-def rate(name, seconds, least):
-    """Prints a loop's rate, and how many times as long it took as that of `cat`."""
-    print(f"{name:34} {CYCLES / seconds:9.0f} operations a second, {seconds / least:5.2f} times the time of cat")
+def compare(end, events):
+    """Ends the program where a run ended otherwise."""
+    made = [event.cycles for event in camac.read_events(events)]
+    if (end.line, made) != ("ended events 1", [CYCLES]):
+        sys.exit(f"the run ended otherwise: {end.line}, cycles {made}")
 
 
 def main():
     program = sys.argv[1] if len(sys.argv) > 1 else camac.find_program()
     with tempfile.TemporaryDirectory() as folder:
-        script, events = os.path.join(folder, "script"), os.path.join(folder, "python.events")
+        script, *events = (os.path.join(folder, name) for name in ("script", "drive", "python", "play"))
         with open(script, "w") as file:
             file.write(SCRIPT)
-        cat = exchange(["cat"], DEMAND)
-        drive = exchange([program, "drive", "@sample", script, os.path.join(folder, "drive.events")])
-        began = time.perf_counter()
-        end = camac.drive("@sample", script, Branch(), events, program=program)
-        python = time.perf_counter() - began
-        made = [event.cycles for event in camac.read_events(events)]
-    if (end.line, made) != ("ended events 1", [CYCLES]):
-        sys.exit(f"the run ended otherwise: {end.line}, cycles {made}")
-    rate("cat", cat, cat)
-    rate("camac drive", drive, cat)
-    rate("camac.drive of the Python package", python, cat)
+        with told("cat"):
+            exchange(["cat"], DEMAND)
+        with told("camac drive"):
+            exchange([program, "drive", "@sample", script, events[0]])
+        with told("camac.drive of the Python package"):
+            end = camac.drive("@sample", script, Branch(), events[1], program=program)
+        compare(end, events[1])
+        if camac.library.is_there():
+            with told("camac.play of the Python package"):
+                end = camac.play("@sample", script, Branch(), events[2])
+            compare(end, events[2])
 
 
 if __name__ == "__main__":

@@ -4,7 +4,7 @@ _camac_check() {
   local word=${COMP_WORDS[COMP_CWORD]} offered= at
   COMPREPLY=()
   if [ "${COMP_WORDS[COMP_CWORD - 1]}" = --format ]; then
-    mapfile -t COMPREPLY < <(compgen -W 'text json github' -- "$word")
+    mapfile -t COMPREPLY < <(compgen -W 'text json github sarif' -- "$word")
     return
   fi
   case $word in

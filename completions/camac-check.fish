@@ -1,7 +1,7 @@
 # Completion of camac-check for fish.
 
 complete -c camac-check -s h -l help -d 'Print help'
-complete -c camac-check -l format -x -a 'text json github' -d 'what is printed'
+complete -c camac-check -l format -x -a 'text json github sarif' -d 'what is printed'
 complete -c camac-check -l json -d '--format json'
 complete -c camac-check -l strict -d 'a warning is status 1, too'
 complete -c camac-check -l keeps -d 'proposes what the loops of a refused script have to keep'

@@ -74,6 +74,8 @@ service tick within 28 cycles event 12 words {
 }
 """
 NAMES = {3: "adc", 5: "tick"}
+# The station that nothing but the scan of the script asks.
+SCANNED = 7
 WIDTHS = {(1, 5, 0): 12, (1, 7, 0): 11, (1, 11, 0): 8, (1, 11, 16): 8, (2, 23, 0): 8, (2, 23, 16): 8}
 # An answer to an operation of any kind: X now and then 0, Q often 1, a wait that crates with two waits permit, and any demand.
 ANSWER = "{x} {q} {word:06x} {wait} {gl:06x}\n"
@@ -172,7 +174,7 @@ class Service:
 
     def __init__(self, name):
         self.name = name
-        self.cycles = self.waits = self.no_q = self.no_x = self.locked = 0
+        self.cycles = self.waits = self.no_q = self.of_transfers = self.no_x = self.locked = 0
 
 
 class Sums:
@@ -211,7 +213,8 @@ class Sums:
         service.cycles += 1 + wait
         service.waits += wait
         service.no_x += not x
-        service.no_q += not q
+        service.of_transfers += not q and at[1] == SCANNED
+        service.no_q += not q and at[1] not in (SCANNED, 28, 30)
         service.locked += locks > 0
         command = self.commands.setdefault(at, {"count": 0, "no_q": 0, "no_x": 0, "waits": 0, "words": []})
         command["count"] += 1

@@ -136,7 +136,7 @@ def scripts():
     for path in sorted((TOP / "examples").glob("*.script")):
         for plan in ["@sample", *map(str, sorted((TOP / "examples").glob("*.toml")))]:
             yield plan, path.read_text()
-    for page in sorted((TOP / "docs").glob("*.md")):
+    for page in sorted((TOP / "docs").rglob("*.md")):
         for script in BLOCK.findall(page.read_text()):
             yield "@sample", script
     dice = random.Random(4100)

@@ -5,6 +5,7 @@ usage: tests/client_test.py [-v] [TEST ..]     from any folder; takes a few seco
 """
 import json
 import os
+import pathlib
 import signal
 import sys
 import unittest
@@ -80,7 +81,7 @@ class Client(Case):
             camac.drive("@sample", "s", Listed(), "e", program=self.room / "none")
         with mock.patch.dict(os.environ, {"PATH": str(self.room), "CAMAC_PROGRAM": ""}):
             found = camac.find_program()
-            self.assertEqual(found, TOP / "camac")
+            self.assertEqual(pathlib.Path(found), TOP / "camac")
         with mock.patch.dict(os.environ, {"CAMAC_PROGRAM": "/a/program"}):
             self.assertEqual(camac.find_program(), "/a/program")
         self.assertEqual(camac.find_program("given"), "given")

@@ -179,7 +179,7 @@ class Streams(Costs):
         (self.room / "script").write_bytes(largest()["4,096 long statements"].script)
         line = '{ "$camac" costs @sample script; echo $? >status; } | head -n 1'
         self.assertEqual(self.shell(line)[2], b"")
-        self.assertEqual((self.room / "status").read_bytes(), b"3\n")
+        self.assertEqual((self.room / "status").read_bytes(), b"141\n")
 
 
 def many_services():

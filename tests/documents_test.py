@@ -1,6 +1,6 @@
 #!/usr/bin/env python3
-"""Runs what README.md, docs/*.md and the examples of man/camac.1 and man/*.5 show, and compares it with what they say comes of it; follows
-their links. Checks that docs/first_task.diff applies.
+"""Runs what README.md, the pages of docs/ and the examples of man/camac.1 and man/*.5 show, and compares it with what they say comes of it; follows
+their links. Checks that docs/inside/first_task.diff applies.
 
 usage: tests/documents_test.py [-v] [TEST ..]     from any folder; takes a few seconds
 
@@ -14,7 +14,7 @@ Each fenced block of a page is of one of these kinds, and is tried:
   ```python FILE, ```toml FILE, ```sh FILE, ```c FILE    a file that a later command of the page uses, or a part of an example of that name
 
 A console block is left out where it calls a compiler (cc, c++) that is not here, or asks for the library for C (by pkg-config, or by a program
-in Python named in_this_process.py) and that is not here (tests/of_c.py).
+in Python named in_this_process.py) and that is not here (tests/of_c.py), or for numpy or h5py (by these words, .npz or .h5) and they are not here.
 
 A page of `KEPT` has a folder in examples. Each file there has to be what a block or a command of the page made of that name, to the byte;
 pictures, too. `tests/documents_test.py --keep` writes them anew, to be looked at before they are committed.
@@ -44,7 +44,7 @@ TOP = pathlib.Path(__file__).resolve().parent.parent
 PROGRAM = os.path.abspath(os.environ.get("CAMAC_PROGRAM") or TOP / "crates/camac/out/camac")
 if "CAMAC_PROGRAM" in os.environ:
     os.environ["CAMAC_PROGRAM"] = PROGRAM  # commands of pages run it from other folders, too
-PAGES = [TOP / "README.md", *sorted((TOP / "docs").glob("*.md"))]
+PAGES = [TOP / "README.md", *sorted((TOP / "docs").rglob("*.md"))]
 BLOCK = re.compile(r"^```([^\n]*)\n(.*?)^```$", re.M | re.S)
 INDENTED = re.compile(r"^    .*$", re.M)
 COMMAND = re.compile(r"^\$ |(?:^|[|;&(] *)(?:\./)?camac\b(?! [a-z]+ [A-Z]+\b)(?= \S)")
@@ -54,6 +54,7 @@ FILE = re.compile(r"(?:python|toml(?! P\d)|sh|c|cpp|camac (?:accepted|\w+ line \
 KEPT = {"TUTORIAL.md": ("tutorial", "."), "BENCHES.md": ("benches", "benches")}
 COMPILER = re.compile(r"^\$ (?:cc|c\+\+) ", re.M)
 LIBRARY = re.compile(r"pkg-config|in_this_process\.py")
+ARRAYS = re.compile(r"^\$ .*(?:numpy|h5py|\.npz|\.h5)\b", re.M)
 CELL = re.compile(r"^\|(?:[^|\n]*\|)*([^|\n]*)\|$")
 # What a piece of a script may be: a statement, its begin, a condition, the end of one, an expression, the end of one.
 PLACES = ("{}", "{} {{ }}", "if {} {{ }}", "if v > 0 {} {{ }}", "put ({}) % 2", "put (v {}) % 2")
@@ -63,7 +64,7 @@ service adc within 15 cycles event 1 words {
   cdreg r 1 1 5 0
   cfsa 0 r -> a  cfsa 0 r -> b  cfsa 0 r -> c  cfsa 0 r -> k  cfsa 0 r -> v
 """
-FIRST_TASK = TOP / "docs/first_task.diff"
+FIRST_TASK = TOP / "docs/inside/first_task.diff"
 WAIT = 60
 SCRIPT = "cdlam adc 1 1 5 12\nservice adc within 3 cycles event 0 words { }\n"
 
@@ -81,7 +82,9 @@ def run(command, room, given=b""):
 
 
 def is_left_out(text):
-    """Whether a console block needs a compiler or the library for C where there is none."""
+    """Whether a console block needs a compiler, the library for C, or numpy and h5py where there is none."""
+    if ARRAYS.search(text) and subprocess.run(["python3", "-c", "import numpy, h5py"], stderr=subprocess.DEVNULL, check=False).returncode:
+        return True
     lacks_compiler = not (shutil.which("cc") and shutil.which("c++"))
     lacks_library = bool(of_c.lacking()) or not shutil.which("pkg-config")
     return bool(COMPILER.search(text) and lacks_compiler or LIBRARY.search(text) and lacks_library)
@@ -237,7 +240,8 @@ class Documents(unittest.TestCase):
         self.addCleanup(room.cleanup)
         self.room = pathlib.Path(room.name)
         (self.room / "camac").symlink_to(PROGRAM)
-        shutil.copy(TOP / "python/camac-report", self.room / "camac-check")
+        for name in ("camac-check", "camac-fmt"):
+            shutil.copy(TOP / "python/camac-report", self.room / name)
         shutil.copytree(TOP / "examples", self.room / "examples")
 
     def test_pages(self):
@@ -273,7 +277,7 @@ class Documents(unittest.TestCase):
         git(self.room, "init", "-q")
         git(self.room, "add", "-A")
         try_page((TOP / "README.md").read_text(), self.room)
-        self.assertTrue((self.room / "run.events").exists())
+        self.assertTrue((self.room / "wrong.script").exists())
         left = git(self.room, "status", "--porcelain", "--untracked-files=all").splitlines()
         self.assertEqual([it for it in left if it.startswith("??")], [])
 
@@ -333,7 +337,7 @@ class Documents(unittest.TestCase):
 
 
 class FirstTask(unittest.TestCase):
-    """The diff of the first task, which docs/CHANGING.md tells step by step."""
+    """The diff of the first task, which docs/inside/CHANGING.md tells step by step."""
 
     def check(self, *words):
         """Whether git would apply the diff to these sources."""
@@ -346,7 +350,7 @@ class FirstTask(unittest.TestCase):
         self.assertFalse(self.check("--reverse"))
 
     def test_steps_name_its_files(self):
-        section = (TOP / "docs/CHANGING.md").read_text().partition("## A first task")[2].partition("\n## ")[0]
+        section = (TOP / "docs/inside/CHANGING.md").read_text().partition("## A first task")[2].partition("\n## ")[0]
         files = re.findall(r"^\+\+\+ b/(?:crates/)?(.*)$", FIRST_TASK.read_text(), re.M)
         self.assertGreater(len(files), 10)
         self.assertEqual([it for it in files if f"`{it}`" not in section], [])

@@ -146,7 +146,7 @@ class Misbehaving(Case):
 
     def expect_fault(self, pipes, events):
         """The requests have no reader any more, of which nothing is told."""
-        self.assertEqual((pipes.process.stderr.read(), pipes.process.wait(PATIENCE)), (b"", 3))
+        self.assertEqual((pipes.process.stderr.read(), pipes.process.wait(PATIENCE)), (b"", 141))
         self.assertEqual(self.events.read_bytes(), events)
 
     def test_gone(self):

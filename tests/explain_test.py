@@ -15,6 +15,7 @@ import subprocess
 import sys
 import tempfile
 import unittest
+from typing import NamedTuple
 
 from rows_test import ROWS
 
@@ -33,6 +34,28 @@ def service(*body, heading="within 100 cycles event 100 words", more=""):
 def procedure(call, numbers="within 3 cycles event 1 words steps 3", body="put s"):
     lines = ["cdlam adc 1 1 5 12", "var v", f"proc get(s in 0..11) {numbers} {{", "  cdreg r 1 1 5 s", "  cfsa 0 r -> s", f"  {body}", "}"]
     return "\n".join([*lines, "service adc within 9 cycles event 9 words {", f"  {call}", "}"]) + "\n"
+
+
+def beside(statement):
+    """A procedure with a statement on its line 3, whose parameters stand at the places of the script's variables."""
+    return f"var count k\nproc p(n in 0..5, i in 0..5) within 9 cycles event 99 words steps 99 {{\n  {statement}\n}}\n"
+
+
+# A plan with a second station that calls.
+TWO_STATIONS = """[[type]]
+name = "ADC"
+commands = [ { f = 0, a = 0, to = 11, width = 12 } ]
+[[crate]]
+number = 1
+[[crate.station]]
+n = 5
+type = "ADC"
+gl = 3
+[[crate.station]]
+n = 6
+type = "ADC"
+gl = 4
+"""
 
 
 def deep(statement):
@@ -65,28 +88,28 @@ MISTAKES = [
     ("a letter missing in a heading", service(heading="withn 3 cycles event 1 words"), "S2", 3, "Found `withn`; here may stand `within`. Perhaps `within` is meant."),
     ("a heading in upper case", service(heading="within 3 CYCLES event 1 words"), "S2", 3, "Found `CYCLES`; here may stand `cycles`. Perhaps `cycles` is meant."),
     ("a heading without event", service(heading="within 3 cycles"), "S2", 3, "Found `{`; here may stand `event`."),
-    ("a declaration mistyped after var", "cdlam adc 1 1 5 12\nvar v\nservcie adc within 3 cycles event 1 words { }\n", "S4", 3, "The name `adc` is taken: it stands first on line 1. Perhaps `servcie` is to be `service`."),
+    ("a declaration mistyped after var", "cdlam adc 1 1 5 12\nvar v\nservcie adc within 3 cycles event 1 words { }\n", "S4", 3, "The name `adc` is taken: it is declared on line 1 as a LAM. Perhaps `servcie` is to be `service`."),
     ("a declaration mistyped, its LAM too", "cdlam adc 1 1 5 12\nvar v\nservcie acd within 3 cycles event 1 words { }\n", "S2", 3, "Found `within`; here may stand a declaration or a name. Perhaps `servcie` is to be `service`."),
     ("a declaration mistyped", "cdlam adc 1 1 5 12\nservcie adc within 3 cycles event 1 words { }\n", "S2", 2, "Found `servcie`; here may stand a declaration. Perhaps `service` is meant."),
     ("no closing brace", service("put v")[:-2], "S2", 5, "Found the end of the script; here may stand a statement, an operator or `}`. The `{` of line 3 is still open."),
-    ("no closing brace before the next service", service("lock 1 {", "}")[:-2] + "service adc within 3 cycles event 1 words { }\n", "S2", 6, "Found `service`; here may stand a statement or `}`. The `{` of line 3 is still open."),
+    ("no closing brace before the next service", service("lock 1 {", "}")[:-2] + "service adc within 3 cycles event 1 words { }\n", "S2", 6, "`service` stands outside of services and procedures, and the `{` of line 3 is still open."),
     ("a closing brace too many", service("put v") + "}\n", "S2", 6, "Found `}`; here may stand a declaration."),
     ("no opening brace", service("if v < 3", "  put v", "}"), "S2", 5, "Found `put`; here may stand an operator, `{` or `and`."),
     ("no turns", service("k = 5", "while k > 0 { k = k - 1 }"), "S2", 5, "Found `{`; here may stand an operator, `turns` or `and`."),
     ("no by", service("k = 5", "while k > 0 turns 5 { k = k - 1 }"), "S2", 5, "Found `{`; here may stand `by`."),
     ("hexadecimal digits", service("v = 0x10"), "S5", 4, "The name `x10` is not declared before as a variable. A number is written in decimal digits alone."),
     ("hexadecimal digits in a heading", service(heading="within 0xff cycles event 1 words"), "S2", 3, "Found `xff`; here may stand `cycles`. A number is written in decimal digits alone."),
-    ("a semicolon", service("put v;"), "S1", 4, "The byte `;` begins no token. A statement ends without a sign."),
-    ("conditions joined by &&", service("if v < 3 && q { }"), "S1", 4, "The byte `&` begins no token. Conditions are joined by `and`."),
-    ("a condition turned by !", service("if !q { }"), "S1", 4, "The byte `!` begins no token. Write `not` before a condition, and `!=` between two numbers."),
-    ("conditions joined by or", service("if q or x { }"), "S2", 4, "Found `or`; here may stand `{` or `and`. There is no `or`: put the second `if` into the `else` of the first, or set a variable in both and test it."),
+    ("a semicolon", service("put v;"), "S1", 4, "camac has no `;`; write statements without a sign at their end."),
+    ("conditions joined by &&", service("if v < 3 && q { }"), "S1", 4, "camac has no `&&`; write `and`."),
+    ("a condition turned by !", service("if !q { }"), "S1", 4, "camac has no `!`; write `not` before a comparison or a flag."),
+    ("conditions joined by or", service("if q or x { }"), "S2", 4, "camac has no `or`; write one `if` into the `else` of the other, or a variable that both set."),
     ("= to compare", service("if v = 3 { }"), "S2", 4, "Found `=`; here may stand an operator or a comparison. Perhaps `==` is meant."),
     ("== to set a variable", service("v == 3"), "S2", 4, "Found `==`; here may stand `=`. Perhaps `=` is meant."),
-    ("+= to add", service("v += 1"), "S2", 4, "Found `+`; here may stand `=`. The variable stands again behind the `=`, as in `v = v + 1`."),
+    ("+= to add", service("v += 1"), "S2", 4, "camac has no `+=`; write the whole, as in `v = v + 1`."),
     ("else if", service("if q { } else if x { }"), "S2", 4, "Found `if`; here may stand `{`. The block of `else` stands in braces, and an `if` may stand in it."),
     ("a number below 0", service("v = -1"), "S2", 4, "Found `-`; here may stand an expression. There are no numbers below 0."),
     ("division by a variable", service("v = v / k"), "S2", 4, "Found `k`; here may stand a number. A divisor is a number from 1 on."),
-    ("division by 0", service("v = v / 0"), "S2", 4, "Found `0`; here may stand a number. A divisor is a number from 1 on."),
+    ("division by 0", service("v = v / 0"), "S2", 4, "Found `0`. A divisor is a number from 1 on."),
     ("two points in a for", service("for i = 1 .. 3 { }"), "S2", 4, "Found `..`; here may stand an operator or `to`. Perhaps `to` is meant."),
     ("half an arrow", service("cdreg r 1 1 5 0", "cfsa 0 r > v"), "S2", 5, "Found `>`; here may stand a statement, `}`, `->` or `<-`. Perhaps `->` is meant."),
     ("a variable that is not declared", service("put w"), "S5", 4, "The name `w` is not declared before as a variable."),
@@ -96,10 +119,10 @@ MISTAKES = [
     ("a service without its LAM", "service adc within 3 cycles event 1 words { }\n", "S5", 1, "The name `adc` is not declared before as a LAM."),
     ("a procedure that is not there", procedure("call got(0)"), "S5", 9, "The name `got` is not declared before as a procedure. Perhaps `get` is meant."),
     ("a variable of the script in a procedure", procedure("call get(0)", body="put v"), "S5", 6, "The variable `v` of the script is not seen in a procedure."),
-    ("no argument", procedure("call get()"), "S2", 9, "Found `)`; here may stand an expression. The procedure `get` takes 1 argument."),
-    ("an argument too many", procedure("call get(0, 1)"), "S2", 9, "Found `,`; here may stand an operator or `)`. The procedure `get` takes 1 argument."),
-    ("a name twice", "cdlam adc 1 1 5 12\nvar v v\n", "S4", 2, "The name `v` is taken: it stands first on line 2."),
-    ("a word of the language as a name", "var on\n", "S2", 1, "Found `on`; here may stand a name."),
+    ("no argument", procedure("call get()"), "S2", 9, "Found `)`. The procedure `get` takes 1 argument."),
+    ("an argument too many", procedure("call get(0, 1)"), "S2", 9, "Found `,`. The procedure `get` takes 1 argument."),
+    ("a name twice", "cdlam adc 1 1 5 12\nvar v v\n", "S4", 2, "The name `v` is taken: it is declared on line 2 as a variable."),
+    ("a word of the language as a name", "var on\n", "S2", 1, "`on` is a word of the language: choose another name."),
     ("a function above 31", service("cdreg r 1 1 5 0", "cfsa 42 r -> v"), "S3", 5, "The number `42` is above 31, the greatest that may stand here."),
     ("the crate in the place of the branch", service("cdreg r 5 0 1 1"), "S7", 4, "The branch is `5` here, and there is branch 1 alone."),
     ("a LAM without the branch", "cdlam adc 1 5 12\nvar v\n", "S2", 2, "Found `var`; here may stand a number. An address is the branch, which is 1, then crate, station and sub-address."),
@@ -107,18 +130,18 @@ MISTAKES = [
     ("an address in a cycle", service("cfsa 0 1 1 5 0 -> v"), "S2", 4, "Found `1`; here may stand a name. A register is set to an address before, by `cdreg`."),
     ("a call as in FORTRAN", service("cfsa(0, r, v, q)"), "S2", 4, "Found `(`; here may stand a number. What follows is written without brackets and commas."),
     ("a value after the arrow of a read", service("cdreg r 1 1 6 0", "cfsa 16 r -> 1"), "S2", 5, "Found `1`; here may stand a name. A read sets a variable after `->`; a write has `<-` and a value."),
-    ("a register in the place of a variable", service("cdreg r 1 1 5 0", "put r"), "S5", 5, "The name `r` is declared on line 4 as a register, and here may stand a variable."),
+    ("a register in the place of a variable", service("cdreg r 1 1 5 0", "put r"), "S5", 5, "The name `r` is declared on line 4 as a register, and here may stand a variable. A register holds an address: `cfsa 0 r -> v` reads from it into `v`."),
     ("a flag that is compared", service("if q = 1 { }"), "S2", 4, "Found `=`; here may stand `{` or `and`. A flag stands alone: `q`, or `not q`."),
     ("a condition in brackets", service("if (v > 3) { }"), "S2", 4, "Found `>`; here may stand an operator or `)`. Brackets enclose expressions, and no conditions."),
     ("a flag in brackets", service("if (q) { }"), "S2", 4, "Found `q`; here may stand an expression. Brackets enclose expressions, and no conditions."),
     ("a crate in the place of a LAM", service("cclc 1"), "S2", 4, "Found `1`; here may stand a name. Here stands the name of a LAM, which `cdlam` declares."),
     ("a dash in a name", "cdlam my-adc 1 1 5 12\n", "S2", 1, "Found `-`; here may stand a number. A name has letters, digits and `_`, and no dash."),
     ("a test with an arrow", service("ctlm adc -> v"), "S2", 4, "Found `->`; here may stand a statement or `}`. The answer is the flag `q`."),
-    ("an assignment outside", "cdlam adc 1 1 5 12\nvar v\nv = 1\n", "S4", 3, "The name `v` is taken: it stands first on line 2. A statement stands in the braces of a service or a procedure."),
+    ("an assignment outside", "cdlam adc 1 1 5 12\nvar v\nv = 1\n", "S4", 3, "The name `v` is taken: it is declared on line 2 as a variable. A statement stands in the braces of a service or a procedure."),
     ("a word of the event outside", "cdlam adc 1 1 5 12\nput 1\n", "S2", 2, "Found `put`; here may stand a declaration. A statement stands in the braces of a service or a procedure."),
-    ("a lock in a procedure", procedure("call get(0)", body="lock 1 { }"), "S2", 6, "Found `lock`; here may stand a statement or `}`. A procedure has no `lock`."),
+    ("a lock in a procedure", procedure("call get(0)", body="lock 1 { }"), "S2", 6, "A procedure has no `lock`: put the `call` into one."),
     ("a procedure that calls itself", procedure("call get(0)", body="call get(0)"), "S5", 6, "The procedure `get` can be called after its end alone."),
-    ("a variable that is kept twice", service("for i = 1 to 3 keep k in 0..3, k in 0..3 { }"), "S4", 4, "The variable `k` is kept already, or is the loop's own."),
+    ("a variable that is kept twice", service("for i = 1 to 3 keep k in 0..3, k in 0..3 { }"), "S4", 4, "The variable `k` is kept twice."),
     ("an else mistyped after a block", service("if q { v = 1 } els { }"), "S5", 4, "The name `els` is not declared before as a variable. Perhaps `else` is meant."),
     ("an else after a loop", service("for i = 1 to 3 { v = 1 } else { }"), "S2", 4, "Found `else`; here may stand a statement or `}`."),
     ("a second else", service("if q { } else { v = 1 } else { }"), "S2", 4, "Found `else`; here may stand a statement or `}`."),
@@ -163,6 +186,26 @@ MISTAKES = [
     ("steps past 64 bits", deep(""), "E18", 3, "The service may take more than 18446744073709551615 steps, and 4294967295 are allowed."),
     ("the second argument", TWO_PARAMETERS, "E21", 7, "Argument 2 may be 9, and `n` takes 1 to 8."),
     ("too few steps", procedure("call get(0)", numbers="within 3 cycles event 1 words steps 2"), "E18", 3, "The procedure may take 3 steps, its heading allows 2."),
+    ("a LAM of a wrong station beside another", "cdlam adc 1 1 5 12\ncdlam wrong 1 1 7 0\n", "L1", 2, "The LAM `wrong` is at crate 1, station 7, where the plan has no module."),
+    ("a served LAM beside another of its station", "cdlam unserved 1 1 6 0\ncdlam served 1 1 6 1\nservice served within 3 cycles event 1 words { }\n", "L2", 3, "The LAM `served` is at crate 1, station 6, which has no GL bit in the plan."),
+    ("a measure of a procedure beside a variable", beside("while n > 0 turns 5 by n { put 1 }"), "E7", 3, "The body itself has to lower `n` once by a number, and nothing else in it may write `n`."),
+    ("a kept parameter beside a variable", beside("for i = 1 to 3 keep n in 0..5 { n = n + 1 }"), "E9", 3, "After a turn `n` may be 1 to 6, and it is kept in 0 to 5."),
+    ("a counted parameter beside a variable", beside("for n = 1 to 3 { n = i }"), "E17", 3, "The variable `n` is counted by a `for` around this."),
+    ("a near variable that a procedure does not see", beside("put conut"), "S5", 3, "The name `conut` is not declared before as a variable."),
+    ("the second register of a scan", service("cdreg a 1 1 5 0", "cfmad 0 a b max 5 tally t"), "S5", 5, "The name `b` is not declared before as a register."),
+    ("a declaration in two blocks", service("if q {", "cdlam more 1 1 6 0", "}"), "S2", 5, "`cdlam` stands outside of services and procedures, and the `{` of line 4 is still open."),
+    ("a lock mistyped", service("lok 1 { }"), "S5", 4, "The name `lok` is not declared before as a variable. Perhaps `lock` is meant."),
+    ("a lock outside", "cdlam adc 1 1 5 12\nlock 1 { }\n", "S2", 2, "Found `lock`; here may stand a declaration. A statement stands in the braces of a service or a procedure."),
+    ("a table too many", "".join(f"table g{n} = 1\n" for n in range(17)), "S6", 17, "The limit is passed at `table`: a script has at most 16 tables."),
+    ("a word of a table too many", "table g = 0" + "\n1" * 1024 + "\n", "S6", 1025, "The limit is passed at `1`: a table has at most 1024 words."),
+    ("a LAM too many", "".join(f"cdlam m{n} 1 1 5 12\n" for n in range(65)), "S6", 65, "The limit is passed at `cdlam`: a script has at most 64 LAMs."),
+    ("a variable too many", "var" + "".join(f" v{n}\n" for n in range(65)), "S6", 65, "The limit is passed at `v64`: a script has at most 64 variables and parameters."),
+    ("a procedure too many", "".join(f"proc p{n}() within 0 cycles event 0 words steps 0 {{ }}\n" for n in range(17)), "S6", 17, "The limit is passed at `proc`: a script has at most 16 procedures."),
+    ("a service too many", "".join(f"cdlam m{n} 1 1 5 12 service m{n} within 0 cycles event 0 words {{ }}\n" for n in range(25)), "S6", 25, "The limit is passed at `service`: a script has at most 24 services."),
+    ("a register too many", service(*(f"cdreg r{n} 1 1 5 0" for n in range(65))), "S6", 68, "The limit is passed at `r64`: a service with all procedures has at most 64 registers."),
+    ("a name too long", f"var {'a' * 33}\n", "S6", 1, f"The limit is passed at `{'a' * 33}`: a name has at most 32 bytes."),
+    ("a call too deep", "proc p() within 0 cycles event 0 words steps 0 { " + "if q { " * 10 + "} " * 11 + "\n" + service("if q { " * 10, "call p()"), "S6", 6, "The limit is passed at `p`: at most 16 brackets and braces are open at once, calls counted."),
+    ("a declared name near a word", "cdlam adc 1 1 5 12\nvar out v\nservice adc within 3 cycles event 1 words {\n  v = out 3\n}\n", "S2", 4, "Found `3`; here may stand a statement, an operator or `}`."),
     ("an argument out of range", procedure("call get(12)"), "E21", 9, "Argument 1 may be 12, and `s` takes 0 to 11."),
 ]
 
@@ -177,17 +220,18 @@ PLANS = [
     ("a station at the top", TYPE + '[[station]]\nn = 5\n', "P2", "`station`: there is no such key. It is a key of a `[[crate]]`. The keys of the plan itself are `buffer`, `type` and `crate`."),
     ("a key of the crate after its station", TYPE + CRATE + "waits = 2\n", "P2", "crate 1, station 5, `waits`: there is no such key. It is a key of a `[[crate]]`. The keys of a `[[crate.station]]` are `n`, `type` and `gl`."),
     ("a bit as a text", TYPE + CRATE + 'gl = "3"\n', "P3", "crate 1, station 5, gl: the value is of the kind string, and a whole number from 1 to 24 has to stand here."),
-    ("a range as an array", TYPE.replace("a = 0, to = 11", "a = [0, 11]"), "P3", "type number 1, command number 1, a: the value is of the kind array, and a whole number from 0 to 15 has to stand here. A range is written as `a = 0, to = 11`."),
-    ("a range as a text", TYPE.replace("a = 0, to = 11", 'a = "0-11"'), "P3", "type number 1, command number 1, a: the value is of the kind string, and a whole number from 0 to 15 has to stand here. A range is written as `a = 0, to = 11`."),
-    ("a probe as a number", TYPE.replace("to = 11", "to = 11, probe = 1"), "P3", "type number 1, command number 1, probe: the value is of the kind integer, and `true` or `false` has to stand here."),
+    ("a range as an array", TYPE.replace("a = 0, to = 11", "a = [0, 11]"), "P3", "type `ADC`, first command, a: the value is of the kind array, and a whole number from 0 to 15 has to stand here. A range is written as `a = 0, to = 11`."),
+    ("a range as a text", TYPE.replace("a = 0, to = 11", 'a = "0-11"'), "P3", "type `ADC`, first command, a: the value is of the kind string, and a whole number from 0 to 15 has to stand here. A range is written as `a = 0, to = 11`."),
+    ("a probe as a number", TYPE.replace("to = 11", "to = 11, probe = 1"), "P3", "type `ADC`, first command, probe: the value is of the kind integer, and `true` or `false` has to stand here."),
     ("a type by a number", TYPE + CRATE.replace('"ADC"', "2249"), "P3", "crate 1, station 5, type: the value is of the kind integer, and a text in double quotes has to stand here."),
     ("types without brackets", "type = 3\n", "P3", "type: the value is of the kind integer, and an array of tables has to stand here."),
-    ("a range that ends before it begins", TYPE.replace("a = 0, to = 11", "a = 5, to = 3"), "P4", "type number 1, command number 1, to: the value is 3, and 5 to 15 may stand here."),
-    ("a width of a probe", TYPE.replace("to = 11", "to = 11, probe = true, width = 12"), "P4", "type number 1, command number 1, width: the value is 12, and a probe has 24 bits."),
-    ("a blank in a name", TYPE.replace("ADC", "A DC"), "P4", "type number 1, name: the value is `A DC`, and a name has 1 to 32 letters, digits, `_` or `-`."),
-    ("a type too many", "".join(TYPE.replace("ADC", f"T{i}") for i in range(65)), "P4", "type number 65: there are at most 64 types."),
-    ("a name twice", TYPE + TYPE, "P8", "type number 2, name: the value is `ADC`, which stands before already, at type number 1."),
+    ("a range that ends before it begins", TYPE.replace("a = 0, to = 11", "a = 5, to = 3"), "P4", "type `ADC`, first command, to: the value is 3, and 5 to 15 may stand here."),
+    ("a width of a probe", TYPE.replace("to = 11", "to = 11, probe = true, width = 12"), "P4", "type `ADC`, first command, width: the value is 12, and a probe has 24 bits."),
+    ("a blank in a name", TYPE.replace("ADC", "A DC"), "P4", "first entry of `type`, name: the value is `A DC`, and a name has 1 to 32 letters, digits, `_` or `-`."),
+    ("a type too many", "".join(TYPE.replace("ADC", f"ADC-{i}") for i in range(65)), "P4", "type `ADC-64`: there are at most 64 types."),
+    ("a name twice", TYPE + TYPE, "P8", "second entry of `type`, name: the value is `ADC`, which stands before already, at first entry of `type`."),
     ("a bit in two crates", TYPE + CRATE + "gl = 3\n" + CRATE.replace("number = 1", "number = 2").replace("n = 5", "n = 7") + "gl = 3\n", "P9", "crate 2, station 7, gl: the value is 3, which stands before already, at crate 1, station 5."),
+    ("a key twice", "buffer = 1\nbuffer = 2\n", "P1", "Line 2, column 1: duplicate key."),
     ("a comment of another language", TYPE + "// the crates\n", "P1", "Line 4, column 1: "),
 ]
 
@@ -206,12 +250,39 @@ MENDS = [
     ("a for too long", service("for i = 1 to 70000 { }"), "no larger number is allowed: ", service("for i = 1 to 7 { for k = 1 to 10000 { } }")),
     ("a number that no loop may have", service("k = 5", "while k > 0 turns 100000 by k { k = k - 1 }"), "write at most 65535 ", service("k = 5", "while k > 0 turns 65535 by k { k = k - 1 }")),
     ("a few words", service("put 1", heading="within 0 cycles event 0 words"), "write a larger number after `event`", service("put 1", heading="within 0 cycles event 1 words")),
-    ("words without end", deep("put 1"), "keep fewer words, ", service("put 1")),
+    ("words without end", deep("put 1"), "keep fewer words: ", service("put 1")),
+    ("a difference to the last reading", service("cdreg r 1 1 6 0", "for i = 1 to 3 {", "cfsa 0 r -> v", "t = v - k", "k = v", "}"), "a loop forgets what its body writes: let it `keep` the right side ", service("cdreg r 1 1 6 0", "for i = 1 to 3 keep k in 0..16777215 {", "cfsa 0 r -> v", "t = v + 16777215 - k", "k = v", "}")),
+    ("a count in a loop", service("for i = 1 to 3 { k = k + i }"), "a loop forgets what its body writes: let it `keep` the variable in a range, or bound the variable ", service("for i = 1 to 3 keep k in 0..99 { if k < 97 { k = k + i } }")),
+    ("a value too wide", service("cdreg a 1 1 5 0", "cdreg r 1 1 6 0", "cfsa 0 a -> v", "cfsa 16 r <- v"), "bound the value by `%` or `if`, write ", service("cdreg a 1 1 5 0", "cdreg r 1 1 6 0", "cfsa 0 a -> v", "cfsa 16 r <- v % 256")),
+    ("a value that a loop forgets", service("cdreg r 1 1 6 0", "for i = 1 to 3 { cfsa 16 r <- k", "k = i }"), "a loop forgets what its body writes: let it `keep` the variable in a range, or bound the value ", service("cdreg r 1 1 6 0", "for i = 1 to 3 keep k in 0..3 { cfsa 16 r <- k", "k = i }")),
+    ("a word too wide", service("v = 16777216", "put v"), "bound the value by `% 16777216` or `if`, let ", service("v = 16777216", "put v % 16777216")),
+    ("a word that a loop forgets", service("for i = 1 to 3 { put k", "k = i }"), "a loop forgets what its body writes: write `keep v in 0..16777215` ", service("for i = 1 to 3 keep k in 0..16777215 { put k", "k = i }")),
+    ("a few cycles of a procedure", procedure("call get(0)", numbers="within 2 cycles event 1 words steps 3"), "write a larger number after `within`, as `camac bounds` prints it, or make fewer cycles.", procedure("call get(0)")),
     ("a few cycles", service("cclc adc", heading="within 2 cycles event 0 words"), "write a larger number after `within`", service("cclc adc", heading="within 3 cycles event 0 words")),
     ("cycles without end", deep("cclc adc"), "make fewer cycles, ", service("cclc adc")),
     ("a few steps", procedure("call get(0)", numbers="within 3 cycles event 1 words steps 2"), "write a larger number after `steps`", procedure("call get(0)")),
     ("steps without end", deep(""), "make fewer turns: ", service("")),
 ]
+
+
+class Mistake(NamedTuple):
+    """A mistake of tests/mistakes.text: the text with it, its rule and line, and what has to be told."""
+
+    kind: str
+    text: str
+    refused: str
+    said: list[str]
+
+
+def beginners():
+    """The mistakes of tests/mistakes.text by their names."""
+    found = {}
+    for part in (TOP / "tests/mistakes.text").read_text().split("\n== ")[1:]:
+        name, kind, text, refused, said = re.fullmatch(r"(.*)\n-- (\w+)\n(.*\n)-- (\w\d+(?: \d+)?)\n(.*)", part.strip("\n"), re.S).groups()
+        if kind == "body":
+            text = service(*text.rstrip("\n").split("\n"))
+        found[name] = Mistake(kind, text, refused.replace(" ", " line "), said.split("\n"))
+    return found
 
 
 def part_of(rule):
@@ -222,7 +293,7 @@ def part_of(rule):
 def told(rule):
     """The texts of a rule on the page: why it is there, and each mend."""
     (why,) = re.findall(r"(?m)^- \*\*Why:\*\* (.*)$", part_of(rule))
-    return why, re.findall(r"(?m)^- \*\*Mend(?:, [^*]*)?:\*\* (.*)$", part_of(rule))
+    return why, re.findall(r"(?m)^- \*\*Fix(?:, [^*]*)?:\*\* (.*)$", part_of(rule))
 
 
 class Chance(random.Random):
@@ -271,10 +342,17 @@ class Explain(unittest.TestCase):
         self.assertTrue(text.startswith(checked[1]))
         return text.splitlines()
 
+    def assert_marked(self, source, mark, said):
+        """The mark stands below the first word or sign in quotes that the sentence tells, if it is the one that was found."""
+        self.assertRegex(mark, r"^      \| [ \t]*\^$")
+        found = re.match(r"(?:Found|The (?:name|number|byte|character|procedure)|The limit is passed at|The branch is) `([^`]*)`", said)
+        if found:
+            self.assertTrue(source[mark.index("^") :].startswith(found[1]), (source, mark, said))
+
     def assert_told(self, rule, why, mend, more):
         """The last lines of an explanation have the texts of the page."""
         self.assertEqual(why, f"Why: {told(rule)[0]}")
-        self.assertIn(mend.removeprefix("Mend: "), told(rule)[1])
+        self.assertIn(mend.removeprefix("Fix: "), told(rule)[1])
         self.assertEqual(more, f"More: docs/REFUSALS.md, {rule}")
 
     def test_explanations(self):
@@ -293,11 +371,58 @@ class Explain(unittest.TestCase):
         self.assertGreaterEqual(len(MISTAKES), 45)
         for what, script, rule, line, said in MISTAKES:
             with self.subTest(what=what):
-                first, source, sentence, *rest = self.explain(script)
+                first, source, *rest = self.explain(script)
                 self.assertRegex(first, rf"^refused {rule} line {line}: ")
                 self.assertEqual(source, f"{line:5} | " + (script.split("\n")[line - 1] or "(end of the script)"))
+                if rule[0] == "S":
+                    self.assert_marked(source, rest.pop(0), said)
+                sentence, *rest = rest
                 self.assertEqual(sentence, said)
                 self.assert_told(rule, *rest)
+
+    def test_mistakes_of_beginners(self):
+        found = beginners()
+        self.assertGreaterEqual(len(found), 100)
+        for name, mistake in found.items():
+            with self.subTest(mistake=name):
+                of_plan = mistake.kind == "plan"
+                (self.room / "text").write_text(mistake.text)
+                status, text = self.call("explain", *(("text",) if of_plan else ("@sample", "text")))
+                first, *lines = text.splitlines()
+                self.assertEqual(status, 1)
+                self.assertTrue(first.startswith(f"refused {mistake.refused}: "), first)
+                for said in mistake.said:
+                    self.assertTrue(any(said in line.encode("latin-1").decode() for line in lines), f"{said!r} is not in {lines}")
+
+    def test_second_service(self):
+        """The register that is named is one of the service that is refused."""
+        (self.room / "plan.toml").write_text(TWO_STATIONS)
+        lines = ["cdlam a 1 1 5 0", "cdlam b 1 1 6 0", "var v", "service a within 9 cycles event 9 words {", "  cdreg first 1 1 5 0", "}"]
+        lines += ["service b within 9 cycles event 9 words {", "  if q { cdreg second 1 1 6 0 }", "  cfsa 0 second -> v", "}"]
+        status, text = self.call("explain", "plan.toml", "@in", given="\n".join(lines) + "\n")
+        self.assertEqual(text.splitlines()[:3], ["refused E6 line 9: register may be unset", "    9 |   cfsa 0 second -> v", "The register `second` may be unset here."])
+        self.assertEqual(status, 1)
+
+    def test_misspelt_statements(self):
+        """Each word that begins a statement is meant by one with a `_` at its end."""
+        language = (TOP / "docs/LANGUAGE.md").read_text()
+        words = re.search(r"as its name:\n\n((?:    .*\n)+)", language)[1].split()
+        begin = [it for it in words if self.explain(service(f"{it} }}"))[3].startswith("Found `}`")]
+        self.assertEqual(len(begin), 22)
+        for word in begin:
+            with self.subTest(word=word):
+                wrong = word + "_"
+                self.assertEqual(self.explain(service(f"{wrong} 1"))[3], f"The name `{wrong}` is not declared before as a variable. Perhaps `{word}` is meant.")
+
+    def test_absent(self):
+        """The page shows the table of what the language does not have."""
+        source = (TOP / "crates/camac_explain_text/src/absent.rt").read_text()
+        text = r'"((?:[^"\\]|\\.)*)"'
+        table = [(words.replace('\\"', '"').split(), write) for words, write in re.findall(rf"\(\s*{text},\s*{text},?\s*\)", source)]
+        self.assertGreater(len(table), 35)
+        shown = [f"| {', '.join(f'`{it}`' for it in words)} | {write} |".replace("`|", "`\\|").replace("||", "|\\|") for words, write in table]
+        part = (TOP / "docs/LANGUAGE.md").read_text().partition("## What the language does not have")[2]
+        self.assertEqual(part.split("|---|---|\n")[1].partition("\n\n")[0].splitlines(), shown)
 
     def test_mistakes_in_plans(self):
         for what, plan, rule, said in PLANS:
@@ -321,9 +446,9 @@ class Explain(unittest.TestCase):
         for what, script, mend, mended in MENDS:
             with self.subTest(what=what):
                 lines = self.explain(script)
-                self.assertEqual(lines[-2][:6] + lines[-2][6 : 6 + len(mend)], f"Mend: {mend}")
+                self.assertEqual(lines[-2][: len(f"Fix: {mend}")], f"Fix: {mend}")
                 self.assertEqual(self.explain(mended)[0], "accepted")
-                found.add(lines[-2].removeprefix("Mend: "))
+                found.add(lines[-2].removeprefix("Fix: "))
         several = [told(rule)[1] for rule in RULES if len(told(rule)[1]) > 1]
         self.assertEqual(found, {mend for mends in several for mend in mends})
 
@@ -396,16 +521,17 @@ class Explain(unittest.TestCase):
         """Tabs and bytes from 128 stand as they are, other control bytes as `?`; a long line is cut."""
         shown = self.explain("\tput \x00\x7f\r\xc3\xa9 v\n")[1]
         self.assertEqual(shown, "    1 | \tput ???\xc3\xa9 v")
+        self.assertEqual(self.explain("# \xc3\xa9\n\tvar \xc3\xa9")[1:3], ["    2 | \tvar \xc3\xa9", "      | \t    ^"])
         for length in (119, 120, 121):
             line = "!" + "a" * (length - 1)
             self.assertEqual(self.explain(line)[1], "    1 | " + (line if length <= 120 else line[:120] + ".."))
         for before, after in ((100, 100), (2, 300), (300, 2)):
             line = "v " * (before // 2) + "!" + " v" * (after // 2)
-            shown = self.explain(line)[1].removeprefix("    1 | ")
+            shown, mark = (it[8:] for it in self.explain(line)[1:3])
             part = shown.removeprefix("..").removesuffix("..")
             begin = line.index(part)
-            self.assertIn("!", part)
             self.assertEqual(len(part), 120)
+            self.assertEqual((".." * (begin > 0) + part)[mark.index("^")], "!")
             self.assertEqual(shown, ".." * (begin > 0) + part + ".." * (begin + 120 < len(line)))
         self.assertEqual(self.explain("\n" * 99_999 + "!")[1], "100000 | !")
 
@@ -413,7 +539,7 @@ class Explain(unittest.TestCase):
         """A fault at the end of a line of nearly 1 MB, with some 64,000 tokens: a search by parses of the text before it would take hours."""
         name = "a" * 32
         line = f"cdlam adc 1 1 5 12 var {name} service adc within 0 cycles event 0 words {{ " + f"{name} = {'+'.join([name] * 6)} " * 4000 + "put }"
-        self.assertEqual(self.explain(line)[2], "Found `}`; here may stand an expression.")
+        self.assertEqual(self.explain(line)[3], "Found `}`; here may stand an expression.")
 
     def test_other_plans(self):
         (self.room / "plan.toml").write_text("buffer = 10\n[[crate]]\nnumber = 9\n")

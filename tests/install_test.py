@@ -156,7 +156,7 @@ class DebianPackage(Case):
         self.assertEqual({tuple(it[1:5:2] + [it[4]]) for it in rows}, {("root/root", "2026-11-27", "00:00")})
         call("dpkg-deb", "-x", package, room)
         self.assertEqual(call(room / "usr/bin/camac", "--version"), (0, "camac 0.2.0\n", ""))
-        wanted = "bin/camac-report lib/python3/dist-packages/camac/__init__.py share/man/man1/camac.1.gz share/man/man5/camac-plan.5.gz"
+        wanted = "bin/camac-report bin/camac-fmt bin/camac-lsp share/man/man1/camac-lsp.1.gz share/camac/camac.vsix lib/python3/dist-packages/camac/__init__.py share/man/man1/camac.1.gz share/man/man5/camac-plan.5.gz"
         wanted += " share/doc/camac/copyright share/doc/camac/changelog.gz share/doc/camac/changelog.Debian.gz share/doc/camac/docs/REFUSALS.md"
         wanted += "" if of_c.lacking() else " include/camac/camac.h lib/x86_64-linux-gnu/libcamac.so.0 lib/x86_64-linux-gnu/pkgconfig/camac.pc"
         self.assertEqual([it for it in wanted.split() if not (room / "usr" / it).is_file()], [])

@@ -23,7 +23,7 @@ import of_c
 from live import PROGRAM, TOP, Case, script
 import camac
 from camac.edits import Edit, edited
-from camac.loops import propose
+from camac.loops.search import propose
 from camac.loops.changes import Kind
 from camac.loops.heads import Known, Least
 from camac.loops.widths import Widths
@@ -224,7 +224,7 @@ def written_here():
     """Scripts of the examples and the pages that keep something."""
     plans = ["@sample", *sorted(map(str, (TOP / "examples").rglob("*.toml")))]
     texts = [it.read_bytes() for it in sorted((TOP / "examples").rglob("*.script"))]
-    texts += [text.encode() for page in sorted((TOP / "docs").glob("*.md")) for _, text in BLOCK.findall(page.read_text())]
+    texts += [text.encode() for page in sorted((TOP / "docs").rglob("*.md")) for _, text in BLOCK.findall(page.read_text())]
     for text in texts:
         if re.search(rb"\bkeep\b", text):
             yield from [Written(plan, text) for plan in plans if accepts(plan, text, judge())][:1]
@@ -473,7 +473,7 @@ class Command(Case):
         )
         self.assertEqual(self.command("--keeps", "@sample", "a"), (1, wanted))
         self.write("b", script(["put v;"]))
-        self.assertEqual(self.command("--keeps", "--write", "@sample", "b", "none"), (3, "b:4: refused S1: bad byte\nnone: fault: No such file or directory\n"))
+        self.assertEqual(self.command("--keeps", "--write", "@sample", "b", "none"), (3, "b:4:6: refused S1: bad byte\nnone: fault: No such file or directory\n"))
 
 
 class Long(unittest.TestCase):
@@ -486,17 +486,38 @@ class Long(unittest.TestCase):
             "for i = 0 to 11 {{\n{read}put v + 4095 - last\nlast = v\n}}\n",
         ]
         read = "cdreg r 1 1 5 i\ncfsa 0 r -> v\n"
-        body = "".join(blocks[at % len(blocks)].format(read=read) for at in range(60))
-        text = f"cdlam adc 1 1 5 12\nvar i k v n last top sum\nservice adc within 0 cycles event 0 words {{\n{body}cclc adc\n}}\n".encode()
+        found, seconds = self.proposed("".join(blocks[at % len(blocks)].format(read=read) for at in range(60)))
+        self.assertIsNone(found.remaining)
+        if judge() == IN_PROCESS:
+            self.assertLess(seconds, 1)
+
+    def test_hard_scripts(self):
+        """Sums that each go on where the one before ended, readings that each follow a difference, and loops in loops, which are given up."""
+        read = "cdreg r 1 1 5 i\ncfsa 0 r -> v\n"
+        nested = "".join(f"for {it} = 0 to 9 {{\n" for it in "iklm") + "a = a + 1\nb = b + a\nc = c + b\n}\n}\n}\n}\n"
+        for block, count, is_solved in [
+            (f"for i = 0 to 11 {{\n{read}sum = sum + v\nn = n + sum % 100\n}}\n", 80, True),
+            (f"for i = 0 to 11 {{\n{read}put v - last\nlast = v\n}}\n", 80, True),
+            (f"for i = 0 to 11 {{\n{read}a = a - a / 8 + v / 8\n}}\nput a\n", 80, False),
+            (nested, 40, False),
+        ]:
+            with self.subTest(block=block):
+                found, seconds = self.proposed(block * count)
+                self.assertEqual(found.remaining is None, is_solved)
+                if judge() == IN_PROCESS:
+                    self.assertLess(seconds, 3, "half a second on a machine that does nothing else")
+
+    def proposed(self, body):
+        """What is proposed for a script, and the seconds that it took."""
+        text = f"cdlam adc 1 1 5 12\nvar i k l m v n last top sum a b c\nservice adc within 0 cycles event 0 words {{\n{body}cclc adc\n}}\n".encode()
         began = time.process_time()
         found = propose("@sample", text, judge())
         seconds = time.process_time() - began
-        self.assertTrue(found.remaining is None and accepts("@sample", found.applied(text), judge()))
+        self.assertEqual(accepts("@sample", found.applied(text), judge()), found.remaining is None)
         self.assertLessEqual(found.calls, MOST_CALLS)
         if is_whole:
             print(f"a script of {text.count(10)} lines: {found.calls} calls, {seconds:.2f} s, {len(found.proposals)} proposals")
-        if judge() == IN_PROCESS:
-            self.assertLess(seconds, 1)
+        return found, seconds
 
 
 if __name__ == "__main__":

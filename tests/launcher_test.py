@@ -11,6 +11,7 @@ import os
 import pathlib
 import pty
 import re
+import resource
 import select
 import shutil
 import signal
@@ -87,8 +88,8 @@ class Terminal:
 
 def processor_time():
     """Seconds of the processor that ended children took."""
-    times = os.times()
-    return times.children_user + times.children_system
+    times = resource.getrusage(resource.RUSAGE_CHILDREN)
+    return times.ru_utime + times.ru_stime
 
 
 def kept():
@@ -168,7 +169,7 @@ class Launcher(unittest.TestCase):
             self.assertEqual(call(self.launcher, "check", "@sample", "@in", given=self.script), (0, VERDICT, ""))
             times.append(processor_time() - began)
         print(f"\na later call took {min(times):.3f} to {max(times):.3f} s of processor time", flush=True)
-        self.assertLess(min(times), 0.1)
+        self.assertLess(min(times), 0.02, "0.005 seconds on a machine that does nothing else")
 
     def test_4_links_folders_and_statuses(self):
         folder = self.folder()
@@ -363,8 +364,8 @@ class Install(unittest.TestCase):
 
     folder = Launcher.folder
     lacking = [it for it in ("gcc", "ld", "ar", "nm", "objcopy") if not shutil.which(it)]
-    of_c = "include/camac/camac.h include/camac/camac.hpp include/camac/camac_esone.h lib/libcamac.a lib/libcamac.so lib/libcamac.so.0" \
-        " lib/pkgconfig/camac.pc lib/cmake/camac/camac-config.cmake lib/cmake/camac/camac-config-version.cmake"
+    of_c = "include/camac/camac.h include/camac/camac.hpp include/camac/camac_esone.h include/camac/camac_mcstd.h lib/libcamac.a lib/libcamac.so lib/libcamac.so.0" \
+        " share/man/man3/camac.3 lib/pkgconfig/camac.pc lib/cmake/camac/camac-config.cmake lib/cmake/camac/camac-config-version.cmake"
 
     @classmethod
     def archive(cls):
@@ -407,7 +408,8 @@ class Install(unittest.TestCase):
         wanted += " share/bash-completion/completions/camac-report share/zsh/site-functions/_camac-report"
         wanted += " share/fish/vendor_completions.d/camac-report.fish share/doc/camac/README.md share/doc/camac/docs/REFUSALS.md"
         wanted += " bin/camac-check share/man/man1/camac-check.1 share/bash-completion/completions/camac-check share/zsh/site-functions/_camac-check"
-        wanted += " share/fish/vendor_completions.d/camac-check.fish"
+        wanted += " share/fish/vendor_completions.d/camac-check.fish bin/camac-fmt bin/camac-lsp share/man/man1/camac-fmt.1 share/man/man1/camac-lsp.1"
+        wanted += " share/nvim/site/plugin/camac_lsp.lua share/camac/camac.vsix share/org.kde.syntax-highlighting/syntax/camac.xml"
         wanted += " share/doc/camac/examples/tutorial/crate.toml share/doc/camac/tests/pictures/plan.svg"
         wanted += "" if self.lacking else f" {self.of_c}"
         for name in wanted.split():

@@ -7,6 +7,7 @@ usage: tests/library_test.py [-v] [TEST ..]     from any folder; takes a minute 
 It needs gcc and the archive that tests/of_c.py names, else all is left out. The program is crates/camac/out/camac (cd crates/camac && rt run
 makes it), or what the environment variable CAMAC_PROGRAM names.
 """
+import collections
 import concurrent.futures
 import functools
 import importlib.util
@@ -19,6 +20,7 @@ import threading
 import time
 import unittest
 import zipfile
+from random import Random
 
 import of_c
 from live import PROGRAM, TOP, Broken, Case, Listed
@@ -28,12 +30,19 @@ from camac import Answer, Ending, ProgramFault, Refused, UsageFault, judge, libr
 from camac.mock import Adc, Auxiliary, MockBranch, Recorder, Register
 from camac.program import lines_of, output_of
 
+sys.path.insert(0, str(TOP / "tools"))
+from oracle.maker.plans import make_plan
+from oracle.maker.scripts import make_script
+from oracle.reader.plan import read_plan
+
 EXAMPLES = TOP / "examples"
 SAMPLE = EXAMPLES / "sample_plan.toml"
 HERE = TOP / "tests/library"
 # so many lists of answers for the scripts of examples, and for those of the folders in it
 LISTS, FEW_LISTS = 1000, 50
 OPENINGS = 1_000_000
+# so many scripts are played by a consumer
+SCRIPTS = 1000
 MOST_KIB = 4096
 SHORT_PLAN = '''[[type]]
 name = "ADC"
@@ -42,7 +51,7 @@ commands = [ { f = 0, a = 0, width = 12 } ]
 number = 1
 station = [ { n = 5, type = "ADC", gl = 3 } ]
 '''
-ARCHIVE_BYTES = 1_200_000
+ARCHIVE_BYTES = 1_300_000
 NEEDED = {"malloc", "realloc", "free", "memcpy", "memmove", "memset"}
 ESONE = """
 void cdreg(int *ext, int b, int c, int n, int a);
@@ -58,6 +67,32 @@ static inline void cfsa_by_reference(int f, int *ext, int *data, int *q) { cfsa_
 #define CAMAC_CDREG(ext, b, c, n, a) all_by_reference(ext, b, c, n, a)
 #define CAMAC_CFSA(f, ext, data, q) cfsa_by_reference(f, ext, data, q)
 #define CAMAC_CTSTAT(k) ctstat_(k)
+"""
+MCSTD = """
+void cam24i_q(const int c, const int n, const int a, const int f, unsigned int *d, int *x, int *q);
+void cam24o_q(const int c, const int n, const int a, const int f, unsigned int d, int *x, int *q);
+void camc_q(const int c, const int n, const int a, const int f, int *q);
+void cam_lam_read(const int c, unsigned int *lam);
+void cam_crate_zinit(const int c);
+void cam_crate_clear(const int c);
+void cam_inhibit_set(const int c);
+void cam_inhibit_clear(const int c);
+"""
+# which calls of mcstd make a cycle of crate 2, and its answer
+CYCLES_BY_MCSTD = """cam24i_q 2 5 0 0 -> 0 0 123456 0 000000
+cam24i_q 2 5 1 1 -> 1 1 123456 0 000000
+cam24o_q 2 5 1 16 abcdef -> 1 0 000000 0 000000
+camc_q 2 5 1 9 -> 1 1 000000 0 000000
+cam_crate_zinit 2 -> 1 1 000000 0 000000
+cam_crate_clear 2 -> 1 1 000000 0 000000
+cam_inhibit_clear 2 -> 1 1 000000 0 000000
+cam_inhibit_set 2 -> 1 1 000000 0 000000
+-> 1 1 000000 0 000000
+-> 1 1 000000 0 000000
+-> 1 1 000000 0 000000
+-> 1 1 000000 0 000000
+cam_lam_read 2 -> 1 1 000000 0 800004
+cam_lam_read 2 -> 1 1 000000 0 800004
 """
 # what `response` tells of a script's only service, of 3 cycles: its rate, and what was told of its end
 ONE_SERVICE = "service adc gl 3 cycles 3 {} start 0 end 3 {}longest 3\n"
@@ -79,6 +114,14 @@ def names(*words):
     return {it.split()[-1] for it in call("nm", *words)[1].splitlines() if len(it.split()) > 1}
 
 
+def accepted_script(number):
+    """A plan and a script that a seed makes; None where it is refused."""
+    random = Random(f"library/{number}")
+    plan = make_plan(random)
+    script = make_script(random, read_plan(plan))
+    return (plan, script) if library.check(plan, script).accepted else None
+
+
 @functools.lru_cache(maxsize=None)
 def pairs():
     """Each example script with each plan that accepts it."""
@@ -96,9 +139,15 @@ class Headers(Case):
             self.compile(name, f"#include <camac/{head}>\n#include <camac/{head}>\n{end}")
         for name, begin in (("d.c", ESONE), ("e.cpp", f'extern "C" {{ {ESONE} }}'), ("f.c", BY_REFERENCE)):
             self.compile(name, f"{begin}\n#include <camac/camac_esone.h>\n{end}")
+        for name, begin in (("g.c", MCSTD), ("h.cpp", f'extern "C" {{ {MCSTD} }}')):
+            self.compile(name, f"{begin}\n#include <camac/camac_mcstd.h>\n{end}")
+
+    def test_mcstd(self):
+        program = of_c.compiled(self.room, "mcstd", HERE / "mcstd.c")
+        self.assertEqual(call(program), (0, CYCLES_BY_MCSTD))
 
     def test_no_name_but_its_own(self):
-        text = "\n".join((TOP / "include/camac" / name).read_text() for name in ("camac.h", "camac_esone.h"))
+        text = "\n".join((TOP / "include/camac" / name).read_text() for name in ("camac.h", "camac_esone.h", "camac_mcstd.h"))
         code = re.sub(r"/\*.*?\*/", "", text, flags=re.S)
         self.assertEqual([it for it in re.findall(r"#define (\w+)", code) if not it.startswith("CAMAC_")], [])
         self.assertEqual([it for it in re.findall(r"^\w[\w *]*?(\w+)\(", code, re.M) if not re.match("camac_|CAMAC_", it)], [])
@@ -127,6 +176,17 @@ class Headers(Case):
         self.assertEqual(items[0], items[1])
         self.assertEqual(len(items[0]), 5)
 
+    def test_manual_page(self):
+        """It has the loop of the header and the prototypes and codes that stand there."""
+        header, page = (TOP / "include/camac/camac.h").read_text(), (TOP / "man/camac.3").read_text()
+        synopsis, example = page.partition(".Sh SYNOPSIS")[2].partition(".Sh")[0], page.partition("-offset indent\n")[2].partition(".Ed")[0]
+        self.assertIn("".join(f" *     {line}\n" for line in example.splitlines()), header)
+        declared = " ".join(header.split())
+        for kind, name, words in re.findall(r"\.Ft (\w+)\n\.Fn (\w+)(.*)", synopsis):
+            self.assertIn(f"{'CAMAC_CALL' if kind == 'int' else kind} {name}({', '.join(re.findall(chr(34) + '(.*?)' + chr(34), words))});", declared)
+        self.assertEqual(re.findall(r"\.It Dv (\w+)", page), re.findall(r"^    (CAMAC_\w+) = \d,? ", header.partition("enum camac_code")[2].partition("};")[0], re.M))
+        self.assertEqual(set(re.findall(r"\.Fn (camac_\w+)", page)) - set(re.findall(r"(camac_\w+)\(", header)), set())
+
     def test_one_version(self):
         header = (TOP / "include/camac/camac.h").read_text()
         text = re.search(r'CAMAC_VERSION "([\d.]+)"', header)[1]
@@ -136,6 +196,7 @@ class Headers(Case):
         self.assertIn(f"PACKAGE_VERSION {text})", (TOP / "library/camac-config-version.cmake").read_text())
         self.assertEqual(call(PROGRAM, "--version"), (0, f"camac {text}\n"))
         self.assertIn(f"Version: {text}\n", (TOP / "library/camac.pc").read_text())
+        self.assertIn(f".Os camac {text}\n", (TOP / "man/camac.3").read_text())
         self.assertIn(f'version = "{text}"\n', (TOP / "python/pyproject.toml").read_text())
 
 
@@ -162,14 +223,51 @@ class Calls(Case):
         self.assertTrue(all(overruns for _, overruns in counts))
         self.assertGreater(sum(events for events, _ in counts), LISTS)
 
+    def test_a_consumer_writes_what_the_program_writes(self):
+        """Its listing and its event file of random scripts are those of `camac run`, byte for byte."""
+        pool = concurrent.futures.ProcessPoolExecutor()
+        made = filter(None, pool.map(accepted_script, range(10 * SCRIPTS), chunksize=20))
+        for k, (plan, script) in zip(range(SCRIPTS), made):
+            (self.room / f"{k}.plan").write_bytes(plan)
+            (self.room / f"{k}.script").write_bytes(script)
+        pool.shutdown(cancel_futures=True)
+        self.assertEqual(call(self.program("consumer"), self.room, SCRIPTS), (0, ""))
+
+        def ran(k):
+            words = [self.room / f"{k}.{kind}" for kind in ("plan", "script", "answers", "its_events")]
+            status, listing = call(PROGRAM, "run", *words)
+            return status, listing.encode(), self.file(f"{k}.its_events")
+
+        with concurrent.futures.ThreadPoolExecutor(len(os.sched_getaffinity(0))) as pool:
+            told = list(pool.map(ran, range(SCRIPTS)))
+        for k, (status, listing, events) in enumerate(told):
+            self.assertEqual((status, listing, events), (int(b"overrun" in listing), self.file(f"{k}.listing"), self.file(f"{k}.events")), k)
+        ends = collections.Counter(listing.split()[-6 if status else -3] for status, listing, _ in told)
+        print(f"\n{sum(listing.count(10) for _, listing, _ in told)} lines, ends {dict(ends)}", flush=True)
+
     def test_codes_sessions_and_threads(self):
         for static in (False, True):
             self.assertEqual(call(self.program("calls", static=static), SAMPLE, EXAMPLES / "straight_line.script", 0), (0, ""))
+
+    def test_what_a_session_tells(self):
+        for its in ("straight_line", "lockout", "procedure"):
+            self.assertEqual(call(self.program("sessions"), SAMPLE, EXAMPLES / f"{its}.script"), (0, ""))
 
     def test_response_in_cpp(self):
         program = of_c.compiled(self.room, "response", HERE / "response.cpp")
         told = ONE_SERVICE.format("once", "") + ONE_SERVICE.format("every 200", "of 3 ")
         self.assertEqual(call(program, SAMPLE, EXAMPLES / "straight_line.script"), (library.MISUSE, told))
+
+    def test_a_run_in_cpp(self):
+        """It is played once, and twice where it tells much more than its answers let expect."""
+        program = of_c.compiled(self.room, "runs", HERE / "runs.cpp")
+        many = "var i\ncdlam adc 1 1 5 12\nservice adc within 0 cycles event 4096 words { for i = 1 to 4096 { put i } }\n"
+        for runs, its, answers in ((1, STRAIGHT_LINE, "0 0 000000 0 000004\n1 1 123fff 0 000000\n" * 2000), (2, many, "0 0 000000 0 000004\n")):
+            verdict, file = library.run(SAMPLE.read_bytes(), its, answers)
+            self.assertGreater(len(file), 4096 + 4 * len(answers) if runs == 2 else 4096)
+            words = [program, SAMPLE, self.write("its.script", its), self.write("answers", answers)]
+            told = subprocess.run(words, stdout=subprocess.PIPE)
+            self.assertEqual((told.returncode, told.stdout), (0, f"{runs}\n{verdict.text}".encode() + file))
 
     def test_flat_memory(self):
         its = self.write("short.toml", SHORT_PLAN), self.write("short.script", STRAIGHT_LINE)
@@ -438,10 +536,31 @@ class Python(Case):
             session.next(DEMAND)
             self.assertEqual(session.next(Answer(wait=15)).kind, library.STOPPED)
             self.assertIsNone(session.wants())
-        for use in (session.wants, lambda: session.next(DEMAND)):
-            with self.assertRaises(UsageFault):
+        for use in (session.wants, lambda: session.next(DEMAND), lambda: session.step(DEMAND), session.item, session.record, session.rewind):
+            with self.assertRaises(UsageFault) as found:
                 use()
+            self.assertEqual(str(found.exception), "the session is closed")
+        self.assertEqual((session.services(), session.held(), session.answers_left()), ([], (), 0))
         session.close()
+
+    def test_what_a_session_tells(self):
+        """Services, the last answer and what is held, on the answers of a service with a lock."""
+        answers = [DEMAND, Answer(wait=2), *[CYCLE] * 4]
+        with library.Session(self.sample(), LOCKOUT) as session:
+            (service,) = session.services()
+            self.assertEqual(service[:5], ("adc", 1, 5, 12, 3))
+            text = library.check(self.sample(), LOCKOUT).text
+            self.assertIn("service {0} gl {4} cycles {6} of {9} words {7} of {10} steps {8}\n".format(*service), text)
+            self.assertTrue(LOCKOUT.splitlines()[service.line - 1].startswith("service adc"))
+            for _ in range(2):
+                self.assertEqual((session.item(), session.record(), session.held(), session.answers_left()), ("", b"", (), 4_294_967_295))
+                told = [(*session.step(it)[0].unlocked, session.item(), session.record(), session.held()) for it in answers]
+                cycle = "cycle 1 5 0 0 in 000123 x1 q1 wait 0\n"
+                wanted = [("demand 000004 adc\n", b"", ()), ("lock 1 wait 2\n", b"", (1,)), *[(cycle, b"", (1,))] * 3]
+                event = bytes.fromhex("ca4d 0003 00000001 00000006 0000 0000")
+                self.assertEqual(told, [*wanted, (1, f"{cycle}unlock 1\n", event, ())])
+                self.assertEqual(session.answers_left(), 4_294_967_295 - len(answers))
+                session.rewind()
 
 
 class Package(Case):
@@ -479,8 +598,9 @@ class Package(Case):
         self.assertEqual(call(*calls, "check", "@sample", few, env={**env, "PATH": f"{self.room}/bin:{env['PATH']}"}), refused)
         self.assertEqual(call(*calls, "check", "@sample", few, env={**env, "CAMAC_PROGRAM": str(broken)})[0], 3)
         late = ["draw", "response", "@sample", its, "--every", "adc=100"]
-        for words in (["draw", "costs", "@sample", its], ["draw", "plan", "@sample", its], late, ["report", "@sample", its, event_file]):
-            self.assertEqual(call(*calls, *words, "-o", self.room / "it.svg", env=env), (0, ""))
+        made = (["draw", "costs", "@sample", its], ["draw", "plan", "@sample", its], late, ["report", "@sample", its, event_file])
+        for at, words in enumerate(made):
+            self.assertEqual(call(*calls, *words, "-o", self.room / f"it{at}.svg", env=env), (0, ""))
         status, told = call(*calls, "report", "@sample", its, self.write("answers", ""), "-o", self.room / "it.html", env=env)
         self.assertEqual((status, told), (3, "camac: the program camac is not in PATH, and CAMAC_PROGRAM is not set\n"))
 
@@ -505,10 +625,10 @@ class Package(Case):
 
     def check_commands(self, place, package):
         """The commands of the package are there."""
-        for name, *words in (("camac-check", "@sample", EXAMPLES / "straight_line.script"), ("camac-report", "--help")):
+        for name, *words in (("camac-check", "@sample", EXAMPLES / "straight_line.script"), *((f"camac-{it}", "--help") for it in ("fmt", "lsp", "report"))):
             (command,) = place.rglob(name)
             status, told = call(command, *words, env={**os.environ, "PYTHONPATH": str(package)})
-            self.assertEqual((status, told.partition(" [")[0]), (0, "usage: camac-report" if "--help" in words else ""))
+            self.assertEqual((status, told.partition(" [")[0]), (0, f"usage: {name}" if "--help" in words else ""))
 
 
 if __name__ == "__main__":

@@ -250,7 +250,7 @@ class Rows(Case):
             self.assertEqual(pipes.requests(), b"demand\n")
             pipes.process.stdout.close()
             pipes.answer(DEMAND)
-            self.assertEqual((pipes.process.wait(PATIENCE), pipes.process.stderr.read()), (3, b""))
+            self.assertEqual((pipes.process.wait(PATIENCE), pipes.process.stderr.read()), (141, b""))
         self.assertEqual(self.file("e"), HEADER)
 
     def test_each_request_comes_alone(self):

@@ -41,7 +41,7 @@ class Outputs(Case):
 
     def shell(self, line, before=()):
         """Status, standard output and standard error of a line of bash, in which `csv` makes a table."""
-        text = f'csv() {{ {shlex.quote(sys.executable)} -m camac csv "$@"; }}\n{line}'
+        text = f'csv() {{ {shlex.quote(sys.executable)} -m camac csv "$@" --overwrite; }}\n{line}'
         ran = subprocess.run([*before, "bash", "-c", text], cwd=self.room, env=self.env, capture_output=True, text=True, timeout=60)
         return ran.returncode, ran.stdout, ran.stderr
 
@@ -56,6 +56,18 @@ class Outputs(Case):
 
     def mode(self, name):
         return stat.S_IMODE((self.room / name).lstat().st_mode)
+
+    def test_files_of_others(self):
+        """What the same command made is replaced, and another file by --overwrite alone."""
+        csv = f"{shlex.quote(sys.executable)} -m camac csv events run.events -o"
+        (self.room / "mine.csv").write_text(NIGHT_BEFORE)
+        self.assertEqual(self.shell(f"{csv} mine.csv"), (3, "", "camac: another command made it; --overwrite replaces it: mine.csv\n"))
+        self.assertEqual(self.text("mine.csv"), NIGHT_BEFORE)
+        for words in ("--overwrite", "", ""):
+            self.assertEqual(self.shell(f"{csv} mine.csv {words}"), (0, "", ""))
+            self.assertEqual(self.text("mine.csv"), self.table)
+        self.assertEqual(self.shell(f"{{ echo first; {csv} /dev/stdout; }} >both"), (0, "", ""))
+        self.assertEqual(self.text("both"), f"first\n{self.table}")
 
     def test_new_and_old_files(self):
         """A new file has the mode that the umask leaves, an old one keeps its own."""

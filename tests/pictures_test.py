@@ -8,6 +8,9 @@ Chromium is left out where that is not there. The pictures that are kept in test
 """
 import os
 import re
+import shutil
+import statistics
+import subprocess
 import sys
 import unittest
 import xml.etree.ElementTree as ElementTree
@@ -20,14 +23,19 @@ import told
 from browser import CHROMIUM, Browser
 from camac import __main__ as commands
 from camac import pictures, scripts
-from camac.bodies import parse_costs
+from camac.bodies import Kind, calls_of, opened, parse_costs
+from camac.columns import Naming
 from camac.events import read_events
 from camac.pictures import svg
+from camac.pictures.costs import nodes_of
+from camac.pictures.lines import line_of
+from camac.pictures.spectra import LOGARITHMIC
 from camac.plans import parse_plan
 from camac.program import knows_option, output_of
 from camac.report import report
-from camac.runs import Inputs, Run
+from camac.runs import Asked, Inputs, Run
 from camac.scripts import parse_response, parse_verdict
+from camac.simulate import FACTORS, Simulated, Simulation
 from rows_test import ROWS
 
 KEPT = TOP / "tests/pictures"
@@ -63,6 +71,7 @@ class Numbers(bench.BenchCase):
             "event words": sum(len(event[4]) for event in sums.events),
             "cycles with X = 0": sums.total("no_x"),
             "cycles with Q = 0": sums.total("no_q"),
+            "Q = 0 of transfers": sums.total("of_transfers"),
             "demands without a service": sums.idle,
         }
         self.assertEqual(self.page.tiles, wanted)
@@ -76,7 +85,7 @@ class Numbers(bench.BenchCase):
             bound = re.search(rf"service {row['service']} .* cycles (\d+) of (\d+) words (\d+) of", bench.call("check", *self.inputs[:2]))
             wanted = [len(its), min(cycles), sum(cycles) / len(its), max(cycles), int(bound[1]), int(bound[2])]
             wanted += [sum(it.waits for it, _ in its) / len(its), sum(words) / len(its), int(bound[3])]
-            wanted += [sum(it.no_q for it, _ in its), sum(it.no_x for it, _ in its)]
+            wanted += [sum(getattr(it, name) for it, _ in its) for name in ("no_q", "of_transfers", "no_x")]
             for found, value in zip(list(row.values())[2:], wanted):
                 self.assertAlmostEqual(number(found), value, delta=0.05)
 
@@ -84,7 +93,7 @@ class Numbers(bench.BenchCase):
         rows = self.page.table("Services")
         self.assertEqual(len(rows), len(self.sums.services))
         for at, (row, it, event) in enumerate(zip(rows, self.sums.services, self.sums.events)):
-            wanted = [at + 1, it.name, it.cycles, None, it.waits, it.locked, it.no_q, it.no_x, len(event[4])]
+            wanted = [at + 1, it.name, it.cycles, None, it.waits, it.locked, it.no_q, it.of_transfers, it.no_x, len(event[4])]
             found = [cell if title == "service" else None if title == "of bound" else number(cell) for title, cell in row.items()]
             self.assertEqual(found, wanted)
             self.assertEqual(bench.NAMES[event[0]], it.name)
@@ -104,12 +113,30 @@ class Numbers(bench.BenchCase):
                 self.assertTrue(number(found) is value is None or abs(number(found) - value) < 0.051, (row, wanted))
 
     def test_histograms(self):
-        counts = self.page.parts["Cycles and words of an event"]["counts"]
+        """What stands in the bins and in the lines of a panel, beside what is counted here: bins from 0 on, at most 128 of one width."""
+        page = self.page
+        counts = page.parts["Cycles and words of an event"]["counts"]
         names = [it.name for it in self.sums.services]
-        self.assertEqual([sum(it) for it in counts], [names.count(name) for name in ("adc", "adc", "tick", "tick")])
-        channels = [it for key, it in sorted(self.sums.commands.items()) if it["words"]]
-        its = self.page.parts["By channel: the words that modules gave with Q = 1, and the words that were sent"]["counts"]
-        self.assertEqual([sum(it) for it in its], [len(it["words"]) for it in channels[:48]])
+        self.assertEqual([sum(it) for it in counts], [names.count(name) for name in ("adc", "tick", "adc", "tick")])
+        cycles = [it.cycles for it in self.sums.services if it.name == "adc"]
+        self.assertEqual(counts[0], [cycles.count(value) for value in range(43 + 1)])
+        part = page.parts["By channel: the words that modules gave with Q = 1, and the words that were sent"]
+        channels = [(at, it["words"]) for at, it in sorted(self.sums.commands.items()) if it["words"]]
+        drawn = [(at, words) for at, words in channels if at[:2] != (2, 2)]
+        self.assertEqual(len(part["counts"]), len(drawn))
+        for found, (at, words) in zip(part["counts"], drawn):
+            width = bench.WIDTHS[at[0], at[1], at[3]]
+            each = max(1 << width >> 7, 1)
+            words = [word & ((1 << width) - 1) for word in words]
+            self.assertEqual(found, [sum(low <= word < low + each for word in words) for low in range(0, 1 << width, each)])
+        self.assertEqual(part["texts"][:3], self.lines_of((1, 5, 0, 0)))
+
+    def lines_of(self, at):
+        """The lines above a spectrum of 12 bits."""
+        words = [word & 0xFFF for word in self.sums.commands[at]["words"]]
+        counts = [sum(low <= word < low + 32 for word in words) for low in range(0, 4096, 32)]
+        figures = f"mean {statistics.mean(words):,.1f}, RMS {statistics.pstdev(words):,.1f}, peak at {32 * counts.index(max(counts)):,}"
+        return ["ADC-12 crate 1 station 5 A0", f"{len(words):,} words, F0", figures]
 
     def test_places_of_words(self):
         tips = [tip for tip in self.page.parts["By the place of the word in its event"]["tips"] if tip.startswith("word ")]
@@ -173,6 +200,26 @@ class Numbers(bench.BenchCase):
         with mock.patch("camac.report.check", lambda *_: low):
             self.assertEqual(report(self.inputs).status, 1)
 
+    def test_names_of_words(self):
+        """Spectra of an event file by the names of a file and by those of the script, and two numbers against each other, beside counts made here."""
+        self.inputs = self.inputs._replace(source=self.events)
+        tick = [event[4] for event in self.sums.events if event[0] == 5]
+        texts = bench.Page(report(self.inputs).text).parts["Event words by their names"]["texts"]
+        for place in range(12):
+            mean = statistics.mean(words[place] for words in tick)
+            at = texts.index(f"SCALER-12 crate 2 station 2 A{place}")
+            self.assertEqual(texts[at + 1 : at + 3], [f"{len(tick)} words: values", f"mean {mean:,.1f}"])
+        words = self.write("words.toml", WORDS)
+        page = bench.Page(report(self.inputs, naming=Naming(words, ("time", "count"))).text)
+        packed = [word for event in self.sums.events if event[0] == 3 for word in event[4] if word >> 16 == 3]
+        found = page.parts["Event words by their names"]["counts"]
+        self.assertEqual(found[-1], [sum(word & 0xFFF >= low and word & 0xFFF < low + 32 for word in packed) for low in range(0, 4096, 32)])
+        texts = page.parts["Event words by their names"]["texts"]
+        charges = [0.5 * (word & 0xFFF) - 10 for word in packed]
+        self.assertIn(f"mean {statistics.mean(charges):,.1f}, RMS {statistics.pstdev(charges):,.1f}", " ".join(texts))
+        pairs = [event for event in self.sums.events if event[0] == 3 and len(event[4]) >= 2]
+        self.assertIn(f"{len(pairs)} events with both", page.parts["Two numbers of an event"]["texts"])
+
     def test_event_file(self):
         """Of an event file alone the page tells what it holds, and the numbers are those of the listing."""
         self.inputs = self.inputs._replace(source=self.events)
@@ -211,6 +258,51 @@ class Costs(bench.BenchCase):
         # 12 calls of 2 cycles, of which the body needs 1
         self.assertEqual((tick.most.cycles, tick.waits(), tick.slack()), (24 + 1 + 1, 0, 12))
 
+    def bodies(self):
+        """The bodies of the bench and of all worked rows of costs, each with all of its script."""
+        worked = [one.printed.decode() for case in ROWS["costs"].values() for one in case]
+        for printed in (told.COSTS, *(it for it in worked if it.startswith(("service", "proc")))):
+            its = parse_costs(printed)
+            yield from ((body, its) for body in its)
+
+    def test_lines_multiply(self):
+        """On each line `times` times `each` is `cycles`, and the lines add up to the bound; so do those of a call, with what its heading promises."""
+        tried = calls = 0
+        for body, its in self.bodies():
+            procedures = {it.name: it for it in its if it.kind is Kind.PROCEDURE}
+            self.assertEqual(self.cycles_of(body), body.most.cycles)
+            self.assertEqual(sum(row.share.cycles for row in opened(body, procedures)), body.most.cycles)
+            self.assertEqual(sum(row.waits for row in opened(body, procedures)), body.waits())
+            self.assertEqual(sum(row.slack for row in opened(body, procedures)), body.slack())
+            tried += 1
+            for it in calls_of(body, procedures):
+                self.assertEqual(self.cycles_of(it.body) + it.promised(), it.times * it.each)
+                calls += 1
+        self.assertGreater(min(tried, calls), 4)
+
+    def cycles_of(self, body):
+        rows = {}
+        for it in nodes_of(body.rows):
+            rows.setdefault(it.row.line, []).append((it.row, it.cycles))
+        parts = [part for its in rows.values() for part in line_of(its).parts]
+        self.assertTrue(all(it.times * it.each == it.cycles for it in parts))
+        return sum(it.cycles for it in parts)
+
+    def test_lines_with_several_parts(self):
+        """A lock on one line with what it holds, and a cycle that is made once beside one that is made four times."""
+        rows = parse_costs(
+            "service adc line 1 gl 3 at 1 5 12 cycles 9 of 9 words 0 of 0 steps 9\n"
+            "line 2 depth 1 lock times 1 cycles 4 words 0 steps 2 share 2 0 1 crate 2\n"
+            "line 2 depth 2 cfsa times 2 cycles 1 words 0 steps 1 share 2 0 2 at 2 5 0\n"
+            "line 3 depth 1 cfsa times 1 cycles 1 words 0 steps 1 share 1 0 1 at 1 5 0\n"
+            "line 3 depth 1 for times 1 cycles 4 words 0 steps 5 share 0 0 1 turns 4\n"
+            "line 3 depth 2 cfsa times 4 cycles 1 words 0 steps 1 share 4 0 4 at 1 5 0\n"
+        )
+        texts = re.findall(r"<text[^>]*>([^<]*)</text>", pictures.draw_costs(rows[0], ["", "lock 2 {", "three"]).picture())
+        table = texts[texts.index("lock 2 {") - 1 :]
+        self.assertEqual(table[:14], ["2", "lock 2 {", "2", "1", "2", "22 %", "waits of the lock", "1", "2", "2", "22 %", "3", "three", "1"])
+        self.assertEqual(table[14:], ["1", "1", "11 %", "of this line: cfsa", "4", "1", "4", "44 %"])
+
     def test_page(self):
         page = bench.Page(report(self.inputs).text)
         texts = page.parts["Cost by line"]["texts"]
@@ -227,6 +319,34 @@ class Costs(bench.BenchCase):
         self.assertEqual(sorted(it.name for it in self.room.iterdir()), ["costs.adc.svg", "costs.scaler.svg", "costs.tick.svg"])
         for path in self.room.iterdir():
             ElementTree.parse(path)
+
+
+# Names of the words of the bench.
+WORDS = """\
+[[word]]
+service = "adc"
+name = "channel"
+bits = "16..19"
+[[word]]
+service = "adc"
+name = "charge"
+of = "channel"
+tag = 3
+bits = "0..11"
+scale = 0.5
+offset = -10
+unit = "pC"
+[[word]]
+service = "adc"
+name = "time"
+place = 1
+bits = "12..15"
+[[word]]
+service = "adc"
+name = "count"
+place = 2
+bits = "12..15"
+"""
 
 
 class Texts(bench.BenchCase):
@@ -246,6 +366,9 @@ class Texts(bench.BenchCase):
         for name in names:
             yield report(self.inputs._replace(script=self.hostile(name))).text
         yield report(self.inputs._replace(script=self.hostile(names[0]), plan=self.write("bad.toml", 'buffer = "<script>"'))).text
+        harm = '<script>alert(1)</script> \u2028 \U0001f4a5 &amp; \\" ' + 32 * "x"
+        words = self.write("words.toml", f'[[word]]\nservice = "tick"\nname = "{harm}"\nunit = "{harm}"\nplace = "1..2"\nof = "place"\nbits = "0..9"\n')
+        yield report(self.inputs._replace(script=self.hostile(names[0])), naming=Naming(words)).text
         broken = self.hostile(names[0])
         broken.write_bytes(broken.read_bytes().replace(b"within 64", b"within 0"))
         yield report(self.inputs._replace(script=broken)).text
@@ -343,9 +466,20 @@ def small_run():
     return told.collected(LISTED_PLAN, VERDICT, lines, events)
 
 
+def rates_at(factor):
+    """A simulation by hand, of which no program is needed: a service of 20 cycles at so many times 5,000 triggers a second."""
+    rate, answered = 5000 * factor, 1000
+    lost = round(answered * rate * 20 * 1.4e-6)
+    waits = [20 + min(at * factor / 200, 13) for at in range(answered)]
+    return Simulation([Simulated("adc", 3, rate, 34, answered + lost, lost, 20 * answered, 0, waits)], 1.0, 0.5, None)
+
+
 def kept_pictures():
     """The pictures that are kept, by name, drawn without the program."""
-    plan, services, bodies, run = parse_plan(told.PLAN), parse_verdict(told.VERDICT), parse_costs(told.COSTS), told.told_run(200)
+    rate = [next(it for it in told.WORDS.columns(5) if it.name == name) for name in ("rate[1]", "rate[2]")]
+    asked = Asked(told.WORDS, (rate[0], rate[1]))
+    plan, services, bodies, run = parse_plan(told.PLAN), parse_verdict(told.VERDICT), parse_costs(told.COSTS), told.told_run(200, asked)
+    calls = parse_costs(COSTS.printed.decode())
     source, seen, responses = bench.SCRIPT.split("\n"), run.seen, parse_response(told.RESPONSE)
     drawn = {
         "plan": pictures.draw_plan(plan, services, run),
@@ -354,12 +488,16 @@ def kept_pictures():
         "response": pictures.draw_response(responses, told.run_of(responses, [(9, 7), (4, 3), (1, 5), (4, 3), (0, 0), (4, 3), (1, 5), (1, 5), (9, 7)])),
         "costs-scaler": pictures.draw_costs(bodies[0], source),
         "costs-adc": pictures.draw_costs(bodies[1], source, seen[3].cycles),
-        "costs-tick": pictures.draw_costs(bodies[2], source, seen[5].cycles),
-        "costs-call": pictures.draw_costs(parse_costs(COSTS.printed.decode())[1], COSTS.inputs["SCRIPT"].decode().split("\n")),
+        "costs-tick": pictures.draw_costs(bodies[2], source, seen[5].cycles, bodies),
+        "costs-call": pictures.draw_costs(calls[1], COSTS.inputs["SCRIPT"].decode().split("\n"), None, calls),
         "run": pictures.draw_run(run, services),
         "run-long": pictures.draw_run(told.told_run(270), services),
-        "events": pictures.draw_events(run, services),
-        "words": pictures.draw_words(run),
+        "events": pictures.draw_groups("Cycles and words of an event", pictures.event_groups(run, services)),
+        "words": pictures.draw_groups("Words by channel", pictures.command_groups(run, plan)),
+        "words-log": pictures.draw_groups("Words by channel", pictures.command_groups(run, plan, LOGARITHMIC)[:1]),
+        "channels": pictures.draw_groups("Event words by their names", pictures.channel_groups(run.list_channels())),
+        "pairs": pictures.draw_pairs(*asked.pair, run.pairs),
+        "rates": pictures.draw_rates([rates_at(factor) for factor in FACTORS], rates_at(1), 1.4e-6),
         "places": pictures.draw_places(run, services[0]),
     }
     for name, its in (("", run), ("small-", small_run())):
@@ -389,7 +527,8 @@ class Kept(unittest.TestCase):
     def test_numbers(self):
         run = small_run()
         self.assertEqual((list(run.cycles), list(run.waits)), ([2 + 1 + 1 + 2 + 16, 7], [2 + 1 + 15, 3]))
-        self.assertEqual((list(run.no_q), list(run.no_x), list(run.locked)), ([3, 3], [1, 1], [2, 2]))
+        self.assertEqual((list(run.no_q), list(run.no_x), list(run.locked)), ([2, 2], [1, 1], [2, 2]))
+        self.assertEqual(list(run.of_transfers), [0, 0])
         self.assertEqual([it.agrees for it in run.checks], [True, True, True, False])  # 22 cycles are above the bound of 20
         plan = pictures.draw_plan(parse_plan(LISTED_PLAN), parse_verdict(VERDICT), run).picture()
         for text in ("F0 A0 to A11: read group 1, 12 bits", "F0 A12 to A15: probe: no register", "F10 A12: clear LAM", "graded-L bit 24: no service"):
@@ -406,7 +545,7 @@ class Kept(unittest.TestCase):
             run.gl.append(3)
             for its in (run.cycles, run.words):
                 its.append(5)
-            for its in (run.waits, run.no_q, run.no_x, run.locked):
+            for its in (run.waits, run.no_q, run.of_transfers, run.no_x, run.locked):
                 its.append(at % 2)
         drawn = pictures.draw_run(run, parse_verdict(VERDICT)).picture()
         bars = re.findall(r"M(\S+) \S+v\S+h(\d+)V", re.search(r'<path d="([^"]*)" class="ours crisp"', drawn)[1])
@@ -453,9 +592,9 @@ class InChromium(bench.BenchCase):
         """The pointer is over the third bin of the first histogram."""
         browser.ask("window.r=document.querySelector('rect[data-counts]');r.scrollIntoView({block:'center'})")
         place = browser.ask("(b=>[b.left,b.top,b.width,b.height])(r.getBoundingClientRect())")
-        first, width, part = (browser.ask(f"+r.dataset.{it}") for it in ("first", "width", "part"))
+        first, width = (browser.ask(f"+r.dataset.{it}") for it in ("first", "width"))
         counts = [int(it) for it in browser.ask("r.dataset.counts").split()]
-        browser.move_to(place[0] + place[2] * part * 2.5 / len(counts), place[1] + place[3] / 2)
+        browser.move_to(place[0] + place[2] * 2.5 / len(counts), place[1] + place[3] / 2)
         low = int(first + 2 * width)
         name = f"{low:,}" if width == 1 else f"{low:,} to {low + int(width) - 1:,}"
         self.assertEqual(browser.ask("document.getElementById('tip').textContent"), f"{name}: {counts[2]:,}")
@@ -482,10 +621,38 @@ class InChromium(bench.BenchCase):
             browser.ask("delete document.documentElement.dataset.theme")
 
     def test_narrow_window(self):
-        """Pictures and tables scroll in their places; the page is as wide as the window."""
-        with Browser(width=500) as browser:
+        """Tables scroll in their places, and no picture is wider than the window, until it is clicked."""
+        with Browser() as browser:
+            browser.call("Emulation.setDeviceMetricsOverride", width=400, height=800, deviceScaleFactor=1, mobile=False)
             self.opened(browser, report(self.inputs).text)
-            self.assertLessEqual(browser.ask("document.documentElement.scrollWidth"), browser.ask("innerWidth"))
+            self.assertEqual(browser.ask("document.documentElement.scrollWidth"), 400)
+            cut = "Array.from(document.querySelectorAll('svg')).filter(it=>it.getBoundingClientRect().right>400).length"
+            self.assertEqual(browser.ask(cut), 0)
+            browser.ask("document.querySelector('.figure').click()")
+            self.assertEqual((browser.ask(cut), browser.ask("document.documentElement.scrollWidth")), (1, 400))
+
+    def test_logarithmic_counts(self):
+        """A click shows the other axis of all spectra."""
+        with Browser() as browser:
+            self.opened(browser, report(self.inputs).text)
+            shown = "['lin','log'].map(it=>Array.from(document.querySelectorAll('svg .'+it)).filter(g=>getComputedStyle(g).display!='none').length)"
+            before = browser.ask(shown)
+            browser.ask("document.querySelector('.scale').click()")
+            self.assertEqual((before[1], browser.ask(shown)), (0, [0, before[0]]))
+
+    @unittest.skipUnless(shutil.which("pdftotext"), "pdftotext (package poppler-utils) is not here")
+    def test_paper(self):
+        """No page of paper ends with a heading, and the lines of calls are open."""
+        headings = "Array.from(document.querySelectorAll('h2,h3,h4,summary')).map(it=>it.textContent)"
+        with Browser() as browser:
+            self.opened(browser, report(self.inputs).text)
+            names = set(browser.ask(headings))
+            browser.paper(self.room / "page.pdf")
+        pages = subprocess.run(["pdftotext", "-layout", self.room / "page.pdf", "-"], capture_output=True, text=True, check=True).stdout.split("\f")
+        self.assertGreater(len(pages), 5)
+        for page in pages[:-1]:
+            self.assertNotIn([line.strip() for line in page.splitlines() if line.strip()][-1], names)
+        self.assertIn("promised by the heading, not needed", "".join(pages))
 
     def test_harm(self):
         harm = Texts()

@@ -357,13 +357,16 @@ class Streams(Case):
     def test_reader_of_a_pipe_is_gone(self):
         """That is no fault to speak of."""
         self.assertEqual(self.shell('{ sleep 0.1; "$camac" --help; echo $? >status; } | true'), (0, b"", b""))
-        self.assertEqual(self.file("status"), b"3\n")
+        self.assertEqual(self.file("status"), b"141\n")
         run = '{ "$camac" run @sample straight.script @in e; echo $? >status; }'
         line = f'yes "1 1 000001 0 000004" | head -n 100000 | {run} | head -n 1'
         self.assertEqual(self.shell(line)[1:], (b"demand 000004 adc\n", b""))
-        self.assertEqual(self.file("status"), b"3\n")
+        self.assertEqual(self.file("status"), b"141\n")
         line = 'mkfifo p; head -c 8 p >header & yes "1 1 000001 0 000004" | head -n 100000 | "$camac" run @sample straight.script @in p >listing'
-        self.assertEqual(self.shell(line), (3, b"", b""))
+        self.assertEqual(self.shell(line), (141, b"", b""))
+        for words in ("plan @sample", "check @sample straight.script", "response @sample straight.script"):
+            self.assertEqual(self.shell(f'{{ sleep 0.1; "$camac" {words}; echo $? >status; }} | true'), (0, b"", b""), words)
+            self.assertEqual(self.file("status"), b"141\n", words)
 
     def test_lines_come_before_the_next_answer(self):
         words = [PROGRAM, "run", "@sample", "straight.script", "@in", "e"]
@@ -418,7 +421,7 @@ class Streams(Case):
             self.assertEqual(ran.stdout.readline(), LISTING.splitlines(True)[0])
             ran.stdout.close()
             ran.stdin.write(rest)
-            self.assertEqual((ran.wait(10), ran.stderr.read()), (3, b""))
+            self.assertEqual((ran.wait(10), ran.stderr.read()), (141, b""))
         self.assertEqual(self.file("e"), b"CAMACEV2")
         with open("/dev/full", "wb") as full, subprocess.Popen([*words, "e"], stdout=full, **piped) as ran:
             ran.stdin.write(first)

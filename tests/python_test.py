@@ -9,6 +9,7 @@ import io
 import itertools
 import os
 import pathlib
+import re
 import struct
 import subprocess
 import sys
@@ -26,6 +27,7 @@ TOP = pathlib.Path(__file__).resolve().parent.parent
 PROGRAM = os.path.abspath(os.environ.get("CAMAC_PROGRAM") or TOP / "crates/camac/out/camac")
 sys.path.insert(0, str(TOP / "python"))
 sys.dont_write_bytecode = True
+import camac  # noqa: E402
 from camac import Event, EventFileFault, event_arrays, read_events, whole, whole_size  # noqa: E402
 
 ONE = bytes.fromhex("43414d4143455631 ca4d 0003 00000001 0002 00000fff 00ffffff ca4d 0018 00000002 0000")
@@ -214,6 +216,36 @@ class Arrays(unittest.TestCase):
         seconds = time.process_time() - began
         self.assertEqual(len(arrays.gl), 500_000)
         self.assertLess(seconds, 0.6, "0.2 seconds on a machine that does nothing else")
+
+
+class Package(unittest.TestCase):
+    """The names of the package, each loaded when it is first asked for."""
+
+    def run_python(self, code):
+        path = str(TOP / "python")
+        ran = subprocess.run([sys.executable, "-I", "-S", "-c", f"import sys; sys.path.insert(0, {path!r}); {code}"], stdout=subprocess.PIPE, text=True, check=True)
+        return ran.stdout.split()
+
+    def test_names(self):
+        code = "import camac; print(*(f'{it}:{getattr(camac, it).__name__}' for it in camac.__all__)); assert set(camac.__all__) <= set(dir(camac))"
+        told = self.run_python(code)
+        self.assertEqual([it for it in told if it.split(":")[0] != it.split(":")[1]], [])
+        stub = (TOP / "python/camac/__init__.pyi").read_text()
+        self.assertEqual([it.split(":")[0] for it in told], sorted(re.findall(r'^    "(\w+)",$', stub, re.M)))
+
+    def test_modules(self):
+        """A module is there as if it had been loaded, and no name of one hides a function."""
+        self.assertEqual(self.run_python("import camac; print(camac.plans.parse_plan.__name__)"), ["parse_plan"])
+        modules = {it.stem for it in (TOP / "python/camac").iterdir()} & set(camac.__all__)
+        loaded = self.run_python(f"import camac; print(*(it for it in {sorted(modules)} if callable(vars(camac)[it])))")
+        self.assertEqual(loaded, sorted(modules))
+        with self.assertRaises(AttributeError):
+            camac.nothing
+
+    def test_what_camac_check_loads(self):
+        """To load one of these takes as long as a whole call of camac-check."""
+        code = "import camac.commands.check; print(*{'dataclasses', 'inspect', 'json', 'pathlib', 'subprocess', 'tempfile', 'camac.pictures'} & set(sys.modules))"
+        self.assertEqual(self.run_python(code), [])
 
 
 if __name__ == "__main__":

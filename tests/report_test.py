@@ -65,7 +65,7 @@ class Ends(bench.BenchCase):
         _, page = self.report()
         self.assertEqual(self.last_line(page), "The run: ended events 0 (the answers were used up at a demand).")
         self.assertIn("No service came to its end in this run.", page.parts["The run"]["texts"])
-        self.assertIn("Nothing to show: no event, no word.", page.parts["Cycles and words of an event"]["texts"])
+        self.assertIn("Nothing to show: no event, no word.", page.parts["Cycles and words of an event"]["paragraphs"])
         self.assertIn("No event of adc has a word.", page.parts["By the place of the word in its event"]["texts"])
 
     def test_sizes(self):
@@ -299,6 +299,23 @@ class Commands(bench.BenchCase):
         self.call("report", plan, bad, answers, "-o", self.room / "x.html", status=1)
         self.assertTrue((self.room / "x.html").exists())
 
+    def test_what_is_replaced(self):
+        """A page and a picture of this package, and nothing else, unless that is said."""
+        plan, script, _ = self.files
+        page, picture = self.room / "run.html", self.room / "plan.svg"
+        for out, words in ((page, ["report", *self.files]), (picture, ["draw", "plan", plan]), (picture, ["draw", "plan", plan, script])):
+            self.assertEqual(self.call(*words, "-o", out), ("", ""))
+            self.assertEqual(self.call(*words, "-o", out), ("", ""))
+        for out, words in ((page, ["draw", "plan", plan]), (picture, ["report", *self.files]), (self.write("notes", "mine\n"), ["draw", "bounds", plan, script])):
+            before = out.read_bytes()
+            self.assertEqual(self.call(*words, "-o", out, status=3), ("", f"camac: another command made it; --overwrite replaces it: {out}\n"))
+            self.assertEqual(out.read_bytes(), before)
+            self.assertEqual(self.call(*words, "-o", out, "--overwrite"), ("", ""))
+            self.assertNotEqual(out.read_bytes(), before)
+        self.write("costs.tick.svg", "mine\n")
+        self.assertIn("costs.tick.svg", self.call("draw", "costs", plan, script, "-o", self.room / "costs.svg", status=3)[1])
+        self.assertFalse((self.room / "costs.adc.svg").exists())
+
     def test_report(self):
         out = self.room / "run.html"
         self.assertEqual(self.call("report", *self.files, "-o", out), ("", ""))
@@ -310,7 +327,7 @@ class Commands(bench.BenchCase):
 
 
 class Pages(unittest.TestCase):
-    """The manual pages and the completions of camac-check and camac-report, compared with their help."""
+    """The manual pages and the completions of the commands of the package, compared with their help."""
 
     def options(self, command):
         """Each option as it stands in the help: its short name, if it has one, and its long one."""
@@ -319,7 +336,7 @@ class Pages(unittest.TestCase):
         return re.findall(r"^  (?:-(\w)(?: [A-Z]+)?, )?--(\w+)", told, re.M)
 
     def test_manual_pages(self):
-        for command, count in (("check", 6), ("report", 3)):
+        for command, count in (("check", 6), ("fmt", 2), ("lsp", 1), ("report", 7)):
             page = (TOP / f"man/camac-{command}.1").read_text()
             self.assertEqual(len(self.options(command)), count)
             for short, long in self.options(command):
@@ -327,10 +344,10 @@ class Pages(unittest.TestCase):
             self.assertEqual(re.search(r"\.Os .*", page)[0], re.search(r"\.Os .*", (TOP / "man/camac.1").read_text())[0])
 
     def test_completions(self):
-        for command in ("check", "report"):
+        for command in ("check", "fmt", "lsp", "report"):
             for name in (f"camac-{command}.bash", f"_camac-{command}", f"camac-{command}.fish"):
                 text = (TOP / "completions" / name).read_text()
-                self.assertIn("@sample", text)
+                self.assertEqual("@sample" in text, command in ("check", "report"))
                 for short, long in self.options(command):
                     self.assertRegex(text, rf"-{short}\b|-s {short}\b")
                     self.assertRegex(text, rf"--{long}\b|-l {long}\b")
@@ -346,11 +363,12 @@ class Pages(unittest.TestCase):
             self.assertEqual(offered(command, "sample_p"), ["sample_plan.toml"])
             self.assertEqual(offered(command, "@sample", "stra"), ["straight_line.script"])
             self.assertEqual(offered(command, "@sample", "@"), [])
-        self.assertEqual(offered("report", "@sample", "-"), ["--every", "--help", "--out", "-h", "-o"])
+        self.assertEqual(offered("report", "@sample", "-"), ["--every", "--help", "--out", "--overwrite", "--pair", "--record", "--words", "-h", "-o"])
         self.assertEqual(offered("check", "@sample", "--f"), ["--format"])
         self.assertEqual(offered("check", "--format", "g"), ["github"])
         self.assertEqual(offered("check", "--write", "--format", "json", "@"), ["@sample"])
         self.assertEqual(offered("check", "--write", "@sample", "lockout.script", "@"), [])
+        self.assertEqual((offered("fmt", "stra"), offered("fmt", "--")), (["straight_line.script"], ["--check", "--help"]))
 
 
 if __name__ == "__main__":

@@ -140,6 +140,17 @@ class Sum(unittest.TestCase):
         self.assertEqual((ran.returncode, ran.stdout), (0, "crates.sum is that of these sources\n"))
 
 
+class Hooks(unittest.TestCase):
+    def test_hooks(self):
+        """Each hook calls a command that is put in place, for scripts alone."""
+        commands = re.findall(r'^(camac-\w+) = "', page("python/pyproject.toml"), re.M)
+        found = re.findall(r"- id: (\S+)\n  name: \S+\n  description: .*\n  entry: (\S+)\n  language: system\n  files: (\S+)\n", page(".pre-commit-hooks.yaml"))
+        self.assertEqual(len(found), page(".pre-commit-hooks.yaml").count("- id:"))
+        for name, entry, files in found:
+            self.assertEqual((name, entry in commands), (entry, True))
+            self.assertEqual([bool(re.search(files, it)) for it in ("a/b.script", "b.camac", "plan.toml", "a.script.txt")], [True, True, False, False])
+
+
 class Citation(unittest.TestCase):
     def test_what_is_cited(self):
         """The keys that the format (version 1.2.0) requires, and the version and date of CHANGELOG."""

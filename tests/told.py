@@ -1,4 +1,5 @@
 """What the program prints of the bench of two crates, as text: for tests of pictures that need no program."""
+import contextlib
 from unittest import mock
 
 import camac
@@ -6,6 +7,7 @@ from camac import runs
 from camac.listings import parse_listing
 from camac.plans import parse_plan
 from camac.scripts import parse_verdict
+from camac.words import PLACE, Field, Words
 
 PLAN = """\
 buffer 64
@@ -72,6 +74,16 @@ line 34 depth 2 call times 12 cycles 2 words 1 steps 4 share 24 12 48 proc scale
 line 35 depth 1 ccci times 1 cycles 1 words 0 steps 1 share 1 0 1 crate 2
 line 36 depth 1 cclc times 1 cycles 1 words 0 steps 1 share 1 0 1 at 2 2 0
 """
+# The commands of the scan in `adc`.
+SCAN = frozenset(camac.Command(1, 7, a, 0) for a in range(8))
+# What the words of the bench are.
+WORDS = Words(
+    [
+        Field("channel", 3, bits=(16, 19)),
+        Field("pulse height", 3, "keV", (0, 11), of="channel", tags=(1, 11), scale=0.5, offset=-10),
+        Field("rate", 5, places=(1, 12), of=PLACE, tags=(1, 12)),
+    ]
+)
 # Three services by hand. For veto the 7 cycles of spill may be in progress. Call 1 of strip begins at 7 + 5 = 12; call 2, whose look-at-me
 # comes at 6, at 7 + 3 + 2 * 5 = 20, so 14 after it. Spill begins at 7 + 4 * 5 + 10 * 3 = 57.
 RESPONSE = """\
@@ -155,8 +167,8 @@ class Told:
         self.end(5)
 
 
-def told_run(services):
-    """A run of so many services: each fifth one is a tick, and behind each seventh one nobody calls."""
+def told_run(services, asked=None):
+    """A run of so many services: each fifth one is a tick, and behind each seventh one nobody calls. `asked` are columns of the words."""
     told = Told()
     for at in range(services):
         if at % 5 == 4:
@@ -165,7 +177,7 @@ def told_run(services):
             told.adc()
         if at % 7 == 6:
             told.begin(0, "-")
-    return collected(PLAN, VERDICT, [*told.lines, f"ended events {services}"], told.events)
+    return collected(PLAN, VERDICT, [*told.lines, f"ended events {services}"], told.events, asked=asked, meant=SCAN)
 
 
 def run_of(responses, operations):
@@ -180,9 +192,20 @@ def run_of(responses, operations):
     return collected(PLAN, f"accepted\n{verdict}", [*lines, f"ended events {len(events)}"], events, responses)
 
 
-def collected(plan, verdict, lines, events, responses=()):
-    """The run of such a listing and such events; `responses` are what `camac response` would say of the script."""
+def collected(plan, verdict, lines, events, responses=(), asked=None, meant=frozenset()):
+    """The run of such a listing and such events; `responses` are what `camac response` would say of the script, and `meant` the commands of its
+    transfers."""
     services = parse_verdict(verdict)
-    with mock.patch("camac.runs.run", lambda *_, **__: parse_listing(lines)), mock.patch("camac.runs.read_events", lambda _: iter(events)):
-        with mock.patch("camac.runs.is_event_file", lambda _: False):
-            return runs.collect(runs.Inputs("plan", "script", "answers"), parse_plan(plan), services, None, responses)
+    told = {
+        "run": lambda *_, **__: parse_listing(lines),
+        "read_events": lambda _: iter(events),
+        "is_event_file": lambda _: False,
+        "knows_command": lambda *_: True,
+        "costs": lambda *_: [],
+        "script_text": lambda _: b"",
+        "transfer_commands": lambda *_: meant,
+    }
+    with contextlib.ExitStack() as patched:
+        for name, instead in told.items():
+            patched.enter_context(mock.patch(f"camac.runs.{name}", instead))
+        return runs.collect(runs.Inputs("plan", "script", "answers"), parse_plan(plan), services, None, responses, asked)

@@ -5,23 +5,27 @@ usage: tests/values_test.py [-v] [TEST ..]     from any folder; takes a few seco
 
 The program is crates/camac/out/camac (cd crates/camac && rt run makes it), or what the environment variable CAMAC_PROGRAM names.
 """
+import collections
 import csv
 import io
 import os
 import random
+import statistics
 import sys
 import unittest
 
 from live import PROGRAM, TOP, Case
 import camac
+import told
 from camac import Cycle, Demand, Ending, Lock, Move, RunEnd, Unlock, bodies, plans, scripts
 from camac.annotate import annotate
 from camac.bodies import Cost, Kind
-from camac.histograms import Bins, Histogram
+from camac.histograms import Bins, Pairs, Series, Spectrum
 from camac.listings import Command
 from camac.plans import Declaration, Station
 from camac.program import knows_command, lines_of, version
 from camac.tables import write_events, write_listing
+from camac.transfers import transfer_commands
 
 COMMANDS = """\
 buffer 4096
@@ -175,28 +179,93 @@ class Values(Case):
 
 class Histograms(unittest.TestCase):
     def test_few_values(self):
-        its = Histogram(64)
-        self.assertEqual((its.bins(), its.mean(), its.least), (Bins(0, 1, []), 0.0, None))
-        for value in (5, 7, 5):
+        its = Spectrum(8)
+        self.assertEqual((its.bins(), its.mean(), its.rms(), its.least, its.peak()), (Bins(0, 1, [0] * 8), 0.0, 0.0, None, None))
+        for value in (5, 7, 5, 8):
             its.add(value)
-        self.assertEqual((its.bins(), its.count, its.total, its.least, its.greatest), (Bins(5, 1, [2, 0, 1]), 3, 17, 5, 7))
+        self.assertEqual((its.bins(), its.count, its.integral(), its.overflow, its.peak()), (Bins(0, 1, [0, 0, 0, 0, 0, 2, 0, 1]), 4, 3, 1, 5))
+        self.assertEqual((its.mean(), its.least, its.greatest), (25 / 4, 5, 8))
+        self.assertAlmostEqual(its.rms(), statistics.pstdev([5, 7, 5, 8]))
 
-    def test_bins_double(self):
-        """Whatever comes, the bins hold what a count by hand gives."""
+    def test_bins(self):
+        """Whatever comes, one number after another or many at once, the bins hold what a count by hand gives."""
         chance = random.Random(1)
-        for most in (64, 128):
-            for greatest in (1, 63, 64, 4095, 0xFFFFFF):
-                values = [chance.randint(0, greatest) for _ in range(500)]
-                its = Histogram(most)
+        for end in (None, 1, 44, 128, 129, 4096, 1 << 24):
+            for greatest in (1, 127, 128, 4095, 0xFFFFFF):
+                values = [chance.randint(0, greatest) for _ in range(300)]
+                its, one_by_one = Spectrum(end), Spectrum(end)
+                its.add_all(values[:100])
+                its.add_all(values[100:])
                 for value in values:
-                    its.add(value)
+                    one_by_one.add(value)
                 first, width, counts = its.bins()
-                self.assertLessEqual(len(counts), most)
-                self.assertEqual((width & (width - 1), first % width), (0, 0))
+                self.assertEqual((first, one_by_one.bins()), (0, (0, width, counts)))
+                self.assertLessEqual(len(counts), 128)
+                self.assertEqual(width & (width - 1), 0)
+                last = max(values) if end is None else end - 1
                 for at, count in enumerate(counts):
-                    self.assertEqual(count, sum(first + at * width <= value < first + (at + 1) * width for value in values))
-                self.assertEqual((sum(counts), its.least, its.greatest), (500, min(values), max(values)))
-                self.assertTrue(width == 1 or (max(values) >> 1) // (width >> 1) - (min(values) >> 1) // (width >> 1) >= most // 2 - 1)
+                    self.assertEqual(count, sum(at * width <= value < (at + 1) * width and value <= last for value in values))
+                self.assertEqual((sum(counts), its.overflow), (its.integral(), sum(value > last for value in values)))
+                self.assertTrue(end is not None or width == 1 or max(values) >= 64 * width)
+
+    def test_series(self):
+        """A counter that nobody clears rises, also through its 24 bits; other numbers are values."""
+        its = Series()
+        its.add_all([1, 3, 4], [100, 150, 170])
+        self.assertEqual((its.is_counter(), its.means()), (True, {2: 50, 3: 20}))
+        its.add_all([6], [30])
+        self.assertEqual((its.is_counter(), its.means()), (False, {0: 100, 2: 150, 3: 170, 5: 30}))
+        its = Series()
+        numbers = list(range(1, 1001))
+        its.add_all(numbers, [7 * number for number in numbers])
+        self.assertEqual((its.per, its.is_counter(), set(its.means().values())), (8, True, {7.0}))
+
+    def test_pairs(self):
+        its = Pairs(4096, None)
+        chance = random.Random(2)
+        pairs = [(chance.randint(0, 4095), chance.randint(0, 99_999)) for _ in range(500)]
+        for pair in pairs:
+            its.add(*pair)
+        self.assertEqual((its.ends, its.count), ([4096, 1 << 17], 500))
+        wanted = collections.Counter((across // 64, up // 2048) for across, up in pairs)
+        self.assertEqual(its.cells, wanted)
+
+
+class Transfers(unittest.TestCase):
+    def test_commands(self):
+        """Those of transfers alone: not what a single cycle sends, too; a scan over two stations has all sub-addresses between its ends."""
+        script = (
+            "cdlam adc 1 1 5 12\nvar t v\nservice adc within 0 cycles event 0 words {\n  cdreg r 1 1 5 14  cdreg s 1 1 6 1  cdreg w 1 2 3 4\n"
+            "  cfmad 2 r s max 5 tally t\n  cfubc 0 w max 9 tally t\n  cfsa 0 w -> v  cfubr 0 r max 2 limit 6 tally t\n  cfubr 1\n    w max 2 limit 6 tally t\n}\n"
+        )
+        printed = (
+            "service adc line 3 gl 3 at 1 5 12 cycles 0 of 0 words 0 of 0 steps 9\n"
+            "line 5 depth 1 cfmad times 1 cycles 9 words 5 steps 9 share 9 5 9 at 1 5 14 to 1 6 1\n"
+            "line 6 depth 1 cfubc times 1 cycles 9 words 9 steps 9 share 9 9 9 at 2 3 4\n"
+            "line 7 depth 1 cfsa times 1 cycles 1 words 0 steps 1 share 1 0 1 at 2 3 4\n"
+            "line 7 depth 1 cfubr times 1 cycles 6 words 2 steps 6 share 6 2 6 at 1 5..6 14\n"
+            "line 8 depth 1 cfubr times 1 cycles 6 words 2 steps 6 share 6 2 6 at 2 3 4\n"
+        )
+        found = transfer_commands(bodies.parse_costs(printed), script.encode())
+        wanted = [(1, 5, 14, 2), (1, 5, 15, 2), (1, 6, 0, 2), (1, 6, 1, 2), (1, 5, 14, 0), (1, 6, 14, 0), (2, 3, 4, 1)]
+        self.assertEqual(found, {Command(*it) for it in wanted})
+
+
+class Columns(unittest.TestCase):
+    def test_many_events_at_once(self):
+        """What `numbers` gives of many events is what `values` gives of each."""
+        chance = random.Random(3)
+        events = [camac.Event(at, chance.choice((3, 5, 9)), 9, 0, tuple(chance.getrandbits(24) for _ in range(chance.randint(0, 14)))) for at in range(1, 400)]
+        for names in (told.WORDS, camac.Words([camac.Field("a", 3, places=(2, 3)), camac.Field("b", 3, bits=(3, 7), count=4), camac.Field("c", 9, of="place", places=(1, 4))])):
+            wanted = collections.defaultdict(collections.Counter)
+            for event in events:
+                for value in names.values(event):
+                    wanted[value.column][event.number if value.column.field.bits == (0, 23) else 0, value.number] += 1
+            found = collections.defaultdict(collections.Counter)
+            for column, numbers, its in names.numbers(events):
+                found[column].update(zip(numbers or [0] * len(its), its))
+            self.assertEqual({it: sum(found[it].values()) for it in found}, {it: sum(wanted[it].values()) for it in wanted})
+            self.assertEqual(found, wanted)
 
 
 class Tables(Case):
@@ -221,9 +290,9 @@ class Tables(Case):
         out = io.StringIO()
         write_listing((LISTING + "ended events 1\n").splitlines(True), out)
         rows = list(csv.DictReader(io.StringIO(out.getvalue())))
-        self.assertEqual([row["kind"] for row in rows], ["demand", "lock", "cycle", "unlock", "cycle", "cycle", "demand"])
+        self.assertEqual([row["operation"] for row in rows], ["demand", "lock", "cycle", "unlock", "cycle", "cycle", "demand"])
         self.assertEqual([row["service"] for row in rows], ["adc"] * 6 + [""])
-        read = {"operation": "3", "kind": "cycle", "service": "adc", "pattern": "", "crate": "1", "station": "5", "sub_address": "0"}
+        read = {"number": "3", "operation": "cycle", "service": "adc", "pattern": "", "crate": "1", "station": "5", "sub_address": "0"}
         self.assertEqual(rows[2], {**read, "function": "0", "move": "in", "word": str(0x123FFF), "x": "1", "q": "1", "wait": "0"})
         self.assertEqual((rows[5]["word"], rows[1]["wait"], rows[0]["pattern"]), ("", "2", "4"))
 

@@ -205,7 +205,7 @@ class Warnings(Case):
     def test_pages(self):
         """The scripts of the pages that are accepted on @sample are meant, but for the examples of the page of warnings."""
         tried = 0
-        for page in sorted((TOP / "docs").glob("*.md")):
+        for page in sorted((TOP / "docs").rglob("*.md")):
             for words, text in ACCEPTED.findall(page.read_text()):
                 if " on " not in words and page.name != "WARNINGS.md":
                     tried += 1
@@ -242,8 +242,8 @@ class Command(Case):
             (["@sample", "odd"], 0, calling),
             (["--strict", "@sample", "odd"], 1, calling),
             (["--strict", "@sample", "good"], 0, ""),
-            (["@sample", "bad", "good"], 1, "bad:4: refused S5: name not declared\n"),
-            (["@sample", "none", "bad"], 3, "none: fault: No such file or directory\nbad:4: refused S5: name not declared\n"),
+            (["@sample", "bad", "good"], 1, "bad:4:5: refused S5: name not declared\n"),
+            (["@sample", "none", "bad"], 3, "none: fault: No such file or directory\nbad:4:5: refused S5: name not declared\n"),
             (["plan", "good", "odd"], 1, "plan: refused P2: unknown key\n"),
             (["none", "good"], 3, "none: fault: No such file or directory\n"),
             (["@sample", "@in"], 2, ""),
@@ -260,7 +260,7 @@ class Command(Case):
         self.assertEqual((status, odd["accepted"], odd["found"][0]["code"], odd["services"][0]["words"]), (1, True, "W3", 1))
         explanation = bad["found"][0].pop("explanation")
         self.assertEqual((explanation[0], explanation[-1]), ("    4 | put w", "More: docs/REFUSALS.md, S5"))
-        self.assertEqual(bad, {"file": "bad", "accepted": False, "found": [{"kind": "refused", "line": 4, "code": "S5", "text": "name not declared"}], "services": []})
+        self.assertEqual(bad, {"file": "bad", "accepted": False, "found": [{"kind": "refused", "line": 4, "code": "S5", "text": "name not declared", "column": 5}], "services": []})
         self.write("plan", "[[types]]\n")
         plan = json.loads(self.command("--json", "plan", "odd")[1])
         self.assertIn("`types`", plan[0]["found"][0]["explanation"][0])
@@ -274,7 +274,7 @@ class Command(Case):
         odd, bad, none = printed.splitlines()
         calling = "this service neither reads nor clears the module of `adc` (crate 1, station 5), which may call it for ever"
         self.assertEqual((status, odd), (3, f"::warning file=100%25%2Ca%3Ab,line=3,title=warning W3::{calling}"))
-        self.assertTrue(bad.startswith("::error file=bad,line=4,title=refused S5::name not declared%0A    4 | put w  # 5%25%0A"), bad)
+        self.assertTrue(bad.startswith("::error file=bad,line=4,col=5,title=refused S5::name not declared%0A    4 | put w  # 5%25%0A"), bad)
         self.assertEqual(none, "::error file=none,title=fault::No such file or directory")
 
     def test_write(self):

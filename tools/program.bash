@@ -8,7 +8,7 @@
 # call only has to see that nothing was touched since then. The library is found so, too: proved by `.ci/run` or ./install --prove,
 # else made by tools/quick_library and kept.
 
-proved_program=crates/camac/out/camac
+source "$top/tools/untouched.bash" || return 3
 proved_library=crates/camac_c/out/libcamac_c.a
 called='find sort xargs sha256sum stat mkdir mv rm'
 
@@ -31,17 +31,6 @@ sum_of_text() {
   local sum
   sum=$(sha256sum) && [[ $sum != e3b0c44298fc1c149afbf4c8996fb924* ]] && echo "${sum%% *}"
 }
-
-# Whether a program was found with this command of the toolchain, and nothing that it is made of was touched since then. Names that came or went
-# show by their folders. Files of proofs do not count: what was proved stays so. It sets `is_proved` and `program`.
-is_untouched() {
-  local rt=$1 since found_with name touched
-  { read -r since is_proved name && read -r found_with; } <"$top/out/found" && [ "$found_with" = "$rt" ] || return
-  program=$top/$name
-  [ -f "$program" ] && [ -x "$program" ] || return
-  touched=$(cd "$top" && shopt -s nullglob && exec find -H crates.txt crates/*/src ${proved_program%c}[c]{,.stamp} .git/[r]t-ci.lock ${rt:+"$rt"} \
-    \( -newermt "@$since" -o -newerct "@$since" \) -print -quit) && [ -z "$touched" ]
-} 2>/dev/null
 
 # A sum of the names and texts of crates.txt and of the files below these folders. What editors leave beside a file is no part of it.
 texts_of() {
@@ -129,9 +118,8 @@ end_library() {
 }
 
 find_program() {
-  local rt since
-  rt=$(type -P rt)
-  is_untouched "$rt" && return
+  local since
+  is_untouched && return
   need $called || return
   printf -v since '%(%s)T' -1
   if [ -x "$top/$proved_program" ] && stands_proved $proved_program proved; then

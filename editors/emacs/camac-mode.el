@@ -5,7 +5,8 @@
 
 ;;; Commentary:
 
-;; Colours and indents the scripts of camac: files whose names end in .script or .camac.  `compile' judges them by camac-check.
+;; Colours and indents the scripts of camac: files whose names end in .script or .camac.  `compile' judges them by camac-check, and
+;; `eglot' has camac-lsp show what it finds while one types.
 
 ;;; Code:
 
@@ -92,6 +93,14 @@
 
 ;;;###autoload
 (add-to-list 'auto-mode-alist '("\\.\\(script\\|camac\\)\\'" . camac-mode))
+
+(defcustom camac-lsp-command '("camac-lsp")
+  "The language server and its arguments, as `eglot' starts it."
+  :type '(repeat string))
+
+(defvar eglot-server-programs)
+(with-eval-after-load 'eglot
+  (add-to-list 'eglot-server-programs (cons 'camac-mode (lambda (&rest _) camac-lsp-command))))
 
 (provide 'camac-mode)
 

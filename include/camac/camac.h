@@ -24,8 +24,8 @@
  * TEXTS     are bytes with a length; no 0 ends them. A plan and a script have at most CAMAC_TEXT_BYTES bytes, an event file CAMAC_FILE_BYTES.
  *           A text that comes out is cut where your buffer ends, and *size is its whole length, as snprintf tells it. A buffer of no room may
  *           be NULL, and so may `size`. NULL with a length or a room above 0 is CAMAC_MISUSE: it is a read or a malloc that failed.
- * STRUCTS   begin with their size and end in spare words that are 0. The initializers CAMAC_NONE, CAMAC_WANT, CAMAC_ANSWER and CAMAC_PROGRESS
- *           set both; in another language you set them. A struct without its size, and an answer with a spare byte that is not 0, is
+ * STRUCTS   begin with their size and end in spare words that are 0. The initializers CAMAC_NONE, CAMAC_WANT, CAMAC_ANSWER, CAMAC_PROGRESS and
+ *           CAMAC_SERVICE_INFO set both; in another language you set them. A struct without its size, and an answer with a spare byte that is not 0, is
  *           CAMAC_MISUSE. So a later version can tell more, and programs of this one go on.
  * CODES     CAMAC_OK is 0, and all others are greater. No code is ever given another meaning. Where the code is neither CAMAC_OK nor
  *           CAMAC_REFUSED, *size is 0 and the buffer stays as it was.
@@ -40,7 +40,7 @@
  *              nobody reads or writes it during the call.
  *           3. One call at a time on a session.
  *           4. malloc, realloc and free belong to one allocator, and align as C demands.
- *           5. 256 KiB of stack are left.
+ *           5. 4 MiB of stack are left, or 256 KiB where arrays, inline tables, dotted keys and table headings of a plan nest at most 16 deep.
  */
 #ifndef CAMAC_CHECKER_H
 #define CAMAC_CHECKER_H
@@ -69,7 +69,7 @@ enum camac_code {
                             (STRUCTS, TEXTS); what camac_response is told of services is wrong */
     CAMAC_NO_MEMORY = 3, /* malloc or realloc refused */
     CAMAC_OVERRUN = 4,   /* a wait that the plan does not permit: the run stays where it was, for good */
-    CAMAC_RANGE = 5,     /* a word or gl above 0xffffff, or a wait above 15 */
+    CAMAC_RANGE = 5,     /* a word or gl above 0xffffff, a wait above 15, or the number of no service */
     CAMAC_SPENT = 6,     /* the run has used 4,294,967,295 answers */
     CAMAC_LONG = 7       /* a text that is longer than it may be */
 };
@@ -136,6 +136,19 @@ typedef struct camac_progress {
 } camac_progress;
 #define CAMAC_PROGRESS {sizeof(camac_progress), 0, 0, 0, 0, 0, {0, 0, 0}, {0, 0, 0, 0, 0, 0, 0, 0}, 0, 0, 0, 0, 0, 0, 0, 0, {0, 0, 0}}
 
+/* A service of the script, with the bounds that the checker found and the numbers of its heading. */
+typedef struct camac_service_info {
+    uint32_t size;
+    char name[36];                    /* of its LAM, at most 32 bytes; a 0 ends it */
+    uint32_t c, n, a;                 /* the address of its LAM */
+    uint32_t gl;                      /* its bit of the graded-L pattern, 1..24 */
+    uint32_t line;                    /* of its heading in the script, from 1 */
+    uint32_t cycles, words, steps;    /* the most that it can need: its bounds, as camac_check tells them */
+    uint32_t most_cycles, most_words; /* what its heading allows */
+    uint32_t spare[4];
+} camac_service_info;
+#define CAMAC_SERVICE_INFO {sizeof(camac_service_info), {0}, 0, 0, 0, 0, 0, 0, 0, 0, 0, 0, {0, 0, 0, 0}}
+
 #if defined(__GNUC__)
 #define CAMAC_CALL __attribute__((warn_unused_result)) int
 #else
@@ -185,9 +198,35 @@ CAMAC_CALL camac_wants(const camac_session *s, camac_want *want);
  * CAMAC_OK the run stays as it was, and *progress is zeros. */
 CAMAC_CALL camac_next(camac_session *s, const camac_answer *answer, camac_progress *progress);
 
+/* camac_next, and where that is CAMAC_OK, camac_wants after it, at one crossing. At any other code *want is zeros. */
+CAMAC_CALL camac_step(camac_session *s, const camac_answer *answer, camac_progress *progress, camac_want *want);
+
 /* Writes the words of the event that the last answer left, as many as there is room for, and answers how many the event has. 0 where it left
  * none. An answer that was not taken (CAMAC_RANGE, CAMAC_SPENT, CAMAC_MISUSE) changes nothing here, too. */
 size_t camac_words(const camac_session *s, uint32_t *words, size_t room);
+
+/* What `camac run` writes for the last answer: its lines of the listing, and where it left an event, the record of that for an event file. Both
+ * are of no bytes before the first answer, and after a wait that is not permitted. In front of the records stands the header, of which
+ * camac_file_header writes as many bytes as there is room for, and answers how many it has. The last line of a listing is yours to write. */
+CAMAC_CALL camac_item(const camac_session *s, char *text, size_t room, size_t *size);
+CAMAC_CALL camac_record(const camac_session *s, void *bytes, size_t room, size_t *size);
+size_t camac_file_header(void *bytes, size_t room);
+
+/* Writes the crates whose lockout is held, the last that was taken first, as many as there is room for, and answers how many there are, at most
+ * 7. After a fault of your driver these are to be released in this order. */
+size_t camac_held(const camac_session *s, uint32_t *crates, size_t room);
+
+/* How many answers may still come: 0 where the run is over by an overrun, and where the session is none. */
+uint32_t camac_answers_left(const camac_session *s);
+
+/* How many services the script has, and one of them by its number, from 1 in the order of the script, as camac_progress tells it. CAMAC_RANGE:
+ * there is none, and *info is zeros. */
+size_t camac_services(const camac_session *s);
+CAMAC_CALL camac_service(const camac_session *s, uint32_t number, camac_service_info *info);
+
+/* Begins the run anew, as camac_open begins it, without judging the script: crates and variables are as at the first demand, events count from
+ * 1. The lockouts that you hold are yours to release. */
+CAMAC_CALL camac_rewind(camac_session *s);
 
 /* Ends the run, and frees what it has. The lockouts that you hold are yours to release. */
 void camac_close(camac_session *s);

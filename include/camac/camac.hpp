@@ -128,6 +128,14 @@ class session {
         CAMAC_THROW(fault(code));
     }
 
+    // The bytes of a call with a buffer.
+    template <class Call> std::string filled(Call call) const {
+        std::string bytes;
+        const int code = detail::fill(bytes, call);
+        if (code != CAMAC_OK) fail(code);
+        return bytes;
+    }
+
     void swap(session &other) noexcept {
         std::swap(its, other.its);
         std::swap(its_last, other.its_last);
@@ -175,29 +183,80 @@ public:
         return progress;
     }
 
+    // The same, and what the next answer is for, at one crossing.
+    camac_progress step(const camac_answer &answer, camac_want &want) {
+        camac_progress progress = CAMAC_PROGRESS;
+        const int code = camac_step(&its, &answer, &progress, &want);
+        if (code == CAMAC_OVERRUN) its_last = progress;
+        if (code != CAMAC_OK) fail(code);
+        return progress;
+    }
+
     // The words of the event that the last answer left; none where it left none.
     [[nodiscard]] std::vector<std::uint32_t> words() const {
         std::vector<std::uint32_t> its_words(camac_words(&its, nullptr, 0));
         camac_words(&its, its_words.data(), its_words.size());
         return its_words;
     }
+
+    // What camac run writes for the last answer: its lines of the listing, and the record of the event that it left.
+    [[nodiscard]] std::string item() const {
+        return filled([&](char *t, std::size_t room, std::size_t *n) { return camac_item(&its, t, room, n); });
+    }
+    [[nodiscard]] std::string record() const {
+        return filled([&](char *t, std::size_t room, std::size_t *n) { return camac_record(&its, t, room, n); });
+    }
+
+    // The crates whose lockout is held, the last that was taken first.
+    [[nodiscard]] std::vector<std::uint32_t> held() const {
+        std::vector<std::uint32_t> crates(camac_held(&its, nullptr, 0));
+        camac_held(&its, crates.data(), crates.size());
+        return crates;
+    }
+
+    // How many answers may still come.
+    [[nodiscard]] std::uint32_t answers_left() const noexcept { return camac_answers_left(&its); }
+
+    // The services of the script, in its order.
+    [[nodiscard]] std::vector<camac_service_info> services() const {
+        std::vector<camac_service_info> all(camac_services(&its), camac_service_info CAMAC_SERVICE_INFO);
+        std::uint32_t number = 0;
+        for (camac_service_info &info : all) {
+            const int code = camac_service(&its, ++number, &info);
+            if (code != CAMAC_OK) fail(code);
+        }
+        return all;
+    }
+
+    // Begins the run anew.
+    void rewind() {
+        const int code = camac_rewind(&its);
+        if (code != CAMAC_OK) fail(code);
+    }
 };
 
-// What camac run does with the text of all answers.
+// The header of an event file, behind which the records stand.
+[[nodiscard]] inline std::string file_header() {
+    std::string header(camac_file_header(nullptr, 0), '\0');
+    camac_file_header(header.data(), header.size());
+    return header;
+}
+
+// What camac run does with the text of all answers. The run is played once, and once more where it tells more than its answers let expect.
 [[nodiscard]] inline run_result run(std::string_view plan, std::string_view script, std::string_view answers) {
-    std::string file(detail::first_room, '\0');
-    std::size_t file_size = 0;
-    const auto call = [&](char *t, std::size_t room, std::size_t *n) {
-        return camac_run(plan.data(), plan.size(), script.data(), script.size(), answers.data(), answers.size(), t, room, n, file.data(),
-                         file.size(), &file_size);
-    };
-    verdict listing = detail::judged(call);
-    if (file_size > file.size()) {
-        file.resize(file_size);
-        listing = detail::judged(call);
-    }
+    std::string text, file;
+    std::size_t size = 4 * answers.size() + detail::first_room, file_size = size;
+    int code = CAMAC_OK;
+    do {
+        text.resize(std::max(size, text.size()));
+        file.resize(std::max(file_size, file.size()));
+        code = camac_run(plan.data(), plan.size(), script.data(), script.size(), answers.data(), answers.size(), text.data(), text.size(), &size,
+                         file.data(), file.size(), &file_size);
+        if (code > CAMAC_REFUSED) CAMAC_THROW(fault(code));
+    } while (size > text.size() || file_size > file.size());
+    text.resize(size);
     file.resize(file_size);
-    return {std::move(listing), std::move(file)};
+    return {{code == CAMAC_OK, std::move(text)}, std::move(file)};
 }
 
 } // namespace camac

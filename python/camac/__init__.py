@@ -4,73 +4,42 @@ What the program prints is given as values: `plan`, `check`, `bounds`, `costs`, 
 what is accepted and hardly meant, and `propose` what the loops of a refused script have to keep. `read_events` reads an event file and tests
 it as `camac events` does (`whole` and `whole_size`: one that was cut; `event_arrays`: as arrays, where numpy is). A branch driver in Python is
 run by a checked script (`drive`, and `call` for one service once), and `camac.mock` has a branch without hardware. `play` does what `drive`
-does in this process, over the library for C (`camac.library`). Where no program is there, the library answers what needs no run.
-`python3 -m camac` judges scripts, draws pictures and makes a report of a run (`camac.pictures`, `camac.report`).
+does in this process, over the library for C (`camac.library`). Where no program is there, the library answers what needs no run. Both write a
+record of the run where it is asked for (`Recording`, `read_record`). `read_words` and `words_of_script` tell what the words of events mean.
+`python3 -m camac` judges scripts, lays them out, compares what they may take, serves editors (`camac.lsp`), draws pictures, makes a report of a run, and
+exports events (`camac.pictures`, `camac.report`, `camac.export`).
 
-Python 3.8 or newer, and its standard library alone."""
-from camac.arrays import EventArrays, event_arrays
-from camac.bodies import Body, Cost, Row, costs
+Python 3.8 or newer, and its standard library alone; numpy and h5py make arrays of events, where they are there."""
+import importlib
+import os
+import re
+from typing import Any, Dict, List
+
+# A function whose module has the same name: that would take its place when something loads it.
 from camac.call import call
-from camac.drive import Answer, Branch, DriveFault, Ending, ProgramFault, ProtocolFault, Refused, RunEnd, TimeFault, UsageFault
-from camac.drive import drive, find_program
-from camac.events import Event, EventFileFault, Whole, read_events, whole, whole_size
-from camac.library import play
-from camac.listings import Command, Cycle, Demand, Lock, Move, Unlock, parse_listing, run
-from camac.loops import Proposal, Proposals, propose
-from camac.plans import Crate, Declaration, ModuleType, Plan, Station, plan
-from camac.scripts import Heading, Response, Service, bounds, check, response
-from camac.warn import Warned, warnings
+from camac.drive import drive
 
-__all__ = [
-    "Answer",
-    "Body",
-    "Branch",
-    "Command",
-    "Cost",
-    "Crate",
-    "Cycle",
-    "Declaration",
-    "Demand",
-    "DriveFault",
-    "Ending",
-    "Event",
-    "EventArrays",
-    "EventFileFault",
-    "Heading",
-    "Lock",
-    "ModuleType",
-    "Move",
-    "Plan",
-    "ProgramFault",
-    "Proposal",
-    "Proposals",
-    "ProtocolFault",
-    "Refused",
-    "Response",
-    "Row",
-    "RunEnd",
-    "Service",
-    "Station",
-    "TimeFault",
-    "Unlock",
-    "UsageFault",
-    "Warned",
-    "Whole",
-    "bounds",
-    "call",
-    "check",
-    "costs",
-    "drive",
-    "event_arrays",
-    "find_program",
-    "parse_listing",
-    "plan",
-    "play",
-    "propose",
-    "read_events",
-    "response",
-    "run",
-    "warnings",
-    "whole",
-    "whole_size",
-]
+
+def _homes() -> Dict[str, str]:
+    """The module of each name of this package. They stand in __init__.pyi, as tools that look at types want them. Each module is loaded when
+    a name of it is first asked for: all of them take four times as long as a judgement."""
+    with open(os.path.join(os.path.dirname(__file__), "__init__.pyi"), encoding="utf-8") as stub:
+        found = re.findall(r"^from (camac\.\S+) import (.+)$", stub.read(), re.M)
+    return {name: home for home, names in found for name in names.split(", ")}
+
+
+_HOMES = _homes()
+__all__ = sorted(_HOMES)
+
+
+def __getattr__(name: str) -> Any:
+    if f"{__name__}.{name}" in _HOMES.values():
+        return importlib.import_module(f"{__name__}.{name}")
+    if name not in _HOMES:
+        raise AttributeError(f"module {__name__!r} has no attribute {name!r}")
+    found = globals()[name] = getattr(importlib.import_module(_HOMES[name]), name)
+    return found
+
+
+def __dir__() -> List[str]:
+    return sorted({*globals(), *_HOMES})

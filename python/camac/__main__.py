@@ -1,38 +1,42 @@
-"""The commands of the package: python3 -m camac check, draw, report, annotate, csv."""
+"""The commands of the package: python3 -m camac check, fmt, lsp, diff, draw, report, annotate, csv, simulate, export, watch."""
 import argparse
 import contextlib
 import errno
-import io
 import os
 import re
-import signal
 import sys
-from typing import Callable, Dict, List, Mapping, Optional, Sequence, TextIO, Tuple
+from typing import Any, Callable, Dict, List, Mapping, Optional, Sequence, TextIO, Tuple
 
-from camac import judge, pictures, tables
-from camac.annotate import annotate
+from camac import pictures, tables
+from camac.annotate import FIRST_LINE, annotate
 from camac.bodies import costs
-from camac.drive import DriveFault, ProgramFault, Refused, UsageFault, one_line
+from camac.columns import Naming, ask
+from camac.commands import check as check_command
+from camac.commands import diff, export, fmt, lsp, simulate, watch
+from camac.commands.rates import add_every, read_every
+from camac.commands.running import DONE, FAULT, REFUSED, STATUS, refuse_pipes
+from camac.commands.running import main as run_command
+from camac.commands.words import add_overwrite, add_words, naming
+from camac.drive import ProgramFault, Refused
 from camac.events import EventFileFault
-from camac.output import end_by, output, say
-from camac.pictures import Canvas
+from camac.output import is_one_of, output, refuse_loss, write_made
+from camac.pictures import Canvas, spectra
 from camac.plans import plan
-from camac.program import knows_command, quickest
+from camac.program import knows_command
+from camac.record import refuse_foreign, write_played
 from camac.report import report
 from camac.runs import Inputs, Run, collect
 from camac.scripts import Response, check, response, source_lines
-from camac.texts import is_standard_input
 
-DONE, REFUSED, USAGE, FAULT = 0, 1, 2, 3
-GREATEST_RATE = 4_294_967_295
+# The words of a command line that name one file to read.
+INPUTS = ("plan", "script", "source", "answers", "file", "old", "new")
 LOST = "{} is an input: it would be lost"
 DESCRIPTION = """\
-Judges scripts, draws pictures of a plan, a script and a run of camac, and makes a report of a run.
+Judges scripts, lays them out and compares what they may take, serves editors, draws pictures of a plan, a script and a run of camac, and makes a
+report of a run.
 
 A picture is an SVG file, a report one HTML file; both open in a browser. docs/PICTURES.md shows them. The program camac is found in PATH,
 or where the environment variable CAMAC_PROGRAM says."""
-STATUS = """\
-Status: 0 done; 1 refused, a wait that was not permitted, or numbers that differ; 2 usage; 3 a file or the program failed."""
 # A line of an annotated run that stopped.
 STOPPED = re.compile(r"  (overrun \d wait \d+ events \d+|refused A\d line \d+: [a-z ]+)$")
 DRAW = """\
@@ -48,10 +52,13 @@ PLAN may be @sample, the built-in plan. An event file is told from answers by ho
 
 class Source:
     """What is drawn: the files, and what the program and a run say of them, each read once. A script or a run that is not given is an empty
-    one. `every` are the rates of modules, where it is drawn how late services can be."""
+    one. `every` are the rates of modules, where it is drawn how late services can be; `naming` tells of the words of events, and `scale`
+    how counts are drawn."""
 
-    def __init__(self, files: Sequence[str], every: Optional[Mapping[str, int]] = None) -> None:
-        self.files = files
+    def __init__(
+        self, files: Sequence[str], every: Optional[Mapping[str, int]] = None, naming: Optional[Naming] = None, scale: str = spectra.LINEAR
+    ) -> None:
+        self.files, self.scale = files, scale
         self.plan = plan(files[0])
         self.services = check(*files[:2]) if len(files) > 1 else []
         self.responses: List[Response] = []
@@ -59,7 +66,11 @@ class Source:
             _need("response")
             self.responses = response(files[0], files[1], every)
         self.has_run = len(files) > 2
-        self.run = collect(Inputs(*files), self.plan, self.services, None, self.responses) if self.has_run else Run(has_listing=False)
+        self.run = Run(has_listing=False)
+        if self.has_run:
+            inputs = Inputs(*files)
+            asked = ask(naming, inputs, self.plan, self.services) if naming else None
+            self.run = collect(inputs, self.plan, self.services, None, self.responses, asked)
 
 
 def _need(command: str) -> None:
@@ -81,9 +92,10 @@ def _draw_costs(of: Source) -> Dict[str, Canvas]:
     seen = of.run.seen if of.run.has_cycles else {}
     source = source_lines(of.files[1])
     drawn = {}
-    for body in costs(*of.files[:2]):
+    bodies = costs(*of.files[:2])
+    for body in bodies:
         its = seen.get(body.gl) if body.gl else None
-        drawn[body.name] = pictures.draw_costs(body, source, its.cycles if its else None)
+        drawn[body.name] = pictures.draw_costs(body, source, its.cycles if its else None, bodies)
     return drawn
 
 
@@ -96,12 +108,20 @@ def _draw_run(of: Source) -> Dict[str, Canvas]:
 
 
 def _draw_words(of: Source) -> Dict[str, Canvas]:
-    canvas = Canvas("Histograms of a run: cycles and words of its events, and the words of each command")
-    canvas.stack("Cycles and words of an event", pictures.draw_events(of.run, of.services))
-    if of.run.has_listing:
-        canvas.stack("By channel: the words that modules gave with Q = 1, and the words that were sent", pictures.draw_words(of.run))
+    canvas, run = Canvas("Histograms of a run: cycles and words of its events, and the words of each channel"), of.run
+    stacked = [("Cycles and words of an event", pictures.event_groups(run, of.services, of.scale))]
+    if run.has_listing:
+        groups = pictures.command_groups(run, of.plan, of.scale)
+        stacked.append(("By channel: the words that modules gave with Q = 1, and the words that were sent", groups))
+    channels = run.list_channels()
+    if channels:
+        stacked.append(("Event words by their names", pictures.channel_groups(channels, of.scale)))
+    for title, groups in stacked:
+        canvas.stack(title, pictures.draw_groups(title, groups))
+    if run.asked.pair and run.pairs:
+        canvas.stack("Two numbers of an event", pictures.draw_pairs(*run.asked.pair, run.pairs))
     for service in of.services:
-        canvas.stack(f"Words of {service.name} by their place in the event", pictures.draw_places(of.run, service))
+        canvas.stack(f"Words of {service.name} by their place in the event", pictures.draw_places(run, service))
     return {"": canvas}
 
 
@@ -118,29 +138,36 @@ PICTURES: Dict[str, Tuple[Callable[[Source], Dict[str, Canvas]], int, int]] = {
 
 def draw(args: argparse.Namespace) -> int:
     root, end = os.path.splitext(args.out)
-    drawn = PICTURES[args.picture][0](Source(args.files, args.every if args.picture == "response" else None))
+    every = args.every if args.picture == "response" else None
+    its = naming(args) if args.picture == "words" else None
+    drawn = PICTURES[args.picture][0](Source(args.files, every, its, spectra.LOGARITHMIC if args.log else spectra.LINEAR))
     pictures_of = {f"{root}.{name}{end}" if name else args.out: canvas for name, canvas in drawn.items()}
-    for out in pictures_of:
+    texts = {out: canvas.picture() for out, canvas in pictures_of.items()}
+    for out, text in texts.items():
         if is_one_of(out, args.files):
             raise ProgramFault(LOST.format(out), FAULT)
-    for out, canvas in pictures_of.items():
-        write(out, canvas.picture())
+        refuse_loss(out, text, args.overwrite)
+    for out, text in texts.items():
+        write_made(out, text, args.overwrite)
     return DONE
 
 
 def make_report(args: argparse.Namespace) -> int:
-    made = report(Inputs(args.plan, args.script, args.source), every=args.every)
-    write(args.out, made.text)
+    inputs = Inputs(args.plan, args.script, args.source)
+    if args.record and not args.overwrite:
+        refuse_foreign(args.record)
+    made = report(inputs, every=args.every, naming=naming(args))
+    write_made(args.out, made.text, args.overwrite)
+    if args.record:
+        # Where plan or script is refused, the page tells it.
+        with contextlib.suppress(Refused):
+            write_played(args.record, inputs, args.overwrite)
     return made.status
-
-
-def write(path: str, text: str) -> None:
-    with output(path) as out:
-        out.write(text)
 
 
 def make_annotated(args: argparse.Namespace) -> int:
     status = DONE
+    refuse_loss(args.out, FIRST_LINE, args.overwrite)
     with output(args.out) as out:
         for line in annotate(args.plan, args.script, args.answers):
             status = REFUSED if STOPPED.search(line) else status
@@ -150,6 +177,7 @@ def make_annotated(args: argparse.Namespace) -> int:
 
 def make_csv(args: argparse.Namespace) -> int:
     refusal = None
+    refuse_loss(args.out, ",".join(tables.LISTING if args.what == "listing" else tables.EVENTS), args.overwrite)
     with output(args.out) as out:
         if args.what == "listing":
             with open_listing(args.file) as listing:
@@ -174,72 +202,57 @@ def open_listing(name: str) -> TextIO:
     return open(0 if is_standard else name, encoding="utf-8", errors="replace", newline="\n", closefd=not is_standard)
 
 
-def judge_scripts(args: argparse.Namespace) -> int:
-    program = quickest()
-    judged = judge.judge(args.plan, args.scripts, program, args.write, args.keeps)
-    say(judge.told(judged, args.format))
-    note = judge.note(program)
-    if note and args.format != "json":
-        print(f"camac: {note}", file=sys.stderr)
-    return judge.status(judged, args.strict)
-
-
 def parser() -> argparse.ArgumentParser:
     raw = argparse.RawDescriptionHelpFormatter
     top = argparse.ArgumentParser(prog="python3 -m camac", description=DESCRIPTION, epilog=STATUS, formatter_class=raw)
     commands = top.add_subparsers(dest="command", metavar="COMMAND", required=True)
-    it = commands.add_parser("check", prog="camac-check", help="Judges scripts, and warns of what is hardly meant", epilog=STATUS, formatter_class=raw)
-    it.add_argument("plan", metavar="PLAN", help="a plan: a TOML file, or @sample, the built-in plan")
-    it.add_argument("scripts", nargs="+", metavar="SCRIPT", help="scripts")
-    it.add_argument("--format", choices=judge.FORMATS, default="text", metavar="FORMAT", help="text: lines FILE:LINE: TEXT; json; github: annotations")
-    it.add_argument("--json", action="store_const", const="json", dest="format", help="--format json")
-    it.add_argument("--strict", action="store_true", help="a warning is status 1, too")
-    it.add_argument("--keeps", action="store_true", help="proposes what the loops of a refused script have to keep")
-    write = "first puts the least headings that are accepted into each script, with --keeps what loops have to keep, too"
-    it.add_argument("--write", action="store_true", help=write)
-    it.set_defaults(do=judge_scripts, out=None)
-    it = commands.add_parser("draw", help="Draws a picture", epilog=DRAW, formatter_class=raw)
-    it.add_argument("picture", choices=PICTURES, metavar="PICTURE", help="plan, bounds, response, costs, run or words")
-    it.add_argument("files", nargs="+", metavar="FILE", help="the files that the picture is of, see below")
-    it.add_argument("-o", "--out", required=True, metavar="SVG", help="the file to write")
-    _add_rates(it)
-    it.set_defaults(do=draw)
-    it = commands.add_parser("report", prog="camac-report", help="Makes one page of all that is known of a run", epilog=STATUS, formatter_class=raw)
-    it.add_argument("plan", metavar="PLAN", help="a plan: a TOML file, or @sample, the built-in plan")
-    it.add_argument("script", metavar="SCRIPT", help="a script")
-    it.add_argument("source", metavar="ANSWERS|EVENTS", help="the answers of the run, or its event file")
-    it.add_argument("-o", "--out", required=True, metavar="HTML", help="the file to write")
-    _add_rates(it)
-    it.set_defaults(do=make_report)
+    check_command.add_to(commands)
+    _add_draw(commands)
+    _add_report(commands)
     it = commands.add_parser("annotate", help="Lists a run with each answer line beside its operation")
     for name in ("plan", "script", "answers"):
         it.add_argument(name, metavar=name.upper())
     it.add_argument("-o", "--out", metavar="TEXT", help="the file to write; else standard output")
+    add_overwrite(it)
     it.set_defaults(do=make_annotated)
     it = commands.add_parser("csv", help="Makes a table of an event file or of a listing")
     it.add_argument("what", choices=("events", "listing"), metavar="KIND", help="events or listing")
     it.add_argument("file", metavar="FILE", help="an event file; or what `camac run` printed, - for standard input")
     it.add_argument("-o", "--out", metavar="CSV", help="the file to write; else standard output")
+    add_overwrite(it)
     it.set_defaults(do=make_csv)
+    simulate.add_to(commands)
+    export.add_to(commands)
+    watch.add_to(commands)
+    fmt.add_to(commands)
+    diff.add_to(commands)
+    lsp.add_to(commands)
     return top
 
 
-def _add_rates(to: argparse.ArgumentParser) -> None:
-    text = "the module of a service raises its look-at-me again no sooner than so many cycles later; once for each service"
-    to.add_argument("--every", action="append", default=[], metavar="SERVICE=CYCLES", help=text)
+def _add_draw(commands: Any) -> None:
+    it = commands.add_parser("draw", help="Draws a picture", epilog=DRAW, formatter_class=argparse.RawDescriptionHelpFormatter)
+    it.add_argument("picture", choices=PICTURES, metavar="PICTURE", help="plan, bounds, response, costs, run or words")
+    it.add_argument("files", nargs="+", metavar="FILE", help="the files that the picture is of, see below")
+    it.add_argument("-o", "--out", required=True, metavar="SVG", help="the file to write")
+    add_every(it)
+    add_words(it)
+    it.add_argument("--log", action="store_true", help="counts on a logarithmic axis")
+    add_overwrite(it)
+    it.set_defaults(do=draw)
 
 
-def _read_rates(words: Sequence[str], its: argparse.ArgumentParser) -> Dict[str, int]:
-    """Reads the values of --every; ends with status 2 where they are not understood."""
-    rates: Dict[str, int] = {}
-    for word in words:
-        name, _, cycles = word.partition("=")
-        if not name or not re.fullmatch("[0-9]{1,10}", cycles) or not 1 <= int(cycles) <= GREATEST_RATE:
-            its.error(f"--every is SERVICE=CYCLES with 1 to {GREATEST_RATE:,} cycles, not {word!r}")
-        if name in rates:
-            its.error(f"--every {name} stands twice")
-        rates[name] = int(cycles)
-    return rates
+def _add_report(commands: Any) -> None:
+    it = commands.add_parser("report", prog="camac-report", help="Makes one page of all that is known of a run", epilog=STATUS, formatter_class=argparse.RawDescriptionHelpFormatter)
+    it.add_argument("plan", metavar="PLAN", help="a plan: a TOML file, or @sample, the built-in plan")
+    it.add_argument("script", metavar="SCRIPT", help="a script")
+    it.add_argument("source", metavar="ANSWERS|EVENTS", help="the answers of the run, or its event file")
+    it.add_argument("-o", "--out", required=True, metavar="HTML", help="the file to write")
+    it.add_argument("--record", metavar="JSON", help="writes the record of the run, too; a file of another kind stays as it is")
+    add_every(it)
+    add_words(it)
+    add_overwrite(it)
+    it.set_defaults(do=make_report)
 
 
 def parse(words: List[str]) -> argparse.Namespace:
@@ -252,70 +265,32 @@ def parse(words: List[str]) -> argparse.Namespace:
             its.error(f"draw {args.picture} takes {least} to {most} files" if least < most else f"draw {args.picture} takes {least} files")
         if args.every and args.picture != "response":
             its.error("--every is an option of draw response and of report")
-    if args.command in ("draw", "report"):
-        args.every = _read_rates(args.every, its)
-    inputs = getattr(args, "files", []) + getattr(args, "scripts", []) + [getattr(args, name, "") for name in ("plan", "script", "source", "answers", "file")]
-    if is_standard_input(inputs):
-        its.error("@in cannot be an input here: it is read more than once")
-    pipes = [it for it in inputs if os.path.exists(it) and not os.path.isfile(it) and not os.path.isdir(it)]
-    if pipes and getattr(args, "what", "") != "listing":
-        its.error(f"{pipes[0]} is no file, and cannot be an input here: it is read more than once")
-    if args.out and is_one_of(args.out, inputs):
-        its.error(LOST.format(args.out))
+        if (args.words or args.pair or args.log) and args.picture != "words":
+            its.error("--words, --pair and --log are options of draw words")
+    if args.command in ("draw", "report", "diff"):
+        args.every = read_every(args.every, its)
+    inputs = getattr(args, "files", []) + getattr(args, "scripts", []) + [getattr(args, name, "") or "" for name in INPUTS]
+    refuse_pipes(its, inputs, args.command == "fmt" or getattr(args, "what", "") == "listing")
+    for out in (args.out, args.record if args.command == "report" else None):
+        if out and is_one_of(out, inputs):
+            its.error(LOST.format(out))
     return args
 
 
-def is_one_of(out: str, inputs: Sequence[str]) -> bool:
-    """Whether a file is one of the inputs, under whatever name; `-` is the one behind standard input."""
-    names = ("/dev/stdin" if it == "-" else it for it in inputs)
-    return os.path.exists(out) and any(os.path.exists(it) and os.path.samefile(it, out) for it in names)
-
-
 def main(words: Optional[List[str]] = None) -> int:
-    """Runs a command, and returns its status. Where the reader of a pipe closed it, and at Ctrl-C, the process ends without a word, by the
-    signal that says so."""
-    if sys.stderr is None:
-        sys.stderr = open(os.devnull, "w", encoding="utf-8")
-    status = FAULT
-    try:
-        return run(sys.argv[1:] if words is None else words)
-    except BrokenPipeError:
-        return end_by(signal.SIGPIPE)
-    except KeyboardInterrupt:
-        return end_by(signal.SIGINT)
-    except UsageFault as fault:
-        text, status = str(fault), USAGE
-    except (DriveFault, ValueError) as fault:
-        text = one_line(fault)
-    except OSError as fault:
-        text = f"{fault.strerror or fault}" + (f": {os.fsdecode(fault.filename)}" if fault.filename else "")
-    with contextlib.suppress(OSError):
-        print(f"camac: {text}", file=sys.stderr)
-    return status
-
-
-def run(words: List[str]) -> int:
-    """Runs a command, and returns its status. Help is told as all that is printed."""
-    told = io.StringIO()
-    try:
-        with contextlib.redirect_stdout(told):
-            args = parse(words)
-    except SystemExit as stop:
-        say(told.getvalue())
-        return int(stop.code or DONE)
-    try:
-        return int(args.do(args))
-    except (Refused, EventFileFault) as refusal:
-        say(f"{refusal}\n")
-        return REFUSED
-
-
-def check_command() -> int:
-    return main(["check", *sys.argv[1:]])
+    return run_command(parse, words)
 
 
 def report_command() -> int:
     return main(["report", *sys.argv[1:]])
+
+
+def fmt_command() -> int:
+    return main(["fmt", *sys.argv[1:]])
+
+
+def lsp_command() -> int:
+    return main(["lsp", *sys.argv[1:]])
 
 
 if __name__ == "__main__":

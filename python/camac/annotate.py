@@ -6,6 +6,9 @@ from camac.drive import File, Refused
 from camac.program import lines_of
 
 ANSWER = 19
+NUMBER = "{:>7}  "
+# How what is annotated begins, where there is an answer.
+FIRST_LINE = NUMBER.format(1)
 
 
 class _Answers:
@@ -18,7 +21,7 @@ class _Answers:
         """The next answer line with its number, and what is told of it."""
         self.used += 1
         answer = self.file.readline().decode("utf-8", "replace").rstrip("\r\n")
-        return f"{self.used:>7}  {answer:<{ANSWER}}  {told}"
+        return f"{NUMBER.format(self.used)}{answer:<{ANSWER}}  {told}"
 
     def left(self) -> int:
         return sum(1 for _ in self.file)

@@ -1,10 +1,11 @@
 """What the bound of a body consists of: the rows of `camac costs`, and which part of them is auxiliary controllers' or not needed."""
 import enum
 import re
-from typing import Dict, List, NamedTuple, Optional, Tuple
+from typing import Dict, List, Mapping, NamedTuple, Optional, Sequence, Tuple
 
 from camac.drive import File
 from camac.program import output_of, shown
+from camac.scripts import Service
 
 
 class Kind(enum.Enum):
@@ -44,6 +45,14 @@ class Row(NamedTuple):
     waits: int = 0
     slack: int = 0
 
+    def own(self) -> int:
+        """The cycles of one time without what stands in its block: of a `lock` the waits for it."""
+        return self.each.cycles if self.word not in BLOCKS else self.share.cycles // self.times if self.times else 0
+
+    def counted(self) -> int:
+        """How many times are counted in the bound: as often as it is made at most, and never in the arm of an `if` that costs less."""
+        return self.times if self.share.cycles else 0
+
 
 class Body(NamedTuple):
     """A service or procedure: the name, the line of its heading, what it costs at most, the numbers of its heading (a service's steps are
@@ -72,6 +81,7 @@ ROW = re.compile(
 )
 CYCLES = frozenset("cfsa cssa cccz cccc ctci ctcd ctgl ccci cccd cclm cclc ctlm".split())
 TRANSFERS = frozenset("cfmad cfubc cfubr".split())
+BLOCKS = frozenset(("if", "else", "for", "while", "lock"))
 
 
 def costs(plan: File, script: File, program: Optional[File] = None) -> List[Body]:
@@ -80,6 +90,13 @@ def costs(plan: File, script: File, program: Optional[File] = None) -> List[Body
     Raises Refused where plan or script is refused, UsageFault where the program has no `costs`, ProgramFault where a file cannot be
     read, and OSError where there is no program."""
     return parse_costs(output_of("costs", "--", plan, script, program=program))
+
+
+def services_of(bodies: Sequence[Body]) -> List[Service]:
+    """The services among bodies, as `camac.check` gives them."""
+    return [
+        Service(it.name, it.gl, it.most.cycles, it.annotated[0], it.most.words, it.annotated[1], it.most.steps) for it in bodies if it.gl is not None
+    ]
 
 
 def parse_costs(printed: str) -> List[Body]:
@@ -103,6 +120,12 @@ def parse_costs(printed: str) -> List[Body]:
             bodies.append(_read_head(line))
     close()
     return bodies
+
+
+def rows_of_line(printed: str, line: int) -> List[Row]:
+    """The rows of a line of the script, in their order, in what `camac costs` prints. Waits and slack are not told."""
+    found = re.findall(rf"(?m)^line {line} .*$", printed)
+    return [_read_row(it) for it in map(ROW.fullmatch, found) if it]
 
 
 def _read_row(found: "re.Match[str]") -> Row:
@@ -137,3 +160,62 @@ def _with_parts(row: Row, procedures: Dict[str, Body]) -> Row:
         body = procedures[row.about[len("proc ") :]]
         return row._replace(waits=share * body.waits() // each, slack=share * (body.slack() + each - body.most.cycles) // each)
     return row
+
+
+def opened(body: Body, procedures: Mapping[str, Body], most: int = 2000, deepest: int = 16) -> List[Row]:
+    """The rows of a body, with those of each called procedure below its call, as often as they are made there. The share of a call is then
+    what its heading promises and its body does not need. A call stays closed that is never counted, or at which there were more than `most`
+    rows, or below which a row were deeper than `deepest`."""
+    rows: List[Row] = []
+    _open(body.rows, (1, 0), procedures, (rows, most, deepest))
+    return rows
+
+
+def _open(rows: Sequence[Row], at: Tuple[int, int], procedures: Mapping[str, Body], into: Tuple[List[Row], int, int]) -> None:
+    """Adds the rows of a body that is called so many times, below a statement of this depth."""
+    (times, depth), (found, most, deepest) = at, into
+    for row in rows:
+        row = _times(row, times)._replace(depth=depth + row.depth)
+        body = called(row, procedures)
+        if not body or not row.share.cycles or len(found) + len(body.rows) > most or row.depth >= deepest:
+            found.append(row)
+            continue
+        slack = row.times * (row.each.cycles - body.most.cycles)
+        found.append(row._replace(share=Cost(slack, 0, 0), waits=0, slack=slack))
+        _open(body.rows, (row.times, row.depth), procedures, into)
+
+
+def called(row: Row, procedures: Mapping[str, Body]) -> Optional[Body]:
+    """The procedure that a row calls."""
+    return procedures.get(row.about[len("proc ") :]) if row.word == "call" else None
+
+
+def _times(row: Row, times: int) -> Row:
+    share = Cost(*(times * it for it in row.share))
+    return row._replace(times=times * row.times, share=share, waits=times * row.waits, slack=times * row.slack)
+
+
+class Call(NamedTuple):
+    """A call that is counted in a bound: its line, what is called with its rows as often as they are made there, how often, and what one
+    time costs."""
+
+    line: int
+    body: Body
+    times: int
+    each: int
+
+    def promised(self) -> int:
+        """The cycles that the heading promises and the body does not need, of all times together."""
+        return self.times * self.each - self.body.most.cycles
+
+
+def calls_of(body: Body, procedures: Mapping[str, Body], most: int = 40) -> List[Call]:
+    """The calls of a body, and those of the procedures that it calls below them; the first `most` of them."""
+    found: List[Call] = []
+    for row in body.rows:
+        its = called(row, procedures)
+        if its and row.share.cycles and len(found) < most:
+            rows = tuple(_times(it, row.times) for it in its.rows)
+            scaled = its._replace(rows=rows, most=Cost(*(row.times * it for it in its.most)))
+            found += [Call(row.line, scaled, row.times, row.each.cycles), *calls_of(scaled, procedures, most - len(found) - 1)]
+    return found

@@ -1,5 +1,4 @@
 """One call of one service: the start of a cold crate, or a stop, by a checked script of its own."""
-import tempfile
 from typing import Optional
 
 from camac.drive import Answer, Branch, File, RunEnd, drive
@@ -22,6 +21,8 @@ def call(
     once = _Once(branch, bits[service])
     if events is not None:
         return drive(plan, script, once, events, program=program, timeout=timeout)
+    import tempfile
+
     with tempfile.NamedTemporaryFile(suffix=".events") as dropped:
         return drive(plan, script, once, dropped.name, program=program, timeout=timeout)
 

@@ -2,20 +2,22 @@
 
 `drive` starts the program as `camac drive PLAN SCRIPT EVENTS`, reads its requests, has the branch make each of them, and hands on the
 answer. docs/LIVE.md describes the requests, and what a driver has to keep."""
-import dataclasses
 import enum
 import operator
 import os
-import pathlib
 import re
 import select
-import shutil
-import subprocess
-import tempfile
-from typing import List, NoReturn, Optional, Protocol, Union
+from typing import TYPE_CHECKING, Dict, List, NamedTuple, NoReturn, Optional, Protocol, Tuple, Union
+
+if TYPE_CHECKING:
+    import subprocess
+
+    from camac.record import Recording
 
 File = Union[str, bytes, "os.PathLike[str]", "os.PathLike[bytes]"]
 GREATEST_LINE = 4096
+# So many requested cycles are kept as they were read.
+MOST_CYCLES = 4096
 GREATEST = {"x": 1, "q": 1, "word": 0xFF_FFFF, "wait": 15, "gl": 0xFF_FFFF}
 # The most seconds that a wait of the system takes.
 GREATEST_TIMEOUT = 2_147_483
@@ -26,12 +28,21 @@ CYCLE = re.compile(rb"cycle ([1-7]) (\d\d?) (\d\d?) (\d\d?) (?:in|none|out ([0-9
 LOCK = re.compile(rb"lock ([1-7])")
 UNLOCK = re.compile(rb"unlock ([1-7])")
 WAIT = "(1[0-5]|[0-9])"
+LINE = "%d %d %06x %x %06x"
+BYTES = LINE.encode() + b"\n"
 END = re.compile(f"(ended|short|overrun ([1-7]) wait {WAIT}) events (0|[1-9][0-9]*)")
 REFUSAL = re.compile("refused ([A-Z][0-9][0-9]?)(?: line ([1-9][0-9]*))?: (.+)")
 
 
-@dataclasses.dataclass(frozen=True)
-class Answer:
+class _Numbers(NamedTuple):
+    x: int
+    q: int
+    word: int
+    wait: int
+    gl: int
+
+
+class Answer(_Numbers):
     """What an operation of the branch gave. A field that the operation does not need stays 0.
 
     x, q    of the reply to a dataway cycle, each 0 or 1 (False and True serve as well)
@@ -41,13 +52,27 @@ class Answer:
 
     Raises ValueError for a number out of its range, and TypeError for what is no whole number."""
 
-    x: int = 0
-    q: int = 0
-    word: int = 0
-    wait: int = 0
-    gl: int = 0
+    __slots__ = ()
 
-    def __post_init__(self) -> None:
+    def __new__(cls, x: int = 0, q: int = 0, word: int = 0, wait: int = 0, gl: int = 0) -> "Answer":
+        try:
+            # No bit beyond those that a number may have, and no sign: this takes a third of the time of looking at one after another.
+            is_good = not ((x | q) >> 1 or wait >> 4 or (word | gl) >> 24)
+        except TypeError:
+            is_good = False
+        self = tuple.__new__(cls, (x, q, word, wait, gl))
+        if not is_good:
+            self._look_at_each()
+        return self
+
+    if not TYPE_CHECKING:
+
+        @classmethod
+        def _make(cls, numbers):
+            # `_replace` calls it.
+            return cls(*numbers)
+
+    def _look_at_each(self) -> None:
         for name, greatest in GREATEST.items():
             number = operator.index(getattr(self, name))
             if not 0 <= number <= greatest:
@@ -55,7 +80,7 @@ class Answer:
 
     def line(self) -> str:
         """The answer as a line of an answer file, without its LF."""
-        return f"{self.x:d} {self.q:d} {self.word:06x} {self.wait:x} {self.gl:06x}"
+        return LINE % self
 
 
 class Branch(Protocol):
@@ -86,8 +111,7 @@ class Ending(enum.Enum):
     REFUSED = "refused"
 
 
-@dataclasses.dataclass(frozen=True)
-class RunEnd:
+class RunEnd(NamedTuple):
     """The end of a run.
 
     how           ENDED at a demand; SHORT inside a service, which left no event; OVERRUN at a wait that is not permitted; REFUSED at an
@@ -134,7 +158,7 @@ def file_fault(what: str, name: File, why: Union[OSError, str]) -> ProgramFault:
     return ProgramFault(f"fault {what}\n  {os.fsdecode(name)}: {reason}", 3)
 
 
-def one_line(fault: Exception) -> str:
+def one_line(fault: BaseException) -> str:
     """A fault whose second line names a file, in one line."""
     return str(fault).replace("\n  ", ": ")
 
@@ -154,19 +178,33 @@ class TimeFault(DriveFault):
 def find_program(program: Optional[File] = None) -> File:
     """The program camac: what is named, else what the environment variable CAMAC_PROGRAM names, else `camac` in PATH, else `camac` at the
     top of the clone that this package stands in. Raises FileNotFoundError where there is none."""
-    found = program or os.environ.get("CAMAC_PROGRAM") or shutil.which("camac")
+    found = program or os.environ.get("CAMAC_PROGRAM")
     if found:
         return found
-    launcher = pathlib.Path(__file__).resolve().parents[2] / "camac"
-    if launcher.is_file():
+    import shutil
+
+    found = shutil.which("camac")
+    if found:
+        return found
+    package = os.path.dirname(os.path.realpath(__file__))
+    launcher = os.path.join(os.path.dirname(os.path.dirname(package)), "camac")
+    if os.path.isfile(launcher):
         return launcher
     raise FileNotFoundError("the program camac is not in PATH, and CAMAC_PROGRAM is not set")
 
 
 def drive(
-    plan: File, script: File, branch: Branch, events: File, *, program: Optional[File] = None, timeout: Optional[float] = None
+    plan: File,
+    script: File,
+    branch: Branch,
+    events: File,
+    *,
+    program: Optional[File] = None,
+    timeout: Optional[float] = None,
+    record: "Union[File, Recording, None]" = None,
 ) -> RunEnd:
-    """Plays a script against a branch, and returns how the run ended. `plan` may be "@sample". `events` must not hold bytes.
+    """Plays a script against a branch, and returns how the run ended. `plan` may be "@sample". `events` must not hold bytes. `record` is a file
+    for the record of the run (`camac.record`), which must not hold bytes either. A `Recording` gives the run a number and a title, too.
 
     `program` is found by `find_program` unless given. `timeout` is how many seconds the program may take for its next line, and for its
     end; the time that the branch takes does not count. It is 0 to 2,147,483; without it the program may take as long as it does.
@@ -179,6 +217,12 @@ def drive(
     ValueError, with nothing started, for a timeout out of its range."""
     if timeout is not None and not 0 <= timeout <= GREATEST_TIMEOUT:
         raise ValueError(f"a timeout is 0 to {GREATEST_TIMEOUT} seconds, not {timeout}")
+    if record is not None:
+        # The record needs what this module declares.
+        from camac.record import Played, recorded
+
+        played = Played(plan, script, events, program)
+        return recorded(record, played, branch, lambda watched: drive(plan, script, watched, events, program=program, timeout=timeout))
     with _Program([find_program(program), "drive", "--", plan, script, events], timeout) as started:
         run = _Run(started, branch)
         try:
@@ -234,7 +278,7 @@ class Lockouts:
         try:
             self.release()
         except BaseException as other:
-            _add_note(error, f"a lockout could not be released either: {other!r}")
+            add_note(error, f"a lockout could not be released either: {other!r}")
 
 
 class _Run:
@@ -243,11 +287,15 @@ class _Run:
     def __init__(self, program: "_Program", branch: Branch) -> None:
         self.program, self.branch, self.lockouts = program, branch, Lockouts(branch)
         self.is_open = True
+        # The cycles that were requested, by their lines: a script makes the same ones again and again.
+        self.cycles: Dict[bytes, Tuple[int, int, int, int, Optional[int]]] = {}
 
     def serve(self) -> Optional[RunEnd]:
         """Has the branch make all that is requested, and returns the end that the last line tells, or None where there is no last line."""
         while (line := self.program.read_line()) is not None:
-            if requested := CYCLE.fullmatch(line) or DEMAND.fullmatch(line) or LOCK.fullmatch(line):
+            if line in self.cycles and self.is_open:
+                self.hand_on(line, self.branch.cycle(*self.cycles[line]))
+            elif requested := CYCLE.fullmatch(line) or DEMAND.fullmatch(line) or LOCK.fullmatch(line):
                 self.answer(requested)
             elif found := UNLOCK.fullmatch(line):
                 self.lockouts.unlock(int(found[1]))
@@ -262,26 +310,31 @@ class _Run:
         if not self.is_open:
             raise ProtocolFault(f"camac wrote a request after the end of its input: {requested[0]!r}")
         answer = self.make(requested)
-        if answer is None:
+        if answer is None and requested.re is DEMAND:
             self.is_open = False
             self.program.end_input()
-        elif isinstance(answer, Answer):
-            self.program.write(answer.line().encode() + b"\n")
         else:
-            raise TypeError(f"the branch has to answer {requested[0].decode()!r} with an Answer, not {answer!r}")
+            self.hand_on(requested[0], answer)
 
     def make(self, requested: "re.Match[bytes]") -> Optional[Answer]:
-        """Has the branch make an operation. Only a demand may be without an answer."""
-        if requested.re is CYCLE:
-            c, n, a, f = map(int, requested.group(1, 2, 3, 4))
-            answer = self.branch.cycle(c, n, a, f, int(requested[5], 16) if requested[5] else None)
-        elif requested.re is DEMAND:
+        """Has the branch make an operation."""
+        if requested.re is DEMAND:
             return self.branch.demand()
-        else:
-            answer = self.lockouts.lock(int(requested[1]))
+        if requested.re is LOCK:
+            return self.lockouts.lock(int(requested[1]))
+        c, n, a, f = map(int, requested.group(1, 2, 3, 4))
+        its = c, n, a, f, int(requested[5], 16) if requested[5] else None
+        if len(self.cycles) < MOST_CYCLES:
+            self.cycles[requested[0]] = its
+        return self.branch.cycle(*its)
+
+    def hand_on(self, request: bytes, answer: Optional[Answer]) -> None:
+        """Hands an answer on to the program. Only a demand may be without one."""
         if answer is None:
-            raise TypeError(f"the branch has to answer {requested[0].decode()!r}: only a demand may be without an answer")
-        return answer
+            raise TypeError(f"the branch has to answer {request.decode()!r}: only a demand may be without an answer")
+        if not isinstance(answer, Answer):
+            raise TypeError(f"the branch has to answer {request.decode()!r} with an Answer, not {answer!r}")
+        self.program.write(BYTES % answer)
 
     def abandon(self, error: BaseException) -> NoReturn:
         """Ends a run that failed: lockouts are released, the program comes to its end, and what failed is raised."""
@@ -292,7 +345,7 @@ class _Run:
             try:
                 self.program.end(self.program.skip_to_end())
             except DriveFault as fault:
-                _add_note(error, f"and camac: {fault}")
+                add_note(error, f"and camac: {fault}")
         raise error
 
 
@@ -300,11 +353,15 @@ class _Program:
     """The program at work, with its standard streams. Its standard error is kept in a file, so that it can be of any length."""
 
     def __init__(self, words: List[File], timeout: Optional[float]) -> None:
+        # Both take as long to load as all of this package, and what needs no program needs neither.
+        import subprocess
+        import tempfile
+
         self.timeout = timeout
         self.errors = tempfile.TemporaryFile()
         try:
             # A session of its own: Ctrl-C reaches Python alone, which then ends the run.
-            self.process = subprocess.Popen(
+            self.process: "subprocess.Popen[bytes]" = subprocess.Popen(
                 words, bufsize=0, stdin=subprocess.PIPE, stdout=subprocess.PIPE, stderr=self.errors, start_new_session=True
             )
         except BaseException:
@@ -366,6 +423,8 @@ class _Program:
         more = self.read_line()
         if more is not None:
             raise ProtocolFault(f"camac wrote a line after its last one: {more!r}")
+        import subprocess
+
         try:
             status = self.process.wait(self.timeout)
         except subprocess.TimeoutExpired:
@@ -408,7 +467,7 @@ def read_end(last: bytes) -> Optional[RunEnd]:
     return RunEnd(how, line, int(found[4]))
 
 
-def _add_note(error: BaseException, note: str) -> None:
+def add_note(error: BaseException, note: str) -> None:
     """Adds a line to what an exception says, where Python can (from 3.11 on)."""
     if hasattr(error, "add_note"):
         error.add_note(note)

@@ -15,6 +15,6 @@ def edited(text: bytes, edits: Iterable[Edit]) -> bytes:
     parts: List[bytes] = []
     last = 0
     for it in sorted(edits):
-        parts += [text[last : it.start], it.text.encode()]
+        parts += [text[last : it.start], it.text.encode("utf-8", "surrogateescape")]
         last = it.end
     return b"".join([*parts, text[last:]])

@@ -65,6 +65,11 @@ def record(event: Event) -> bytes:
     return head + struct.pack(f">{len(event.words)}I", *event.words)
 
 
+def record_size(event: Event) -> int:
+    """How many bytes an event takes in its file."""
+    return (ONE if event.cycles is None else TWO).head.size + 4 * len(event.words)
+
+
 class EventFileFault(ValueError):
     """The first wrong field of an event file: its code, and the offset of its first byte. It reads as the program says it."""
 
@@ -126,10 +131,22 @@ def read_events(file: File) -> Iterator[Event]:
         yield from _read_records(source, form, data[HEADER:])
 
 
-def _read_records(source: _Source, form: Form, data: bytes) -> Iterator[Event]:
-    """Yields the events behind the header; `data` are the bytes of them that were read."""
+def read_further(form: Form, data: bytes, number: int, place: int) -> Iterator[Event]:
+    """Yields the events of a file that grows: `data` are its bytes from `place` on, where the event of this number begins. A record that is not
+    yet whole is left.
+
+    Raises EventFileFault at the first wrong field."""
+    try:
+        yield from _read_records(_Source(io.BytesIO()), form, data, number, place)
+    except EventFileFault as fault:
+        if fault.code != "V7":
+            raise
+
+
+def _read_records(source: _Source, form: Form, data: bytes, number: int = 1, place: int = HEADER) -> Iterator[Event]:
+    """Yields the events from that of a number on, which begins at a place; `data` are the bytes of them that were read."""
     unpack, head = form.unpack, form.head.size
-    number, at, place = 1, 0, HEADER
+    at = 0
     while True:
         end, there = at + head, len(data)
         while end <= there:
@@ -195,7 +212,7 @@ def _take_whole(file: File, take: Callable[[Event], None]) -> Tuple[int, Optiona
     try:
         for event in read_events(file):
             take(event)
-            size += (ONE if event.cycles is None else TWO).head.size + 4 * len(event.words)
+            size += record_size(event)
     except EventFileFault as fault:
         return 0 if fault.code == "V1" else size, fault
     return size, None

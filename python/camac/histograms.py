@@ -1,5 +1,8 @@
-"""Histograms of values whose range is not known before."""
-from typing import Dict, List, NamedTuple, Optional
+"""Histograms, lines over a run, and maps of two numbers: each of a fixed size, however many numbers come."""
+import collections
+import math
+import operator
+from typing import Counter, Dict, List, NamedTuple, Optional, Sequence, Tuple
 
 
 class Bins(NamedTuple):
@@ -10,49 +13,155 @@ class Bins(NamedTuple):
     counts: List[int]
 
 
-class Histogram:
-    """Counts of values from 0 on, in at most `most` bins of one width, a power of two. The bins double as values ask for it, so a histogram
-    is of one size whatever comes."""
+class Totals:
+    """How many numbers came, the least, the greatest, their sum and that of their squares."""
 
-    __slots__ = ("most", "shift", "counts", "least", "greatest", "count", "total")
+    __slots__ = ("count", "total", "squares", "least", "greatest")
 
-    def __init__(self, most: int = 64) -> None:
-        self.most, self.shift = most, 0
-        self.counts: Dict[int, int] = {}
+    def __init__(self) -> None:
+        self.count = self.total = self.squares = 0
         self.least: Optional[int] = None
         self.greatest: Optional[int] = None
-        self.count = self.total = 0
 
-    def add(self, value: int) -> None:
-        self.count += 1
-        self.total += value
-        at = value >> self.shift
-        if at in self.counts:
-            self.counts[at] += 1
-        else:
-            self.counts[at] = 1
-        if self.least is None or self.greatest is None:
-            self.least = self.greatest = value
-        elif value < self.least:
-            self.least = value
-            self._widen(value, self.greatest)
-        elif value > self.greatest:
-            self.greatest = value
-            self._widen(self.least, value)
-
-    def _widen(self, least: int, greatest: int) -> None:
-        while (greatest >> self.shift) - (least >> self.shift) >= self.most:
-            self.shift += 1
-            before, self.counts = self.counts, {}
-            for at, count in before.items():
-                self.counts[at >> 1] = self.counts.get(at >> 1, 0) + count
+    def take(self, values: Sequence[int]) -> None:
+        least, greatest = min(values), max(values)
+        self.count += len(values)
+        self.total += sum(values)
+        self.squares += sum(map(operator.mul, values, values))
+        self.least = least if self.least is None else min(self.least, least)
+        self.greatest = greatest if self.greatest is None else max(self.greatest, greatest)
 
     def mean(self) -> float:
         return self.total / self.count if self.count else 0.0
 
+    def rms(self) -> float:
+        """The standard deviation, which spectra call RMS."""
+        return math.sqrt(max(self.count * self.squares - self.total**2, 0)) / self.count if self.count else 0.0
+
+
+class Spectrum(Totals):
+    """Counts on an axis from 0 to `end`, in at most `MOST` bins of one width, a power of two. Numbers from `end` on are counted as overflow.
+    Where no end is told the axis doubles until it holds all numbers."""
+
+    __slots__ = ("end", "is_open", "shift", "counts", "overflow")
+    MOST = 128
+
+    def __init__(self, end: Optional[int] = None) -> None:
+        super().__init__()
+        self.end, self.is_open, self.overflow = end or self.MOST, end is None, 0
+        self.shift = max((self.end - 1).bit_length() - self.MOST.bit_length() + 1, 0)
+        self.counts: Counter[int] = collections.Counter()
+
+    def add(self, value: int) -> None:
+        self.add_all((value,))
+
+    def add_all(self, values: Sequence[int]) -> None:
+        """Counts many numbers at once, which is far quicker than one after another."""
+        if not values:
+            return
+        self.take(values)
+        while self.is_open and (self.greatest or 0) >= self.end:
+            self._double()
+        if max(values) >= self.end:
+            inside = [value for value in values if value < self.end]
+            self.overflow += len(values) - len(inside)
+            values = inside
+        self.counts.update([value >> self.shift for value in values] if self.shift else values)
+
+    def _double(self) -> None:
+        self.end *= 2
+        self.shift += 1
+        halved: Counter[int] = collections.Counter()
+        for at, count in self.counts.items():
+            halved[at >> 1] += count
+        self.counts = halved
+
+    def integral(self) -> int:
+        """How many numbers stand on the axis."""
+        return self.count - self.overflow
+
     def bins(self) -> Bins:
-        """The bins from that of the least to that of the greatest value."""
-        if self.least is None or self.greatest is None:
-            return Bins(0, 1, [])
-        first, last = self.least >> self.shift, self.greatest >> self.shift
-        return Bins(first << self.shift, 1 << self.shift, [self.counts.get(at, 0) for at in range(first, last + 1)])
+        """All bins of the axis."""
+        return Bins(0, 1 << self.shift, [self.counts[at] for at in range(((self.end - 1) >> self.shift) + 1)])
+
+    def peak(self) -> Optional[int]:
+        """Where the bin of the greatest count begins; None of an empty spectrum."""
+        if not self.counts:
+            return None
+        return min(self.counts, key=lambda at: (-self.counts[at], at)) << self.shift
+
+
+class Series:
+    """Numbers over the services of a run, in at most `MOST` columns of equally many services: of each column how many numbers it has, and
+    their sum. `rises` are the sums of what each number is above the one before it: a counter that is not cleared only rises, but where
+    its 24 bits are full."""
+
+    __slots__ = ("per", "columns", "rises", "last", "falls")
+    MOST = 240
+    FULL = 1 << 24
+
+    def __init__(self) -> None:
+        self.per, self.falls = 1, 0
+        self.columns: Dict[int, Tuple[int, int]] = {}
+        self.rises: Dict[int, Tuple[int, int]] = {}
+        self.last: Optional[int] = None
+
+    def add_all(self, numbers: Sequence[int], values: Sequence[int]) -> None:
+        """Takes values of services with these numbers in the run, from 1, in the order of the run."""
+        while numbers and numbers[-1] > self.per * self.MOST:
+            self.per *= 2
+            self.columns, self.rises = _halved(self.columns), _halved(self.rises)
+        for number, value in zip(numbers, values):
+            at = (number - 1) // self.per
+            count, total = self.columns.get(at, (0, 0))
+            self.columns[at] = count + 1, total + value
+            if self.last is not None:
+                self.falls += value < self.last
+                count, total = self.rises.get(at, (0, 0))
+                self.rises[at] = count + 1, total + (value - self.last) % self.FULL
+            self.last = value
+
+    def is_counter(self) -> bool:
+        """Whether the numbers only rise, as those of a counter that nobody clears: then what it counts is how much."""
+        return self.falls == 0 and sum(count for count, _ in self.rises.values()) > 1
+
+    def means(self) -> Dict[int, float]:
+        """By column the mean of the numbers; of a counter that of the differences."""
+        return {at: total / count for at, (count, total) in sorted((self.rises if self.is_counter() else self.columns).items())}
+
+
+def _halved(columns: Dict[int, Tuple[int, int]]) -> Dict[int, Tuple[int, int]]:
+    halved: Dict[int, Tuple[int, int]] = {}
+    for at, (count, total) in columns.items():
+        before = halved.get(at // 2, (0, 0))
+        halved[at // 2] = before[0] + count, before[1] + total
+    return halved
+
+
+class Pairs:
+    """Counts of pairs of numbers, each on an axis from 0 to its end, in at most 64 by 64 cells. Where no end is told an axis doubles until it
+    holds all numbers."""
+
+    __slots__ = ("ends", "shifts", "cells", "count")
+    MOST = 64
+
+    def __init__(self, *ends: Optional[int]) -> None:
+        self.ends = [end or self.MOST for end in ends]
+        self.shifts = [max((end - 1).bit_length() - self.MOST.bit_length() + 1, 0) for end in self.ends]
+        self.cells: Counter[Tuple[int, int]] = collections.Counter()
+        self.count = 0
+
+    def add(self, across: int, up: int) -> None:
+        for axis, number in enumerate((across, up)):
+            while number >= self.ends[axis]:
+                self._double(axis)
+        self.count += 1
+        self.cells[across >> self.shifts[0], up >> self.shifts[1]] += 1
+
+    def _double(self, axis: int) -> None:
+        self.ends[axis] *= 2
+        self.shifts[axis] += 1
+        halved: Counter[Tuple[int, int]] = collections.Counter()
+        for (across, up), count in self.cells.items():
+            halved[(across >> 1, up) if axis == 0 else (across, up >> 1)] += count
+        self.cells = halved

@@ -1,33 +1,36 @@
-"""`camac-check`: many scripts on one plan, each place as FILE:LINE, with warnings about what is accepted."""
-import json
-from typing import Callable, Dict, List, NamedTuple, Optional, Sequence, Tuple
+"""`camac-check`: many scripts on one plan, each place as FILE:LINE or FILE:LINE:COLUMN, with warnings about what is accepted."""
+import re
+from typing import TYPE_CHECKING, Callable, Dict, List, NamedTuple, Optional, Sequence, Tuple
 
 from camac.drive import File, ProgramFault, Refused, UsageFault, one_line
-from camac.headings import write_headings
-from camac.loops import Proposal, propose, write_keeps
-from camac.plans import plan as read_plan
-from camac.program import lines_of
-from camac.scripts import Service, check
-from camac.texts import is_sample
-from camac.warn import looks_for_all, warnings
+from camac.program import lines_of, output_of
+from camac.scripts import Service
+from camac.texts import TextFile
+from camac.warn import look, looks_for_all
+
+if TYPE_CHECKING:
+    from camac.loops.proposals import Proposal
 
 ACCEPTED, REFUSED, FAULT = 0, 1, 3
-FORMATS = ("text", "json", "github")
+FORMATS = ("text", "json", "github", "sarif")
 LEVELS = {"refused": "error", "fault": "error", "warning": "warning", "written": "notice", "proposed": "notice", "remaining": "error"}
 # What GitHub wants to be escaped in a message, and in a property.
 MESSAGE, PROPERTY = "%\r\n", "%\r\n:,"
+# Stands for what is left out before a part of a line.
+CUT = ".."
 
 
 class Found(NamedTuple):
     """What was found in a file: `kind` is "refused", "warning", "fault", "written" (a heading or a loop that was changed), "proposed" (a change that
     helps) or "remaining" (what refuses it with all that is proposed). `line` and `code` are None where there is none. `explanation` has what `camac
-    explain` says of a refusal, by lines."""
+    explain` says of a refusal, by lines. `column` is that of a text's fault in its line, in characters from 1."""
 
     kind: str
     line: Optional[int]
     code: Optional[str]
     text: str
     explanation: Tuple[str, ...] = ()
+    column: Optional[int] = None
 
     def title(self) -> str:
         return f"{self.kind} {self.code}" if self.code else self.kind
@@ -45,10 +48,10 @@ class Judged(NamedTuple):
         return FAULT if "fault" in kinds else REFUSED if "refused" in kinds else ACCEPTED
 
     def text(self) -> str:
-        """For people, and for editors that look for FILE:LINE:."""
+        """For people, and for editors that look for FILE:LINE: or FILE:LINE:COLUMN:."""
         its = []
         for it in self.found:
-            place = self.file if it.line is None else f"{self.file}:{it.line}"
+            place = ":".join([self.file, *(str(number) for number in (it.line, it.column) if number is not None)])
             its.append(f"{place}: {it.title()}: {it.text}\n")
         return "".join(its)
 
@@ -56,7 +59,8 @@ class Judged(NamedTuple):
         """For GitHub, which shows it at the line (workflow commands)."""
         its = []
         for it in self.found:
-            place = f"file={_escaped(self.file, PROPERTY)}" + ("" if it.line is None else f",line={it.line}")
+            numbers = ",".join(f"{name}={number}" for name, number in (("line", it.line), ("col", it.column)) if number is not None)
+            place = f"file={_escaped(self.file, PROPERTY)}" + (f",{numbers}" if numbers else "")
             message = _escaped("\n".join([it.text, *it.explanation]), MESSAGE)
             its.append(f"::{LEVELS[it.kind]} {place},title={it.title()}::{message}\n")
         return "".join(its)
@@ -76,80 +80,91 @@ def judge(plan: str, scripts: Sequence[str], program: Optional[File] = None, wri
     """Judges scripts on a plan. If `keeps`, what helps the loops of a refused script is proposed; if `writes`, the least headings are put into each
     script before, and with `keeps` what its loops have to keep. A plan that is refused or cannot be read is told alone, since no script can be
     judged then."""
-    found = _faults(lambda: _look_at_plan(plan, program), [plan], program)
+    its = TextFile(plan, is_plan=True)
+    found = _faults(lambda: _look_at_plan(its, program), [its], program)
     if found:
         return [Judged(plan, found, [])]
-    return [_judge_script(plan, it, program, writes, keeps) for it in scripts]
+    return [_judge_script(its, it, program, writes, keeps) for it in scripts]
 
 
-def _look_at_plan(plan: str, program: Optional[File]) -> List[Found]:
-    if not is_sample(plan):
-        _open(plan)
-    read_plan(plan, program)
+def _look_at_plan(plan: TextFile, program: Optional[File]) -> List[Found]:
+    plan.text()
+    output_of("plan", "--", plan, program=program)
     return []
 
 
-def _open(file: str) -> None:
-    """Raises OSError where a file cannot be read."""
-    with open(file, "rb"):
-        pass
-
-
-def _judge_script(plan: str, script: str, program: Optional[File], writes: bool, keeps: bool) -> Judged:
+def _judge_script(plan: TextFile, name: str, program: Optional[File], writes: bool, keeps: bool) -> Judged:
     services: List[Service] = []
     written: List[Found] = []
+    script = TextFile(name)
 
     def write() -> List[Found]:
-        _open(script)
-        if writes and keeps:
-            written.extend(_changes("written", write_keeps(plan, script, program)))
-        if writes:
-            written.extend(Found("written", it.line, None, it.heading) for it in write_headings(plan, script, program))
+        # What few calls ask for is loaded by these.
+        from camac.headings import write_headings
+        from camac.loops.search import write_keeps
+
+        if keeps:
+            written.extend(_changes("written", write_keeps(plan, name, program)))
+        written.extend(Found("written", it.line, None, it.heading) for it in write_headings(plan, name, program))
         return []
 
-    def look() -> List[Found]:
-        services.extend(check(plan, script, program))
-        return [Found("warning", it.line, it.code.value, it.text) for it in warnings(plan, script, program)]
+    def judged() -> List[Found]:
+        script.text()
+        accepted, warned = look(plan, script, program)
+        services.extend(accepted)
+        return [Found("warning", it.line, it.code.value, it.text) for it in warned]
 
     files = [plan, script]
-    found = _faults(write, files, program) or _faults(look, files, program)
-    proposed = _faults(lambda: _proposed(plan, script, program), files, program) if keeps and any(it.kind == "refused" for it in found) else []
-    return Judged(script, [*written, *found, *proposed], services)
+    found = (_faults(write, files, program) if writes else []) or _faults(judged, files, program)
+    is_refused = any(it.kind == "refused" for it in found)
+    proposed = _faults(lambda: _proposed(plan, script, program), files, program) if keeps and is_refused else []
+    return Judged(name, [*written, *found, *proposed], services)
 
 
-def _proposed(plan: str, script: str, program: Optional[File]) -> List[Found]:
-    with open(script, "rb") as file:
-        found = propose(plan, file.read(), program)
+def _proposed(plan: TextFile, script: TextFile, program: Optional[File]) -> List[Found]:
+    from camac.loops.search import propose
+
+    found = propose(plan, script.text(), program)
     left = found.remaining if found.proposals else None
     return _changes("proposed", found.proposals) + ([Found("remaining", left.line, left.code, left.text)] if left else [])
 
 
-def _changes(kind: str, proposals: Sequence[Proposal]) -> List[Found]:
+def _changes(kind: str, proposals: "Sequence[Proposal]") -> List[Found]:
     return [Found(kind, it.line, None, it.text) for it in proposals]
 
 
-def _faults(look: Callable[[], List[Found]], files: List[str], program: Optional[File]) -> List[Found]:
+def _faults(call: Callable[[], List[Found]], files: List[TextFile], program: Optional[File]) -> List[Found]:
     """What a call finds in files, or the refusal or fault that ends it."""
     try:
-        return look()
+        return call()
     except Refused as refusal:
         first, *explanation = lines_of("explain", "--", *files, program=program)
         # The headings as they stand may be refused before what no heading mends.
         told = explanation if first == str(refusal) else []
-        return [Found("refused", refusal.line, refusal.code, str(refusal).partition(": ")[2], tuple(told))]
+        return [Found("refused", refusal.line, refusal.code, str(refusal).partition(": ")[2], tuple(told), _column(told))]
     except UsageFault:
         raise
     except ProgramFault as fault:
         return [Found("fault", None, None, one_line(fault))]
     except OSError as fault:
-        if fault.filename not in files:
+        if fault.filename not in [it.file for it in files]:
             raise
         return [Found("fault", None, None, str(fault.strerror or fault))]
+
+
+def _column(explanation: Sequence[str]) -> Optional[int]:
+    """Where the mark of an explanation stands in its line. Of a line that is shown in part it is not known."""
+    if len(explanation) < 2 or not re.fullmatch(r" +\| \s*\^", explanation[1]):
+        return None
+    shown, mark = explanation[0].partition(" | ")[2], explanation[1].partition(" | ")[2]
+    return None if shown.startswith(CUT) else len(mark)
 
 
 def told(judged: Sequence[Judged], form: str) -> str:
     """What is printed of all files, in one of `FORMATS`."""
     if form == "json":
+        import json
+
         return json.dumps([it.value() for it in judged], indent=2) + "\n"
     return "".join(it.github() if form == "github" else it.text() for it in judged)
 

@@ -9,11 +9,11 @@ import os
 import stat
 from ctypes import byref, c_size_t, c_uint32
 from io import FileIO
-from typing import Any, Callable, Iterable, Iterator, List, Mapping, NamedTuple, Optional, Tuple, Union
+from typing import TYPE_CHECKING, Any, Callable, Iterable, Iterator, List, Mapping, NamedTuple, Optional, Tuple, Union
 
 from camac import native
 from camac.drive import Answer, Branch, Ending, File, Lockouts, ProgramFault, Refused, RunEnd, UsageFault, file_fault
-from camac.events import NEW_FILE, Event, record
+from camac.events import NEW_FILE
 from camac.native import (
     CYCLE as CYCLE,
     DEMAND as DEMAND,
@@ -36,13 +36,38 @@ from camac.native import (
 )
 from camac.texts import plan_text, script_text
 
+if TYPE_CHECKING:
+    from camac.record import Recording
+
 Text = Union[bytes, bytearray, memoryview, str]
 ROOM = 4096
+# the bytes of the longest record of an event file; no lines of an answer are longer
+LONGEST = 16 + 4 * EVENT_WORDS
 # What the program says at the codes that it knows, with its status.
 FAULTS = {NO_MEMORY: ("fault memory", 3), LONG: ("fault input too long", 3)}
 # The subcommands of the program that the library can stand in for.
+IN_PROCESS = "@library"
 COMMANDS = frozenset(("plan", "check", "explain", "bounds", "costs", "response"))
 SPENT_LINE = "refused A4 line 4294967296: too many answers"
+MISUSED = "a number is out of range, or it is told of no service"
+CLOSED = "the session is closed"
+
+
+class ServiceInfo(NamedTuple):
+    """A service of a script: the address of its LAM, its graded-L bit and the line of its heading, the most that it can need, and the numbers of
+    its heading."""
+
+    name: str
+    c: int
+    n: int
+    a: int
+    gl: int
+    line: int
+    cycles: int
+    words: int
+    steps: int
+    most_cycles: int
+    most_words: int
 
 
 class Verdict(NamedTuple):
@@ -61,12 +86,8 @@ def _fault(code: int) -> Exception:
     if code in FAULTS:
         return ProgramFault(*FAULTS[code])
     if code == MISUSE:
-        return UsageFault("the session is closed", 2)
+        return UsageFault(CLOSED, 2)
     return RuntimeError(f"the library answers the code {code}")
-
-
-def _misuse() -> UsageFault:
-    return UsageFault("a number is out of range, or it is told of no service", 2)
 
 
 def _given(*texts: Text) -> List[Any]:
@@ -100,7 +121,7 @@ def _filled(call: Any, *given: Any, buffers: int = 1) -> Tuple[int, List[bytes]]
     while True:
         code = call(*given, *(word for it in its for word in it.words()))
         if code == MISUSE:
-            raise _misuse()
+            raise UsageFault(MISUSED, 2)
         if code not in (OK, REFUSED):
             raise _fault(code)
         if all(it.is_whole() for it in its):
@@ -117,8 +138,13 @@ def told(command: str, plan: File, *script: File, every: Iterable[str] = ()) -> 
     """What the program prints when it is called with one of `COMMANDS` and these files. `every` has the words that follow this option of
     `response`, as NAME=CYCLES. Raises as the program fails: ProgramFault, UsageFault."""
     name = command if script or command == "plan" else f"{command}_plan"
+    return judged(name, plan_text(plan), *map(script_text, script), every=every)
+
+
+def judged(command: str, *texts: Text, every: Iterable[str] = ()) -> Verdict:
+    """What the program prints of these texts, as `told`."""
     options = [_settings(every), ""] if command == "response" else []
-    return _judged(name, plan_text(plan), *map(script_text, script), *options)
+    return _judged(command, *texts, *options)
 
 
 def plan(plan: Text) -> Verdict:
@@ -166,7 +192,7 @@ def settings(told: Optional[Mapping[str, int]]) -> List[str]:
 def _settings(words: Iterable[str]) -> str:
     words = list(words)
     if any(it.split() != [it] for it in words):
-        raise _misuse()
+        raise UsageFault(MISUSED, 2)
     return " ".join(words)
 
 
@@ -179,6 +205,14 @@ def run(plan: Text, script: Text, answers: Text) -> Tuple[Verdict, bytes]:
     """What `camac run` prints of the text of all answers, and the bytes of its event file."""
     code, (listing, file) = _filled(native.load().texts.camac_run, *_given(plan, script, answers), buffers=2)
     return Verdict(code == OK, listing.decode("utf-8", "replace")), file
+
+
+def _check_taken(code: int) -> None:
+    """Raises what the code of an answer that was not taken calls for."""
+    if code == SPENT:
+        raise OverflowError(SPENT_LINE)
+    if code not in (OK, OVERRUN):
+        raise _fault(code)
 
 
 class Session:
@@ -196,6 +230,8 @@ class Session:
         # what ctypes hands on at each call, made once
         self._at, self._to_want = byref(self._session), byref(self._want)
         self._to_answer, self._to_progress = byref(self._answer), byref(self._progress)
+        self._room, self._size = ctypes.create_string_buffer(LONGEST), c_size_t()
+        self._to_size = byref(self._size)
         buffer = _Buffer()
         code = calls.texts.camac_open(self._at, *_given(plan, script), *buffer.words())
         if code == REFUSED:
@@ -215,19 +251,65 @@ class Session:
     def next(self, answer: Answer) -> Progress:
         """Takes an answer, and tells what it did. The next call fills the same object again. Raises OverflowError where the run has used
         4,294,967,295 answers."""
+        self._give(answer)
+        _check_taken(self._calls.camac_next(self._at, self._to_answer, self._to_progress))
+        return self._progress
+
+    def step(self, answer: Answer) -> Tuple[Progress, Optional[Want]]:
+        """`next`, and then `wants`, in one call of the library."""
+        self._give(answer)
+        code = self._calls.camac_step(self._at, self._to_answer, self._to_progress, self._to_want)
+        _check_taken(code)
+        return self._progress, None if code == OVERRUN else self._want
+
+    def _give(self, answer: Answer) -> None:
         to = self._answer
         to.word, to.gl, to.x, to.q, to.wait = answer.word, answer.gl, answer.x, answer.q, answer.wait
-        code = self._calls.camac_next(self._at, self._to_answer, self._to_progress)
-        if code == SPENT:
-            raise OverflowError(SPENT_LINE)
-        if code not in (OK, OVERRUN):
-            raise _fault(code)
-        return self._progress
 
     def words(self) -> Tuple[int, ...]:
         """The words of the event that the last answer left; none where it left none."""
         count = self._calls.camac_words(self._at, self._words, EVENT_WORDS)
         return tuple(self._words[:count])
+
+    def item(self) -> str:
+        """The lines of the listing for the last answer, as `camac run` writes them."""
+        return self._bytes(self._calls.camac_item).decode()
+
+    def record(self) -> bytes:
+        """The record of the event that the last answer left, as `camac run` writes it behind the header; nothing where it left none."""
+        return self._bytes(self._calls.camac_record)
+
+    def _bytes(self, call: Any) -> bytes:
+        code = call(self._at, self._room, LONGEST, self._to_size)
+        if code != OK:
+            raise _fault(code)
+        return ctypes.string_at(self._room, self._size.value)
+
+    def held(self) -> Tuple[int, ...]:
+        """The crates whose lockout is held, the last that was taken first."""
+        count = self._calls.camac_held(self._at, self._words, EVENT_WORDS)
+        return tuple(self._words[:count])
+
+    def answers_left(self) -> int:
+        """How many answers may still come."""
+        return int(self._calls.camac_answers_left(self._at))
+
+    def services(self) -> List[ServiceInfo]:
+        """The services of the script, in its order."""
+        return [self._service(number + 1) for number in range(self._calls.camac_services(self._at))]
+
+    def _service(self, number: int) -> ServiceInfo:
+        its = native.ServiceStruct()
+        code = self._calls.camac_service(self._at, number, byref(its))
+        if code != OK:
+            raise _fault(code)
+        return ServiceInfo(its.name.decode(), *(getattr(its, name) for name in ServiceInfo._fields[1:]))
+
+    def rewind(self) -> None:
+        """Begins the run anew, without judging the script."""
+        code = self._calls.camac_rewind(self._at)
+        if code != OK:
+            raise _fault(code)
 
     def close(self) -> None:
         """Frees the run. To close twice is harmless."""
@@ -245,14 +327,26 @@ class Session:
 
 
 def play(
-    plan: File, script: File, branch: Branch, events: Optional[File] = None, *, program: Optional[File] = None, timeout: Optional[float] = None
+    plan: File,
+    script: File,
+    branch: Branch,
+    events: Optional[File] = None,
+    *,
+    program: Optional[File] = None,
+    timeout: Optional[float] = None,
+    record: "Union[File, Recording, None]" = None,
 ) -> RunEnd:
     """Plays a script against a branch, as `camac.drive` does, but in this process. `plan` may be "@sample". The event file is `events`, which
-    must not hold bytes; without it none is written. Each event stands there before the next operation is made. `program` and `timeout`
-    are taken as `camac.drive` takes them, and have nothing to do here.
+    must not hold bytes; without it none is written. Each event stands there before the next operation is made. `record` is that of
+    `camac.drive`. `program` and `timeout` are taken as `camac.drive` takes them, and have nothing to do here.
 
     Returns how the run ended, and raises what `camac.drive` raises, with the texts of the program: what the branch raises, Refused,
     ProgramFault. The lockouts that are held then are released by `branch.unlock`, however the run ends."""
+    if record is not None:
+        # The record needs what this module declares.
+        from camac.record import Played, recorded
+
+        return recorded(record, Played(plan, script, events, IN_PROCESS), branch, lambda watched: play(plan, script, watched, events))
     with Session(plan_text(plan), script_text(script)) as session, _event_file(events) as write:
         game = _Game(session, branch, write)
         try:
@@ -273,13 +367,13 @@ class _Game:
 
     def serve(self) -> RunEnd:
         """Has the branch make all that is wanted, and returns the end of the run."""
-        progress = Progress()
-        while (want := self.session.wants()) is not None:
+        progress, want = Progress(), self.session.wants()
+        while want is not None:
             answer = self.make(want)
             if answer is None:
                 return RunEnd(Ending.ENDED, f"ended events {self.events}", self.events)
             try:
-                progress = self.session.next(answer)
+                progress, want = self.session.step(answer)
             except OverflowError:
                 return RunEnd(Ending.REFUSED, SPENT_LINE)
             if progress.kind != STOPPED:
@@ -304,8 +398,7 @@ class _Game:
         if progress.event:
             self.events = progress.event
             if self.write:
-                its = (progress.event, progress.event_gl, progress.event_cycles, progress.event_missed)
-                self.write(record(Event(*its, self.session.words())))
+                self.write(self.session.record())
         if progress.first_unlocked:
             for crate in progress.unlocked:
                 self.lockouts.unlock(crate)

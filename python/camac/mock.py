@@ -13,18 +13,23 @@ A module is a class with one method. This one holds a word: F16 writes it, F0 re
                 return Reply()
             return super().cycle(a, f, data)     # the commands of the look-at-me, and X = 0 for all others
 
-`MockBranch` is a branch for `camac.drive`; `Recorder` keeps what any branch was asked and what it answered. All that is random comes
-from a seed, so that two runs are alike."""
+`MockBranch` is a branch for `camac.drive`; `Recorder` keeps what any branch was asked and what it answered, and `Recorded` gives such answers
+again. All that is random comes from a seed, so that two runs are alike."""
 import dataclasses
+import functools
+import os
 import random
-from typing import Dict, Iterable, List, Mapping, NamedTuple, Optional, Set, Tuple, Union
+import re
+from typing import Dict, Iterable, Iterator, List, Mapping, NamedTuple, Optional, Set, TextIO, Tuple, Union
 
 from camac.drive import Answer, Branch, File
-from camac.plans import Plan
+from camac.plans import Declaration, Plan
 from camac.plans import plan as read_plan
+from camac.program import shown
 
 Place = Tuple[int, int]
 GREATEST_WORD = 0xFF_FFFF
+ANSWER = re.compile(rb"([01]) ([01]) ([0-9a-fA-F]{6}) ([0-9a-fA-F]) ([0-9a-fA-F]{6})\n?")
 CONTROLLER = (28, 30)
 INITIALISE, CLEAR = (28, 8, 26), (28, 9, 26)
 INHIBIT_OFF, INHIBIT_ON = (30, 9, 24), (30, 9, 26)
@@ -212,6 +217,34 @@ class Memory(Module):
         return Reply(word=self.words[self.at - 1] if f == 0 else 0)
 
 
+class Declared(Module):
+    """A module that accepts what its type in a plan declares, and nothing else. Each read has a word of the register's width: what was
+    written there (F16, F17), else a number that looks random. F27 answers Q = 1 in half of the tests, and a probe Q = 0. F8, F10, F24 and
+    F26 are those of a look-at-me, wherever they are declared; F9 clears it, and so does F2 at its last sub-address."""
+
+    def __init__(self, declarations: Iterable[Declaration], seed: int = 1) -> None:
+        super().__init__(lam_at=0)
+        self.random = random.Random(seed)
+        self.declared = {(it.function, a): it for it in declarations for a in range(it.first, it.last + 1)}
+        self.words: Dict[int, int] = {}
+
+    def cycle(self, a: int, f: int, data: Optional[int]) -> Reply:
+        its = self.declared.get((f, a))
+        if its is None:
+            return NOT_ACCEPTED
+        if its.is_probe:
+            return Reply(q=0)
+        if f in (8, 10, 24, 26):
+            return super().cycle(0, f, data)
+        if f == 27:
+            return Reply(q=self.random.randint(0, 1))
+        if f == 9 or (f == 2 and a == its.last):
+            self.clear()
+        if data is not None:
+            self.words[a] = data
+        return Reply(word=self.words[a] if a in self.words else self.random.getrandbits(its.width or 24)) if f < 8 else Reply()
+
+
 class Auxiliary:
     """The auxiliary controllers of a crate: before each of our cycles they take up to `greatest` (0 to 15) of their own. They keep the
     lockout, unless `ignores_lockout`."""
@@ -287,10 +320,17 @@ class MockBranch:
         if places is None:
             return None
         for place in places:
-            if place[0] not in self.inhibited:
-                self.modules[place].trigger()
-        silent = sum(1 << (bit - 1) for (crate, _), bit in self.gl.items() if crate in self.silent)
-        return Answer(gl=self.pattern() & ~silent)
+            self.trigger(place)
+        return Answer(gl=self.demanded())
+
+    def trigger(self, place: Place) -> None:
+        """Triggers the module there, unless its crate has inhibit."""
+        if place[0] not in self.inhibited:
+            self.modules[place].trigger()
+
+    def demanded(self) -> int:
+        """The graded-L pattern without the crates whose demand output is disabled."""
+        return self.pattern() & ~sum(1 << (bit - 1) for (crate, _), bit in self.gl.items() if crate in self.silent)
 
     def cycle(self, c: int, n: int, a: int, f: int, data: Optional[int]) -> Answer:
         wait = self.wait(c)
@@ -349,15 +389,20 @@ class Operation:
 
 
 class Recorder:
-    """A branch that hands all on to another branch, and keeps it. `answer_lines` is an answer file: `camac run` plays it without the
-    branch, and makes the same event file."""
+    """A branch that hands all on to another branch, and keeps it. `answer_lines` is an answer file: `camac run` and `Recorded` play it without
+    the branch, and make the same event file.
 
-    def __init__(self, branch: Branch) -> None:
-        self.branch = branch
+    With `file`, a file open for writing text, each answer goes there as its line, and nothing is kept: so a run may be of any length."""
+
+    def __init__(self, branch: Branch, file: Optional[TextIO] = None) -> None:
+        self.branch, self.file = branch, file
         self.operations: List[Operation] = []
 
     def keep(self, request: str, answer: Optional[Answer]) -> None:
-        self.operations.append(Operation(request, answer))
+        if self.file is None:
+            self.operations.append(Operation(request, answer))
+        elif answer is not None:
+            self.file.write(f"{answer.line()}\n")
 
     def demand(self) -> Optional[Answer]:
         answer = self.branch.demand()
@@ -382,3 +427,55 @@ class Recorder:
     def answer_lines(self) -> str:
         """The answers, one in a line, as `camac run` reads them."""
         return "".join(f"{made.answer.line()}\n" for made in self.operations if made.answer)
+
+
+class Recorded:
+    """A branch that gives the answers of a recorded run, one after another: those of an answer file, of any length. With the plan and the script
+    of that run `camac.play` and `camac.drive` make the same event file. A demand behind the last answer ends the run.
+
+    Raises OSError where the file cannot be read; later, from an operation, ValueError with file and line at a line that is no answer, and
+    EOFError where the answers end inside a service, which then leaves no event."""
+
+    def __init__(self, file: File) -> None:
+        self._answers = _read_answers(file)
+        next(self._answers)
+
+    def demand(self) -> Optional[Answer]:
+        return next(self._answers, None)
+
+    def _answer(self) -> Answer:
+        answer = self.demand()
+        if answer is None:
+            raise EOFError("the recorded answers end inside a service")
+        return answer
+
+    def cycle(self, c: int, n: int, a: int, f: int, data: Optional[int]) -> Answer:
+        return self._answer()
+
+    def lock(self, c: int) -> Answer:
+        return self._answer()
+
+    def unlock(self, c: int) -> None:
+        pass
+
+
+def _read_answers(file: File) -> Iterator[Optional[Answer]]:
+    """Opens a file and yields None, then its answers."""
+    with open(file, "rb") as lines:
+        yield None
+        for number, line in enumerate(lines, 1):
+            try:
+                answer = _read_answer(line)
+            except ValueError:
+                raise ValueError(f"{os.fsdecode(file)}:{number}: this is no answer: {shown(line[:100].decode('utf-8', 'replace'))}") from None
+            yield answer
+
+
+# Many answers of a run are alike.
+@functools.lru_cache(maxsize=65_536)
+def _read_answer(line: bytes) -> Answer:
+    found = ANSWER.fullmatch(line)
+    if found is None:
+        raise ValueError
+    x, q, word, wait, gl = (int(it, 16) for it in found.groups())
+    return Answer(x, q, word, wait, gl)

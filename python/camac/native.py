@@ -5,8 +5,7 @@ The library is `libcamac.so.0`: the one that the environment variable CAMAC_LIBR
 import ctypes
 import functools
 import os
-import pathlib
-from ctypes import POINTER, c_char_p, c_size_t, c_uint8, c_uint16, c_uint32, c_void_p
+from ctypes import POINTER, c_char, c_char_p, c_size_t, c_uint8, c_uint16, c_uint32, c_void_p
 from typing import Any, Dict, List, NamedTuple, Tuple
 
 NAME = "libcamac.so.0"
@@ -68,6 +67,17 @@ class Progress(_Sized):
         return tuple(it for it in (self.first_unlocked | self.more_unlocked << 32).to_bytes(8, "little") if it)
 
 
+class ServiceStruct(_Sized):
+    """A service of the script, as C has it."""
+
+    _fields_ = [
+        ("size", c_uint32),
+        ("name", c_char * 36),
+        *_fields(c_uint32, "c n a gl line cycles words steps most_cycles most_words"),
+        ("spare", c_uint32 * 4),
+    ]
+
+
 class Calls(NamedTuple):
     """The calls of the library. Those on texts let other threads of Python run meanwhile. Those on a session do not: they are short, and so one
     session may be closed by another thread."""
@@ -87,10 +97,19 @@ _OF_TEXTS: Dict[str, List[Any]] = {
 _OF_SESSIONS: Dict[str, List[Any]] = {
     "wants": [_SESSION, POINTER(Want)],
     "next": [_SESSION, POINTER(AnswerStruct), POINTER(Progress)],
+    "step": [_SESSION, POINTER(AnswerStruct), POINTER(Progress), POINTER(Want)],
     "words": [_SESSION, POINTER(c_uint32), c_size_t],
+    "held": [_SESSION, POINTER(c_uint32), c_size_t],
+    "item": [_SESSION, *_BUFFER],
+    "record": [_SESSION, *_BUFFER],
+    "file_header": [c_char_p, c_size_t],
+    "answers_left": [_SESSION],
+    "services": [_SESSION],
+    "service": [_SESSION, c_uint32, POINTER(ServiceStruct)],
+    "rewind": [_SESSION],
     "close": [_SESSION],
 }
-_RESULTS = {"words": c_size_t, "close": None}
+_RESULTS = {"words": c_size_t, "held": c_size_t, "file_header": c_size_t, "answers_left": c_uint32, "services": c_size_t, "close": None}
 
 
 def find_library() -> str:
@@ -98,10 +117,10 @@ def find_library() -> str:
     named = os.environ.get("CAMAC_LIBRARY")
     if named:
         return named
-    here = pathlib.Path(__file__).resolve()
-    for folder in (here.parent, *list(here.parents)[3:4]):
-        if (folder / NAME).is_file():
-            return str(folder / NAME)
+    here = os.path.dirname(os.path.realpath(__file__))
+    for folder in (here, os.path.abspath(os.path.join(here, *3 * [os.pardir]))):
+        if os.path.isfile(os.path.join(folder, NAME)):
+            return os.path.join(folder, NAME)
     return NAME
 
 

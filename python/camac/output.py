@@ -7,8 +7,7 @@ import os
 import signal
 import stat
 import sys
-import tempfile
-from typing import Any, BinaryIO, ContextManager, Iterator, Optional, TextIO
+from typing import Any, BinaryIO, ContextManager, Iterator, Optional, Sequence, TextIO
 
 STANDARD_OUTPUT = "standard output"
 
@@ -38,6 +37,42 @@ def bytes_output(path: Optional[str]) -> Iterator[BinaryIO]:
         yield file
 
 
+def holds_bytes(path: Any) -> bool:
+    """Whether a regular file is there that is not empty: what would be lost, were it written over. Raises OSError where that cannot be told."""
+    try:
+        its = os.stat(path)
+    except FileNotFoundError:
+        return False
+    return stat.S_ISREG(its.st_mode) and its.st_size > 0
+
+
+def is_one_of(out: str, inputs: Sequence[str]) -> bool:
+    """Whether a file is one of the inputs, under whatever name; `-` is the one behind standard input."""
+    names = ("/dev/stdin" if it == "-" else it for it in inputs)
+    return os.path.exists(out) and any(os.path.exists(it) and os.path.samefile(it, out) for it in names)
+
+
+# So many bytes of a picture, and of a page, are the same in all of them.
+BEGIN = 56
+
+
+def refuse_loss(path: Optional[str], text: str, may_replace: bool) -> None:
+    """Raises FileExistsError for a file that holds bytes and does not begin as this text does, or as its first `BEGIN` bytes: then another command
+    made it. Nothing is refused where it `may_replace`, and of standard output and standard error."""
+    begin = text.encode("utf-8", "surrogateescape")[:BEGIN]
+    if path is not None and not may_replace and holds_bytes(path) and _stream_of(os.stat(path)) is None:
+        with open(path, "rb") as file:
+            if file.read(len(begin)) != begin:
+                raise FileExistsError(errno.EEXIST, "another command made it; --overwrite replaces it", path)
+
+
+def write_made(path: str, text: str, may_replace: bool) -> None:
+    """Writes a picture or a page as `output` does, unless `refuse_loss` refuses that."""
+    refuse_loss(path, text, may_replace)
+    with output(path) as out:
+        out.write(text)
+
+
 def _standard_output() -> int:
     if sys.stdout is None:
         raise OSError(errno.EBADF, os.strerror(errno.EBADF), STANDARD_OUTPUT)
@@ -50,16 +85,26 @@ def _open_as_it_is(path: str) -> Optional[int]:
         its = os.stat(path)
     except FileNotFoundError:
         return None
+    stream = _stream_of(its)
+    if stream is not None:
+        return os.dup(stream)
+    return None if stat.S_ISREG(its.st_mode) else os.open(path, os.O_WRONLY)
+
+
+def _stream_of(its: os.stat_result) -> Optional[int]:
+    """The standard stream to write that a file is behind."""
     for stream in (1, 2):
         with contextlib.suppress(OSError):
             if os.path.samestat(its, os.fstat(stream)):
-                return os.dup(stream)
-    return None if stat.S_ISREG(its.st_mode) else os.open(path, os.O_WRONLY)
+                return stream
+    return None
 
 
 @contextlib.contextmanager
 def _replacement(path: str) -> Iterator[BinaryIO]:
     """A new file, under a name that no other call has, that takes the place of a regular file or of none."""
+    import tempfile
+
     place = os.path.realpath(path)
     with _named(path):
         if not os.path.basename(path):

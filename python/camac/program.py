@@ -1,21 +1,19 @@
 """What the program camac prints, as text: it is called with the words of a subcommand, and its statuses become exceptions.
 
 Where no program is there, the library for C answers in this process what it can (`camac.library.COMMANDS`). So it does where `@library` is
-named as the program."""
+named as the program. What calls another process is loaded where it is called: it takes as long to load as all of this package."""
 import functools
 import itertools
 import os
 import re
-import subprocess
-import tempfile
 from typing import Iterator, Optional, Tuple
 
 from camac import library
 from camac.drive import File, ProgramFault, Refused, UsageFault, find_program
+from camac.library import IN_PROCESS as IN_PROCESS
 from camac.texts import plan_text
 
 REFUSED, USAGE = 1, 2
-IN_PROCESS = "@library"
 EVERY = "--every="
 
 
@@ -36,14 +34,14 @@ def _find(command: str, program: Optional[File]) -> str:
 
 def _told(*words: File) -> library.Verdict:
     """What the library tells in the program's place. Before the files there may stand the options `--every=NAME=CYCLES`, and "--"."""
-    command, *files = map(os.fsdecode, words)
-    every = list(itertools.takewhile(lambda it: it.startswith(EVERY), files))
+    command, *files = words
+    every = [it[len(EVERY) :] for it in itertools.takewhile(lambda it: it.startswith(EVERY), map(os.fsdecode, files))]
     files = files[len(every) :]
     if files[:1] == ["--"]:
         files = files[1:]
     if command not in library.COMMANDS:
-        raise UsageFault(f"the library has no `{command}`", USAGE)
-    return library.told(command, *files, every=[it[len(EVERY) :] for it in every])
+        raise UsageFault(f"the library has no `{os.fsdecode(command)}`", USAGE)
+    return library.told(os.fsdecode(command), *files, every=every)
 
 
 def output_of(*words: File, program: Optional[File] = None) -> str:
@@ -56,6 +54,8 @@ def output_of(*words: File, program: Optional[File] = None) -> str:
         verdict = _told(*words)
         _judge(0 if verdict.accepted else REFUSED, verdict.text, "")
         return verdict.text
+    import subprocess
+
     done = subprocess.run([found, *words], stdin=subprocess.DEVNULL, stdout=subprocess.PIPE, stderr=subprocess.PIPE, check=False)
     printed = _text(done.stdout)
     _judge(done.returncode, printed, _text(done.stderr))
@@ -71,6 +71,9 @@ def lines_of(*words: File, program: Optional[File] = None) -> Iterator[str]:
     if found == IN_PROCESS:
         yield from _told(*words).text.splitlines()
         return
+    import subprocess
+    import tempfile
+
     with tempfile.TemporaryFile() as errors:
         with subprocess.Popen([found, *words], stdin=subprocess.DEVNULL, stdout=subprocess.PIPE, stderr=errors, bufsize=1 << 16) as started:
             assert started.stdout
@@ -112,20 +115,25 @@ def version(program: Optional[File] = None) -> str:
 
 
 def verdict(command: str, plan: File, script: bytes, program: Optional[File] = None) -> library.Verdict:
-    """What the program tells of a script that is given as its text; of a refusal its line. `command` judges: "check", "bounds" or "explain".
+    """What the program tells of a script that is given as its text. `command` judges: "check", "bounds", "costs", "response" or "explain".
 
     Raises ProgramFault and OSError as `output_of`."""
     if _find(command, program) == IN_PROCESS:
-        judge = {"check": library.check, "bounds": library.bounds, "explain": library.explain}[command]
-        return judge(plan_text(plan), script)
+        return library.judged(command, plan_text(plan), script)
+    import tempfile
+
     with tempfile.TemporaryDirectory(prefix="camac-") as room:
         file = os.path.join(room, "script")
         with open(file, "wb") as out:
             out.write(script)
-        try:
-            return library.Verdict(True, output_of(command, "--", plan, file, program=program))
-        except Refused as refusal:
-            return library.Verdict(False, str(refusal))
+        text = "".join(f"{it}\n" for it in lines_of(command, "--", plan, file, program=program))
+        return library.Verdict(not text.startswith("refused "), text)
+
+
+def explain_plan(plan: File, program: Optional[File] = None) -> library.Verdict:
+    """What `camac explain` tells of a plan alone. Raises ProgramFault and OSError as `output_of`."""
+    text = "".join(f"{it}\n" for it in lines_of("explain", "--", plan, program=program))
+    return library.Verdict(not text.startswith("refused "), text)
 
 
 def accepts(plan: File, script: bytes, program: Optional[File] = None) -> bool:

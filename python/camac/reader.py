@@ -60,7 +60,7 @@ class _Reader:
         return int(self.next().text)
 
     def script(self) -> Script:
-        script = Script({}, [])
+        script = Script()
         while self.word():
             if self.word() in ("service", "proc"):
                 script.bodies.append(self.body())
@@ -77,14 +77,15 @@ class _Reader:
 
     def body(self) -> Body:
         first, name = self.next(), self.next().text
-        variables = dict(self.variables) if first.text == "service" else self.parameters()
-        numbers: List[Number] = []
+        is_service = first.text == "service"
+        body = Body(name, is_service, first.line, first.start, dict(self.variables) if is_service else self.parameters())
         while self.word() != "{":
             token = self.next()
             if token.text.isdigit():
-                numbers.append(Number(int(token.text), token.start, token.end))
-        statements = self.block()
-        return Body(name, first.text == "service", first.line, first.start, self.end(), numbers, variables, statements)
+                body.numbers.append(Number(int(token.text), token.start, token.end))
+        body.statements = self.block()
+        body.end = self.end()
+        return body
 
     def parameters(self) -> Dict[str, Range]:
         found = {}
@@ -121,34 +122,34 @@ class _Reader:
         if word == "cdreg":
             register = self.next().text
             self.next()
-            return SetRegister(*at, register=register, address=(self.expression(), self.expression(), self.expression()))
+            return SetRegister(*at, register, (self.expression(), self.expression(), self.expression()))
         if word in ("cfsa", "cssa"):
             return self.cycle(first)
         if word in ("cfmad", "cfubc", "cfubr"):
             return self.transfer(first)
         if word == "put":
-            return Plain(*at, word=word, values=(self.expression(),))
+            return Plain(*at, word, values=(self.expression(),))
         if word in CRATE_CALLS:
-            return Plain(*at, word=word, values=(self.expression(),), switch=self.next().text if word in SWITCHED else "")
+            return Plain(*at, word, values=(self.expression(),), switch=self.next().text if word in SWITCHED else "")
         if word in LAM_CALLS:
-            return Plain(*at, word=word, name=self.next().text, switch=self.next().text if word in SWITCHED else "")
+            return Plain(*at, word, self.next().text, switch=self.next().text if word in SWITCHED else "")
         if word == "call":
             return self.call(first)
         if word == "if":
             parts, body = self.condition(), self.block()
-            return If(*at, parts=parts, body=body, other=self.block() if self.takes("else") else [])
+            return If(*at, parts, body, self.block() if self.takes("else") else [])
         if word == "lock":
-            return Lock(*at, crate=self.expression(), body=self.block())
+            return Lock(*at, self.expression(), self.block())
         if word in ("for", "while"):
             return self.loop(first)
         self.expect("=")
-        return Assign(*at, name=word, value=self.expression())
+        return Assign(*at, word, self.expression())
 
     def cycle(self, first: Token) -> Cycle:
         function, registers = self.number(), (self.next().text,)
         into = self.next().text if self.takes("->") else None
         value = self.expression() if self.takes("<-") else None
-        return Cycle(first.line, first.start, is_short=first.text == "cssa", function=function, registers=registers, into=into, value=value)
+        return Cycle(first.line, first.start, first.text == "cssa", function, registers, into, value)
 
     def transfer(self, first: Token) -> Transfer:
         function, registers = self.number(), [self.next().text]
@@ -160,7 +161,7 @@ class _Reader:
         most = self.expression()
         limit = self.expression() if self.takes("limit") else None
         self.expect("tally")
-        return Transfer(first.line, first.start, function=function, registers=tuple(registers), most=most, limit=limit, tally=self.next().text)
+        return Transfer(first.line, first.start, function, tuple(registers), most, limit, self.next().text)
 
     def call(self, first: Token) -> Plain:
         name = self.next().text
@@ -169,7 +170,7 @@ class _Reader:
         while not self.takes(")"):
             values.append(self.expression())
             self.takes(",")
-        return Plain(first.line, first.start, word="call", name=name, values=tuple(values))
+        return Plain(first.line, first.start, "call", name, tuple(values))
 
     def loop(self, first: Token) -> Loop:
         loop: Loop
@@ -178,13 +179,13 @@ class _Reader:
             self.expect("=")
             begin = self.expression()
             self.expect("to")
-            loop = For(first.line, first.start, name=name, first=begin, last=self.expression())
+            loop = For(first.line, first.start, name, begin, self.expression())
         else:
             parts = self.condition()
             self.expect("turns")
             turns = self.number()
             self.expect("by")
-            loop = While(first.line, first.start, name=self.next().text, parts=parts, turns=turns)
+            loop = While(first.line, first.start, self.next().text, parts, turns)
         if self.takes("keep"):
             loop.keep = self.tokens[self.at - 1].start
             loop.keeps.append(self.keep())

@@ -1,22 +1,33 @@
 """What a run did, in numbers of a fixed size: from the listing of `camac run` and its event file, or from an event file alone."""
 import dataclasses
 import enum
+import itertools
 import tempfile
 from array import array
-from typing import Dict, Iterable, List, NamedTuple, Optional, Sequence, Tuple, Union
+from typing import Dict, FrozenSet, Iterable, Iterator, List, NamedTuple, Optional, Sequence, Tuple, Union
 
 from camac.drive import Ending, File, RunEnd
 from camac.events import Event, EventFileFault, read_events
-from camac.histograms import Histogram
+from camac.bodies import costs
+from camac.histograms import Pairs, Series, Spectrum
 from camac.late import Late, Watch
 from camac.listings import Command, Cycle, Demand, Item, Lock, Move, Unlock, run
 from camac.plans import Plan
+from camac.program import knows_command
 from camac.scripts import Response, Service
+from camac.texts import script_text
+from camac.transfers import transfer_commands
+from camac.words import Column, Words
 
 Operation = Union[Cycle, Lock, Unlock]
 # Of a service that is shown cycle by cycle, so many operations are kept.
 KEPT_OPERATIONS = 150
 GREATEST_MISSED = 65_535
+CONTROLLER_STATIONS = (28, 30)
+# So many events are counted at once.
+BATCH = 4096
+# A register of so many bits is taken for a scaler.
+SCALER = (1 << 24) - 1
 
 
 class Inputs(NamedTuple):
@@ -65,12 +76,13 @@ class Seen:
 
 class SeenOfBit(NamedTuple):
     """What was seen of the services of a graded-L bit: their cycles and words, and in all of them together the cycles of auxiliary
-    controllers, and those with Q = 0 and with X = 0."""
+    controllers, and those with Q = 0, Q = 0 of transfers, and X = 0, as `Run` has them."""
 
     cycles: Seen
     words: Seen
     waits: int
     no_q: int
+    of_transfers: int
     no_x: int
 
 
@@ -97,22 +109,65 @@ class Sent:
     """What was sent of one command: dataway cycles of ours, of them with Q = 0 and with X = 0, cycles of auxiliary controllers before
     them, and the words: of a read those with Q = 1, cut to the register's width."""
 
-    __slots__ = ("count", "no_q", "no_x", "waits", "words", "mask")
+    __slots__ = ("count", "no_q", "no_x", "waits", "words", "series", "mask", "recent", "numbers")
 
     def __init__(self, width: int) -> None:
         self.count = self.no_q = self.no_x = self.waits = 0
-        self.words = Histogram(128)
+        self.words = Spectrum(1 << width)
         self.mask = (1 << width) - 1
+        self.series = Series() if self.mask == SCALER else None
+        self.recent: List[int] = []
+        self.numbers: List[int] = []
+
+    def add(self, word: int, number: int) -> None:
+        """Takes a word of the service with this number in the run."""
+        self.recent.append(word)
+        self.numbers.append(number)
+        if len(self.recent) == BATCH:
+            self.settle()
+
+    def settle(self) -> None:
+        """Counts the words that came since."""
+        self.words.add_all(self.recent)
+        if self.series:
+            self.series.add_all(self.numbers, self.recent)
+        self.recent, self.numbers = [], []
+
+
+@dataclasses.dataclass(frozen=True)
+class Asked:
+    """What is asked of the words of events: the columns that they have, and two of these that are wanted against each other."""
+
+    names: Words = dataclasses.field(default_factory=Words)
+    pair: Optional[Tuple[Column, Column]] = None
+
+
+class Channel:
+    """The numbers of a column in the events of a run: a spectrum, and of a scaler a line over the run."""
+
+    __slots__ = ("column", "spectrum", "series")
+
+    def __init__(self, column: Column) -> None:
+        self.column = column
+        is_whole = column.greatest == SCALER
+        self.spectrum = Spectrum(None if is_whole else column.greatest + 1)
+        self.series = Series() if is_whole and not column.is_expression else None
+
+    def add_all(self, events: Sequence[int], numbers: Sequence[int]) -> None:
+        self.spectrum.add_all(numbers)
+        if self.series:
+            order = sorted(zip(events, numbers), key=lambda pair: pair[0])
+            self.series.add_all([event for event, _ in order], [value for _, value in order])
 
 
 class InProgress:
     """A service whose operations are being read."""
 
-    __slots__ = ("gl", "cycles", "waits", "no_q", "no_x", "locked", "locks", "operations", "count")
+    __slots__ = ("gl", "cycles", "waits", "no_q", "of_transfers", "no_x", "locked", "locks", "operations", "count")
 
     def __init__(self, gl: int) -> None:
         self.gl = gl
-        self.cycles = self.waits = self.no_q = self.no_x = self.locked = self.locks = self.count = 0
+        self.cycles = self.waits = self.no_q = self.of_transfers = self.no_x = self.locked = self.locks = self.count = 0
         self.operations: List[Operation] = []
 
     def kept(self, number: int) -> Kept:
@@ -121,23 +176,29 @@ class InProgress:
 
 class Run:
     """A run in numbers. The arrays have an element for each service that came to its end: its bit, its dataway cycles (with those of
-    auxiliary controllers), of them those of auxiliary controllers, cycles with Q = 0, with X = 0, inside a lock, and its event words.
+    auxiliary controllers), of them those of auxiliary controllers, cycles with Q = 0, with Q = 0 of a transfer, with X = 0, inside a lock,
+    and its event words. `no_q` leaves out the commands of controllers (N28, N30), whose Q nobody reads, and those of `of_transfers`: there
+    Q = 0 ends a scan or a block, or has a command sent again.
 
     `has_listing` is False of an event file alone, which tells no waits, no Q, no commands and no locks; `has_cycles` is False of one of
     version one. `end` is the end of a run, `fault` the fault of an event file. `kept` are services to be shown cycle by cycle.
-    `by_place` has the words by the bit and by their place in the event, `seen` what was seen of the services of each bit, and `late` how
-    late they ended, where a listing and `camac response` tell that."""
+    `by_place` has the words by the bit and by their place in the event, `channels` those of which a column is told, `pairs` those of two columns
+    that stand in one event, `seen` what was seen of the services of each bit, and `late` how late they ended, where a listing and `camac
+    response` tell that."""
 
-    def __init__(self, has_listing: bool) -> None:
+    def __init__(self, has_listing: bool, asked: Optional[Asked] = None) -> None:
         self.has_listing, self.has_cycles = has_listing, True
         self.gl = array("B")
-        self.cycles, self.waits, self.no_q, self.no_x, self.locked, self.words = (array("I") for _ in range(6))
+        self.cycles, self.waits, self.no_q, self.of_transfers, self.no_x, self.locked, self.words = (array("I") for _ in range(7))
         self.idle = 0
         self.end: Optional[RunEnd] = None
         self.fault: Optional[EventFileFault] = None
         self.commands: Dict[Command, Sent] = {}
         self.kept: Dict[Tuple[Why, int], Kept] = {}
-        self.by_place: Dict[Tuple[int, int], Histogram] = {}
+        self.by_place: Dict[Tuple[int, int], Spectrum] = {}
+        self.asked = asked or Asked()
+        self.pairs = Pairs(*(None if it.greatest == SCALER else it.greatest + 1 for it in self.asked.pair)) if self.asked.pair else None
+        self.channels: Dict[Column, Channel] = {}
         self.seen: Dict[int, SeenOfBit] = {}
         self.late: Dict[int, Late] = {}
         self.checks: List[Check] = []
@@ -155,12 +216,30 @@ class Run:
     def agrees(self) -> bool:
         return all(check.agrees for check in self.checks)
 
-    def take_words(self, event: Event) -> None:
-        self.words.append(len(event.words))
-        for at, word in enumerate(event.words):
-            if (event.gl, at) not in self.by_place:
-                self.by_place[event.gl, at] = Histogram(64)
-            self.by_place[event.gl, at].add(word)
+    def take_words(self, events: Sequence[Event]) -> None:
+        """Takes the words of events, which follow those that were taken before."""
+        self.words.extend(len(it.words) for it in events)
+        by_bit: Dict[int, List[Event]] = {}
+        for it in events:
+            by_bit.setdefault(it.gl, []).append(it)
+        for gl, its in by_bit.items():
+            for at, words in enumerate(itertools.zip_longest(*(it.words for it in its))):
+                spectrum = self.by_place.setdefault((gl, at), Spectrum())
+                spectrum.add_all([word for word in words if word is not None])
+        for column, numbers, values in self.asked.names.numbers(events):
+            if column not in self.channels:
+                self.channels[column] = Channel(column)
+            self.channels[column].add_all(numbers, values)
+        if self.asked.pair and self.pairs:
+            for it in events:
+                first = {value.column: value.number for value in reversed(list(self.asked.names.values(it)))}
+                if all(column in first for column in self.asked.pair):
+                    self.pairs.add(*(first[column] for column in self.asked.pair))
+
+    def list_channels(self) -> List[Channel]:
+        """The channels that have a number, in the order in which their columns are told."""
+        columns = [column for gl in sorted({*self.gl}) for column in self.asked.names.columns(gl)]
+        return [self.channels[it] for it in columns if it in self.channels]
 
 
 def is_event_file(file: File) -> bool:
@@ -170,17 +249,23 @@ def is_event_file(file: File) -> bool:
 
 
 def collect(
-    inputs: Inputs, plan: Plan, services: List[Service], program: Optional[File] = None, responses: Sequence[Response] = ()
+    inputs: Inputs,
+    plan: Plan,
+    services: List[Service],
+    program: Optional[File] = None,
+    responses: Sequence[Response] = (),
+    asked: Optional[Asked] = None,
 ) -> Run:
     """Plays the answers, or reads the event file, and returns what the run did. `responses` are what `camac response` says of the script;
-    without them it is not told how late services ended.
+    without them it is not told how late services ended. `asked` tells columns of the words of events.
 
     Raises OSError where a file cannot be read, and Refused and ProgramFault as `camac.run`."""
     if is_event_file(inputs.source):
-        collected = _read_event_file(inputs.source, services)
+        collected = _read_event_file(inputs.source, services, asked)
     else:
         with tempfile.NamedTemporaryFile(suffix=".events") as events:
-            collector = _Collector(plan, {it.name: it.gl for it in services}, Watch(responses))
+            meant = transfer_commands(costs(inputs.plan, inputs.script, program), script_text(inputs.script)) if knows_command("costs", program) else frozenset()
+            collector = _Collector(plan, {it.name: it.gl for it in services}, Watch(responses), meant, asked)
             collector.take(run(*inputs, events.name, program=program))
             collected = _compare(collector, events.name, services)
             if responses:
@@ -192,7 +277,7 @@ def collect(
 def _seen(run: Run) -> Dict[int, SeenOfBit]:
     """By bit, what was seen of its services."""
     tallies: Dict[int, Tuple[Tally, ...]] = {}
-    for gl, *numbers in zip(run.gl, run.cycles, run.words, run.waits, run.no_q, run.no_x):
+    for gl, *numbers in zip(run.gl, run.cycles, run.words, run.waits, run.no_q, run.of_transfers, run.no_x):
         if gl not in tallies:
             tallies[gl] = tuple(Tally() for _ in numbers)
         for tally, number in zip(tallies[gl], numbers):
@@ -203,9 +288,9 @@ def _seen(run: Run) -> Dict[int, SeenOfBit]:
 class _Collector:
     """Gathers a run from the items of its listing. The last service is left open: the listing alone does not tell whether it ended."""
 
-    def __init__(self, plan: Plan, bits: Dict[str, int], watch: Watch) -> None:
-        self.plan, self.bits, self.watch = plan, bits, watch
-        self.run = Run(has_listing=True)
+    def __init__(self, plan: Plan, bits: Dict[str, int], watch: Watch, meant: FrozenSet[Command], asked: Optional[Asked]) -> None:
+        self.plan, self.bits, self.watch, self.meant = plan, bits, watch, meant
+        self.run = Run(True, asked)
         self.longest: Dict[int, int] = {}
         self.open: Optional[InProgress] = None
 
@@ -217,7 +302,7 @@ class _Collector:
                 sent = commands.get(item.command)
                 if sent is None:
                     sent = commands[item.command] = Sent(self.plan.width(*item.command))
-                _take_cycle(service, sent, item)
+                self.take_cycle(service, sent, item)
             elif isinstance(item, Lock):
                 service.cycles += item.wait
                 service.waits += item.wait
@@ -249,6 +334,7 @@ class _Collector:
             (run.cycles, it.cycles),
             (run.waits, it.waits),
             (run.no_q, it.no_q),
+            (run.of_transfers, it.of_transfers),
             (run.no_x, it.no_x),
             (run.locked, it.locked),
         ):
@@ -260,42 +346,62 @@ class _Collector:
             run.kept[Why.MISSED, 0] = it.kept(len(run.gl))
         self.watch.end(it.gl, it.cycles, len(run.gl))
 
+    def take_cycle(self, service: InProgress, sent: Sent, item: Cycle) -> None:
+        command, move, word, x, q, wait = item
+        service.cycles += 1 + wait
+        sent.count += 1
+        if wait:
+            service.waits += wait
+            sent.waits += wait
+        if not q:
+            sent.no_q += 1
+            if command in self.meant:
+                service.of_transfers += 1
+            elif command.station not in CONTROLLER_STATIONS:
+                service.no_q += 1
+        if not x:
+            service.no_x += 1
+            sent.no_x += 1
+        if service.locks:
+            service.locked += 1
+        if move is Move.OUT:
+            sent.add(word, len(self.run.gl) + 1)
+        elif q and move is Move.IN:
+            sent.add(word & sent.mask, len(self.run.gl) + 1)
 
-def _take_cycle(service: InProgress, sent: Sent, item: Cycle) -> None:
-    _, move, word, x, q, wait = item
-    service.cycles += 1 + wait
-    sent.count += 1
-    if wait:
-        service.waits += wait
-        sent.waits += wait
-    if not q:
-        service.no_q += 1
-        sent.no_q += 1
-    if not x:
-        service.no_x += 1
-        sent.no_x += 1
-    if service.locks:
-        service.locked += 1
-    if move is Move.OUT:
-        sent.words.add(word)
-    elif q and move is Move.IN:
-        sent.words.add(word & sent.mask)
+
+def batches(events: Iterable[Event]) -> Iterator[List[Event]]:
+    """Events by the thousands. What comes before a fault is given before it is raised."""
+    batch: List[Event] = []
+    try:
+        for event in events:
+            batch.append(event)
+            if len(batch) == BATCH:
+                yield batch
+                batch = []
+    except EventFileFault:
+        yield batch
+        raise
+    yield batch
 
 
 def _compare(collector: _Collector, path: File, services: List[Service]) -> Run:
     """Reads the event file of a run beside its listing. An event stands there once its service ended."""
     run, of = collector.run, {it.gl: it for it in services}
     count = alike = missed = within = 0
-    for at, event in enumerate(read_events(path)):
-        count += 1
-        if at == len(run.gl):
-            collector.close()
-        run.take_words(event)
-        if at < len(run.gl):
-            alike += event.gl == run.gl[at] and event.cycles == run.cycles[at]
-            missed += event.missed == min(run.no_x[at], GREATEST_MISSED)
-            within += _is_within(event, of)
+    for batch in batches(read_events(path)):
+        run.take_words(batch)
+        for at, event in enumerate(batch, count):
+            count += 1
+            if at == len(run.gl):
+                collector.close()
+            if at < len(run.gl):
+                alike += event.gl == run.gl[at] and event.cycles == run.cycles[at]
+                missed += event.missed == min(run.no_x[at], GREATEST_MISSED)
+                within += _is_within(event, of)
     run.words.extend([0] * (len(run.gl) - len(run.words)))
+    for sent in run.commands.values():
+        sent.settle()
     if collector.open:
         run.kept[Why.UNFINISHED, 0] = collector.open.kept(len(run.gl) + 1)
     said = run.end.events if run.end else None
@@ -324,22 +430,23 @@ def _is_within(event: Event, of: Dict[int, Service]) -> bool:
     return service is not None and (event.cycles or 0) <= service.cycles and len(event.words) <= service.words
 
 
-def _read_event_file(path: File, services: List[Service]) -> Run:
-    run, of = Run(has_listing=False), {it.gl: it for it in services}
+def _read_event_file(path: File, services: List[Service], asked: Optional[Asked]) -> Run:
+    run, of = Run(False, asked), {it.gl: it for it in services}
     served = within = 0
     try:
-        for event in read_events(path):
-            run.gl.append(event.gl)
-            run.cycles.append(event.cycles or 0)
-            run.no_x.append(event.missed or 0)
-            run.has_cycles = event.cycles is not None
-            run.take_words(event)
-            served += event.gl in of
-            within += event.gl in of and _is_within(event, of)
+        for batch in batches(read_events(path)):
+            run.take_words(batch)
+            for event in batch:
+                run.gl.append(event.gl)
+                run.cycles.append(event.cycles or 0)
+                run.no_x.append(event.missed or 0)
+                run.has_cycles = event.cycles is not None
+                served += event.gl in of
+                within += event.gl in of and _is_within(event, of)
     except EventFileFault as fault:
         run.fault = fault
     nothing = array("I", [0]) * len(run.gl)
-    run.waits, run.no_q, run.locked = nothing, nothing, nothing
+    run.waits, run.no_q, run.of_transfers, run.locked = nothing, nothing, nothing, nothing
     total = len(run.gl)
     run.checks = [
         Check(f"events of a service of the script: {served:,} of {total:,}", served == total),

@@ -6,7 +6,9 @@ from camac.drive import File, RunEnd
 from camac.events import read_events
 from camac.listings import Cycle, Demand, Item, Lock, Unlock, parse_listing
 
-LISTING = "operation,kind,service,pattern,crate,station,sub_address,function,move,word,x,q,wait".split(",")
+# The columns of both tables; events have one for each word, too.
+EVENTS = "number,gl,cycles,missed,count".split(",")
+LISTING = "number,operation,service,pattern,crate,station,sub_address,function,move,word,x,q,wait".split(",")
 
 
 def write_events(file: File, out: TextIO) -> None:
@@ -22,7 +24,7 @@ def write_events(file: File, out: TextIO) -> None:
             most = max(most, len(event.words))
     except ValueError as found:
         fault = found
-    writer.writerow(["number", "gl", "cycles", "missed", "count", *(f"word_{at}" for at in range(most))])
+    writer.writerow([*EVENTS, *(f"word_{at}" for at in range(most))])
     try:
         for number, gl, cycles, missed, words in read_events(file):
             writer.writerow([number, gl, cycles, missed, len(words), *words, *[None] * (most - len(words))])
@@ -50,7 +52,7 @@ def _rows(items: Iterator[Item]) -> Iterator[List[object]]:
             continue
         number += 1
         row = dict.fromkeys(LISTING)
-        row.update(operation=number, kind=type(it).__name__.lower())
+        row.update(number=number, operation=type(it).__name__.lower())
         if isinstance(it, Demand):
             service = it.service
             row.update(pattern=it.pattern)

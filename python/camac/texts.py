@@ -1,7 +1,6 @@
 """Plans and scripts by the names that the program knows: files, and `@sample`, the built-in plan. `@in`, standard input, is none here."""
 import os
-import pathlib
-from typing import Sequence
+from typing import Optional, Sequence
 
 from camac.drive import File, ProgramFault, UsageFault, file_fault
 
@@ -19,22 +18,48 @@ def is_standard_input(names: Sequence[File]) -> bool:
     return any(os.fsdecode(name) == "@in" for name in names)
 
 
+class TextFile:
+    """A plan or a script that may be named wherever a file is. It is read once, when its text is first asked for."""
+
+    def __init__(self, file: File, is_plan: bool = False) -> None:
+        self.file, self.is_plan = os.fsdecode(file), is_plan
+        self.known: Optional[bytes] = None
+
+    def __fspath__(self) -> str:
+        return self.file
+
+    def text(self) -> bytes:
+        """Raises OSError where it cannot be read, and for the rest as `script_text`."""
+        if self.known is None:
+            self.known = _read(_place(self.file) if self.is_plan else self.file)
+        return self.known
+
+
 def plan_text(plan: File) -> bytes:
     """The text of a plan. Raises as `script_text`."""
-    return script_text(pathlib.Path(__file__).with_name("sample_plan.toml") if is_sample(plan) else plan)
+    return script_text(plan if isinstance(plan, TextFile) else _place(plan))
 
 
 def script_text(script: File) -> bytes:
     """The text of a file.
 
     Raises what the program's words raise: ProgramFault where it cannot be read, or is too long, and UsageFault for `@in`."""
-    if is_standard_input([script]):
-        raise UsageFault("fault @in twice", 2)
     try:
-        with open(script, "rb") as file:
-            text = file.read(GREATEST_TEXT + 1)
+        return script.text() if isinstance(script, TextFile) else _read(script)
     except OSError as why:
         raise file_fault("read", script, why) from why
+
+
+def _place(plan: File) -> File:
+    """The file of a plan."""
+    return os.path.join(os.path.dirname(__file__), "sample_plan.toml") if is_sample(plan) else plan
+
+
+def _read(file: File) -> bytes:
+    if is_standard_input([file]):
+        raise UsageFault("fault @in twice", 2)
+    with open(file, "rb") as opened:
+        text = opened.read(GREATEST_TEXT + 1)
     if len(text) > GREATEST_TEXT:
         raise ProgramFault("fault input too long", 3)
     return text

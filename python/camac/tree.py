@@ -1,22 +1,19 @@
 """A script as a tree: its expressions and statements, and where they stand in the text.
 
-Trees compare by identity, so that each statement can be a key."""
-from dataclasses import dataclass, field
-from typing import Dict, FrozenSet, Iterator, List, Optional, Sequence, Tuple, Union
+Statements compare by identity, so that each can be a key. (None of these is a dataclass: to make those takes a call of camac-check 20 ms.)"""
+from typing import Dict, FrozenSet, Iterator, List, NamedTuple, Optional, Sequence, Tuple, Union
 
 # The numbers from the first to the second one.
 Range = Tuple[int, int]
 
 
-@dataclass(frozen=True, eq=False)
-class Number:
+class Number(NamedTuple):
     value: int
     start: int
     end: int
 
 
-@dataclass(frozen=True, eq=False)
-class Name:
+class Name(NamedTuple):
     """A variable or a parameter. Where it stands in brackets, they belong to its place, as to that of an operation."""
 
     name: str
@@ -24,8 +21,7 @@ class Name:
     end: int
 
 
-@dataclass(frozen=True, eq=False)
-class Operation:
+class Operation(NamedTuple):
     sign: str
     left: "Expression"
     right: "Expression"
@@ -36,8 +32,7 @@ class Operation:
 Expression = Union[Number, Name, Operation]
 
 
-@dataclass(frozen=True, eq=False)
-class Part:
+class Part(NamedTuple):
     """A part of a condition: two sides with a sign, which is turned round where `not` stands before it; or `q` or `x`, without sides."""
 
     sides: Optional[Tuple[Expression, Expression]]
@@ -46,8 +41,7 @@ class Part:
     end: int
 
 
-@dataclass(frozen=True, eq=False)
-class Keep:
+class Keep(NamedTuple):
     """What a loop keeps: the variable, its range, and the places of the two numbers and of all of it."""
 
     name: str
@@ -58,122 +52,111 @@ class Keep:
     end: int
 
 
-@dataclass(eq=False)
 class Statement:
     """A statement: the line and the place of its first token, and where its last one ends."""
 
-    line: int
-    start: int
-    end: int = 0
+    def __init__(self, line: int, start: int) -> None:
+        self.line, self.start, self.end = line, start, 0
 
 
-@dataclass(eq=False)
 class Assign(Statement):
-    name: str = ""
-    value: Expression = Number(0, 0, 0)
+    def __init__(self, line: int, start: int, name: str, value: Expression) -> None:
+        super().__init__(line, start)
+        self.name, self.value = name, value
 
 
-@dataclass(eq=False)
 class SetRegister(Statement):
     """`cdreg`: crate, station and sub-address."""
 
-    register: str = ""
-    address: Tuple[Expression, ...] = ()
+    def __init__(self, line: int, start: int, register: str, address: Tuple[Expression, ...]) -> None:
+        super().__init__(line, start)
+        self.register, self.address = register, address
 
 
-@dataclass(eq=False)
 class Cycle(Statement):
     """`cfsa` and `cssa`, which has short words, with one register: what is read into a variable, or the value that is written."""
 
-    is_short: bool = False
-    function: int = 0
-    registers: Tuple[str, ...] = ()
-    into: Optional[str] = None
-    value: Optional[Expression] = None
+    def __init__(
+        self, line: int, start: int, is_short: bool, function: int, registers: Tuple[str, ...], into: Optional[str], value: Optional[Expression]
+    ) -> None:
+        super().__init__(line, start)
+        self.is_short, self.function, self.registers, self.into, self.value = is_short, function, registers, into, value
 
 
-@dataclass(eq=False)
 class Transfer(Statement):
     """`cfmad`, which has two registers, `cfubc`, and `cfubr`, which has a limit."""
 
-    function: int = 0
-    registers: Tuple[str, ...] = ()
-    most: Expression = Number(0, 0, 0)
-    limit: Optional[Expression] = None
-    tally: str = ""
+    def __init__(
+        self, line: int, start: int, function: int, registers: Tuple[str, ...], most: Expression, limit: Optional[Expression], tally: str
+    ) -> None:
+        super().__init__(line, start)
+        self.function, self.registers, self.most, self.limit, self.tally = function, registers, most, limit, tally
 
 
-@dataclass(eq=False)
 class Plain(Statement):
     """A statement that changes nothing that is known: `put`, the calls of a crate, of a LAM, and of a procedure. `name` is that of the LAM or the
     procedure, `switch` "on", "off" or nothing."""
 
-    word: str = ""
-    name: str = ""
-    switch: str = ""
-    values: Tuple[Expression, ...] = ()
+    def __init__(self, line: int, start: int, word: str, name: str = "", values: Tuple[Expression, ...] = (), switch: str = "") -> None:
+        super().__init__(line, start)
+        self.word, self.name, self.switch, self.values = word, name, switch, values
 
 
-@dataclass(eq=False)
 class If(Statement):
-    parts: Tuple[Part, ...] = ()
-    body: List[Statement] = field(default_factory=list)
-    other: List[Statement] = field(default_factory=list)
+    def __init__(self, line: int, start: int, parts: Tuple[Part, ...], body: List[Statement], other: List[Statement]) -> None:
+        super().__init__(line, start)
+        self.parts, self.body, self.other = parts, body, other
 
 
-@dataclass(eq=False)
 class Lock(Statement):
-    crate: Expression = Number(0, 0, 0)
-    body: List[Statement] = field(default_factory=list)
+    def __init__(self, line: int, start: int, crate: Expression, body: List[Statement]) -> None:
+        super().__init__(line, start)
+        self.crate, self.body = crate, body
 
 
-@dataclass(eq=False)
 class Loop(Statement):
     """A loop: its own variable (that of a `for`, the measure of a `while`), where the word `keep` stands and what is kept, where its block begins,
     and the other variables that its block writes, with the registers that it sets."""
 
-    name: str = ""
-    keep: int = 0
-    keeps: List[Keep] = field(default_factory=list)
-    block: int = 0
-    body: List[Statement] = field(default_factory=list)
-    written: FrozenSet[str] = frozenset()
-    registers: FrozenSet[str] = frozenset()
+    def __init__(self, line: int, start: int, name: str) -> None:
+        super().__init__(line, start)
+        self.name = name
+        self.keep = self.block = 0
+        self.keeps: List[Keep] = []
+        self.body: List[Statement] = []
+        self.written: FrozenSet[str] = frozenset()
+        self.registers: FrozenSet[str] = frozenset()
 
 
-@dataclass(eq=False)
 class For(Loop):
-    first: Expression = Number(0, 0, 0)
-    last: Expression = Number(0, 0, 0)
+    def __init__(self, line: int, start: int, name: str, first: Expression, last: Expression) -> None:
+        super().__init__(line, start, name)
+        self.first, self.last = first, last
 
 
-@dataclass(eq=False)
 class While(Loop):
-    parts: Tuple[Part, ...] = ()
-    turns: int = 0
+    def __init__(self, line: int, start: int, name: str, parts: Tuple[Part, ...], turns: int) -> None:
+        super().__init__(line, start, name)
+        self.parts, self.turns = parts, turns
 
 
-@dataclass(eq=False)
 class Body:
     """A service or procedure: its name, the place of its heading, where it ends, the numbers of its heading, its statements, and the ranges that its
     variables have at its start."""
 
-    name: str
-    is_service: bool
-    line: int
-    start: int
-    end: int
-    numbers: List[Number]
-    variables: Dict[str, Range]
-    statements: List[Statement]
+    def __init__(self, name: str, is_service: bool, line: int, start: int, variables: Dict[str, Range]) -> None:
+        self.name, self.is_service, self.line, self.start, self.variables = name, is_service, line, start, variables
+        self.end = 0
+        self.numbers: List[Number] = []
+        self.statements: List[Statement] = []
 
 
-@dataclass(eq=False)
 class Script:
     """The crate and station of each LAM, by its name, and the services and procedures in the order of the text."""
 
-    lams: Dict[str, Tuple[int, int]]
-    bodies: List[Body]
+    def __init__(self) -> None:
+        self.lams: Dict[str, Tuple[int, int]] = {}
+        self.bodies: List[Body] = []
 
 
 def blocks_of(it: Statement) -> Sequence[List[Statement]]:

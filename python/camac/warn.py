@@ -2,13 +2,15 @@
 import enum
 from typing import Dict, Iterator, List, NamedTuple, Optional, Set, Tuple
 
-from camac.bodies import Body, costs
+from camac.bodies import Body, costs, services_of
 from camac.drive import File
+from camac.edits import Edit
 from camac.loops.loose import Split, splits, wide_keeps
 from camac.loops.ranges import constant
 from camac.program import knows_command
 from camac.reader import read_script
 from camac.scripts import Service, check
+from camac.texts import TextFile
 from camac.tree import Cycle, Plain, Script, SetRegister, Statement, Transfer, all_in
 
 
@@ -26,11 +28,12 @@ class Code(enum.Enum):
 
 
 class Warned(NamedTuple):
-    """A warning: the line of the script, from 1, what it is about, and a sentence."""
+    """A warning: the line of the script, from 1, what it is about, a sentence, and the edits that mend it, where they are known."""
 
     line: int
     code: Code
     text: str
+    edits: Tuple[Edit, ...] = ()
 
 
 READS_OR_CLEARS = frozenset([*range(8), 9, 10, 11])
@@ -44,15 +47,23 @@ def warnings(plan: File, script: File, program: Optional[File] = None) -> List[W
     (`looks_for_all`).
 
     Raises as `camac.check`."""
-    services = check(plan, script, program)
-    with open(script, "rb") as file:
-        text = file.read()
+    return look(plan, script, program)[1]
+
+
+def look(plan: File, script: File, program: Optional[File] = None) -> Tuple[List[Service], List[Warned]]:
+    """Returns the services of an accepted script, and what `warnings` does: one judgement tells both."""
+    script = script if isinstance(script, TextFile) else TextFile(script)
+    bodies = costs(plan, script, program) if looks_for_all(program) else []
+    services = services_of(bodies) if bodies else check(plan, script, program)
+    return services, warnings_of(plan, script.text(), services, bodies, program)
+
+
+def warnings_of(plan: File, text: bytes, services: List[Service], bodies: List[Body], program: Optional[File] = None) -> List[Warned]:
+    """What `warnings` returns of an accepted script that is given as its text, with its services and what `costs` tells of its bodies."""
     if not services:
         return [Warned(1, Code.NO_SERVICE, "this script has no service, so a run of it makes no cycle")]
     its = read_script(text)
-    found = [*_left_calling(its), *_held_up(its, services), *_loose(plan, text, program)]
-    if looks_for_all(program):
-        found += _of_costs(costs(plan, script, program))
+    found = [*_of_costs(bodies), *_left_calling(its), *_held_up(its, services), *_loose(plan, text, its, program)]
     return sorted(found, key=lambda it: (it.line, it.code.value))
 
 
@@ -124,17 +135,19 @@ def _held_up(script: Script, services: List[Service]) -> Iterator[Warned]:
             yield Warned(lines[it.name], Code.HELD_UP, f"{text}, whose bit is lower")
 
 
-def _loose(plan: File, text: bytes, program: Optional[File]) -> Iterator[Warned]:
+def _loose(plan: File, text: bytes, script: Script, program: Optional[File]) -> Iterator[Warned]:
     """Loops that keep more than they need, and loops that would cost less as several ones."""
-    for wide in wide_keeps(plan, text, program):
+    for wide in wide_keeps(plan, text, script.bodies, program):
         if wide.least is None:
-            yield Warned(wide.line, Code.UNUSED_KEEP, f"this kept bound of `{wide.name}` is not needed: the script is accepted without it")
+            yield Warned(wide.line, Code.UNUSED_KEEP, f"this kept bound of `{wide.name}` is not needed: the script is accepted without it", wide.edits)
         else:
             its = "{}..{}".format(*wide.least)
-            yield Warned(wide.line, Code.WIDE_KEEP, f"this kept bound of `{wide.name}` is wider than it has to be: `{wide.name} in {its}` is accepted, too")
-    for split in splits(plan, text, program):
+            said = f"this kept bound of `{wide.name}` is wider than it has to be: `{wide.name} in {its}` is accepted, too"
+            yield Warned(wide.line, Code.WIDE_KEEP, said, wide.edits)
+    for split in splits(plan, text, script.bodies, program):
         starts = " and ".join(map(str, split.starts))
-        yield Warned(split.line, Code.SPLIT, f"split at {starts}, this loop has a lower bound: `{split.name}` then takes {_less(split)}")
+        said = f"split at {starts}, this loop has a lower bound: `{split.name}` then takes {_less(split)}"
+        yield Warned(split.line, Code.SPLIT, said, (split.edit,))
 
 
 def _less(split: Split) -> str:

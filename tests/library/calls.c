@@ -1,4 +1,5 @@
-/* calls.c: each code of each call, sessions in turn and in threads, texts that nest deep, all in 256 KiB of stack; and openings in flat memory.
+/* calls.c: each code of each call, sessions in turn and in threads, and texts that nest deep, in 256 KiB of stack; plans that nest deeper, in 4 MiB;
+ * openings in flat memory.
  *
  *     calls PLAN SCRIPT OPENINGS */
 #define _GNU_SOURCE
@@ -277,6 +278,29 @@ static void deep(void) {
     }
 }
 
+/* Plans that nest dotted keys in inline tables: so many parts of a key in each of so many tables. */
+static void nest_both(int parts, int tables) {
+    static char its[CAMAC_TEXT_BYTES], out[65536], part[200];
+    size_t size;
+    camac_session s = CAMAC_NONE;
+    char *end = part + sprintf(part, "{b");
+    for (int i = 1; i < parts; i++) end += sprintf(end, ".b");
+    sprintf(end, "=");
+    const size_t length = nested(its, "a = ", part, tables, "1");
+    EXPECT(CAMAC_REFUSED, camac_plan(its, length, out, sizeof out, &size));
+    if (size < 10 || memcmp(out, "refused P2", 10)) fail("the plan is not read: %.*s", (int)size, out);
+    EXPECT(CAMAC_REFUSED, camac_explain_plan(its, length, out, sizeof out, &size));
+    EXPECT(CAMAC_REFUSED, camac_explain(its, length, script.bytes, script.size, out, sizeof out, &size));
+    EXPECT(CAMAC_REFUSED, camac_response(its, length, script.bytes, script.size, NULL, 0, NULL, 0, out, sizeof out, &size));
+    EXPECT(CAMAC_REFUSED, camac_run(its, length, script.bytes, script.size, "", 0, out, sizeof out, &size, NULL, 0, NULL));
+    EXPECT(CAMAC_REFUSED, camac_open(&s, its, length, script.bytes, script.size, out, sizeof out, &size));
+}
+
+static void *deepest(void *none_more) {
+    nest_both(79, 79);
+    return none_more;
+}
+
 /* All answers spent. To give them takes a quarter of an hour, so the run's count of them is found in its memory and set: no user may do that. */
 static void spent(void) {
     camac_session s = CAMAC_NONE;
@@ -344,10 +368,10 @@ static void *in_a_thread(void *sum) {
     return NULL;
 }
 
-static pthread_t begun(void *(*does)(void *), void *its) {
+static pthread_t begun(void *(*does)(void *), void *its, size_t stack) {
     pthread_t thread;
     pthread_attr_t how;
-    if (pthread_attr_init(&how) || pthread_attr_setstacksize(&how, 256 << 10) || pthread_create(&thread, &how, does, its)) fail("no thread");
+    if (pthread_attr_init(&how) || pthread_attr_setstacksize(&how, stack) || pthread_create(&thread, &how, does, its)) fail("no thread");
     return thread;
 }
 
@@ -355,7 +379,7 @@ static void in_threads(void) {
     pthread_t threads[4];
     uint64_t sums[5] = {0, 0, 0, 0, 0};
     in_a_thread(&sums[4]);
-    for (int i = 0; i < 4; i++) threads[i] = begun(in_a_thread, &sums[i]);
+    for (int i = 0; i < 4; i++) threads[i] = begun(in_a_thread, &sums[i], 256 << 10);
     for (int i = 0; i < 4; i++) {
         pthread_join(threads[i], NULL);
         if (sums[i] != sums[4]) fail("a thread does otherwise");
@@ -391,6 +415,8 @@ static void openings(long many) {
 }
 
 static void *all_calls(void *none_more) {
+    nest_both(3, 5);
+    nest_both(2, 7);
     none();
     handed_in();
     of_a_later_version();
@@ -409,7 +435,10 @@ int main(int count, char **words) {
     plan = read_file(words[1]);
     script = read_file(words[2]);
     if (atol(words[3]) > 0) openings(atol(words[3]));
-    else pthread_join(begun(all_calls, NULL), NULL);
+    else {
+        pthread_join(begun(all_calls, NULL, 256 << 10), NULL);
+        pthread_join(begun(deepest, NULL, 4 << 20), NULL);
+    }
     free(plan.bytes);
     free(script.bytes);
     return 0;

@@ -124,7 +124,14 @@ int main(int count, char **words) {
     }
     const long open = blocks;
     left = 0;
-    play_some(&s, &seed, 10000);
+    for (int i = 0; i < 2; i++) {
+        camac_service_info info = CAMAC_SERVICE_INFO;
+        play_some(&s, &seed, 10000);
+        EXPECT(CAMAC_OK, camac_item(&s, out, sizeof out, NULL));
+        EXPECT(CAMAC_OK, camac_record(&s, file, sizeof file, NULL));
+        EXPECT(CAMAC_OK, camac_service(&s, 1, &info));
+        EXPECT(CAMAC_OK, camac_rewind(&s));
+    }
     if (blocks != open) fail("a run takes memory");
     camac_close(&s);
     left = -1;

@@ -1,6 +1,5 @@
 """Changes of single statements, for where no range that is kept helps: a sum that grows no further than it can, a difference that falls no lower
 than 0, a comparison in the place of a difference, a value as two words."""
-import dataclasses
 import enum
 import re
 from typing import Iterator, List, NamedTuple, Optional, Sequence, Tuple
@@ -128,8 +127,10 @@ class Changes:
             read = read_statements(f"if {text} {{ }}".encode())[0]
             assert isinstance(read, If)
             is_negated = one_line(self.text, part.start, one.start) == "not"
-            new = dataclasses.replace(part, sides=read.parts[0].sides) if is_negated else read.parts[0]
-            statements = (dataclasses.replace(it, parts=(*it.parts[:at], new, *it.parts[at + 1 :])),)
+            new = part._replace(sides=read.parts[0].sides) if is_negated else read.parts[0]
+            made = If(it.line, it.start, (*it.parts[:at], new, *it.parts[at + 1 :]), it.body, it.other)
+            made.end = it.end
+            statements = (made,)
         return Change(Kind.COMPARISON, one.start, two.end, text, "", statements)
 
 

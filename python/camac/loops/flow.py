@@ -23,10 +23,7 @@ class Flow:
         }
 
     def body(self, body: Body) -> Optional[State]:
-        variables: Dict[str, Value] = {name: (low, high, NO_CAUSE) for name, (low, high) in body.variables.items()}
-        if any(low > high for low, high in body.variables.values()):
-            return None
-        return self.block(body.statements, State(variables, {}))
+        return self.block(body.statements, entry_of(body))
 
     def block(self, statements: Sequence[Statement], state: Optional[State]) -> Optional[State]:
         """What is known after statements. The state before them is used up."""
@@ -131,6 +128,13 @@ class Headed(Flow):
             assert begun
             begun = where(begun, it.parts, True)
         return self.block(it.body, begun)
+
+
+def entry_of(body: Body) -> Optional[State]:
+    """What is known where a body begins; None where it is never called."""
+    if any(low > high for low, high in body.variables.values()):
+        return None
+    return State({name: (low, high, NO_CAUSE) for name, (low, high) in body.variables.items()}, {})
 
 
 def forget_registers(it: Loop, state: State) -> None:

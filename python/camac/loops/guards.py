@@ -9,8 +9,6 @@ from camac.tree import (
     Assign, Body, Expression, For, If, Lock, Loop, Name, Operation, Statement, all_in, blocks_of, expressions_of, names_in, written_by,
 )
 
-# The most statements that are gone through turn by turn, in all loops of a body.
-TURN_WORK = 40_000
 ALWAYS, BUT_THE_LAST = "always true", "true but for the last time, and nothing looks at that"
 # The statements that get a guard, each with it.
 Guards = List[Tuple[Assign, Change]]
@@ -31,11 +29,10 @@ class NotLinear(Exception):
 
 
 class GuardFinder:
-    """Finds guards in a body. `known` has the least ranges."""
+    """Finds guards in a body. `known` has the least ranges, and `left` says how many statements are gone through turn by turn at most."""
 
-    def __init__(self, text: bytes, body: Body, known: Known) -> None:
-        self.text, self.body, self.known = text, body, known
-        self.left = TURN_WORK
+    def __init__(self, text: bytes, body: Body, known: Known, left: int) -> None:
+        self.text, self.body, self.known, self.left = text, body, known, left
         self.gone: Dict[Loop, Optional[Turns]] = {}
 
     def find(self, loop: Loop, name: str) -> Tuple[Guards, Guards]:

@@ -2,7 +2,7 @@
 import bisect
 from typing import Dict, Iterable, List, Mapping, Optional, Sequence, Set, Tuple
 
-from camac.loops.flow import Flow, Headed, Replaced, forget_registers
+from camac.loops.flow import Flow, Headed, Replaced, entry_of, forget_registers
 from camac.loops.ranges import MOST, NO_CAUSE, State, Value, constant, join, value_of, where
 from camac.loops.widths import Widths
 from camac.tree import Assign, Body, For, Loop, Range, Statement, While, all_in, expressions_of, names_in, parts_of
@@ -10,7 +10,7 @@ from camac.tree import Assign, Body, For, Loop, Range, Statement, While, all_in,
 FULL = (0, MOST)
 # So many turns are gone through before ranges are widened, while no more statements are gone through in all; then fewer. Past the last number
 # of statements nothing is known of what grows.
-PLAIN_TURNS, PLAIN_WORK, FEW_TURNS, MOST_WORK = 64, 20_000, 3, 200_000
+PLAIN_TURNS, PLAIN_WORK, FEW_TURNS, MOST_WORK = 64, 20_000, 3, 60_000
 # So often ranges that were widened are taken back.
 TAKEN_BACK = 4
 Ranges = Dict[str, Range]
@@ -31,16 +31,37 @@ def steps_of(statements: Iterable[Statement]) -> List[int]:
 
 class Least(Headed):
     """Finds the least range of each variable that each loop of a body writes, so that it holds at the entry and after each turn. `floors` has
-    ranges that are kept as they are, or more."""
+    ranges that are kept as they are, or more. The statements of the body itself are gone through one by one: `go_on` takes the next one, and
+    `again` those from one on, with other statements in the place of some."""
 
     def __init__(self, body: Body, widths: Widths, replaced: Replaced, floors: Kept) -> None:
         super().__init__(widths, replaced)
-        self.floors = floors
-        self.steps = steps_of(one for it in (body.statements, *replaced.values()) for one in all_in(it))
+        self.floors, self.statements = floors, body.statements
         self.found: Dict[Loop, Ranges] = {}
         # Ranges that were widened, so that they may be more than the least.
         self.widened: Set[Tuple[Loop, str]] = set()
-        self.body(body)
+        # What is known before each statement of the body itself, and behind the last one that was gone through.
+        self.known: List[Optional[State]] = [entry_of(body)]
+        self.again(0, replaced)
+        self.finish()
+
+    def again(self, at: int, replaced: Replaced) -> None:
+        """Goes back to a statement of the body itself."""
+        self.replaced = replaced
+        self.work = 0
+        self.steps = steps_of(one for it in (self.statements, *replaced.values()) for one in all_in(it))
+        left = {it for it in all_in(self.statements[:at]) if isinstance(it, Loop)}
+        self.found = {it: its for it, its in self.found.items() if it in left}
+        self.widened = {it for it in self.widened if it[0] in left}
+        del self.known[at + 1 :]
+
+    def go_on(self) -> None:
+        state = self.known[-1]
+        self.known.append(self.block([self.statements[len(self.known) - 1]], state and state.copy()))
+
+    def finish(self) -> None:
+        while len(self.known) <= len(self.statements):
+            self.go_on()
 
     def no_turn(self, it: Loop, state: State) -> Optional[State]:
         self.found[it] = {name: state.variables[name][:2] for name in it.written}
@@ -119,16 +140,19 @@ class Least(Headed):
 class Known(Headed):
     """What the checker knows with the ranges that are kept: a loop forgets all else that its block writes. `before` has what is known before
     each statement that is reached; of each loop `heads` has what is known before a turn, `ends` after one, and `turns` how many there are at
-    most."""
+    most. Where `part` is given, one statement of the body is gone through alone, with what is known before it."""
 
-    def __init__(self, body: Body, widths: Widths, replaced: Replaced, kept: Kept) -> None:
+    def __init__(self, body: Body, widths: Widths, replaced: Replaced, kept: Kept, part: Optional[Tuple[Statement, State]] = None) -> None:
         super().__init__(widths, replaced)
         self.kept = kept
         self.before: Dict[Statement, State] = {}
         self.heads: Dict[Loop, State] = {}
         self.ends: Dict[Loop, Optional[State]] = {}
         self.turns: Dict[Loop, int] = {}
-        self.body(body)
+        if part:
+            self.block(part[:1], part[1].copy())
+        else:
+            self.body(body)
 
     def reach(self, it: Statement, state: State) -> None:
         self.before[it] = state.copy()

@@ -8,7 +8,6 @@ from camac.loops.heads import Least
 from camac.loops.ranges import TURNED, constant
 from camac.loops.widths import Widths
 from camac.program import accepts, verdict
-from camac.reader import read_script
 from camac.scripts import Heading, parse_bounds
 from camac.tree import Body, Expression, For, If, Keep, Loop, Name, Range, all_in, names_in
 
@@ -16,30 +15,31 @@ Bounds = Tuple[int, int]
 
 
 class Wide(NamedTuple):
-    """A variable that a loop keeps, on a line, in a range; the least range, or None where it need not be kept at all."""
+    """A variable that a loop keeps, on a line, in a range; the least range, or None where it need not be kept at all; and the edits that mend it."""
 
     line: int
     name: str
     least: Optional[Range]
+    edits: Tuple[Edit, ...]
 
 
 class Split(NamedTuple):
     """A loop, on a line, that would cost less as several loops, which begin with these numbers of its variable; the service or procedure, and its
-    cycles and words as it is and then."""
+    cycles and words as it is and then; and the edit that splits it."""
 
     line: int
     starts: Tuple[int, ...]
     name: str
     before: Bounds
     after: Bounds
+    edit: Edit
 
 
-def wide_keeps(plan: File, text: bytes, program: Optional[File] = None) -> Iterator[Wide]:
-    """Finds what is kept in wider ranges than it has to be. Each that may be left out is tried alone, and the least ranges of the others are tried
+def wide_keeps(plan: File, text: bytes, bodies: Sequence[Body], program: Optional[File] = None) -> Iterator[Wide]:
+    """Finds what the bodies of a script keep in wider ranges than they have to. Each that may be left out is tried alone, and the least ranges of the others are tried
     together, and one by one where they are refused together.
 
     Raises ProgramFault and OSError as `camac.check`."""
-    bodies = read_script(text).bodies
     loops = [it for body in bodies for it in all_in(body.statements) if isinstance(it, Loop)]
     unused = {keep for loop in loops for keep in loop.keeps if accepts(plan, edited(text, [_without(text, loop, keep)]), program)}
     least = {it: its for it, its in _least(plan, bodies, program).items() if it not in unused}
@@ -49,9 +49,9 @@ def wide_keeps(plan: File, text: bytes, program: Optional[File] = None) -> Itera
         for keep in loop.keeps:
             line = loop.line + text.count(b"\n", loop.start, keep.start)
             if keep in unused:
-                yield Wide(line, keep.name, None)
+                yield Wide(line, keep.name, None, (_without(text, loop, keep),))
             elif keep in narrow and (are_accepted or accepts(plan, edited(text, narrow[keep]), program)):
-                yield Wide(line, keep.name, least[keep])
+                yield Wide(line, keep.name, least[keep], tuple(narrow[keep]))
 
 
 def _without(text: bytes, loop: Loop, keep: Keep) -> Edit:
@@ -60,6 +60,7 @@ def _without(text: bytes, loop: Loop, keep: Keep) -> Edit:
     start, end = (keep.start, loop.keeps[at + 1].start) if at + 1 < len(loop.keeps) else (loop.keeps[at - 1].end, keep.end)
     if len(loop.keeps) == 1:
         start = loop.keep
+        end += text[end : end + 1] == b" "
     return Edit(start, end, "\n" * text.count(b"\n", start, end))
 
 
@@ -81,11 +82,10 @@ def _least(plan: File, bodies: Sequence[Body], program: Optional[File]) -> Dict[
     return found
 
 
-def splits(plan: File, text: bytes, program: Optional[File] = None) -> Iterator[Split]:
-    """Finds loops that would cost less as several ones, each for itself: those in which an `if` looks at their own variable.
+def splits(plan: File, text: bytes, bodies: Sequence[Body], program: Optional[File] = None) -> Iterator[Split]:
+    """Finds loops in the bodies of a script that would cost less as several ones, each for itself: those in which an `if` looks at their own variable.
 
     Raises ProgramFault and OSError as `camac.check`."""
-    bodies = read_script(text).bodies
     loops = [(at, it, _starts(it)) for at, body in enumerate(bodies) for it in all_in(body.statements) if isinstance(it, For)]
     if not any(starts for _, _, starts in loops):
         return
@@ -93,13 +93,13 @@ def splits(plan: File, text: bytes, program: Optional[File] = None) -> Iterator[
     for at, loop, starts in loops:
         if not starts:
             continue
-        after = _bounds(plan, _split(text, loop, starts), program)
+        after = _bounds(plan, edited(text, [_split(text, loop, starts)]), program)
         if after and before and _is_less(after[at], before[at]):
             for start in starts:
                 fewer = tuple(it for it in starts if it != start)
-                if fewer and _bounds(plan, _split(text, loop, fewer), program)[at : at + 1] == after[at : at + 1]:
+                if fewer and _bounds(plan, edited(text, [_split(text, loop, fewer)]), program)[at : at + 1] == after[at : at + 1]:
                     starts = fewer
-            yield Split(loop.line, starts, bodies[at].name, before[at], after[at])
+            yield Split(loop.line, starts, bodies[at].name, before[at], after[at], _split(text, loop, starts))
 
 
 def _bounds(plan: File, text: bytes, program: Optional[File]) -> List[Bounds]:
@@ -128,10 +128,10 @@ def _starts(loop: For) -> Tuple[int, ...]:
     return tuple(sorted(it for it in found if first < it <= last))
 
 
-def _split(text: bytes, loop: For, starts: Sequence[int]) -> bytes:
-    """The text with a loop in the place of each part of a loop."""
+def _split(text: bytes, loop: For, starts: Sequence[int]) -> Edit:
+    """Puts a loop in the place of each part of a loop."""
     head, between, rest = text[loop.start : loop.first.start], text[loop.first.end : loop.last.start], text[loop.last.end : loop.end]
     first = [text[loop.first.start : loop.first.end], *(str(it).encode() for it in starts)]
     last = [*(str(it - 1).encode() for it in starts), text[loop.last.start : loop.last.end]]
     parts = [b"".join([head, begin, between, end, rest]) for begin, end in zip(first, last)]
-    return b"\n".join([text[: loop.start] + parts[0], *parts[1:-1], parts[-1] + text[loop.end :]])
+    return Edit(loop.start, loop.end, b"\n".join(parts).decode("utf-8", "surrogateescape"))

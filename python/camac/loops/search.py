@@ -1,6 +1,6 @@
 """Finds what the loops of a script have to keep, so that the checker accepts it. The search is not proved, and need not be: the checker judges what
 it finds."""
-from typing import AbstractSet, Dict, List, Optional, Sequence, Set
+from typing import AbstractSet, Dict, List, Optional, Sequence, Set, Tuple
 
 from camac.drive import File, Refused
 from camac.edits import edited
@@ -8,10 +8,10 @@ from camac.headings import least_headings
 from camac.loops.causes import causes_before, causes_of, foreseen
 from camac.loops.changes import Change, Changes, Kind
 from camac.loops.guards import GuardFinder, loops_around
-from camac.loops.heads import FULL, Known, Least
+from camac.loops.heads import FULL, Kept, Known, Least
 from camac.loops.lessen import leave_out, narrow
 from camac.loops.proposals import Found, Proposal, Proposals, Remaining
-from camac.loops.ranges import MOST, Cause
+from camac.loops.ranges import MOST, Cause, State
 from camac.loops.trials import Stopped, Trials
 from camac.loops.widths import Widths
 from camac.output import bytes_output
@@ -23,6 +23,8 @@ from camac.tree import Assign, Body, Loop, Range, Statement, all_in
 
 # So often the checker is asked at most; the last calls are for headings.
 MOST_CALLS, LAST_CALLS = 200, 8
+# So many statements are gone through, and so many turn by turn, before nothing more is looked for. A second is enough for both.
+MOST_WORK, TURN_WORK = 75_000, 40_000
 # A longer script is left as it is: with what is tried it might be too long.
 MOST_BYTES = GREATEST_TEXT - 100_000
 # By "bounds" headings are not looked at.
@@ -83,6 +85,7 @@ class _Search:
         # Guards that leave out a last step; and the least ranges of bodies, as long as no statement changes.
         self.tight: Dict[Statement, Change] = {}
         self.least: Dict[int, Least] = {}
+        self.work, self.turn_work = 0, TURN_WORK
         self.headings: List[Proposal] = []
         self.remaining: Optional[Remaining] = None
 
@@ -98,7 +101,7 @@ class _Search:
         """Helps as long as something helps. Leaves what brings the first refusal latest, and returns that."""
         stopped = best = self.stopped(command)
         found = self.found.copy()
-        while stopped is not None and self.may_ask() and self.help(stopped):
+        while stopped is not None and self.may_ask() and self.work < MOST_WORK and self.help(stopped):
             stopped = self.stopped(command)
             if stopped is None or best is None or stopped.when > best.when:
                 best, found = stopped, self.found.copy()
@@ -125,13 +128,18 @@ class _Search:
     def may_ask(self) -> bool:
         return self.trials.calls < MOST_CALLS - LAST_CALLS
 
+    def known(self, body: Body, kept: Kept, part: Optional[Tuple[Statement, State]] = None) -> Known:
+        known = Known(body, self.widths, self.found.statements(), kept, part)
+        self.work += known.work
+        return known
+
     def help(self, stopped: Stopped) -> bool:
         """Keeps or changes something more because of a refusal, and tells whether there was something."""
         about = stopped.about
         body = next((it for it in self.bodies if about is not None and it.start <= about.start < it.end), None)
         if body is None:
             return False
-        known = Known(body, self.widths, self.found.statements(), {**self.given, **self.found.kept})
+        known = self.known(body, {**self.given, **self.found.kept})
         if self.keep(body, [causes_of(stopped, known) | self.break_given(stopped, known), *foreseen(known)]):
             return True
         if isinstance(about, Statement) and not self.keeps_only and self.change(body, about, stopped, known):
@@ -171,26 +179,52 @@ class _Search:
         return self.least[body.start]
 
     def guard(self, body: Body) -> bool:
-        """Puts guards around the statements by which variables grow without end. Behind those of one loop others may have limits, too."""
-        is_new, goes_on = False, True
-        while goes_on:
-            ranges = {(loop, name): its for loop, found in self.least_of(body).found.items() for name, its in found.items()}
-            finder = GuardFinder(self.text, body, Known(body, self.widths, self.found.statements(), ranges))
-            new: Dict[Statement, Change] = {}
-            for loop, name in [it for it, its in ranges.items() if its[1] == MOST]:
+        """Puts guards around the statements by which variables grow without end, one statement of the body after another: behind the guards of one
+        loop others may have limits, too."""
+        least = self.least_of(body)
+        is_new = False
+        for at in range(len(body.statements)):
+            if at + 1 == len(least.known):
+                least.go_on()
+            while self.work < MOST_WORK and (new := self.guards(body, at, least)):
+                self.found.changed.update(new)
+                self.go_back(least, at)
+                least.go_on()
+                is_new = True
+        self.renew(body)
+        return is_new
+
+    def go_back(self, least: Least, at: int) -> None:
+        self.work += least.work
+        least.again(at, self.found.statements())
+
+    def guards(self, body: Body, at: int, least: Least) -> Dict[Statement, Change]:
+        """New guards in one statement of a body."""
+        it, state = body.statements[at], least.known[at]
+        ranges = {(loop, name): its for loop in all_in([it]) if isinstance(loop, Loop) for name, its in least.found.get(loop, {}).items()}
+        endless = [cause for cause, its in ranges.items() if its[1] == MOST]
+        new: Dict[Statement, Change] = {}
+        if state and endless:
+            finder = GuardFinder(self.text, body, self.known(body, ranges, (it, state)), self.turn_work)
+            for loop, name in endless:
                 wide, tight = finder.find(loop, name)
                 new.update((it, change) for it, change in wide if it not in self.found.changed)
                 self.tight.update((it, change) for it, change in tight if it not in self.found.changed)
-            goes_on = bool(new)
-            is_new |= goes_on
-            self.replace(body, new)
-        return is_new
+            self.turn_work = finder.left
+        return new
 
     def replace(self, body: Body, new: Dict[Statement, Change]) -> None:
-        """Changes statements, and so the least ranges in their body."""
+        """Changes statements, and so the least ranges behind them in their body."""
         self.found.changed.update(new)
-        self.least.pop(body.start, None)
-        for loop, name in self.found.kept if new else ():
+        if body.start in self.least:
+            least, first = self.least[body.start], min(it.start for it in new)
+            self.go_back(least, next(at for at, it in enumerate(body.statements) if it.end > first))
+            least.finish()
+        self.renew(body)
+
+    def renew(self, body: Body) -> None:
+        """Keeps the least ranges as they are since statements of a body were changed."""
+        for loop, name in self.found.kept:
             if body.start <= loop.start < body.end:
                 self.found.kept[loop, name] = self.range(body, loop, name)
 

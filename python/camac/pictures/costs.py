@@ -1,8 +1,8 @@
 """The picture of a body's cost: what its bound consists of, as bars below bars, and then by line."""
 from typing import Dict, List, NamedTuple, Optional, Sequence, Tuple
 
-from camac.bodies import Body, Row
-from camac.pictures.lines import draw_lines, parts_of
+from camac.bodies import Body, Kind, Row, calls_of, opened
+from camac.pictures.lines import OF_LOCK, draw_lines, parts_of
 from camac.pictures.svg import MONO_11, NO_POINTER, SANS_11, WIDTH, Canvas, count, cut, number, share
 from camac.runs import Seen
 
@@ -34,8 +34,9 @@ class Scale(NamedTuple):
     is_cut: bool
 
 
-def draw_costs(body: Body, source: Sequence[str], seen: Optional[Seen] = None) -> Canvas:
-    """Draws the cost of a service or procedure. `source` are the lines of the script; `seen` are the cycles of the services of a run."""
+def draw_costs(body: Body, source: Sequence[str], seen: Optional[Seen] = None, bodies: Sequence[Body] = (), has_calls: bool = True) -> Canvas:
+    """Draws the cost of a service or procedure. `source` are the lines of the script; `seen` are the cycles of the services of a run; `bodies`
+    are all of the script, so that calls can be opened. Where it `has_calls` the lines of what is called follow those of the body."""
     name = f"{body.kind.value} {body.name}"
     canvas = Canvas(f"What the cycles of {name} consist of")
     most, annotated = body.most.cycles, body.annotated[0]
@@ -47,14 +48,32 @@ def draw_costs(body: Body, source: Sequence[str], seen: Optional[Seen] = None) -
     _draw_whole(canvas, y, body, scale)
     if seen:
         _draw_seen(canvas, y, seen, scale)
-    nodes = nodes_of(body.rows)
+    procedures = {it.name: it for it in bodies if it.kind is Kind.PROCEDURE}
+    nodes = nodes_of(opened(body, procedures))
     y += FIRST_BAR + 2
     _draw_nodes(canvas, y, nodes, scale, (body, source))
     deepest = max((it.row.depth for it in nodes if it.cycles), default=0)
     y += min(deepest, DEEPEST) * STEP + 6
     _draw_legend(canvas, y, body)
-    wholes = [(it.row, it.cycles) for it in nodes]
-    return draw_lines(canvas, y + 28, body, wholes, source)
+    draw_lines(canvas, y + 28, body, (source, most), _wholes(body))
+    for title, lines in draw_calls(body, source, bodies) if has_calls else ():
+        canvas.stack(title, lines)
+    return canvas
+
+
+def draw_calls(body: Body, source: Sequence[str], bodies: Sequence[Body]) -> List[Tuple[str, Canvas]]:
+    """Of each call of a body the lines of what is called, with what they have of the body's bound, and a title."""
+    drawn = []
+    for it in calls_of(body, {one.name: one for one in bodies if one.kind is Kind.PROCEDURE}):
+        title = f"call {it.body.name} (line {it.line}): {it.times:,} × {it.each:,} = {count(it.times * it.each, 'cycle')}"
+        canvas = Canvas(title)
+        promised = (it.times, it.promised() // it.times) if it.promised() else None
+        drawn.append((title, draw_lines(canvas, 0, it.body, (source, body.most.cycles), _wholes(it.body), promised)))
+    return drawn
+
+
+def _wholes(body: Body) -> List[Tuple[Row, int]]:
+    return [(it.row, it.cycles) for it in nodes_of(body.rows)]
 
 
 def nodes_of(rows: Sequence[Row]) -> List[Node]:
@@ -132,7 +151,11 @@ def _draw_node(canvas: Canvas, corner: Tuple[float, float], node: Node, scale: S
     tip = _node_tip(node, text, body) if wide >= MARK else None
     if node.has_block:
         if own:
-            canvas.rect((x, top, max(own - gap, NARROWEST), BAR), "waits", tip)
+            is_call = node.row.word == "call"
+            canvas.rect((x, top, max(own - gap, NARROWEST), BAR), "slack" if is_call else "waits", tip)
+            text_of = "not needed" if is_call else OF_LOCK
+            if own > SANS_11 * len(text_of) + 8:
+                canvas.text(x + 4, top + 14, text_of, "s11 on", NO_POINTER)
         canvas.rect((x + own + 0.5, top + 0.5, max(wide - own - gap - 1, NARROWEST), BAR - 1), "face l-mute", tip)
     else:
         at, ends = x, x + wide - gap
@@ -157,6 +180,8 @@ def _node_tip(node: Node, text: str, body: Body) -> str:
     row = node.row
     tip = f"line {row.line}: {text}\n{count(row.times, 'time')} at most {count(row.each.cycles, 'cycle')}: "
     tip += f"{count(node.cycles, 'cycle')}, {share(node.cycles, body.most.cycles)} of the bound\nof them {count(node.waits, 'wait')}"
+    if row.word == "lock":
+        tip += f", {row.share.cycles:,} of the lock"
     return tip + (f", {node.slack:,} promised by the heading of a procedure, not needed" if node.slack else "")
 
 

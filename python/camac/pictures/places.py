@@ -2,7 +2,7 @@
 import math
 from typing import Dict, List, NamedTuple, Sequence, Tuple
 
-from camac.histograms import Histogram
+from camac.histograms import Spectrum
 from camac.pictures.svg import BOLD_12, LEVELS, WIDTH, Canvas, count, ticks
 from camac.runs import Run
 from camac.scripts import Service
@@ -59,7 +59,7 @@ def draw_places(run: Run, service: Service) -> Canvas:
     return canvas
 
 
-def _grid(words: Sequence[Tuple[int, Histogram]]) -> Grid:
+def _grid(words: Sequence[Tuple[int, Spectrum]]) -> Grid:
     per = -(-(words[-1][0] + 1) // COLUMNS)
     columns = words[-1][0] // per + 1
     most, size = max(it.greatest or 0 for _, it in words), 1
@@ -68,7 +68,7 @@ def _grid(words: Sequence[Tuple[int, Histogram]]) -> Grid:
     return Grid(per, columns, min((WIDTH - LEFT - 12) / columns, WIDEST_CELL), size, most // size + 1)
 
 
-def _cells(words: Sequence[Tuple[int, Histogram]], grid: Grid) -> Dict[Tuple[int, int], int]:
+def _cells(words: Sequence[Tuple[int, Spectrum]], grid: Grid) -> Dict[Tuple[int, int], int]:
     """By column and row, how many words fall there. A bin is never wider than a row."""
     cells: Dict[Tuple[int, int], int] = {}
     for place, it in words:
@@ -101,7 +101,7 @@ def _draw_axes(canvas: Canvas, last: int, grid: Grid) -> None:
         canvas.text(LEFT + place // grid.per * grid.wide + grid.wide / 2, TOP + HIGH + 13, f"{place:,}", "mute s10 m")
 
 
-def _column_tip(inside: Sequence[Tuple[int, Histogram]]) -> str:
+def _column_tip(inside: Sequence[Tuple[int, Spectrum]]) -> str:
     place, it = inside[0]
     more = f"; and {len(inside) - 1} more" if len(inside) > 1 else ""
     return f"word {place:,}: {count(it.count, 'event')}, {it.least:,} to {it.greatest:,}, mean {it.mean():,.1f}{more}"

@@ -1,115 +1,266 @@
-"""Small histograms beside each other: cycles and words of events, and the words of each command."""
-from typing import List, NamedTuple, Optional, Sequence
+"""Small spectra beside each other: cycles and words of events, the words of each command, and the columns of event words.
+
+The panels of a group have one axis. Each is a picture of its own, so that a page can set as many beside each other as it has room for."""
+import math
+from typing import Dict, Iterable, List, Mapping, NamedTuple, Optional, Sequence, Tuple, Union
 
 from camac.functions import writes
-from camac.histograms import Bins, Histogram
-from camac.pictures.svg import WIDTH, Canvas, cut, number
-from camac.runs import Run
+from camac.histograms import Bins, Series, Spectrum
+from camac.pictures.svg import WIDTH, Canvas, count, cut, number, ticks
+from camac.plans import Plan
+from camac.runs import Channel, Run
 from camac.scripts import Service
 
-ACROSS, GAP = 4, 24
-WIDE, HIGH, ROW = (WIDTH - GAP * (ACROSS - 1)) / ACROSS, 70, 126
-MOST = 48
+ACROSS, GAP = 4, 16
+PANEL = (WIDTH - GAP * (ACROSS - 1)) / ACROSS
+LEFT, WIDE, TOP, HIGH, ROW = 38, PANEL - 52, 46, 80, 164
+FOOT = TOP + HIGH
+MOST = 96
 # So many characters a title has at most.
-TITLE = 28
-# With fewer bins, empty ones are added, so that one value is a bar and no wall.
-LEAST_BINS = 12
+TITLE = 32
+# On a logarithmic axis the foot stands at this count, so that a count of one is seen.
+LEAST = 0.5
+LINEAR, LOGARITHMIC, BOTH = "lin", "log", "both"
+Number = Union[int, float]
 
 
-class Spectrum(NamedTuple):
-    """A histogram with what it is of, in two parts of which the first may be cut, its colour, what it counts, and a bound of its values
-    where they have one."""
+class Shown(NamedTuple):
+    """What is drawn in a panel: its title in two parts of which the first may be cut, the spectrum, its colour, what it counts, a bound where
+    it has one, what a number means as scale, offset and unit, and the line over the run that is drawn in its place."""
 
     of: str
     what: str
-    histogram: Histogram
+    spectrum: Spectrum
     kind: str
-    unit: str
+    counts: str
     bound: Optional[int] = None
+    meaning: Tuple[Number, Number, str] = (1, 0, "")
+    series: Optional[Series] = None
+
+    def value(self, number: Number) -> Number:
+        scale, offset, _ = self.meaning
+        return scale * number + offset
 
 
-def draw_events(run: Run, services: Sequence[Service]) -> Canvas:
-    """Draws for each service how many dataway cycles its events took, and how many words they have."""
-    its = {it.gl: (Histogram(), Histogram()) for it in services}
-    for gl, cycles, words in zip(run.gl, run.cycles, run.words):
-        if gl in its:
-            its[gl][0].add(cycles)
-            its[gl][1].add(words)
-    spectra = []
-    for it in services:
-        if run.has_cycles:
-            spectra.append(Spectrum(it.name, ": cycles", its[it.gl][0], "ours", "events", it.cycles))
-        spectra.append(Spectrum(it.name, ": words", its[it.gl][1], "control", "events", it.words))
-    return _draw_all("Cycles and words of an event", spectra)
+class Group(NamedTuple):
+    """Panels with one axis, and their title."""
+
+    title: str
+    panels: List[Canvas]
 
 
-def draw_words(run: Run) -> Canvas:
-    """Draws for each command that moved data its words."""
-    spectra = []
+def event_groups(run: Run, services: Sequence[Service], scale: str = LINEAR) -> List[Group]:
+    """For each service how many dataway cycles its events took, and how many words they have; nothing of a run without an event."""
+    if not len(run.gl):
+        return []
+    cycles = _of_bits(run.gl, run.cycles, {it.gl: it.cycles for it in services}) if run.has_cycles else {}
+    return seen_groups(cycles, _of_bits(run.gl, run.words, {it.gl: it.words for it in services}), services, scale)
+
+
+def seen_groups(cycles: Mapping[int, Spectrum], words: Mapping[int, Spectrum], services: Sequence[Service], scale: str = LINEAR) -> List[Group]:
+    """The panels of spectra of cycles and of words, by the bit of their service. Those of cycles have one axis, and so have those of words."""
+    groups = []
+    if services and cycles:
+        shown = [Shown(it.name, ": cycles", cycles[it.gl], "ours", "events", it.cycles) for it in services]
+        groups.append(Group("Cycles of an event", [draw_panel(it, scale) for it in shown]))
+    if services and words:
+        shown = [Shown(it.name, ": words", words[it.gl], "control", "events", it.words) for it in services]
+        groups.append(Group("Words of an event", [draw_panel(it, scale) for it in shown]))
+    return groups
+
+
+def _of_bits(bits: Iterable[int], values: Iterable[int], bounds: Dict[int, int]) -> Dict[int, Spectrum]:
+    """By bit the spectrum of the values of its services, on an axis that holds the greatest bound and the greatest value."""
+    found: Dict[int, List[int]] = {gl: [] for gl in bounds}
+    for gl, value in zip(bits, values):
+        if gl in found:
+            found[gl].append(value)
+    end = max([*bounds.values(), *(max(it, default=0) for it in found.values())], default=0) + 1
+    spectra = {gl: Spectrum(end) for gl in found}
+    for gl, its in found.items():
+        spectra[gl].add_all(its)
+    return spectra
+
+
+def command_groups(run: Run, plan: Plan, scale: str = LINEAR) -> List[Group]:
+    """For each command that moved data its words, or of a scaler a line over the run."""
+    shown = []
     for command, sent in sorted(run.commands.items()):
         if sent.words.count:
-            title = f"c{command.crate} n{command.station} A{command.sub_address} F{command.function}"
-            spectra.append(Spectrum(title, "", sent.words, "write" if writes(command.function) else "ours", "words"))
-    return _draw_all("Words by channel", spectra)
+            there = plan.type_at(command.crate, command.station)
+            where = f" crate {command.crate} station {command.station} A{command.sub_address}"
+            name = cut(there.name if there else "controller", TITLE - len(where)) + where
+            kind = "write" if writes(command.function) else "ours"
+            shown.append(Shown(name, "", sent.words, kind, f"words, F{command.function}", series=sent.series))
+    return _grouped(shown, scale)
 
 
-def _draw_all(title: str, spectra: List[Spectrum]) -> Canvas:
+def channel_groups(channels: Sequence[Channel], scale: str = LINEAR) -> List[Group]:
+    """For each column of event words its numbers, or of a scaler a line over the run."""
+    shown = []
+    for it in channels:
+        its = it.column.field
+        meaning = its.scale, its.offset, its.unit
+        shown.append(Shown(it.column.name, "", it.spectrum, "ours", "words", meaning=meaning, series=it.series))
+    return _grouped(shown, scale)
+
+
+def _grouped(shown: Sequence[Shown], scale: str) -> List[Group]:
+    """The panels by their axes: those of one width stand beside each other, lines over the run last."""
+    groups: Dict[Tuple[bool, int], List[Shown]] = {}
+    for it in shown[:MOST]:
+        groups.setdefault((it.series is not None, 0 if it.series else it.spectrum.end), []).append(it)
+    made = []
+    for (is_line, end), its in sorted(groups.items(), key=lambda group: group[0][0]):
+        title = "Over the run" if is_line else f"0 to {end - 1:,}"
+        made.append(Group(title, [draw_panel(it, scale) for it in its]))
+    if len(shown) > MOST:
+        made[-1] = made[-1]._replace(title=f"{made[-1].title} ({len(shown) - MOST:,} more are not drawn)")
+    return made
+
+
+def draw_groups(title: str, groups: Sequence[Group]) -> Canvas:
+    """All panels of some groups in one picture."""
     canvas = Canvas(title)
-    if not any(it.histogram.count for it in spectra):
+    if not groups:
         canvas.text(0, 18, "Nothing to show: no event, no word.", "mute")
         canvas.grow(26)
-        return canvas
-    for at, it in enumerate(spectra[:MOST]):
-        _draw_one(canvas, (at % ACROSS) * (WIDE + GAP), (at // ACROSS) * ROW, it)
-    if len(spectra) > MOST:
-        y = canvas.height + 4
-        canvas.text(0, y + 10, f"… and {len(spectra) - MOST:,} more; the table has them all", "mute s11")
-        canvas.grow(y + 16)
+    y = 0.0
+    for group in groups:
+        canvas.text(0, y + 12, group.title, "mute s11")
+        y += 22
+        for at, it in enumerate(group.panels):
+            canvas.place((at % ACROSS) * (PANEL + GAP), y + (at // ACROSS) * ROW, it)
+        y += -(-len(group.panels) // ACROSS) * ROW
+        canvas.grow(y)
     return canvas
 
 
-def _draw_one(canvas: Canvas, x: float, y: float, it: Spectrum) -> None:
-    histogram, top = it.histogram, y + 28
-    canvas.text(x, y + 11, cut(it.of, TITLE - len(it.what)) + it.what, "s11 b")
-    canvas.grow(top + HIGH + 20)
-    if not histogram.count:
-        canvas.text(x, y + 30, "nothing", "mute s11")
-        return
-    bins = _with_empty_bins(histogram.bins())
-    peak = max(bins.counts)
-    end = bins.first + bins.width * len(bins.counts) - 1
-    last = max(end, it.bound or 0)
-    part = (end - bins.first + 1) / (last - bins.first + 1)
-    canvas.text(x, y + 23, f"n {histogram.count:,}  mean {histogram.mean():,.1f}", "mute s10")
-    canvas.path(_outline(bins, x, top, WIDE * part), it.kind)
-    canvas.line((x, top + HIGH + 0.5), (x + WIDE, top + HIGH + 0.5), "l-mute thin")
+def draw_panel(it: Shown, scale: str = LINEAR) -> Canvas:
+    """A panel: title, entries, mean, RMS and the place of the greatest bin, and the spectrum, or a line over the run."""
+    canvas = Canvas(it.of + it.what, PANEL)
+    canvas.text(0, 11, cut(it.of, TITLE - len(it.what)) + it.what, "s11 b")
+    canvas.grow(ROW - 8)
+    if not it.spectrum.count:
+        canvas.text(0, 30, "nothing", "mute s11")
+        return canvas
+    if it.series is not None:
+        _draw_line(canvas, it, it.series)
+        return canvas
+    mean, rms = it.value(it.spectrum.mean()), abs(it.meaning[0]) * it.spectrum.rms()
+    entries = f"{count_of(it.spectrum.count, it.counts)}" + (f", overflow {it.spectrum.overflow:,}" if it.spectrum.overflow else "")
+    canvas.text(0, 24, entries, "mute s10")
+    peak = it.spectrum.peak()
+    canvas.text(0, 36, f"mean {_decimal(mean)}, RMS {_decimal(rms)}" + ("" if peak is None else f", peak at {short(it.value(peak))}"), "mute s10")
+    bins = it.spectrum.bins()
+    _draw_axis(canvas, it, bins)
+    for one in (LINEAR, LOGARITHMIC) if scale == BOTH else (scale,):
+        canvas.parts.append(f'<g class="{one}">')
+        _draw_counts(canvas, it, bins, one == LOGARITHMIC)
+        canvas.parts.append("</g>")
     if it.bound is not None:
-        at = x + WIDE * (it.bound - bins.first + 0.5) / (last - bins.first + 1)
-        canvas.line((at, top), (at, top + HIGH), "l-ink dash")
-        canvas.text(x + WIDE, y + 23, f"bound {it.bound:,}", "s10 r")
-    for place, text, kind in ((x, f"{bins.first:,}", ""), (x + WIDE, f"{last:,}", " r"), (x + WIDE / 2, f"peak {peak:,}", " m")):
-        canvas.text(place, top + HIGH + 13, text, "mute s10" + kind)
-    tip = f"{it.of}{it.what}: {histogram.count:,} {it.unit}"
-    tip += f", least {histogram.least:,}, mean {histogram.mean():,.1f}, most {histogram.greatest:,}"
-    data = f' data-first="{bins.first}" data-width="{bins.width}" data-counts="{" ".join(map(str, bins.counts))}" data-part="{part:.4f}"'
-    canvas.hit((x, top, WIDE, HIGH), f"{tip}; bins of {bins.width:,}", data)
+        x = LEFT + WIDE * (it.bound + 0.5) / _end(bins)
+        canvas.line((x, TOP), (x, FOOT), "l-ink dash")
+        canvas.text(PANEL, 24, f"bound {it.bound:,}", "s10 r")
+    _draw_hit(canvas, it, bins)
+    return canvas
 
 
-def _with_empty_bins(bins: Bins) -> Bins:
-    lacking = LEAST_BINS - len(bins.counts)
-    if lacking <= 0:
-        return bins
-    before = min(lacking // 2, bins.first // bins.width)
-    return Bins(bins.first - before * bins.width, bins.width, [0] * before + bins.counts + [0] * (lacking - before))
+def count_of(entries: int, counts: str) -> str:
+    """ "1 event", "4,000 words, F0" """
+    one, comma, rest = counts.partition(",")
+    return count(entries, one[:-1]) + comma + rest
 
 
-def _outline(bins: Bins, x: float, top: float, wide: float) -> str:
-    """The outline of a histogram, closed at its foot."""
-    each, peak, foot = wide / len(bins.counts), max(bins.counts), top + HIGH
-    parts, level = [f"M{number(x)} {number(foot)}"], None
-    for at, count in enumerate(bins.counts):
-        high = foot - HIGH * count / peak
-        if high != level:
-            parts.append(f"H{number(x + at * each)}V{number(high)}")
-            level = high
-    return "".join([*parts, f"H{number(x + wide)}V{number(foot)}z"])
+def short(value: Number) -> str:
+    """A number that has little room: 4,096, 131k, 16.8M, 0.25"""
+    if isinstance(value, float) and value != int(value) and abs(value) < 1000:
+        return f"{value:.4g}"
+    for power, letter in ((1_000_000, "M"), (1_000, "k")):
+        if abs(value) >= max(power, 100_000):
+            return f"{value / power:.3g}{letter}"
+    return f"{round(value):,}"
+
+
+def _decimal(value: Number) -> str:
+    return f"{value:,.1f}" if abs(value) >= 10 or value == 0 else f"{value:.3g}"
+
+
+def _end(bins: Bins) -> int:
+    return bins.width * len(bins.counts)
+
+
+def _draw_axis(canvas: Canvas, it: Shown, bins: Bins) -> None:
+    """The axis of numbers, with five ticks where its end is a power of two."""
+    end = _end(bins)
+    places = [end * quarter // 4 for quarter in range(5)] if end >= 4 and it.bound is None else ticks(end, 4)
+    canvas.line((LEFT, FOOT + 0.5), (LEFT + WIDE, FOOT + 0.5), "l-mute thin")
+    for place in places:
+        x = LEFT + WIDE * place / end
+        canvas.line((x, FOOT), (x, FOOT + 4), "l-mute thin")
+        _draw_number(canvas, x, short(it.value(place)), place == end)
+    if it.meaning[2]:
+        canvas.text(PANEL, FOOT + 26, cut(it.meaning[2], 24), "mute s10 r")
+
+
+def _draw_number(canvas: Canvas, x: float, text: str, is_last: bool) -> None:
+    """The number at a tick; that of the last one ends with the panel."""
+    canvas.text(PANEL if is_last else x, FOOT + 14, text, "mute s10" + (" r" if is_last else " m"))
+
+
+def _draw_counts(canvas: Canvas, it: Shown, bins: Bins, is_log: bool) -> None:
+    """The outline of the counts, closed at its foot, and their axis."""
+    peak = max(max(bins.counts), 1)
+
+    def high(entries: float) -> float:
+        return HIGH * (math.log(entries / LEAST) / math.log(peak / LEAST) if entries else 0) if is_log else HIGH * entries / peak
+
+    each = WIDE / len(bins.counts)
+    parts, level = [f"M{number(LEFT)} {FOOT}"], 0.0
+    for at, entries in enumerate(bins.counts):
+        if (up := high(entries)) != level:
+            parts.append(f"H{number(LEFT + at * each)}V{number(FOOT - up)}")
+            level = up
+    canvas.path([*parts, f"H{number(LEFT + WIDE)}V{FOOT}z"], it.kind)
+    powers = [10**power for power in range(len(str(peak)) - (0 if str(peak) != "1" else 1))] if is_log else [0]
+    labels = [(value, short(value)) for value in powers if peak > 1.8 * value] + [(peak, short(peak))]
+    for value, text in labels:
+        canvas.text(LEFT - 5, FOOT - high(value) + 4, text, "mute s10 r")
+        canvas.line((LEFT - 3, FOOT - high(value)), (LEFT, FOOT - high(value)), "l-mute thin")
+
+
+def _draw_hit(canvas: Canvas, it: Shown, bins: Bins) -> None:
+    tip = f"{it.of}{it.what}: {count_of(it.spectrum.count, it.counts)}, integral {it.spectrum.integral():,}, overflow {it.spectrum.overflow:,}\n"
+    least, most = (it.value(value or 0) for value in (it.spectrum.least, it.spectrum.greatest))
+    tip += f"least {least:,}, mean {it.value(it.spectrum.mean()):,.1f}, RMS {abs(it.meaning[0]) * it.spectrum.rms():,.1f}, most {most:,}; bins of {bins.width:,}"
+    scale, offset, unit = it.meaning
+    data = f' data-first="{bins.first}" data-width="{bins.width}" data-counts="{" ".join(map(str, bins.counts))}"'
+    if (scale, offset) != (1, 0):
+        data += f' data-scale="{scale}" data-offset="{offset}"'
+    canvas.hit((LEFT, TOP, WIDE, HIGH), f"{tip} {unit}".rstrip(), data)
+
+
+def _draw_line(canvas: Canvas, it: Shown, series: Series) -> None:
+    """The numbers over the services of the run, from its first to its last; of a counter that only rises what it counted since the one before."""
+    means = {at: float(it.value(value)) for at, value in series.means().items()}
+    if series.is_counter():
+        means = {at: abs(it.meaning[0]) * value for at, value in series.means().items()}
+    what = "counted since the one before" if series.is_counter() else "values"
+    canvas.text(0, 24, f"{count_of(it.spectrum.count, it.counts)}: {what}", "mute s10")
+    top, columns = max([*means.values(), 0]), max(max(means), 1) + 1
+    canvas.text(0, 36, f"mean {_decimal(sum(means.values()) / len(means))}" + (f" {it.meaning[2]}" if it.meaning[2] else ""), "mute s10")
+    step = WIDE / columns
+    places = [(LEFT + (at + 0.5) * step, FOOT - (HIGH * value / top if top else 0)) for at, value in means.items()]
+    canvas.path("M" + "L".join(f"{number(x)} {number(max(y, TOP))}" for x, y in places), f"l-{it.kind}")
+    if len(places) == 1:
+        canvas.rect((places[0][0] - 1.5, places[0][1] - 1.5, 3, 3), it.kind)
+    canvas.line((LEFT, FOOT + 0.5), (LEFT + WIDE, FOOT + 0.5), "l-mute thin")
+    for value in (0.0, top) if top else (0.0,):
+        y = FOOT - (HIGH if value else 0)
+        canvas.text(LEFT - 5, y + 4, short(round(value, 1)), "mute s10 r")
+    last = columns * series.per
+    for place in ticks(last, 4):
+        _draw_number(canvas, LEFT + WIDE * place / last, short(place), place == last)
+    canvas.text(PANEL, FOOT + 26, "service of the run", "mute s10 r")
+    tip = f"{it.of}: {count_of(it.spectrum.count, it.counts)}, {what}; least {it.spectrum.least:,}, most {it.spectrum.greatest:,}"
+    canvas.hit((LEFT, TOP, WIDE, HIGH), f"{tip}\neach point: the mean of {count(series.per, 'service')} of the run, one after another")

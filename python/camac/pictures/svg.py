@@ -117,7 +117,7 @@ def picture_style() -> str:
 class Canvas:
     """A picture that grows downwards as marks are added. Boxes are x, y, width and height in pixels; classes are those of the style."""
 
-    def __init__(self, title: str, width: int = WIDTH) -> None:
+    def __init__(self, title: str, width: float = WIDTH) -> None:
         self.title, self.width, self.height = title, width, 0.0
         self.parts: List[str] = []
 
@@ -162,12 +162,16 @@ class Canvas:
             x += step(word)
         return x
 
+    def place(self, x: float, y: float, other: "Canvas") -> None:
+        """Adds another picture, whose upper left corner is there."""
+        self.parts.append(f'<g transform="translate({number(x)} {number(y)})">{"".join(other.parts)}</g>')
+        self.grow(y + other.height)
+
     def stack(self, title: str, other: "Canvas") -> None:
         """Adds another picture below, under a title."""
         top = self.height + (24 if self.parts else 0)
         self.text(0, top + 16, title, "b s14")
-        self.parts.append(f'<g transform="translate(0 {number(top + 28)})">{"".join(other.parts)}</g>')
-        self.grow(top + 28 + other.height)
+        self.place(0, top + 28, other)
 
     def _svg(self, attributes: str, before: str) -> str:
         size = f'width="{number(self.width)}" height="{number(self.height)}" viewBox="0 0 {number(self.width)} {number(self.height)}"'

@@ -2,6 +2,7 @@
 from typing import List, Mapping, NamedTuple, Optional
 
 from camac.bodies import Body, costs
+from camac.columns import Naming, ask
 from camac.drive import File, Refused
 from camac.plans import plan as read_plan
 from camac.program import knows_command, version
@@ -22,15 +23,19 @@ class Report(NamedTuple):
     status: int
 
 
-def report(inputs: Inputs, program: Optional[File] = None, every: Optional[Mapping[str, int]] = None) -> Report:
-    """Makes the page of a run, or of the refusal of plan or script. `every` are the rates of modules, as `camac.response` takes them.
+def report(
+    inputs: Inputs, program: Optional[File] = None, every: Optional[Mapping[str, int]] = None, naming: Naming = Naming()
+) -> Report:
+    """Makes the page of a run, or of the refusal of plan or script. `every` are the rates of modules, as `camac.response` takes them; `naming`
+    says what the words of events are.
 
-    Raises OSError where a file cannot be read, UsageFault where a rate is none of a service, and ProgramFault as `camac.run`."""
+    Raises OSError where a file cannot be read, UsageFault where a rate is none of a service or a name none of a word, WordsFault, and
+    ProgramFault as `camac.run`."""
     try:
         plan = read_plan(inputs.plan, program)
         services = check(inputs.plan, inputs.script, program)
         responses = response(inputs.plan, inputs.script, every, program) if knows_command("response", program) else None
-        run = collect(inputs, plan, services, program, responses or ())
+        run = collect(inputs, plan, services, program, responses or (), ask(naming, inputs, plan, services))
     except Refused as refusal:
         return Report(refused_page(inputs, str(refusal), program), 1)
     bodies = costs(inputs.plan, inputs.script, program) if knows_command("costs", program) else None

@@ -1,8 +1,9 @@
 """HTML: the frame of a page, its style, its script, and tables that can be sorted."""
 import base64
 import hashlib
-from typing import List, NamedTuple, Sequence
+from typing import NamedTuple, Sequence
 
+from camac.pictures.spectra import Group
 from camac.pictures.svg import DARK, LIGHT, MONO, SANS, Canvas, escape, page_style, variables
 
 THEMES = (
@@ -18,13 +19,19 @@ main,header{{max-width:1000px;margin:0 auto;padding:0 20px}}
 h1{{font-size:24px;margin:22px 0 4px;overflow-wrap:anywhere}}
 h2{{font-size:19px;margin:34px 0 8px;padding-top:8px;border-top:1px solid var(--grid)}}
 h3{{font-size:15px;margin:20px 0 6px}}
+h4{{font-size:13px;margin:12px 0 4px;font-weight:normal;color:var(--mute)}}
+summary{{cursor:pointer}}
 p{{margin:6px 0;max-width:76ch;overflow-wrap:anywhere}}
 nav{{margin:8px 0}}
 a{{color:var(--ours)}}
 .figure{{overflow-x:auto;margin:8px 0 14px}}
-.figure svg{{display:block;max-width:none}}
+.figure svg{{display:block;max-width:100%;height:auto}}
+.figure.full svg{{max-width:none}}
+.panels svg{{display:inline-block;margin:0 12px 10px 0;vertical-align:top;max-width:100%}}
+svg .log,.logarithmic svg .lin{{display:none}}
+.logarithmic svg .log{{display:inline}}
 table{{border-collapse:collapse;font-size:13px;margin:8px 0}}
-th,td{{padding:3px 7px;border-bottom:1px solid var(--grid);text-align:right;white-space:nowrap}}
+th,td{{padding:3px 5px;border-bottom:1px solid var(--grid);text-align:right;white-space:nowrap}}
 td.t,th.t{{text-align:left}}
 thead th{{position:sticky;top:0;background:var(--face)}}
 th button{{all:unset;cursor:pointer;font-weight:600}}
@@ -45,27 +52,51 @@ pre{{overflow-x:auto}}
 .checks td{{white-space:normal}}
 nav a{{margin-right:14px;display:inline-block}}
 #tip{{position:fixed;pointer-events:none;background:var(--ink);color:var(--ground);font-size:12px;padding:3px 7px;display:none;z-index:9}}
-.theme{{float:right;margin-top:22px;background:var(--face);color:var(--ink);border:1px solid var(--grid);padding:4px 10px;cursor:pointer}}
+.theme,.scale{{float:right;margin:22px 0 0 8px;background:var(--face);color:var(--ink);border:1px solid var(--grid);padding:4px 10px;cursor:pointer}}
 @page{{size:A4;margin:14mm}}
 @media print{{
 body{{font-size:11pt}}
 main,header{{padding:0}}
-.theme,nav{{display:none}}
+.theme,.scale,nav{{display:none}}
 thead th{{position:static}}
-h2,h3,p{{break-after:avoid}}
+h2,h3,h4,p,summary{{break-after:avoid}}
 .wrap{{max-height:none;overflow:visible;border:0}}
 .wrap table{{font-size:8pt}}
 .wrap th,.wrap td{{padding:2px 4px}}
 .figure{{overflow:visible;break-inside:avoid}}
-.figure.long{{break-inside:auto}}
-.figure svg{{max-width:100%;height:auto}}
+.figure svg{{max-width:100%;max-height:225mm;width:auto;height:auto}}
+.panels,.panels svg{{break-inside:avoid}}
+.panels{{break-inside:auto}}
+details::details-content{{content-visibility:visible;display:block}}
 thead,tr,.tile{{break-inside:avoid}}
 pre{{white-space:pre-wrap}}
 }}
 """
-# Sorts a table by a column, tells the bin below the pointer, and changes the theme.
+# What both pages have: the bin below the pointer, a picture in full size, counts on a logarithmic axis, and the theme.
 SCRIPT = """
 var commas=function(n){return String(n).replace(/\\B(?=(\\d{3})+$)/g,',')};
+var root=document.documentElement,tip=document.getElementById('tip');
+document.addEventListener('mousemove',function(e){
+var r=e.target.closest&&e.target.closest('rect[data-counts]');
+if(!r){tip.style.display='none';return}
+var counts=r.dataset.counts.split(' ').map(Number),first=+r.dataset.first,width=+r.dataset.width;
+var scale=+(r.dataset.scale||1),offset=+(r.dataset.offset||0),means=function(n){var v=+(n*scale+offset).toPrecision(6);return Number.isInteger(v)?commas(v):v};
+var b=r.getBoundingClientRect(),k=Math.floor((e.clientX-b.left)/b.width*counts.length);
+if(k<0||k>=counts.length){tip.style.display='none';return}
+var from=first+k*width,range=width>1?means(from)+' to '+means(from+width-1):means(from);
+tip.textContent=range+': '+commas(counts[k]);tip.style.display='block';
+tip.style.left=Math.min(e.clientX+14,innerWidth-160)+'px';tip.style.top=e.clientY+14+'px'});
+document.addEventListener('click',function(e){
+var it=e.target.closest&&e.target.closest('.figure');
+if(it)it.classList.toggle('full')});
+document.querySelector('.scale').onclick=function(){root.classList.toggle('logarithmic')};
+addEventListener('beforeprint',function(){document.querySelectorAll('details').forEach(function(it){it.open=true})});
+document.querySelector('.theme').onclick=function(){
+var theme=root.dataset.theme||(matchMedia('(prefers-color-scheme:dark)').matches?'dark':'light');
+root.dataset.theme=theme==='dark'?'light':'dark'};
+"""
+# Sorts a table by a column.
+SORT = """
 document.querySelectorAll('table.sort').forEach(function(t){
 var heads=t.querySelectorAll('th');
 heads.forEach(function(head,i){head.firstChild.onclick=function(){
@@ -77,20 +108,6 @@ return head.className==='t'&&v===undefined?cell.textContent:v===undefined?-Infin
 Array.from(t.tBodies[0].rows).map(function(row,k){return{v:value(row),k:k,row:row}})
 .sort(function(a,b){return(a.v<b.v?-1:a.v>b.v?1:0)*(down?-1:1)||a.k-b.k})
 .forEach(function(it){t.tBodies[0].appendChild(it.row)})}})});
-var tip=document.getElementById('tip');
-document.querySelectorAll('rect[data-counts]').forEach(function(r){
-var counts=r.dataset.counts.split(' ').map(Number),first=+r.dataset.first,width=+r.dataset.width;
-r.onmousemove=function(e){
-var b=r.getBoundingClientRect(),k=Math.floor((e.clientX-b.left)/b.width/r.dataset.part*counts.length);
-if(k<0||k>=counts.length){tip.style.display='none';return}
-var from=first+k*width,range=width>1?commas(from)+' to '+commas(from+width-1):commas(from);
-tip.textContent=range+': '+commas(counts[k]);tip.style.display='block';
-tip.style.left=Math.min(e.clientX+14,innerWidth-160)+'px';tip.style.top=e.clientY+14+'px'};
-r.onmouseleave=function(){tip.style.display='none'}});
-var root=document.documentElement;
-document.querySelector('.theme').onclick=function(){
-var theme=root.dataset.theme||(matchMedia('(prefers-color-scheme:dark)').matches?'dark':'light');
-root.dataset.theme=theme==='dark'?'light':'dark'};
 """
 
 
@@ -133,24 +150,37 @@ def _cell(column: Column, cell: object) -> str:
     return f"<td{_kind(column)}>{escape(cell)}</td>"
 
 
-def figure(canvas: Canvas, is_long: bool = False) -> str:
-    """A picture in the page; a long one may go on at the next sheet of paper."""
-    return f'<div class="figure{" long" if is_long else ""}">{canvas.figure()}</div>'
+def figure(canvas: Canvas) -> str:
+    """A picture in the page. It is as wide as the page at most; a click shows it in full size."""
+    return f'<div class="figure">{canvas.figure()}</div>'
+
+
+def panels(groups: Sequence[Group]) -> str:
+    """Small pictures, as many beside each other as there is room for."""
+    if not groups:
+        return '<p class="mute">Nothing to show: no event, no word.</p>'
+    return "".join(f'<h4>{escape(it.title)}</h4><div class="panels">{"".join(one.figure() for one in it.panels)}</div>' for it in groups)
+
+
+def folded(title: str, inside: str) -> str:
+    """What a click opens. On paper it is open."""
+    return f"<details><summary>{escape(title)}</summary>{inside}</details>"
 
 
 def header(title: str, parts: Sequence[str] = ()) -> str:
-    """The head of a page; its button changes the theme."""
-    return f'<header><button class="theme">dark / light</button><h1>{escape(title)}</h1>{"".join(parts)}</header>'
+    """The head of a page; its buttons change the theme, and the axis of counts."""
+    return f'<header><button class="theme">dark / light</button><button class="scale">log / linear</button><h1>{escape(title)}</h1>{"".join(parts)}</header>'
 
 
-def page(title: str, head: str, parts: List[str]) -> str:
-    """A page that stands alone: it fetches nothing, and runs no script but its own."""
-    digest = base64.b64encode(hashlib.sha256(SCRIPT.encode()).digest()).decode()
-    policy = f"default-src 'none';style-src 'unsafe-inline';script-src 'sha256-{digest}'"
+def page(title: str, head: str, parts: Sequence[str], script: str = SORT, more: str = "") -> str:
+    """A page that runs no script but its own. It fetches nothing, but for what `more` of its policy allows."""
+    whole = SCRIPT + script
+    digest = base64.b64encode(hashlib.sha256(whole.encode()).digest()).decode()
+    policy = f"default-src 'none';style-src 'unsafe-inline';script-src 'sha256-{digest}'{more}"
     return (
         '<!DOCTYPE html>\n<html lang="en"><head><meta charset="utf-8">'
         f'<meta http-equiv="Content-Security-Policy" content="{policy}">'
         '<meta name="viewport" content="width=device-width,initial-scale=1">'
         f"<title>{escape(title)}</title><style>{THEMES}{STYLE}{page_style()}</style></head>\n"
-        f'<body>{head}<main>{"".join(parts)}</main><div id="tip"></div><script>{SCRIPT}</script></body></html>\n'
+        f'<body>{head}<main>{"".join(parts)}</main><div id="tip"></div><script>{whole}</script></body></html>\n'
     )

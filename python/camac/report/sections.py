@@ -7,10 +7,13 @@ from typing import Dict, List, NamedTuple, Optional, Sequence, Tuple, Union
 from camac import functions
 from camac.bodies import Body
 from camac.drive import Ending, File
-from camac.pictures import draw_bounds, draw_costs, draw_events, draw_places, draw_plan, draw_response, draw_run, draw_strip, draw_words
+from camac.pictures import (
+    channel_groups, command_groups, draw_bounds, draw_calls, draw_costs, draw_pairs, draw_places, draw_plan, draw_response, draw_run, draw_strip, event_groups,
+)
+from camac.pictures.spectra import BOTH
 from camac.pictures.svg import count, escape, share
 from camac.plans import Plan
-from camac.report.page import Cell, Column, Row, figure, header, table
+from camac.report.page import Cell, Column, Row, figure, folded, header, panels, table
 from camac.runs import Inputs, Kept, Run, Why
 from camac.scripts import Response, Service
 
@@ -98,6 +101,7 @@ def tiles(run: Run) -> str:
         its.append((missed, "cycles with X = 0", "bad" if missed else ""))
     if run.has_listing:
         its.append((sum(run.no_q), "cycles with Q = 0", ""))
+        its.append((sum(run.of_transfers), "Q = 0 of transfers", ""))
     if run.idle:
         its.append((run.idle, "demands without a service", ""))
     drawn = (f'<div class="tile"><b class="{kind}">{value:,}</b><span>{word}</span></div>' for value, word, kind in its)
@@ -176,7 +180,8 @@ def cost(facts: Facts) -> str:
     seen = facts.run.seen if facts.run.has_cycles else {}
     for body in facts.bodies:
         its = seen.get(body.gl) if body.gl else None
-        out.append(figure(draw_costs(body, facts.source, its.cycles if its else None), is_long=True))
+        out.append(figure(draw_costs(body, facts.source, its.cycles if its else None, facts.bodies, has_calls=False)))
+        out += [folded(title, figure(lines)) for title, lines in draw_calls(body, facts.source, facts.bodies)]
     return "".join(out)
 
 
@@ -185,7 +190,7 @@ def plan(facts: Facts) -> str:
 
 
 def run_section(facts: Facts) -> str:
-    out = ['<h2 id="run">The run</h2>', figure(draw_run(facts.run, facts.services), is_long=True), _kinds_table(facts)]
+    out = ['<h2 id="run">The run</h2>', figure(draw_run(facts.run, facts.services)), _kinds_table(facts)]
     if facts.run.kept:
         out += ["<h3>Some services cycle by cycle</h3>", *_strips(facts)]
     if facts.run.commands:
@@ -204,14 +209,14 @@ def _kinds_table(facts: Facts) -> str:
         cycles = (its.cycles.least, its.cycles.mean, its.cycles.most) if its and run.has_cycles else ("", "", "")
         waits, words = (its.waits / its.cycles.count, its.words.mean) if its else ("", "")
         row = (it.name, it.gl, its.cycles.count if its else 0, *cycles, it.cycles, it.annotated_cycles, waits, words, it.words)
-        rows.append((*row, *((its.no_q, its.no_x) if its else (0, 0))))
-    titles = "GL,events,cycles least,mean,most,bound,annotated,waits mean,words mean,words bound,Q = 0,X = 0".split(",")
+        rows.append((*row, *((its.no_q, its.of_transfers, its.no_x) if its else (0, 0, 0))))
+    titles = "GL,events,cycles least,mean,most,bound,annotated,waits mean,words mean,words bound,Q = 0,Q end,X = 0".split(",")
     columns = [Column("service", True), *map(Column, titles)]
     return _known_table(run, columns, rows)
 
 
 # The columns of which an event file tells nothing, and those of which one of version one tells nothing either.
-OF_LISTINGS = ("waits mean", "waits", "in a lock", "Q = 0")
+OF_LISTINGS = ("waits mean", "waits", "in a lock", "Q = 0", "Q end")
 OF_CYCLES = ("cycles least", "mean", "most", "cycles", "of bound", "X = 0")
 
 
@@ -260,11 +265,15 @@ def _commands_table(facts: Facts) -> str:
 
 def histograms(facts: Facts) -> str:
     run = facts.run
-    out = ['<h2 id="histograms">Histograms</h2><h3>Cycles and words of an event</h3>']
-    out.append(figure(draw_events(run, facts.services), is_long=True))
+    out = ['<h2 id="histograms">Histograms</h2><h3>Cycles and words of an event</h3>', panels(event_groups(run, facts.services, BOTH))]
     if run.has_listing:
         out.append("<h3>By channel: the words that modules gave with Q = 1, and the words that were sent</h3>")
-        out.append(figure(draw_words(run), is_long=True))
+        out.append(panels(command_groups(run, facts.plan, BOTH)))
+    channels = run.list_channels()
+    if channels:
+        out += ["<h3>Event words by their names</h3>", panels(channel_groups(channels, BOTH))]
+    if run.asked.pair and run.pairs:
+        out += ["<h3>Two numbers of an event</h3>", figure(draw_pairs(*run.asked.pair, run.pairs))]
     out.append("<h3>By the place of the word in its event</h3>")
     out.append('<p class="mute">Where a script leaves words out, one place holds words of several channels.</p>')
     return "".join(out + [figure(draw_places(run, it)) for it in facts.services])
@@ -279,8 +288,8 @@ def services(facts: Facts) -> str:
         service = facts.service(run.gl[k])
         part = Cell(round(run.cycles[k] / max(service.cycles, 1), 4), share(run.cycles[k], service.cycles)) if service else ""
         row = (k + 1, facts.name(run.gl[k]), run.cycles[k], part, run.waits[k], run.locked[k])
-        rows.append((*row, run.no_q[k], run.no_x[k], run.words[k]))
-    titles = "cycles,of bound,waits,in a lock,Q = 0,X = 0,words".split(",")
+        rows.append((*row, run.no_q[k], run.of_transfers[k], run.no_x[k], run.words[k]))
+    titles = "cycles,of bound,waits,in a lock,Q = 0,Q end,X = 0,words".split(",")
     columns = [Column("event"), Column("service", True), *map(Column, titles)]
     out = ['<h2 id="services">Services</h2>']
     if total > len(chosen):

@@ -1,0 +1,3 @@
+# Completion of camac-lsp for bash.
+
+complete -W '--help -h' camac-lsp

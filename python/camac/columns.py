@@ -1,0 +1,42 @@
+"""Which columns the words of a run have: those of a file of the user's, else those of its script."""
+from dataclasses import dataclass
+from typing import List, Optional, Tuple
+
+from camac.drive import File, UsageFault
+from camac.plans import Plan
+from camac.runs import Asked, Inputs, is_event_file
+from camac.scripts import Service
+from camac.word_file import read_words
+from camac.word_sources import words_of_script
+from camac.words import Column, Words
+
+
+@dataclass(frozen=True)
+class Naming:
+    """What a user says of the words of events: a file that tells them (words.toml), and two names that he wants against each other."""
+
+    file: Optional[File] = None
+    pair: Optional[Tuple[str, str]] = None
+
+
+def ask(naming: Naming, inputs: Inputs, plan: Plan, services: List[Service]) -> Asked:
+    """The columns of a run. Answers tell the words of each module, so those of a script are asked for of an event file alone, and of a pair.
+
+    Raises UsageFault where a name of the pair is none of a column, WordsFault, ProgramFault, and OSError where a file cannot be read."""
+    names = Words()
+    if naming.file is not None:
+        names = read_words(naming.file, services)
+    elif naming.pair or is_event_file(inputs.source):
+        names = words_of_script(plan, inputs.script, services)
+    if naming.pair is None:
+        return Asked(names)
+    across, up = (_column(names, services, name) for name in naming.pair)
+    return Asked(names, (across, up))
+
+
+def _column(names: Words, services: List[Service], name: str) -> Column:
+    columns = [column for it in services for column in names.columns(it.gl)]
+    for it in columns:
+        if it.name == name:
+            return it
+    raise UsageFault(f"no word has the name {name!r}; there are: {', '.join(it.name for it in columns[:40]) or 'none'}", 2)

@@ -1,0 +1,62 @@
+"""check: judges scripts, and warns of what is hardly meant. `camac-check` is this module alone, without what draws and reports."""
+import argparse
+import sys
+from typing import Any, List, Optional
+
+from camac import judge
+from camac.commands.running import STATUS, main, refuse_pipes
+from camac.drive import File
+from camac.output import say
+from camac.program import quickest, version
+
+
+def add_to(commands: Any) -> None:
+    """Adds the command to those of the package."""
+    raw = argparse.RawDescriptionHelpFormatter
+    _fill(commands.add_parser("check", prog="camac-check", help="Judges scripts, and warns of what is hardly meant", epilog=STATUS, formatter_class=raw))
+
+
+def _fill(it: argparse.ArgumentParser) -> None:
+    it.add_argument("plan", metavar="PLAN", help="a plan: a TOML file, or @sample, the built-in plan")
+    it.add_argument("scripts", nargs="+", metavar="SCRIPT", help="scripts")
+    it.add_argument("--format", choices=judge.FORMATS, default="text", metavar="FORMAT", help="text: lines FILE:LINE: TEXT; json; github: annotations; sarif: SARIF 2.1.0")
+    it.add_argument("--json", action="store_const", const="json", dest="format", help="--format json")
+    it.add_argument("--strict", action="store_true", help="a warning is status 1, too")
+    it.add_argument("--keeps", action="store_true", help="proposes what the loops of a refused script have to keep")
+    write = "first puts the least headings that are accepted into each script, with --keeps what loops have to keep, too"
+    it.add_argument("--write", action="store_true", help=write)
+    it.set_defaults(do=do, out=None)
+
+
+def do(args: argparse.Namespace) -> int:
+    program = quickest()
+    judged = judge.judge(args.plan, args.scripts, program, args.write, args.keeps)
+    say(_told(judged, args.format, program))
+    note = judge.note(program)
+    if note and args.format not in ("json", "sarif"):
+        print(f"camac: {note}", file=sys.stderr)
+    return judge.status(judged, args.strict)
+
+
+def _told(judged: List[judge.Judged], form: str, program: Optional[File]) -> str:
+    if form != "sarif":
+        return judge.told(judged, form)
+    from camac.sarif import sarif
+
+    return sarif(judged, version(program))
+
+
+def parse(words: List[str]) -> argparse.Namespace:
+    its = argparse.ArgumentParser(prog="camac-check", epilog=STATUS, formatter_class=argparse.RawDescriptionHelpFormatter)
+    _fill(its)
+    args = its.parse_args(words)
+    refuse_pipes(its, [args.plan, *args.scripts])
+    return args
+
+
+def command() -> int:
+    return main(parse)
+
+
+if __name__ == "__main__":
+    sys.exit(command())

@@ -1,0 +1,52 @@
+"""diff: compares what services may take before and after a change."""
+import argparse
+from typing import Any
+
+from camac import diff
+from camac.commands.rates import add_every
+from camac.commands.running import DONE, REFUSED
+from camac.drive import Refused
+from camac.output import say
+
+ABOUT = """\
+Compares what each service may take: dataway cycles, event words and steps, and the most cycles from its look-at-me to its start and its end (each
+module calls once, where no rate is told).
+
+  python3 -m camac diff OLD NEW --plan PLAN        two scripts on one plan
+  python3 -m camac diff OLD NEW --script SCRIPT    two plans of one script; the commands that the new one gains and loses are told, too
+
+A line begins with = where nothing changed, ~ where something did, + where it is new, and - where it is gone. A bound that is more than
+before is told at the end of its line."""
+STATUS = """\
+Status: 0 no bound has grown; 1 one has, or a plan or script is refused; 2 usage; 3 a file or the program failed."""
+
+
+def add_to(commands: Any) -> None:
+    """Adds the command to those of the package."""
+    raw = argparse.RawDescriptionHelpFormatter
+    it = commands.add_parser("diff", help="Compares what services may take before and after a change", description=ABOUT, epilog=STATUS, formatter_class=raw)
+    it.add_argument("old", metavar="OLD", help="a script, or with --script a plan")
+    it.add_argument("new", metavar="NEW", help="the same after the change")
+    other = it.add_mutually_exclusive_group(required=True)
+    other.add_argument("--plan", metavar="PLAN", help="OLD and NEW are scripts on this plan")
+    other.add_argument("--script", metavar="SCRIPT", help="OLD and NEW are plans of this script")
+    add_every(it)
+    it.set_defaults(do=do, out=None)
+
+
+def do(args: argparse.Namespace) -> int:
+    pairs = [(args.plan, args.old), (args.plan, args.new)] if args.plan else [(args.old, args.script), (args.new, args.script)]
+    bounds = []
+    for plan, script in pairs:
+        try:
+            bounds.append(diff.bounds_of(plan, script, args.every))
+        except Refused as refusal:
+            place = plan if refusal.line is None else f"{script}:{refusal.line}"
+            say(f"{place}: {str(refusal).replace(f' line {refusal.line}', '')}\n")
+            return REFUSED
+    found = diff.changes(*bounds)
+    lines = [it.line() for it in found]
+    if args.script:
+        lines += diff.command_lines(*(diff.commands_of(it) for it in (args.old, args.new)))
+    say("".join(f"{it}\n" for it in lines))
+    return REFUSED if any(it.grown() for it in found) else DONE

@@ -1,0 +1,67 @@
+"""How a command runs, from its words to its status."""
+import argparse
+import contextlib
+import io
+import os
+import signal
+import sys
+from typing import Callable, List, Optional, Sequence
+
+from camac.drive import DriveFault, Refused, UsageFault, one_line
+from camac.events import EventFileFault
+from camac.output import end_by, say
+from camac.texts import is_standard_input
+
+DONE, REFUSED, USAGE, FAULT = 0, 1, 2, 3
+STATUS = """\
+Status: 0 done; 1 refused, a wait that was not permitted, or numbers that differ; 2 usage; 3 a file or the program failed."""
+# Reads the words of a command line, and ends with status 2 where they are not understood.
+Parse = Callable[[List[str]], argparse.Namespace]
+
+
+def refuse_pipes(its: argparse.ArgumentParser, inputs: Sequence[str], takes_pipes: bool = False) -> None:
+    """Ends with status 2 where an input can be read once alone."""
+    if is_standard_input(inputs):
+        its.error("@in cannot be an input here: it is read more than once")
+    pipes = [it for it in inputs if os.path.exists(it) and not os.path.isfile(it) and not os.path.isdir(it)]
+    if pipes and not takes_pipes:
+        its.error(f"{pipes[0]} is no file, and cannot be an input here: it is read more than once")
+
+
+def main(parse: Parse, words: Optional[List[str]] = None) -> int:
+    """Runs a command, and returns its status. Where the reader of a pipe closed it, and at Ctrl-C, the process ends without a word, by the
+    signal that says so."""
+    if sys.stderr is None:
+        sys.stderr = open(os.devnull, "w", encoding="utf-8")
+    status = FAULT
+    try:
+        return _run(parse, sys.argv[1:] if words is None else words)
+    except BrokenPipeError:
+        return end_by(signal.SIGPIPE)
+    except KeyboardInterrupt:
+        return end_by(signal.SIGINT)
+    except UsageFault as fault:
+        text, status = str(fault), USAGE
+    except (DriveFault, ValueError) as fault:
+        text = one_line(fault)
+    except OSError as fault:
+        text = f"{fault.strerror or fault}" + (f": {os.fsdecode(fault.filename)}" if fault.filename else "")
+    with contextlib.suppress(OSError):
+        print(f"camac: {text}", file=sys.stderr)
+    return status
+
+
+def _run(parse: Parse, words: List[str]) -> int:
+    """Runs a command, and returns its status. Help is told as all that is printed."""
+    told = io.StringIO()
+    try:
+        with contextlib.redirect_stdout(told):
+            args = parse(words)
+    except SystemExit as stop:
+        say(told.getvalue())
+        return int(stop.code or DONE)
+    try:
+        return int(args.do(args))
+    except (Refused, EventFileFault) as refusal:
+        say(f"{refusal}\n")
+        return REFUSED

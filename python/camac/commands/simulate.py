@@ -1,0 +1,120 @@
+"""simulate: what is lost at a rate of triggers, and how long look-at-mes wait."""
+import argparse
+import runpy
+import traceback
+from typing import Any, Dict, Iterator, List, Mapping, Optional, Sequence
+
+from camac.commands.rates import add_every, read_every
+from camac.commands.words import add_overwrite
+from camac.drive import Ending, UsageFault
+from camac.mock import Module, Place
+from camac.output import say, write_made
+from camac.pictures import draw_rates
+from camac.pictures.svg import share
+from camac.scripts import check
+from camac.simulate import GREATEST_RATE, PATIENCE, Setting, Simulated, Simulation, curve, simulate
+
+GREATEST_CYCLE, GREATEST_SERVICES = 1e6, 10_000_000
+# So many services are simulated for each rate of a curve, at most.
+OF_A_CURVE = 500
+SHARES = ((0.5, "50 %"), (0.9, "90 %"), (0.99, "99 %"), (0.999, "99.9 %"), (1.0, "most"))
+ABOUT = """\
+Each dataway cycle takes --cycle-us, and nothing else takes time. Triggers are random, with the rate as their mean; --every is the dead time
+that the trigger's logic keeps. A line tells of a service: how many triggers came and were lost, the share that was answered (live), and
+1 / (1 + rate * mean length of a service) beside it (reckoned). The next one has the cycles from a look-at-me to the end of its service, and at
+last the E of `camac response`.
+
+Each module accepts what its type in the plan declares, with words that look random. Others are told by --modules: a file of Python that has
+a dictionary `modules`, with a module of camac.mock by (crate, station).
+
+Status: 0 done; 1 plan or script is refused; 2 usage; 3 a file or the program failed."""
+
+
+def add_to(commands: Any) -> None:
+    """Adds the command to those of the package."""
+    raw = argparse.RawDescriptionHelpFormatter
+    it = commands.add_parser("simulate", help="Tells what is lost at a rate, and how long look-at-mes wait", epilog=ABOUT, formatter_class=raw)
+    it.add_argument("plan", metavar="PLAN", help="a plan: a TOML file, or @sample, the built-in plan")
+    it.add_argument("script", metavar="SCRIPT", help="a script")
+    text = "so many triggers a second call for a service; once for each service that is called"
+    it.add_argument("--rate", action="append", required=True, metavar="SERVICE=RATE", help=text)
+    it.add_argument("--cycle-us", required=True, type=float, metavar="TIME", help="how many microseconds a dataway cycle takes on your branch")
+    it.add_argument("--regular", action="store_true", help="triggers come regularly, not at random")
+    add_every(it)
+    it.add_argument("--services", type=int, default=10_000, metavar="COUNT", help="how many services are simulated (10,000)")
+    it.add_argument("--seed", type=int, default=1, metavar="NUMBER", help="the same number gives the same triggers and answers (1)")
+    it.add_argument("--modules", metavar="FILE", help="a file of Python with modules of your own")
+    it.add_argument("--events", metavar="EVENTS", help="the event file of the simulation, which must not hold bytes")
+    it.add_argument("-o", "--out", metavar="SVG", help="a picture of the same over rates from an eighth to eight times as great")
+    add_overwrite(it)
+    it.set_defaults(do=do, its=it)
+
+
+def do(args: argparse.Namespace) -> int:
+    its = args.its
+    if not 0 < args.cycle_us <= GREATEST_CYCLE:
+        its.error(f"--cycle-us is above 0 and at most {GREATEST_CYCLE:,.0f}")
+    if not 1 <= args.services <= GREATEST_SERVICES:
+        its.error(f"--services is 1 to {GREATEST_SERVICES:,}")
+    setting = Setting(_read_rates(args.rate, its), args.cycle_us / 1e6, args.regular, read_every(args.every, its), args.services, args.seed)
+    made = simulate(args.plan, args.script, setting, _modules(args.modules), args.events)
+    say("".join(f"{line}\n" for line in _told(made, setting)))
+    if args.out:
+        less = setting._replace(services=min(setting.services, OF_A_CURVE))
+        drawn = draw_rates(curve(args.plan, args.script, less, lambda: _modules(args.modules)), made, setting.cycle)
+        write_made(args.out, drawn.picture(), args.overwrite)
+    return 0
+
+
+def _read_rates(words: Sequence[str], its: argparse.ArgumentParser) -> Dict[str, float]:
+    rates: Dict[str, float] = {}
+    for word in words:
+        name, _, text = word.partition("=")
+        try:
+            rate = float(text)
+        except ValueError:
+            rate = 0.0
+        if not name or not 0 < rate <= GREATEST_RATE:
+            its.error(f"--rate is SERVICE=RATE with a rate above 0 and at most {GREATEST_RATE:,.0f} a second, not {word!r}")
+        if name in rates:
+            its.error(f"--rate {name} stands twice")
+        rates[name] = rate
+    return rates
+
+
+def _modules(file: Optional[str]) -> Optional[Mapping[Place, Module]]:
+    """The modules of a file of the user's. They are made anew each time."""
+    if file is None:
+        return None
+    try:
+        found = runpy.run_path(file).get("modules")
+    except OSError:
+        raise
+    except Exception as why:
+        lines = [it.lineno for it in traceback.extract_tb(why.__traceback__) if it.filename == file]
+        raise UsageFault(f"{file}{f':{lines[-1]}' if lines else ''}: {type(why).__name__}: {why}", 2) from why
+    if not isinstance(found, dict) or not all(isinstance(it, Module) for it in found.values()):
+        raise UsageFault(f"{file} has no dictionary `modules` of modules by (crate, station)", 2)
+    return found
+
+
+def _told(made: Simulation, setting: Setting) -> Iterator[str]:
+    for it in made.services:
+        yield f"service {it.name} gl {it.gl} rate {it.rate:g} came {it.came} lost {it.lost} live {it.live():.4f} reckoned {it.reckoned(setting.cycle):.4f}"
+        quantiles = ", ".join(f"{label} {it.quantile(part):.1f}" for part, label in SHARES)
+        yield f"  cycles from look-at-me to end: {quantiles}; at most {'-' if it.end is None else it.end}"
+        yield from (f"  {line}" for line in _notes(it))
+    yield f"{made.end.events} services in {made.seconds:.6g} s, {share(made.busy, 1)} of it in services"
+    if made.end.how is not Ending.ENDED:
+        yield made.end.line
+    elif (made.end.events or 0) < setting.services:
+        yield f"no look-at-me is seen any more, of {PATIENCE:,} triggers: is it enabled, is inhibit off, and the demand output on?"
+
+
+def _notes(it: Simulated) -> List[str]:
+    notes = []
+    if it.later():
+        notes.append(f"{it.later()} ended later: the triggers do not keep the rates that the last number takes for granted (--every)")
+    if it.again:
+        notes.append(f"{it.again} more services were called for a look-at-me that was answered before: this service leaves it up (cclc {it.name} clears it)")
+    return notes

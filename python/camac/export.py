@@ -1,0 +1,275 @@
+"""An event file as columns with names and units, for analysis: one row an event, and one row a word. numpy makes them, h5py the HDF5 file;
+without numpy there are tables of comma-separated values alone."""
+import contextlib
+import dataclasses
+import errno
+import importlib
+import io
+import itertools
+import json
+import os
+import tempfile
+from dataclasses import dataclass
+from typing import Any, Dict, Iterator, List, NamedTuple, Optional, Sequence, Set, Tuple
+
+from camac import export_csv
+from camac.arrays import Array, EventArrays, event_arrays
+from camac.drive import File, ProgramFault
+from camac.events import GREATEST_COUNT, GREATEST_GL, EventFileFault, whole_size
+from camac.output import bytes_output, holds_bytes, output
+from camac.plans import plan as read_plan
+from camac.record import Record, Source, read_record
+from camac.scripts import Service, check
+from camac.texts import plan_text, script_text
+from camac.word_file import parse_words
+from camac.word_sources import words_of_script
+from camac.words import Words
+
+FORM = "camac export 1"
+# What stands in a column of whole numbers where a word does not have it; in one of fractions it is NaN.
+MISSING = -1
+
+
+@dataclass(frozen=True)
+class About:
+    """What is known of the events: their file, plan and script, the text of the file of words, the record, and what follows from them. `sources` are the words
+    whose place the script fixes, `words` what the user tells of them."""
+
+    events: str
+    plan: Optional[Source] = None
+    script: Optional[Source] = None
+    words_text: Optional[Source] = None
+    record: Optional[Record] = None
+    services: Tuple[Service, ...] = ()
+    sources: Words = Words()
+    words: Words = Words()
+
+    def source_names(self) -> List[str]:
+        """The names of the words that the script tells, behind the empty one of all others."""
+        return ["", *(it.name for it in self.sources.fields)]
+
+    def told(self) -> Dict[str, Any]:
+        """As JSON has it."""
+        texts = {"plan": self.plan, "script": self.script, "words": self.words_text}
+        told = {name: its.told() for name, its in texts.items() if its}
+        record = {"record": json.loads(self.record.text())} if self.record else {}
+        return {"form": FORM, "events": self.events, "services": {str(it.gl): it.name for it in self.services}, **told, **record}
+
+
+class Given(NamedTuple):
+    """The files of an export. What is None is not given."""
+
+    events: File
+    plan: Optional[File] = None
+    script: Optional[File] = None
+    words: Optional[File] = None
+    record: Optional[File] = None
+
+
+def learn(given: Given, program: Optional[File] = None) -> About:
+    """Reads what is known of the events. A record stands for plan and script where these are not given; where they are, they have to be its own.
+
+    Raises WordsFault and ValueError for a file that cannot be read so, Refused where plan or script is refused, ProgramFault and OSError as
+    `camac.check`."""
+    about = About(os.path.basename(os.fsdecode(given.events)))
+    if given.record is not None:
+        record = read_record(given.record)
+        about = dataclasses.replace(about, record=record, plan=record.plan, script=record.script)
+    if given.plan is not None and given.script is not None:
+        plan, script = Source(os.fsdecode(given.plan), plan_text(given.plan)), Source(os.fsdecode(given.script), script_text(given.script))
+        for mine, its in ((plan, about.plan), (script, about.script)):
+            if its is not None and mine.sha256 != its.sha256:
+                raise ValueError(f"{mine.name} is not the one of the record, {its.name}")
+        about = dataclasses.replace(about, plan=plan, script=script)
+    if about.plan and about.script:
+        services, sources = _judge(about.plan, about.script, program)
+        about = dataclasses.replace(about, services=tuple(services), sources=sources)
+    if given.words is not None:
+        text = script_text(given.words)
+        words = parse_words(text, given.words, about.services)
+        about = dataclasses.replace(about, words_text=Source(os.fsdecode(given.words), text), words=words)
+    return about
+
+
+def _judge(plan: Source, script: Source, program: Optional[File]) -> Tuple[List[Service], Words]:
+    """The services of a script that is given as its text, and what it tells of words."""
+    with tempfile.TemporaryDirectory(prefix="camac-") as room:
+        files = []
+        for name, source in (("plan", plan), ("script", script)):
+            files.append(os.path.join(room, name))
+            with open(files[-1], "wb") as out:
+                out.write(source.data)
+        services = check(files[0], files[1], program)
+        return services, words_of_script(read_plan(files[0], program), files[1], services)
+
+
+class Series(NamedTuple):
+    """A column: its table and name, its values, its unit, and what it means. `title` is the name that the user gave it, `texts` are those that the
+    values number."""
+
+    table: str
+    name: str
+    values: Array
+    unit: str = ""
+    meaning: str = ""
+    title: str = ""
+    texts: Sequence[str] = ()
+
+
+def tables(events: EventArrays, about: About) -> List[Series]:
+    """The columns of an event file: those of its events, then those of its words."""
+    numpy = importlib.import_module("numpy")
+    counts = numpy.diff(events.first)
+    numbers = numpy.arange(1, len(counts) + 1, dtype="u4")
+    found = [Series("events", "event", numpy.copy(numbers), "", NUMBER), Series("events", "gl", events.gl, "", GL)]
+    if events.cycles is not None:
+        found.append(Series("events", "cycles", events.cycles, "dataway cycles", "with those of auxiliary controllers"))
+        found.append(Series("events", "missed", events.missed, "dataway cycles", "those with X = 0"))
+    places = numpy.arange(len(events.words), dtype="i8")
+    places -= numpy.repeat(events.first[:-1] - 1, counts)
+    found += [
+        Series("events", "first", events.first[:-1].astype("i8"), "", "the row of its first word, from 0"),
+        Series("events", "count", counts.astype("u2"), "", "how many words it has"),
+        Series("words", "event", numpy.repeat(numbers, counts), "", NUMBER),
+        Series("words", "gl", numpy.repeat(events.gl, counts), "", GL),
+        Series("words", "place", places.astype("u2"), "", "its place in the event, from 1"),
+        Series("words", "word", events.words, "", "all 24 bits"),
+    ]
+    if about.sources.fields:
+        found.append(Series("words", "source", _sources(numpy, events, places, about.sources), "", SOURCE, "", about.source_names()))
+    return found + list(_named(numpy, events, about.words, {it.name for it in found if it.table == "words"}))
+
+
+NUMBER = "the number of the event, from 1"
+GL = "the bit of the graded-L pattern whose service made it"
+SOURCE = "where it was read: a number in `sources`, and 0 where that is not fixed"
+
+
+def _sources(numpy: Any, events: EventArrays, places: Array, sources: Words) -> Array:
+    """The number of each word's source. A script gives each place of a service one, and others in events of one count alone."""
+    always = numpy.zeros((GREATEST_GL + 1, GREATEST_COUNT + 1), "u2" if len(sources.fields) < 1 << 16 else "u4")
+    counted, count_of = always.copy(), numpy.full(GREATEST_GL + 1, MISSING)
+    for number, its in enumerate(sources.fields, 1):
+        (always if its.count is None else counted)[its.gl, its.places[0] : its.places[1] + 1] = number
+        if its.count is not None:
+            count_of[its.gl] = its.count
+    counts = numpy.diff(events.first)
+    gl = numpy.repeat(events.gl, counts)
+    is_counted = numpy.repeat(counts == count_of[events.gl], counts)
+    return numpy.where(is_counted, numpy.maximum(always, counted)[gl, places], always[gl, places])
+
+
+def _named(numpy: Any, events: EventArrays, words: Words, taken: Set[str]) -> Iterator[Series]:
+    """A column for each name of the file of words: whole numbers where each means itself, else fractions."""
+    for title, fields in words.by_name().items():
+        is_plain = all(it.is_plain for it in fields)
+        values = numpy.full(len(events.words), MISSING, "i4") if is_plain else numpy.full(len(events.words), numpy.nan)
+        for its in fields:
+            at, numbers = words.values_of(its, events)
+            values[at] = numbers if is_plain else its.value(numbers.astype("f8"))
+        name = _free(title, taken)
+        taken.add(name)
+        yield Series("words", name, values, fields[0].unit, f"{MISSING if is_plain else 'NaN'}: the word does not have it", title)
+
+
+def _free(title: str, taken: Set[str]) -> str:
+    """A name that may stand in a path of HDF5, and that no other column has."""
+    plain = "".join(it if it.isprintable() and it not in "/." else "_" for it in title)
+    return next(name for name in itertools.chain([plain], (f"{plain}_{number}" for number in itertools.count(2))) if name not in taken)
+
+
+def read_all(events: File) -> Tuple[EventArrays, Optional[EventFileFault]]:
+    """All events of a file, or those before its first fault, and this fault. Raises EventFileFault where it is none at all."""
+    try:
+        return event_arrays(events), None
+    except EventFileFault as fault:
+        if fault.code == "V1":
+            raise
+        with open(events, "rb") as file:
+            return event_arrays(io.BytesIO(file.read(whole_size(events)))), fault
+
+
+def files_of(out: str) -> List[str]:
+    """The files that an export writes."""
+    root, ending = os.path.splitext(out)
+    return [f"{root}.events.csv", f"{root}.words.csv", f"{root}.about.json"] if ending == ".csv" else [out]
+
+
+def export(given: Given, out: str, may_replace: bool = False, program: Optional[File] = None) -> None:
+    """Writes the events of a file as columns; the ending of `out` says how: .h5, .npz or .csv. Of the last there are three files, as
+    run.events.csv, run.words.csv and run.about.json. What holds bytes is replaced only where `may_replace`.
+
+    Raises EventFileFault at the first wrong field, behind the events before it; FileExistsError where a file would be lost; ProgramFault where numpy
+    or h5py is not there; and what `learn` raises."""
+    files = files_of(out)
+    for file in files:
+        if not may_replace and holds_bytes(file):
+            raise FileExistsError(errno.EEXIST, "it holds bytes; --overwrite replaces it", file)
+    fault = ENDINGS[os.path.splitext(out)[1]](given, learn(given, program), files)
+    if fault:
+        raise fault
+
+
+def _write_csv(given: Given, about: About, files: List[str]) -> Optional[EventFileFault]:
+    with contextlib.ExitStack() as opened:
+        events, words = (opened.enter_context(bytes_output(it)) for it in files[:2])
+        try:
+            arrays, fault = read_all(given.events)
+        except ImportError:
+            fault = export_csv.write_events(export_csv.Without(given.events, about.sources, about.words), events, words)
+        else:
+            series = tables(arrays, about)
+            for table, file in (("events", events), ("words", words)):
+                export_csv.write_series([it for it in series if it.table == table], file)
+    units = {name: fields[0].unit for name, fields in about.words.by_name().items()}
+    with output(files[2]) as out:
+        json.dump({**about.told(), "units": units}, out, indent=1)
+        out.write("\n")
+    return fault
+
+
+def _write_npz(given: Given, about: About, files: List[str]) -> Optional[EventFileFault]:
+    numpy = _needed("numpy")
+    events, fault = read_all(given.events)
+    series = tables(events, about)
+    arrays = {f"{it.table}/{it.name}": it.values for it in series}
+    told = {**about.told(), "columns": {f"{it.table}/{it.name}": _told(it) for it in series}, "sources": about.source_names()}
+    with bytes_output(files[0]) as out:
+        numpy.savez(out, about=numpy.array(json.dumps(told)), **arrays)
+    return fault
+
+
+def _write_h5(given: Given, about: About, files: List[str]) -> Optional[EventFileFault]:
+    h5py = _needed("h5py")
+    events, fault = read_all(given.events)
+    with h5py.File("export", "w", driver="core", backing_store=False) as file:
+        for it in tables(events, about):
+            data = file.create_dataset(f"{it.table}/{it.name}", data=it.values, compression="gzip", compression_opts=1, shuffle=True)
+            data.attrs.update(_told(it))
+        file["sources"] = about.source_names()
+        for name, told in about.told().items():
+            if "sha256" in told:
+                its = {name: told.get("text", told.get("base64")), f"{name}_name": told["name"], f"{name}_sha256": told["sha256"]}
+            else:
+                its = {name: told if isinstance(told, str) else json.dumps(told)}
+            # A name of a file may hold bytes that are no text.
+            file.attrs.update({name: text.encode("utf-8", "replace").decode() for name, text in its.items()})
+        file.flush()
+        image = file.id.get_file_image()
+    with bytes_output(files[0]) as out:
+        out.write(image)
+    return fault
+
+
+def _told(its: Series) -> Dict[str, str]:
+    return {"name": its.title or its.name, "unit": its.unit, "meaning": its.meaning}
+
+
+def _needed(module: str) -> Any:
+    try:
+        return importlib.import_module(module)
+    except ImportError:
+        raise ProgramFault(f"{module} is not here (Debian's package python3-{module}); a .csv can be made without it", 3) from None
+
+
+ENDINGS = {".h5": _write_h5, ".npz": _write_npz, ".csv": _write_csv}

@@ -1,0 +1,104 @@
+"""What mends a fault: changes of a text, each with its title."""
+import re
+from typing import Iterator, List, NamedTuple, Optional, Sequence, Tuple
+
+from camac.edits import Edit
+from camac.headings import least_headings
+from camac.loops.search import propose
+from camac.lsp.refusals import Refusal, refusals
+from camac.lsp.workspace import Judged
+from camac.scripts import parse_bounds
+from camac.tokens import Token, tokens_of
+from camac.warn import Code, Warned
+
+NEAR = re.compile(r"Perhaps `([^`]+)` is meant\.")
+TO_BE = re.compile(r"Perhaps `([^`]+)` is to be `([^`]+)`\.")
+TURNS = re.compile(r"The loop may take (\d+) turns, and (\d+) are allowed")
+ANNOTATED = re.compile(r"The number after `turns` is \d+, and no loop may take more than (\d+) turns")
+HEADING = re.compile(r"may (?:take|keep) (\d+) (dataway cycles|event words|steps), its heading allows (\d+)")
+WORD_BEFORE = {"dataway cycles": "within", "event words": "event", "steps": "steps"}
+MOST_TURNS = 65_535
+OF_HEADINGS = frozenset(("E11", "E12", "E18"))
+# Rules of the checker that a loop breaks when it forgets a variable.
+OF_LOOPS = frozenset(("E1", "E2", "E4", "E5", "E8", "E9", "E10", "E11", "E12", "E14", "E16", "E18", "E21"))
+# What loops keep is looked for at once in a script of so many bytes, else where it is asked for.
+QUICK = 8_000
+TITLES = {Code.UNUSED_KEEP: "Remove what is kept for nothing", Code.WIDE_KEEP: "Keep the least range", Code.SPLIT: "Split the loop, as it was tried"}
+
+
+class Fix(NamedTuple):
+    """A change that mends something: its title, the edits, and the code of what it mends."""
+
+    title: str
+    edits: Tuple[Edit, ...]
+    code: str
+
+
+def fixes(judged: Judged, lines: range, warned: Sequence[Warned]) -> Iterator[Fix]:
+    """What mends the refusals and warnings on some lines of camac."""
+    for it in refusals(judged):
+        if judged.text.line_at(it.start) in lines:
+            yield from _of_refusal(judged, it)
+    for warning in warned:
+        if warning.edits and warning.line in lines:
+            yield Fix(TITLES[warning.code], warning.edits, warning.code.value)
+
+
+def _of_refusal(judged: Judged, it: Refusal) -> Iterator[Fix]:
+    near, to_be = NEAR.search(it.sentence), TO_BE.search(it.sentence)
+    if to_be:
+        wrong = _last_before(judged.text.data, it.start, to_be[1])
+        if wrong:
+            yield Fix(f"Write `{to_be[2]}` in place of `{to_be[1]}`", (Edit(wrong.start, wrong.end, to_be[2]),), it.code)
+    elif near:
+        yield Fix(f"Write `{near[1]}`", (Edit(it.start, it.end, near[1]),), it.code)
+    number = _number(judged, it)
+    if number:
+        yield number
+    if it.code in OF_HEADINGS:
+        yield from _headings(judged, it.code)
+    if it.code in OF_LOOPS and len(judged.text.data) <= QUICK:
+        yield from kept(judged)
+
+
+def _last_before(data: bytes, place: int, word: str) -> Optional[Token]:
+    its = [it for it in tokens_of(data[:place]) if it.text == word]
+    return its[-1] if its else None
+
+
+def _number(judged: Judged, it: Refusal) -> Optional[Fix]:
+    """The number that a refusal tells, put after its word."""
+    turns, annotated, heading = TURNS.search(it.sentence), ANNOTATED.search(it.sentence), HEADING.search(it.sentence)
+    if heading:
+        word, number = WORD_BEFORE[heading[2]], heading[1]
+    elif turns or annotated:
+        word, number = "turns", turns[1] if turns else (annotated or ["", ""])[1]
+    else:
+        return None
+    # A heading or the head of a loop ends with its `{`.
+    end = judged.text.data.find(b"{", it.start)
+    tokens = tokens_of(judged.text.data[it.start : end if end > 0 else it.end])
+    old = next((after for token, after in zip(tokens, tokens[1:]) if token.text == word and after.text.isdigit()), None)
+    if old is None or int(number) > (MOST_TURNS if word == "turns" else 4_294_967_295):
+        return None
+    return Fix(f"Write {number} after `{word}`", (Edit(it.start + old.start, it.start + old.end, number),), it.code)
+
+
+def _headings(judged: Judged, code: str) -> Iterator[Fix]:
+    told = judged.ask("bounds")
+    written = least_headings(judged.text.data, parse_bounds(told.text)) if told.accepted else []
+    edits = tuple(edit for it in written for edit in it.edits)
+    if edits:
+        yield Fix("Write the least headings that are accepted (camac bounds)", edits, code)
+
+
+def kept(judged: Judged) -> List[Fix]:
+    """What loops have to keep, and what else helps there, as `camac-check --keeps` proposes it. This may take long."""
+    if "kept" not in judged.kept:
+        found = propose(judged.judge.file, judged.text.data, judged.judge.program)
+        edits = tuple(edit for it in found.proposals for edit in it.edits)
+        what = "; ".join(it.text for it in found.proposals[:3]) + (" .." if len(found.proposals) > 3 else "")
+        rest = "" if found.remaining is None else f" ({found.remaining.code} remains)"
+        judged.kept["kept"] = [Fix(f"Write what helps the loops{rest}: {what}", edits, "keep")] if edits else []
+    its: List[Fix] = judged.kept["kept"]
+    return its

@@ -1,0 +1,152 @@
+"""What may stand at a place: words of the language as the checker expects them, names, and what the plan declares."""
+import re
+from typing import Any, Callable, Dict, FrozenSet, Iterator, List, NamedTuple, Set
+
+from camac import functions
+from camac.layout import DECLARATIONS, STATEMENTS
+from camac.lsp.hover import declared_at, function_text, types_at
+from camac.lsp.known import Address, addresses
+from camac.lsp.workspace import Judged
+from camac.names import WORDS, Kind
+from camac.plans import Declaration
+from camac.tokens import tokens_of
+
+# Kinds of items, as the protocol numbers them.
+VARIABLE, FUNCTION, KEYWORD, CONSTANT, EVENT, REFERENCE, VALUE, OPERATOR = 6, 3, 14, 21, 23, 18, 12, 24
+ITEM_OF = {
+    Kind.LAM: EVENT, Kind.TABLE: CONSTANT, Kind.VARIABLE: VARIABLE, Kind.PARAMETER: VARIABLE, Kind.REGISTER: REFERENCE, Kind.PROCEDURE: FUNCTION,
+}
+MAY_STAND = re.compile(r"^Found the end of the script; here may stand (.*?)\.(?: |$)", re.M)
+NOT_DECLARED = re.compile(r"is not declared before as an? (LAM|table|variable|register|procedure)\b")
+# A name that no script has, as long as a name may be.
+NO_NAME = "no_name_that_anybody_would_choose"[:32]
+TYPED = re.compile(rb"[A-Za-z0-9_]*$")
+# What the checker calls what may stand somewhere, and the words that this is.
+GROUPS: Dict[str, FrozenSet[str]] = {
+    "a declaration": DECLARATIONS | {"table"},
+    "a statement": STATEMENTS,
+    "an operator": frozenset("+-*/%"),
+    "a comparison": frozenset(("<", "<=", ">", ">=", "==", "!=")),
+    "a condition": frozenset(("not", "q", "x")),
+}
+Item = Dict[str, Any]
+
+
+class Expected(NamedTuple):
+    """What may stand at a place: groups as the checker calls them, and words."""
+
+    groups: Set[str]
+    words: Set[str]
+
+
+def expected(ask: Callable[[bytes], str], before: bytes) -> Expected:
+    """What may stand behind a text, as the checker tells of it where it ends there. `ask` gives what `camac explain` says of a script. This alone
+    knows how that is told."""
+    told = ask(before)
+    found = MAY_STAND.search(told)
+    if found:
+        groups = {it for it in GROUPS if re.search(rf"\b{it}\b", found[1])}
+        groups.update(it for it in ("a name", "a number", "an expression") if it in found[1])
+        return Expected(groups, set(re.findall(r"`([^`]+)`", found[1])))
+    if told.startswith(("accepted", "refused L", "refused E")):
+        return Expected({"a declaration"}, set())
+    # The text has an earlier fault.
+    is_inside = before.count(b"{") > before.count(b"}")
+    return Expected({"a statement", "an expression"} if is_inside else {"a declaration"}, {"}", "else"} if is_inside else set())
+
+
+def kind_of_name(ask: Callable[[bytes], str], before: bytes) -> Set[Kind]:
+    """What a name behind a text has to be; nothing where it is a new one."""
+    found = NOT_DECLARED.search(ask(before + b" " + NO_NAME.encode()))
+    return {it for it in Kind if found and it.value == found[1]} | ({Kind.PARAMETER} if found and found[1] == "variable" else set())
+
+
+def complete(judged: Judged, place: int) -> List[Item]:
+    """What may stand at a place in bytes, in the place of the word that is begun there."""
+    before = judged.text.data[:place]
+    if before[before.rfind(b"\n") + 1 :].lstrip().startswith(b"#") or b"#" in before[before.rfind(b"\n") + 1 :]:
+        return []
+    start = place - len(TYPED.search(before)[0])  # type: ignore[index]
+    before = before[:start]
+
+    def ask(text: bytes) -> str:
+        return judged.judge.ask("explain", text).text
+
+    its = expected(ask, before)
+    items = [*_words(its), *_names(judged, ask, its, before, start), *_numbers(judged, before, start)]
+    return list({it["label"]: it for it in items}.values())
+
+
+def _words(its: Expected) -> Iterator[Item]:
+    words = set(its.words).union(*(GROUPS.get(it, frozenset()) for it in its.groups))
+    for it in sorted(words):
+        yield {"label": it, "kind": KEYWORD if it in WORDS else OPERATOR, "sortText": f"2{it}"}
+
+
+def _names(judged: Judged, ask: Callable[[bytes], str], its: Expected, before: bytes, start: int) -> Iterator[Item]:
+    kinds: Set[Kind] = set()
+    if its.groups & {"a statement", "an expression", "a condition"}:
+        kinds = {Kind.VARIABLE, Kind.PARAMETER}
+    elif "a name" in its.groups:
+        kinds = kind_of_name(ask, before)
+    for name, kind in judged.names.seen_at(start).items():
+        if kind in kinds:
+            yield {"label": name, "kind": ITEM_OF[kind], "detail": kind.value, "sortText": f"1{name}"}
+
+
+def _value(number: int, detail: str) -> Item:
+    return {"label": str(number), "kind": VALUE, "detail": detail, "sortText": f"0{number:02}"}
+
+
+def _numbers(judged: Judged, before: bytes, start: int) -> Iterator[Item]:
+    """Functions, and parts of an address, as the plan has them."""
+    line = before[max(before.rfind(b"\n"), before.rfind(b"{"), before.rfind(b"}")) + 1 :]
+    words = [it.text for it in tokens_of(line)]
+    at = max((place for place, it in enumerate(words) if it in ("cdreg", "cdlam", "cfsa", "cssa", "cfmad", "cfubc", "cfubr")), default=None)
+    if at is None:
+        return
+    words = words[at:]
+    if words[0] in ("cdreg", "cdlam"):
+        yield from _parts_of_address(judged, words)
+    elif len(words) == 1:
+        yield from _functions(judged, start)
+
+
+def _parts_of_address(judged: Judged, words: List[str]) -> Iterator[Item]:
+    numbers = [int(it) for it in words[2:] if it.isdigit()]
+    if len(numbers) + 2 != len(words) or len(words) < 2:
+        return
+    if not numbers:
+        yield _value(1, "the branch")
+    crates = [it for it in judged.plan.crates if len(numbers) < 2 or it.number == numbers[1]]
+    for crate in crates if len(numbers) in (1, 2) else ():
+        if len(numbers) == 1:
+            yield _value(crate.number, f"crate {crate.number}, waits {crate.waits}")
+        else:
+            yield from (_value(it.number, it.type + (f", bit {it.gl}" if it.gl else "")) for it in crate.stations)
+    if len(numbers) == 3:
+        address = Address((numbers[1], numbers[1]), (numbers[2], numbers[2]), (0, 15))
+        told: Dict[int, List[Declaration]] = {}
+        for it in declared_at(judged.plan, address):
+            for sub in range(it.first, it.last + 1):
+                told.setdefault(sub, []).append(it)
+        for sub, its in sorted(told.items()):
+            yield _value(sub, " ".join(f"F{it.function}" for it in its if not it.is_probe) or "a probe")
+
+
+def _functions(judged: Judged, start: int) -> Iterator[Item]:
+    """The functions that the plan declares at the register of the statement, or at the registers of its body where it has none yet."""
+    names, data = judged.names, judged.text.data
+    after = re.match(rb"[0-9]*[ \t]*", data[start : start + 40])
+    here = names.at(start + after.end()) if after else None
+    seen = [here] if here and here.symbol.name in names.seen_at(start) else None
+    if seen is None:
+        block = names.block_at(start)
+        seen = [it for it in names.mentions if it.declares and it.symbol.kind.value == "register" and block and block.start <= it.start < start]
+    found: Dict[int, Set[str]] = {}
+    for mention in seen[-8:]:
+        for _, address in addresses(judged, mention):
+            for it in declared_at(judged.plan, address):
+                found.setdefault(it.function, set()).add(function_text(it))
+    for function, texts in sorted(found.items()):
+        yield _value(function, f"F{function} {functions.name(function)}: {', '.join(sorted(texts))}")

@@ -1,0 +1,97 @@
+"""What is shown at the lines of a text: refusals, warnings, and faults of plans."""
+import functools
+import pathlib
+from typing import Any, Dict, List, Optional
+
+from camac.bodies import parse_costs
+from camac.lsp.documents import Range, Text
+from camac.lsp.refusals import Refusal, refusals
+from camac.lsp.workspace import Judge, Judged
+from camac.scripts import parse_verdict
+from camac.toml_places import place_of
+from camac.warn import Code, Warned, looks_for_all, warnings_of
+
+ERROR, WARNING = 1, 2
+UNNECESSARY = [1]
+Diagnostic = Dict[str, Any]
+
+
+@functools.lru_cache(maxsize=None)
+def page(name: str) -> Optional[str]:
+    """The URI of a page of the documentation, where ./install put it, or in the repository."""
+    here = pathlib.Path(__file__).resolve()
+    for folder in here.parents:
+        for it in (folder / "docs" / name, folder / "share/doc/camac/docs" / name):
+            if it.is_file():
+                return it.as_uri()
+    return None
+
+
+def shown(code: str, text: str, severity: int, place: Range) -> Diagnostic:
+    """A diagnostic, with a link to what the pages say of its code."""
+    its: Diagnostic = {"range": place, "severity": severity, "source": "camac", "message": text}
+    if code:
+        its["code"] = code
+        link = page("WARNINGS.md" if code[0] == "W" else "REFUSALS.md")
+        if link:
+            its["codeDescription"] = {"href": f"{link}#{code.lower()}"}
+    return its
+
+
+def of_refusals(judged: Judged) -> List[Diagnostic]:
+    """Why a script is refused; of a plan that is refused, or of a fault, what it is, on the first line."""
+    told = judged.ask("explain")
+    if told.accepted:
+        return []
+    found = refusals(judged)
+    if found:
+        return [of_refusal(it, judged.text) for it in found]
+    first, *rest = told.text.rstrip("\n").split("\n")
+    code = first.split()[1].rstrip(":") if first.startswith("refused ") else ""
+    text = f"the plan is refused: {first.partition(': ')[2]}" if code else first
+    return [shown(code, "\n".join([text, *rest]), ERROR, line_range(judged.text, 1))]
+
+
+def of_refusal(it: Refusal, text: Text) -> Diagnostic:
+    return shown(it.code, it.message(), ERROR, text.range(it.start, it.end))
+
+
+def of_fault(text: Text, why: str) -> Diagnostic:
+    """Something that keeps a script from being judged, on its first line."""
+    return shown("", why, ERROR, line_range(text, 1))
+
+
+def of_plan(judge: Judge, text: Text) -> List[Diagnostic]:
+    told = judge.explained
+    if told.accepted:
+        return []
+    first, *rest = told.text.rstrip("\n").split("\n")
+    if not first.startswith("refused "):
+        return [of_fault(text, first)]
+    code, _, rule = first[len("refused ") :].partition(": ")
+    place = place_of(text.text, rest[0] if rest else "")
+    start, end = (len(text.text[:it].encode("utf-8", "surrogatepass")) for it in place)
+    return [shown(code, "\n".join([f"{rule}. {rest[0]}" if rest else rule, *rest[1:]]), ERROR, text.range(start, end))]
+
+
+def warned(judged: Judged) -> List[Warned]:
+    """The warnings of a script; none where it is refused. This may take long."""
+    told = judged.ask("check")
+    if not told.accepted:
+        return []
+    bodies = parse_costs(judged.ask("costs").text) if looks_for_all(judged.judge.program) else []
+    return warnings_of(judged.judge.file, judged.text.data, parse_verdict(told.text), bodies, judged.judge.program)
+
+
+def of_warning(it: Warned, text: Text) -> Diagnostic:
+    its = shown(it.code.value, it.text, WARNING, line_range(text, it.line))
+    if it.code in (Code.UNREACHED, Code.UNUSED_KEEP):
+        its["tags"] = UNNECESSARY
+    return its
+
+
+def line_range(text: Text, line: int) -> Range:
+    """The code of a line of camac."""
+    at, its = text.line_starts[min(line, len(text.line_starts)) - 1], text.line_of(line)
+    code = its.partition(b"#")[0].rstrip() or its.rstrip()
+    return text.range(at + len(code) - len(code.lstrip()), at + len(code))

@@ -1,0 +1,169 @@
+"""What is told of the place under the pointer, in Markdown."""
+import re
+from typing import Iterator, List, NamedTuple, Optional
+
+from camac import functions
+from camac.bodies import Cost, Row
+from camac.lsp.known import Address, addresses, range_at, row_of, statement_tokens
+from camac.lsp.workspace import Choice, Judged
+from camac.names import Kind, Mention
+from camac.plans import Declaration, ModuleType, Plan
+from camac.tokens import Token
+from camac.tree import Range
+
+GREATEST = 4_294_967_295
+OF_FUNCTIONS = ("cfsa", "cssa", "cfmad", "cfubc", "cfubr")
+
+
+class Told(NamedTuple):
+    """What is told, and of which part of the text, in bytes."""
+
+    text: str
+    start: int
+    end: int
+
+
+def hover(judged: Judged, place: int, choice: Choice) -> Optional[Told]:
+    """What is told of a place in bytes; None where there is nothing to tell."""
+    mention = judged.names.at(place)
+    if mention:
+        told = list(_of_name(judged, mention, choice))
+        return Told("\n\n".join(told), mention.start, mention.end) if told else None
+    its = statement_tokens(judged, place)
+    token = next((it for it in its if it.start <= place <= it.end), None)
+    if token is None:
+        return None
+    if its[1:2] == [token] and its[0].text in OF_FUNCTIONS:
+        return Told(_of_function(judged, its), token.start, token.end)
+    row = row_of(judged, its[0])
+    return Told(_of_row(row), its[0].start, its[-1].end) if row else None
+
+
+def _of_name(judged: Judged, mention: Mention, choice: Choice) -> Iterator[str]:
+    its = mention.symbol
+    if its.kind is Kind.LAM:
+        yield from _of_lam(judged, mention)
+        yield from _of_body(judged, "service", its.name)
+        yield f"Plan: {choice.told()}"
+    elif its.kind is Kind.PROCEDURE:
+        yield from _of_body(judged, "proc", its.name)
+    elif its.kind is Kind.REGISTER:
+        yield from _of_register(judged, mention)
+    elif its.kind is Kind.TABLE:
+        yield f"table `{its.name}`"
+    else:
+        yield _of_variable(judged, mention)
+
+
+def _of_variable(judged: Judged, mention: Mention) -> str:
+    kind, name = mention.symbol.kind.value, mention.symbol.name
+    its = range_at(judged, mention)
+    if its:
+        return f"{kind} `{name}`: {_shown(its)} before this statement"
+    declared = _declared(judged, mention) if mention.symbol.kind is Kind.PARAMETER else (0, GREATEST)
+    return f"{kind} `{name}`: {_shown(declared)}" if declared else f"{kind} `{name}`"
+
+
+def _declared(judged: Judged, mention: Mention) -> Optional[Range]:
+    """The range of a parameter in the heading."""
+    block = judged.names.blocks[mention.symbol.body]
+    found = re.search(rb"\b%b\s+in\s+(\d{1,10})\s*\.\.\s*(\d{1,10})" % mention.symbol.name.encode(), judged.text.data[block.start : block.brace])
+    return (int(found[1]), int(found[2])) if found else None
+
+
+def _shown(its: Range) -> str:
+    low, high = its
+    return str(low) if low == high else f"{low}..{high}"
+
+
+def _of_lam(judged: Judged, mention: Mention) -> Iterator[str]:
+    declared = next((it for it in judged.names.of(mention.symbol) if it.declares), None)
+    if declared is None:
+        return
+    line = judged.text.data[declared.end : declared.end + 200].decode("utf-8", "replace")
+    found = re.match(r"\s+(\d+)\s+(\d+)\s+(\d+)\s+(\d+)", line)
+    if found:
+        crate, station, sub = map(int, found.group(2, 3, 4))
+        bit = next((it.gl for c in judged.plan.crates if c.number == crate for it in c.stations if it.number == station and it.gl), None)
+        module = judged.plan.type_at(crate, station)
+        what = f", {module.name}" if module else ""
+        yield f"LAM `{mention.symbol.name}`: crate {crate}, station {station}, sub-address {sub}{what}" + (f", bit {bit} of the graded-L pattern" if bit else "")
+
+
+def _of_body(judged: Judged, kind: str, name: str) -> Iterator[str]:
+    """What a service or procedure takes at most, and how late a service can be."""
+    told = judged.ask("costs")
+    head = re.search(rf"(?m)^{kind} {name} .*$", told.text) if told.accepted else None
+    if head:
+        yield _code(head[0])
+        late = re.search(rf"(?m)^service {name} .*$", judged.ask("response").text) if kind == "service" else None
+        if late:
+            yield _code(f"response: {late[0]}")
+
+
+def _code(text: str) -> str:
+    return f"```text\n{text}\n```"
+
+
+def _of_row(row: Row) -> str:
+    about = f", {row.about}" if row.about else ""
+    if not row.times:
+        return f"`{row.word}`: never reached{about}"
+    times = f"at most {_counted(row.times, 'time')} in a service or a call"
+    return f"`{row.word}`: {times}{about}\n\nonce it costs {_cost(row.each)}; its share of the bound is {_cost(row.share)}"
+
+
+def _cost(its: Cost) -> str:
+    return ", ".join(_counted(number, word) for number, word in zip(its, ("cycle", "word", "step")))
+
+
+def _counted(number: int, word: str) -> str:
+    return f"{number} {word}" + ("" if number == 1 else "s")
+
+
+def _of_register(judged: Judged, mention: Mention) -> Iterator[str]:
+    yield f"register `{mention.symbol.name}`"
+    for line, address in addresses(judged, mention):
+        yield f"line {line}: {address_text(judged.plan, address)}"
+
+
+def address_text(plan: Plan, its: Address) -> str:
+    names = sorted({it.name for it in types_at(plan, its)})
+    what = f": {', '.join(names)}" if names else ""
+    return f"crate {_shown(its.crate)}, station {_shown(its.station)}, sub-address {_shown(its.sub_address)}{what}"
+
+
+def types_at(plan: Plan, its: Address) -> List[ModuleType]:
+    """The types of the modules at an address."""
+    found = [
+        plan.types[it.type]
+        for crate in plan.crates
+        if its.crate[0] <= crate.number <= its.crate[1]
+        for it in crate.stations
+        if its.station[0] <= it.number <= its.station[1]
+    ]
+    return list({it.name: it for it in found}.values())
+
+
+def declared_at(plan: Plan, its: Address) -> List[Declaration]:
+    """The commands that the plan declares at an address."""
+    return [it for one in types_at(plan, its) for it in one.declarations if it.first <= its.sub_address[1] and its.sub_address[0] <= it.last]
+
+
+def _of_function(judged: Judged, its: List[Token]) -> str:
+    """The name of a statement's function, and what the plan says of it at the statement's registers."""
+    function = int(its[1].text)
+    told = [f"F{function}: {functions.name(function)}"]
+    register = judged.names.at(its[2].start) if len(its) > 2 else None
+    for _, address in addresses(judged, register) if register else ():
+        text = address_text(judged.plan, address)
+        found = sorted({function_text(it) for it in declared_at(judged.plan, address) if it.function == function})
+        told.append(f"{text}: {', '.join(found) or 'not declared'}")
+    return "\n\n".join(dict.fromkeys(told))
+
+
+def function_text(it: Declaration) -> str:
+    """What a command does to data."""
+    if it.is_probe:
+        return "a probe, without a register"
+    return f"{it.width or 24} bits" if functions.reads(it.function) or functions.writes(it.function) else "moves no data"

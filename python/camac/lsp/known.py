@@ -1,0 +1,129 @@
+"""What is known at a place of a script: the statement there, its row of `camac costs`, the range of a variable, and what a register may address."""
+import bisect
+import itertools
+import re
+from typing import Dict, List, NamedTuple, Optional, Tuple
+
+from camac.bodies import Row, rows_of_line
+from camac.layout import begins
+from camac.loops.heads import Known
+from camac.loops.widths import Widths
+from camac.lsp.workspace import Judged
+from camac.names import Block, Mention
+from camac.reader import read_script
+from camac.tokens import Token, tokens_of
+from camac.tree import Loop, Range, all_in
+
+ABOUT = re.compile(r"at (\S+) (\S+) (\S+)(?: to (\S+) (\S+) (\S+))?")
+# So many lines around a place are looked at for the statement there, and so many cycles of a register are told.
+AROUND = 8
+
+
+class Address(NamedTuple):
+    """Where a cycle may go: ranges of crates, stations and sub-addresses."""
+
+    crate: Range
+    station: Range
+    sub_address: Range
+
+
+def _range(word: str) -> Range:
+    low, _, high = word.partition("..")
+    return int(low), int(high or low)
+
+
+def addresses_of(about: str) -> List[Address]:
+    """The address in a row of costs; of a scan the first and the last one."""
+    found = ABOUT.match(about)
+    if not found:
+        return []
+    its = [found.group(1, 2, 3)] + ([found.group(4, 5, 6)] if found[4] else [])
+    return [Address(*map(_range, words)) for words in its]
+
+
+def statement_tokens(judged: Judged, place: int) -> List[Token]:
+    """The tokens of the statement at a place, without what stands in its block; nothing where there is none."""
+    block = judged.names.block_at(place)
+    if block is None or place <= block.brace:
+        return []
+    its = _tokens_around(judged.text.data, block, place)
+    firsts = [at for at, is_first in enumerate(begins([it.text for it in its])) if is_first]
+    number = bisect.bisect_right([its[at].start for at in firsts], place) - 1
+    if number < 0 or its[firsts[number]].text in "{}":
+        return []
+    found = its[firsts[number] : firsts[number + 1] if number + 1 < len(firsts) else len(its)]
+    return found if place <= found[-1].end else []
+
+
+def _tokens_around(data: bytes, block: Block, place: int) -> List[Token]:
+    begin, end = place, place
+    for _ in range(AROUND):
+        begin = max(block.brace + 1, data.rfind(b"\n", block.brace, begin))
+        end = data.find(b"\n", end + 1, block.end)
+        end = block.end if end < 0 else end
+    return [it._replace(start=it.start + begin, end=it.end + begin) for it in tokens_of(data[begin:end])]
+
+
+def row_of(judged: Judged, first: Token) -> Optional[Row]:
+    """The row of `costs` of a statement, given by its first token; None where the script is refused."""
+    told, text = judged.ask("costs"), judged.text
+    if not told.accepted:
+        return None
+    line = text.line_at(first.start)
+    tokens = tokens_of(text.line_of(line))
+    before = first.start - text.line_starts[line - 1]
+    # A row stands for each statement that begins on the line, and for each `else`.
+    places = [it.start for it, is_first in zip(tokens, begins([it.text for it in tokens])) if _has_row(it.text, is_first)]
+    rows = rows_of_line(told.text, line)
+    number = bisect.bisect_left(places, before)
+    return rows[number] if number < len(rows) else None
+
+
+def _has_row(word: str, is_first: bool) -> bool:
+    return word == "else" or is_first and word not in ("{", "}", "service", "proc", "cdlam", "var", "table")
+
+
+def range_at(judged: Judged, mention: Mention) -> Optional[Range]:
+    """The range of a variable before the statement that names it, as `camac-check --keeps` reckons it; None where the statement is not reached, or the
+    text has a fault. This alone says what is known of a variable."""
+    block, told = judged.names.block_at(mention.start), judged.ask("check")
+    if block is None or not (told.accepted or told.text.startswith("refused E")):
+        return None
+    key = "ranges", block.start
+    if key not in judged.kept:
+        judged.kept[key] = _states(judged, block)
+    states: Dict[int, Dict[str, Range]] = judged.kept[key]
+    its = statement_tokens(judged, mention.start)
+    return states.get(its[0].start, {}).get(mention.symbol.name) if its else None
+
+
+def _states(judged: Judged, block: Block) -> Dict[int, Dict[str, Range]]:
+    """The ranges of variables before each statement of a body, by where it begins; at a loop those at the begin of its turns."""
+    body = next((it for it in read_script(judged.text.data).bodies if it.start == block.start), None)
+    if body is None:
+        return {}
+    kept = {(it, keep.name): keep.range for it in all_in(body.statements) if isinstance(it, Loop) for keep in it.keeps}
+    known = Known(body, Widths(judged.judge.file, judged.judge.program), {}, kept)
+    return {it.start: {name: its[:2] for name, its in state.variables.items()} for it, state in known.before.items()}
+
+
+def addresses(judged: Judged, mention: Mention) -> List[Tuple[int, Address]]:
+    """What a register may address, by lines: where the statement that names it makes cycles, there; else in the cycles of its body."""
+    its = statement_tokens(judged, mention.start)
+    rows = [row_of(judged, its[0])] if its and its[0].text != "cdreg" else []
+    if not rows:
+        used = itertools.islice((it for it in judged.names.of(mention.symbol) if not it.declares), AROUND)
+        rows = [row_of(judged, tokens[0]) for tokens in (statement_tokens(judged, it.start) for it in used) if tokens]
+    told = [(row.line, address) for row in rows if row for address in addresses_of(row.about)]
+    return told or [(line, address) for line, address in written_addresses(judged, mention)]
+
+
+def written_addresses(judged: Judged, mention: Mention) -> List[Tuple[int, Address]]:
+    """The addresses that stand in numbers after `cdreg` of a register."""
+    found = []
+    for it in judged.names.of(mention.symbol):
+        words = [token.text for token in statement_tokens(judged, it.start)] if it.declares else []
+        if len(words) == 6 and all(word.isdigit() for word in words[2:]):
+            crate, station, sub = map(int, words[3:])
+            found.append((judged.text.line_at(it.start), Address((crate, crate), (station, station), (sub, sub))))
+    return found

@@ -1,0 +1,158 @@
+"""Messages of the Language Server Protocol over two streams: JSON-RPC 2.0 behind headers, and requests that are cancelled before they are begun."""
+import contextlib
+import json
+import queue
+import threading
+from typing import Any, BinaryIO, Dict, Optional, Set, Union
+
+Message = Dict[str, Any]
+PARSE_ERROR, INVALID_REQUEST, METHOD_NOT_FOUND, INVALID_PARAMS, INTERNAL_ERROR = -32700, -32600, -32601, -32602, -32603
+NOT_INITIALIZED, CANCELLED, FAILED = -32002, -32800, -32803
+# A longer message is none of an editor's.
+MOST_BYTES = 1 << 26
+HEADER = b"content-length:"
+LONGEST_HEADER = 1 << 16
+
+
+class ResponseError(Exception):
+    """Why a request has no result, as the client is told."""
+
+    def __init__(self, code: int, text: str) -> None:
+        super().__init__(text)
+        self.code = code
+
+
+class Garbled(Exception):
+    """Bytes that are no message. The stream goes on with the next header."""
+
+
+class Ended(Exception):
+    """The stream is at its end."""
+
+
+def read_message(stream: BinaryIO) -> Message:
+    """The next message. Lines that are no header are passed over, so that a wrong length costs what it hides and no more.
+
+    Raises Garbled where the bytes behind a header are no message, and Ended at the end of the stream, also within a message."""
+    size = _read_headers(stream)
+    data = stream.read(size)
+    if len(data) < size:
+        raise Ended
+    try:
+        message = json.loads(data.decode("utf-8"))
+    except (ValueError, RecursionError) as why:
+        raise Garbled(f"no JSON: {why}") from None
+    if not isinstance(message, dict):
+        raise Garbled("a message is an object")
+    return message
+
+
+def _read_headers(stream: BinaryIO) -> int:
+    """How long the next message is."""
+    size: Optional[int] = None
+    while True:
+        line = stream.readline(LONGEST_HEADER)
+        if not line:
+            raise Ended
+        if line.strip():
+            if line.lower().startswith(HEADER):
+                size = _read_size(line[len(HEADER) :])
+        elif size is not None:
+            return size
+
+
+def _read_size(value: bytes) -> int:
+    word = value.strip()
+    if not word.isdigit() or len(word) > 12 or int(word) > MOST_BYTES:
+        raise Garbled("no length of a message")
+    return int(word)
+
+
+def write_message(stream: BinaryIO, message: Message) -> None:
+    data = json.dumps({"jsonrpc": "2.0", **message}).encode()
+    stream.write(b"Content-Length: %d\r\n\r\n%b" % (len(data), data))
+    stream.flush()
+
+
+class Connection:
+    """What a client sends, in its order, and what it is sent. A thread of its own reads, so that a request can be cancelled while it waits."""
+
+    def __init__(self, source: BinaryIO, target: BinaryIO) -> None:
+        self.source, self.target = source, target
+        self.arrived: "queue.Queue[Union[Message, Garbled, Ended]]" = queue.Queue()
+        self.lock = threading.Lock()
+        # The requests that wait, and those of them that are cancelled.
+        self.waiting: Set[Union[int, str]] = set()
+        self.cancelled: Set[Union[int, str]] = set()
+        threading.Thread(target=self._read, daemon=True).start()
+
+    def _read(self) -> None:
+        while True:
+            it: Union[Message, Garbled, Ended]
+            try:
+                it = read_message(self.source)
+            except (OSError, ValueError, Ended):
+                self.arrived.put(Ended())
+                return
+            except Garbled as why:
+                it = why
+            if isinstance(it, dict) and self._is_noted(it):
+                continue
+            self.arrived.put(it)
+
+    def _is_noted(self, it: Message) -> bool:
+        """Notes a request, and whether one is to be cancelled; whether that is all that a message is for."""
+        number = it.get("id")
+        with self.lock, contextlib.suppress(AttributeError, TypeError):
+            if it.get("method") == "$/cancelRequest":
+                number = it["params"].get("id")
+                if number in self.waiting:
+                    self.cancelled.add(number)
+                return True
+            if "method" in it and number is not None:
+                self.waiting.add(number)
+        return False
+
+    def next(self, timeout: Optional[float]) -> Optional[Message]:
+        """The next message that is to be answered; None where none comes in time. Raises Ended at the end of the stream."""
+        while True:
+            try:
+                it = self.arrived.get(timeout=timeout)
+            except queue.Empty:
+                return None
+            if isinstance(it, Ended):
+                raise it
+            if isinstance(it, Garbled):
+                self.send({"id": None, "error": {"code": PARSE_ERROR, "message": str(it)}})
+                continue
+            if not self._is_cancelled(it):
+                return it
+            self.fail(it.get("id"), ResponseError(CANCELLED, "the request was cancelled"))
+
+    def _is_cancelled(self, it: Message) -> bool:
+        number = it.get("id")
+        with self.lock, contextlib.suppress(TypeError):
+            self.waiting.discard(number)  # type: ignore[arg-type]
+            if number in self.cancelled:
+                self.cancelled.discard(number)
+                return True
+        return False
+
+    def put(self, message: Message) -> None:
+        """Adds a message of the server's own to those that arrived."""
+        self.arrived.put(message)
+
+    def is_idle(self) -> bool:
+        return self.arrived.empty()
+
+    def send(self, message: Message) -> None:
+        write_message(self.target, message)
+
+    def notify(self, method: str, **params: Any) -> None:
+        self.send({"method": method, "params": params})
+
+    def answer(self, number: Any, result: Any) -> None:
+        self.send({"id": number, "result": result})
+
+    def fail(self, number: Any, error: ResponseError) -> None:
+        self.send({"id": number, "error": {"code": error.code, "message": str(error)}})

@@ -1,0 +1,99 @@
+"""Why a script is refused: each refusal with its place. The checker names the first one and its line. Here it is asked again with the tokens of that
+line each on a line of its own, and then without the statements of the body that it is in."""
+import re
+from typing import Iterator, List, NamedTuple, Optional, Tuple
+
+from camac.layout import begins
+from camac.lsp.workspace import Judged
+from camac.tokens import PIECE, tokens_of
+
+FIRST = re.compile(r"refused ([A-Z]\d+) line (\d+): (.*)")
+MARK = re.compile(r"[ |]*\^")
+# So many are told at most.
+MOST = 10
+SIGN = re.compile(rb"[\x00-\xff][\x80-\xbf]*")
+BODY = re.compile(rb"#[^\n]*|\b(service|proc)\b|([{}])")
+
+
+class Refusal(NamedTuple):
+    """A rule that refuses, the line of the script, the place in bytes, the rule in words, what is said of the case, and the lines that follow."""
+
+    code: str
+    line: int
+    start: int
+    end: int
+    text: str
+    sentence: str
+    advice: Tuple[str, ...]
+
+    def message(self) -> str:
+        return "\n".join([f"{self.text}. {self.sentence}".rstrip(), *self.advice])
+
+
+def refusals(judged: Judged) -> List[Refusal]:
+    """The first refusal, and the first of each other body of a script, where a rule of the checker refuses it."""
+    return list(_refusals(judged))
+
+
+def _refusals(judged: Judged) -> Iterator[Refusal]:
+    data, told = judged.text.data, judged.ask("explain")
+    for _ in range(MOST):
+        found = None if told.accepted else FIRST.match(told.text)
+        if not found:
+            return
+        code, line = found[1], int(found[2])
+        sentence, advice = _explanation(told.text)
+        start, end = _place(judged, data, code, line)
+        yield Refusal(code, line, start, end, found[3], sentence, advice)
+        rest = _without_body(data, start) if code[0] == "E" else None
+        if rest is None:
+            return
+        data, told = rest, judged.judge.ask("explain", rest)
+
+
+def _explanation(told: str) -> Tuple[str, Tuple[str, ...]]:
+    """What is said of a case, and the lines that follow, behind the line of the script and the mark below it."""
+    its = [it for it in told.split("\n")[2:] if it and not MARK.fullmatch(it)]
+    has_sentence = bool(its) and not its[0].startswith("Why: ")
+    return (its[0], tuple(its[1:])) if has_sentence else ("", tuple(its))
+
+
+def _place(judged: Judged, data: bytes, code: str, line: int) -> Tuple[int, int]:
+    """The place of what is refused on a line."""
+    its = judged.text.line_of(line)
+    at = judged.text.line_starts[min(line, len(judged.text.line_starts)) - 1]
+    if code == "S1":
+        bad = next((it for it in PIECE.finditer(its.decode("latin-1")) if it["bad"]), None)
+        # A sign may have several bytes.
+        return (at + bad.start(), at + bad.start() + len(SIGN.match(its, bad.start())[0])) if bad else (at, at + len(its))  # type: ignore[index]
+    tokens = tokens_of(its)
+    if not tokens:
+        return at + len(its), at + len(its)
+    alone = b"\n".join(it.text.encode() for it in tokens)
+    again = FIRST.match(judged.judge.ask("explain", data[:at] + alone + data[at + len(its) :]).text)
+    number = int(again[2]) - line if again and again[1] == code else 0
+    if not 0 <= number < len(tokens):
+        number = 0
+    if code[0] == "S":
+        return at + tokens[number].start, at + tokens[number].end
+    # A statement goes on to the next one, or to the end of the line.
+    after = (place for place, it in enumerate(begins([it.text for it in tokens])) if it and place > number)
+    return at + tokens[number].start, at + tokens[next(after, len(tokens)) - 1].end
+
+
+def _without_body(data: bytes, place: int) -> Optional[bytes]:
+    """The text without the statements of the body that has a place; None where they are left out already."""
+    depth, brace, start = 0, -1, -1
+    for it in BODY.finditer(data):
+        if it[1] and not depth:
+            start = it.start()
+        elif it[2] == b"{":
+            brace = it.start() if not depth else brace
+            depth += 1
+        elif it[2] == b"}":
+            depth -= 1
+            if not depth and start <= place < it.end():
+                inside = data[brace + 1 : it.start()]
+                rest = re.sub(rb"[^\n]", b" ", inside)
+                return None if rest == inside else data[: brace + 1] + rest + data[it.start() :]
+    return None

@@ -1,0 +1,431 @@
+"""The server: what is done at each message of a client."""
+import sys
+import threading
+import time
+from typing import Any, BinaryIO, Callable, Dict, List, Optional, Sequence, Set, Tuple
+
+from camac import library
+from camac.drive import DriveFault
+from camac.edits import Edit
+from camac.layout import LayoutFault, formatted
+from camac.lsp import actions, diagnostics, symbols
+from camac.lsp.completion import complete
+from camac.lsp.documents import Text
+from camac.lsp.hover import hover
+from camac.lsp.protocol import (
+    FAILED, INTERNAL_ERROR, INVALID_PARAMS, INVALID_REQUEST, METHOD_NOT_FOUND, NOT_INITIALIZED, Connection, Ended, Message, ResponseError,
+)
+from camac.lsp.refusals import refusals
+from camac.lsp.workspace import Choice, Document, Judged, Workspace, is_plan_text
+from camac.names import Mention, Names
+from camac.warn import Warned
+
+# So long nothing has to come before warnings are looked for, and so often plans on the disk are looked at.
+QUIET, LOOK = 0.3, 1.0
+# So long a document that changes all the time is not judged.
+LONGEST = 0.1
+SWITCH = 0.000_5
+KEEPS = "camac.keeps"
+INFO = 3
+# What keeps a message from being answered. The client is told, and the server goes on.
+FAULTS = (DriveFault, OSError, ValueError, RecursionError)
+OF_PARAMS = (LookupError, TypeError, AttributeError)
+Params = Dict[str, Any]
+
+
+class Own(Dict[str, Any]):
+    """A message of the server's own: the warnings of a version of a script."""
+
+
+class Late(threading.Thread):
+    """Looks for warnings beside the server, since they may take long. Of each document the last version that was given counts."""
+
+    def __init__(self, done: Callable[[str, Judged, List[Warned]], None]) -> None:
+        super().__init__(daemon=True)
+        self.done = done
+        self.jobs: Dict[str, Judged] = {}
+        self.ready = threading.Condition()
+        self.start()
+
+    def give(self, uri: str, judged: Judged) -> None:
+        with self.ready:
+            self.jobs[uri] = judged
+            self.ready.notify()
+
+    def run(self) -> None:
+        while True:
+            with self.ready:
+                self.ready.wait_for(lambda: bool(self.jobs))
+                uri, judged = self.jobs.popitem()
+            try:
+                found = diagnostics.warned(judged)
+            except FAULTS:
+                found = []
+            self.done(uri, judged, found)
+
+
+class Server:
+    """One client's server, from `initialize` to `exit`."""
+
+    def __init__(self, source: BinaryIO, target: BinaryIO) -> None:
+        self.client = Connection(source, target)
+        self.workspace = Workspace()
+        self.workspace.on_choice = self.tell_choice
+        self.late = Late(self.on_late)
+        self.state = "new"
+        # By URI: the last version whose warnings are known, with these; when they are to be looked for; and the scripts whose plan cannot be read.
+        self.warned: Dict[str, Tuple[Text, List[Warned]]] = {}
+        self.due: Dict[str, float] = {}
+        self.faulty: Set[str] = set()
+        # The documents of which something is to be published, and since when.
+        self.stale: Dict[str, float] = {}
+        self.looked = time.monotonic()
+        self.asked = 0
+        self.requests: Dict[str, Callable[[Params], Any]] = {
+            "initialize": self.initialize, "shutdown": self.shutdown,
+            "textDocument/hover": self.on_hover, "textDocument/completion": self.on_completion,
+            "textDocument/definition": self.on_definition, "textDocument/references": self.on_references,
+            "textDocument/documentHighlight": self.on_highlight, "textDocument/prepareRename": self.on_prepare_rename,
+            "textDocument/rename": self.on_rename, "textDocument/documentSymbol": self.on_symbols,
+            "textDocument/foldingRange": self.on_folds, "textDocument/formatting": self.on_formatting,
+            "textDocument/codeAction": self.on_actions, "workspace/executeCommand": self.on_command,
+        }
+        self.notifications: Dict[str, Callable[[Params], None]] = {
+            "textDocument/didOpen": self.on_open, "textDocument/didChange": self.on_change, "textDocument/didClose": self.on_close,
+            "textDocument/didSave": lambda _: self.look_at_plans(), "workspace/didChangeWatchedFiles": lambda _: self.look_at_plans(),
+        }
+
+    def serve(self) -> int:
+        """Answers until the client says `exit`, and returns the status: 1 where it did not say `shutdown` before."""
+        # So the search for warnings holds up no answer.
+        sys.setswitchinterval(SWITCH)
+        try:
+            while True:
+                message = self.client.next(QUIET / 2 if self.due else LOOK)
+                if isinstance(message, Own):
+                    own = message
+                    self.guarded(lambda: self.publish_late(own))
+                elif message and message.get("method") == "exit":
+                    return 0 if self.state == "shut" else 1
+                elif message:
+                    self.handle(message)
+                self.guarded(self.pause)
+        except (Ended, BrokenPipeError):
+            return 0 if self.state == "shut" else 1
+        finally:
+            self.workspace.close()
+
+    def handle(self, message: Message) -> None:
+        method, number = message.get("method"), message.get("id")
+        params = message.get("params") or {}
+        if not isinstance(method, str):
+            return
+        if number is None:
+            if self.state == "ready" and method in self.notifications:
+                notify = self.notifications[method]
+                self.guarded(lambda: notify(params))
+            return
+        try:
+            self.client.answer(number, self.result(method, params))
+        except ResponseError as error:
+            self.client.fail(number, error)
+        except OF_PARAMS as why:
+            self.client.fail(number, ResponseError(INVALID_PARAMS, f"{method}: {why!r}"))
+        except FAULTS as why:
+            self.client.fail(number, ResponseError(INTERNAL_ERROR, f"{method}: {why}"))
+
+    def result(self, method: str, params: Params) -> Any:
+        if self.state == "new" and method != "initialize":
+            raise ResponseError(NOT_INITIALIZED, "`initialize` comes first")
+        if self.state == "shut" or self.state == "ready" and method == "initialize":
+            raise ResponseError(INVALID_REQUEST, f"`{method}` has no place here")
+        if method not in self.requests:
+            raise ResponseError(METHOD_NOT_FOUND, f"there is no `{method}`")
+        return self.requests[method](params)
+
+    def guarded(self, call: Callable[[], None]) -> None:
+        """Does what a notification asks for. A fault is told, and the server goes on."""
+        try:
+            call()
+        except (*FAULTS, *OF_PARAMS) as why:
+            self.log(f"camac: {why!r}")
+
+    def log(self, text: str) -> None:
+        self.client.notify("window/logMessage", type=INFO, message=text)
+
+    def initialize(self, _: Params) -> Any:
+        self.state = "ready"
+        capabilities = {
+            "positionEncoding": "utf-16",
+            "textDocumentSync": {"openClose": True, "change": 2, "save": {"includeText": False}},
+            "hoverProvider": True,
+            "completionProvider": {"triggerCharacters": [" "]},
+            "definitionProvider": True,
+            "referencesProvider": True,
+            "documentHighlightProvider": True,
+            "renameProvider": {"prepareProvider": True},
+            "documentSymbolProvider": True,
+            "foldingRangeProvider": True,
+            "documentFormattingProvider": True,
+            "codeActionProvider": {"codeActionKinds": ["quickfix"]},
+            "executeCommandProvider": {"commands": [KEEPS]},
+        }
+        version = library.version() if library.is_there() else ""
+        return {"capabilities": capabilities, "serverInfo": {"name": "camac-lsp", **({"version": version} if version else {})}}
+
+    def shutdown(self, _: Params) -> None:
+        self.state = "shut"
+
+    # Documents
+
+    def document(self, params: Params) -> Document:
+        uri = params["textDocument"]["uri"]
+        if uri not in self.workspace.documents:
+            raise ResponseError(INVALID_PARAMS, f"{uri} is not open")
+        return self.workspace.documents[uri]
+
+    def script(self, params: Params) -> Optional[Judged]:
+        """What is said of the script that a request is about; None where that is a plan."""
+        its = self.document(params)
+        return None if its.is_plan else self.workspace.judged(its)
+
+    def on_open(self, params: Params) -> None:
+        its = params["textDocument"]
+        text = Text(its["text"])
+        is_toml = its.get("languageId") == "toml" or its["uri"].endswith(".toml")
+        self.workspace.documents[its["uri"]] = Document(its["uri"], is_toml, its.get("version"), text)
+        self.refresh(self.workspace.documents[its["uri"]])
+
+    def on_change(self, params: Params) -> None:
+        uri = params["textDocument"]["uri"]
+        its = self.workspace.documents.get(uri)
+        if its is None:
+            return
+        its.text, its.version = its.text.changed(params["contentChanges"]), params["textDocument"].get("version")
+        self.refresh(its)
+
+    def on_close(self, params: Params) -> None:
+        uri = params["textDocument"]["uri"]
+        its = self.workspace.documents.pop(uri, None)
+        self.warned.pop(uri, None)
+        self.due.pop(uri, None)
+        self.faulty.discard(uri)
+        if its:
+            self.client.notify("textDocument/publishDiagnostics", uri=uri, diagnostics=[])
+            self.refresh(its)
+
+    def refresh(self, its: Document) -> None:
+        """Has published what is said of a document, and of all scripts where it is a plan. While more messages wait it is put off, but not for long."""
+        self.stale.setdefault(its.uri, time.monotonic())
+        for other in self.workspace.documents.values() if its.is_plan else ():
+            self.stale.setdefault(other.uri, time.monotonic())
+
+    def publish_stale(self) -> None:
+        now = time.monotonic()
+        for uri in [uri for uri, since in self.stale.items() if self.client.is_idle() or now - since >= LONGEST]:
+            del self.stale[uri]
+            if uri in self.workspace.documents:
+                self.guarded(lambda it=self.workspace.documents[uri]: self.publish(it))  # type: ignore[misc]
+
+    def publish(self, its: Document) -> None:
+        """Publishes the refusals of a document, and of an accepted script the warnings that still fit, until all are looked for."""
+        if its.is_plan:
+            is_plan = is_plan_text(its.text.data)
+            found = diagnostics.of_plan(self.workspace.judge(its.text.data), its.text) if is_plan else []
+        else:
+            self.faulty.discard(its.uri)
+            try:
+                judged = self.workspace.judged(its)
+            except OSError as why:
+                self.faulty.add(its.uri)
+                found = [diagnostics.of_fault(its.text, f"the plan {why.filename} cannot be read: {why.strerror}")]
+            else:
+                found = diagnostics.of_refusals(judged) or self.kept_warnings(its)
+                self.due[its.uri] = time.monotonic() + QUIET
+        self.send_diagnostics(its, found)
+
+    def send_diagnostics(self, its: Document, found: List[diagnostics.Diagnostic]) -> None:
+        version = {} if its.version is None else {"version": its.version}
+        self.client.notify("textDocument/publishDiagnostics", uri=its.uri, diagnostics=found, **version)
+
+    def kept_warnings(self, its: Document) -> List[diagnostics.Diagnostic]:
+        """The warnings of an earlier version whose lines still stand there, or as much further down as the text is longer."""
+        old, warned = self.warned.get(its.uri, (its.text, []))
+        more = len(its.text.line_starts) - len(old.line_starts)
+        found = []
+        for it in warned:
+            lines = [line for line in (it.line, it.line + more) if 0 < line <= len(its.text.line_starts)]
+            line = next((line for line in lines if its.text.line_of(line) == old.line_of(it.line)), None)
+            if line is not None:
+                found.append(diagnostics.of_warning(it._replace(line=line), its.text))
+        return found
+
+    def pause(self) -> None:
+        """What is done between messages: warnings are looked for where nothing came for a while, and plans on the disk are looked at."""
+        self.publish_stale()
+        now = time.monotonic()
+        for uri in [uri for uri, due in self.due.items() if due <= now] if self.client.is_idle() else ():
+            del self.due[uri]
+            its = self.workspace.documents[uri]
+            if its.judged and its.judged.text is its.text:
+                self.late.give(uri, its.judged)
+        if now - self.looked >= LOOK:
+            self.look_at_plans()
+
+    def look_at_plans(self) -> None:
+        """Publishes anew what is said of scripts whose plan is another one than before."""
+        self.looked = time.monotonic()
+        for its in list(self.workspace.documents.values()):
+            before = its.judged
+            if not its.is_plan and (not self.is_judged(its) or its.judged is not before):
+                self.refresh(its)
+        self.publish_stale()
+
+    def is_judged(self, its: Document) -> bool:
+        try:
+            self.workspace.judged(its)
+        except OSError:
+            return its.uri in self.faulty
+        return its.uri not in self.faulty
+
+    def on_late(self, uri: str, judged: Judged, found: List[Warned]) -> None:
+        self.client.put(Own(uri=uri, judged=judged, found=found))
+
+    def publish_late(self, own: Message) -> None:
+        """Publishes a script's warnings, where it is still the version of which they are told."""
+        its = self.workspace.documents.get(own["uri"])
+        if its is None or its.judged is not own["judged"] or its.text is not its.judged.text:
+            return
+        self.warned[its.uri] = its.text, own["found"]
+        if not diagnostics.of_refusals(its.judged):
+            self.send_diagnostics(its, [diagnostics.of_warning(it, its.text) for it in own["found"]])
+
+    def tell_choice(self, its: Document, choice: Choice) -> None:
+        self.log(f"camac: {its.uri.rpartition('/')[2]} is judged on the plan {choice.file}: {choice.why}")
+
+    # Requests
+
+    def place(self, params: Params, text: Text) -> int:
+        return text.place(params["position"])
+
+    def on_hover(self, params: Params) -> Any:
+        its = self.document(params)
+        if its.is_plan:
+            return None
+        judged = self.workspace.judged(its)
+        told = hover(judged, self.place(params, judged.text), its.choice or Choice("", ""))
+        if told is None:
+            return None
+        return {"contents": {"kind": "markdown", "value": told.text}, "range": judged.text.range(told.start, told.end)}
+
+    def on_completion(self, params: Params) -> Any:
+        judged = self.script(params)
+        return complete(judged, self.place(params, judged.text)) if judged else []
+
+    def mention(self, params: Params) -> Optional[Mention]:
+        judged = self.script(params)
+        return judged.names.at(self.place(params, judged.text)) if judged else None
+
+    def locations(self, params: Params, is_fit: Callable[[Names, Mention], bool]) -> List[Any]:
+        """The places of the name at a position that fit."""
+        judged, mention = self.script(params), self.mention(params)
+        if judged is None or mention is None:
+            return []
+        found = [it for it in judged.names.of(mention.symbol) if is_fit(judged.names, it)]
+        return [{"uri": params["textDocument"]["uri"], "range": judged.text.range(it.start, it.end)} for it in found]
+
+    def on_definition(self, params: Params) -> Any:
+        return self.locations(params, lambda _, it: it.declares)
+
+    def on_references(self, params: Params) -> Any:
+        with_declarations = (params.get("context") or {}).get("includeDeclaration", True)
+        return self.locations(params, lambda _, it: with_declarations or not it.declares)
+
+    def on_highlight(self, params: Params) -> Any:
+        return [{"range": it["range"]} for it in self.locations(params, lambda _, it: True)]
+
+    def on_prepare_rename(self, params: Params) -> Any:
+        judged, mention = self.script(params), self.mention(params)
+        return judged.text.range(mention.start, mention.end) if judged and mention else None
+
+    def on_rename(self, params: Params) -> Any:
+        judged, mention = self.script(params), self.mention(params)
+        if judged is None or mention is None:
+            raise ResponseError(FAILED, "no name stands here")
+        return self.workspace_edit(params["textDocument"]["uri"], judged, symbols.renamed(judged, mention, params["newName"]))
+
+    def workspace_edit(self, uri: str, judged: Judged, edits: Sequence[Edit]) -> Any:
+        return {"changes": {uri: judged.text.edits(edits)}}
+
+    def on_symbols(self, params: Params) -> Any:
+        its = self.document(params)
+        return symbols.symbols_of_plan(its.text) if its.is_plan else symbols.symbols_of_script(self.workspace.judged(its))
+
+    def on_folds(self, params: Params) -> Any:
+        its = self.document(params)
+        return list(symbols.folds(its.text, its.is_plan))
+
+    def on_formatting(self, params: Params) -> Any:
+        its = self.document(params)
+        if its.is_plan:
+            return []
+        try:
+            made = formatted(its.text.data)
+        except LayoutFault as fault:
+            raise ResponseError(FAILED, f"line {fault.line}: {fault}") from None
+        return its.text.edits(between(its.text.data, made))
+
+    def on_actions(self, params: Params) -> Any:
+        judged = self.script(params)
+        if judged is None:
+            return []
+        uri, text = params["textDocument"]["uri"], judged.text
+        first, last = (text.line_at(text.place(params["range"][it])) for it in ("start", "end"))
+        version, warned = self.warned.get(uri, (text, []))
+        found = actions.fixes(judged, range(first, last + 1), warned if version is text else [])
+        shown = [it for it in params.get("context", {}).get("diagnostics", []) if isinstance(it, dict)]
+        made = [self.action(uri, judged, it, shown) for it in {it.edits: it for it in reversed(list(found))}.values()][::-1]
+        if len(text.data) > actions.QUICK and any(it.code in actions.OF_LOOPS for it in refusals(judged)):
+            title = "Find what the loops have to keep"
+            made.append({"title": title, "kind": "quickfix", "command": {"title": title, "command": KEEPS, "arguments": [uri]}})
+        return made
+
+    def action(self, uri: str, judged: Judged, it: actions.Fix, shown: List[Any]) -> Any:
+        mended = [one for one in shown if one.get("code") == it.code]
+        return {"title": it.title, "kind": "quickfix", "edit": self.workspace_edit(uri, judged, it.edits), **({"diagnostics": mended} if mended else {})}
+
+    def on_command(self, params: Params) -> Any:
+        if params["command"] != KEEPS:
+            raise ResponseError(INVALID_PARAMS, f"there is no `{params['command']}`")
+        uri = params["arguments"][0]
+        judged = self.script({"textDocument": {"uri": uri}})
+        found = actions.kept(judged) if judged else []
+        if not found or judged is None:
+            self.client.notify("window/showMessage", type=INFO, message="camac: nothing is found that helps the loops of this script")
+            return None
+        self.asked += 1
+        edit = {"label": found[0].title, "edit": self.workspace_edit(uri, judged, found[0].edits)}
+        self.client.send({"id": f"camac-{self.asked}", "method": "workspace/applyEdit", "params": edit})
+        return None
+
+
+def between(old: bytes, new: bytes) -> List[Edit]:
+    """The lines that change from one text to another, as one edit."""
+    if old == new:
+        return []
+    before, after = old.splitlines(True), new.splitlines(True)
+    head = next((at for at, (one, other) in enumerate(zip(before, after)) if one != other), min(len(before), len(after)))
+    tails = zip(reversed(before[head:]), reversed(after[head:]))
+    tail = next((at for at, (one, other) in enumerate(tails) if one != other), min(len(before), len(after)) - head)
+    start = sum(map(len, before[:head]))
+    end = len(old) - sum(map(len, before[len(before) - tail :]))
+    return [Edit(start, end, b"".join(after[head : len(after) - tail]).decode("utf-8", "surrogatepass"))]
+
+
+def serve() -> int:
+    """Serves over standard input and output."""
+    # The thread that reads may still wait at the end, so this is not sys.stdin, which Python closes then.
+    source, target = open(0, "rb", closefd=False), sys.stdout.buffer
+    # What is printed by mistake goes to standard error, since standard output has the messages alone.
+    sys.stdout = sys.stderr
+    return Server(source, target).serve()

@@ -1,0 +1,93 @@
+"""The parts of a text: symbols, blocks that fold, and a name under another name."""
+import re
+from typing import Any, Dict, Iterator, List, Tuple
+
+from camac.edits import Edit, edited
+from camac.lsp.documents import Text
+from camac.lsp.protocol import FAILED, ResponseError
+from camac.lsp.workspace import Judged
+from camac.names import SCRIPT, Kind, Mention, fault_of_new_name
+from camac.toml_places import Table, read_places, tables
+
+# Kinds of symbols, as the protocol numbers them.
+EVENT, FUNCTION, VARIABLE, CONSTANT, OBJECT, STRUCT, KEY = 24, 12, 13, 14, 19, 23, 20
+NUMBER_OF = {Kind.LAM: EVENT, Kind.TABLE: CONSTANT, Kind.VARIABLE: VARIABLE, Kind.PARAMETER: VARIABLE, Kind.REGISTER: OBJECT}
+BRACES = re.compile(rb"#[^\n]*|([{}])")
+Item = Dict[str, Any]
+
+
+def symbols_of_script(judged: Judged) -> List[Item]:
+    text, names = judged.text, judged.names
+    found = [_item(text, it.name, FUNCTION if not it.is_service else EVENT, it.start, it.end, it.start, it.brace) for it in names.blocks]
+    for block, item in zip(names.blocks, found):
+        item["detail"] = "service" if block.is_service else "proc"
+        item["children"] = []
+    seen = set()
+    for it in names.mentions:
+        kind = NUMBER_OF.get(it.symbol.kind)
+        if it.declares and kind and it.symbol not in seen:
+            seen.add(it.symbol)
+            item = _item(text, it.symbol.name, kind, it.start, it.end, it.start, it.end, it.symbol.kind.value)
+            (found if it.symbol.body == SCRIPT else found[it.symbol.body]["children"]).append(item)
+    return sorted(found, key=lambda it: (it["range"]["start"]["line"], it["range"]["start"]["character"]))
+
+
+def _item(text: Text, name: str, kind: int, start: int, end: int, begin: int, stop: int, detail: str = "") -> Item:
+    return {"name": name or "?", "kind": kind, "detail": detail, "range": text.range(start, end), "selectionRange": text.range(begin, stop)}
+
+
+def symbols_of_plan(text: Text) -> List[Item]:
+    root = read_places(text.text)
+    found = [_of_table(text, it, "type", "name") for it in tables(root, "type")]
+    for it in tables(root, "crate"):
+        item = _of_table(text, it, "crate", "number")
+        item["children"] = [_of_table(text, one, "station", "n") for one in tables(it, "station")]
+        found.append(item)
+    return found
+
+
+def _of_table(text: Text, it: Table, what: str, key: str) -> Item:
+    its = it.value.get(key)
+    values = [one.value.place for one in it.value.values()]
+    # A table ends with its last value.
+    start, end = it.place.start, max([it.place.end, *(one.end for one in values)])
+    start, end = (len(text.text[:one].encode("utf-8", "surrogatepass")) for one in (start, end))
+    return _item(text, f"{what} {its.value.value if its else '?'}", STRUCT, start, end, start, end)
+
+
+def folds(text: Text, is_plan: bool) -> Iterator[Item]:
+    """Blocks in braces, and comments of several lines."""
+    data = text.data
+    opened: List[int] = []
+    for it in BRACES.finditer(data) if not is_plan else ():
+        if it[1] == b"{":
+            opened.append(it.start())
+        elif it[1] and opened:
+            first, last = text.position(opened.pop())["line"], text.position(it.start())["line"]
+            if last > first:
+                yield {"startLine": first, "endLine": last - 1 if last > first + 1 else last}
+    for comment in re.finditer(rb"(?m)(?:^[ \t]*#[^\n]*\n){2,}", data):
+        first, last = text.position(comment.start())["line"], text.position(comment.end() - 1)["line"]
+        yield {"startLine": first, "endLine": last, "kind": "comment"}
+    for table in re.finditer(rb"(?ms)^\[\[?[^\n]*\n(?:[^\[\n][^\n]*\n|\n)*", data) if is_plan else ():
+        first, last = text.position(table.start())["line"], text.position(len(table[0].rstrip()) + table.start())["line"]
+        if last > first:
+            yield {"startLine": first, "endLine": last}
+
+
+def renamed(judged: Judged, mention: Mention, new: str) -> Tuple[Edit, ...]:
+    """The edits that give a name another name. Raises ResponseError where it cannot be, or the checker would judge the script otherwise."""
+    why = fault_of_new_name(judged.names, mention.symbol, new)
+    if why:
+        raise ResponseError(FAILED, why)
+    edits = tuple(Edit(it.start, it.end, new) for it in judged.names.of(mention.symbol))
+    before = _verdict(judged.ask("check").text, mention.symbol.name)
+    after = _verdict(judged.judge.ask("check", edited(judged.text.data, edits)).text, new)
+    if before != after:
+        raise ResponseError(FAILED, f"with `{new}` the checker would say: {after[0]}")
+    return edits
+
+
+def _verdict(told: str, name: str) -> List[str]:
+    """What the checker says, with a sign in the place of a service's name."""
+    return re.sub(rf"(?m)^service {name} ", "service ? ", told).split("\n")

@@ -1,0 +1,180 @@
+"""The open documents, and the plan on which each script is judged."""
+import contextlib
+import functools
+import os
+import pathlib
+import re
+import tempfile
+from functools import cached_property
+from typing import Any, Callable, Dict, List, NamedTuple, Optional
+from urllib.parse import unquote, urlsplit
+
+from camac.library import Verdict
+from camac.lsp.documents import Text
+from camac.names import Names
+from camac.plans import Plan, parse_plan
+from camac.program import explain_plan, output_of, quickest, verdict
+from camac.texts import GREATEST_TEXT, SAMPLE, plan_text
+from camac.toml_places import with_commands
+
+# The first line of a script may name its plan.
+NAMED = re.compile(r"#\s*plan:\s*(\S+)", re.I)
+PLAN_LIKE = re.compile(rb"^\s*\[\[\s*(?:type|crate)\b|^\s*(?:type|crate)\s*=|^#:schema\s.*plan\.schema\.json", re.M)
+USUAL = "plan.toml"
+
+
+class Choice(NamedTuple):
+    """The plan of a script, by its file, and why it is this one."""
+
+    file: str
+    why: str
+
+    def told(self) -> str:
+        return f"{os.path.basename(self.file)} ({self.why})"
+
+
+def path_of(uri: str) -> Optional[pathlib.Path]:
+    """The file of a URI; None where it is none of a file."""
+    its = urlsplit(uri)
+    return pathlib.Path(unquote(its.path)) if its.scheme == "file" else None
+
+
+def is_plan_text(data: bytes) -> bool:
+    return PLAN_LIKE.search(data) is not None
+
+
+def choose(first_line: str, path: Optional[pathlib.Path]) -> Choice:
+    """The plan of a script: the one that its first line names, else the one plan beside it, else the built-in one. Of several plans beside it
+    plan.toml is taken."""
+    named = NAMED.match(first_line)
+    if named and named[1] == SAMPLE:
+        return Choice(SAMPLE, "the first line names it")
+    if path is None:
+        return Choice(SAMPLE, "the script is no file")
+    if named:
+        its = [path.parent / named[1], path.parent / named[1].rstrip(".,;")]
+        return Choice(str(next((it for it in its if it.is_file()), its[0])), "the first line names it")
+    plans = _plans_beside(path)
+    usual = [it for it in plans if it.name == USUAL]
+    if len(plans) == 1 or usual:
+        return Choice(str((usual or plans)[0]), "the plan beside the script" if len(plans) == 1 else "of the plans beside the script")
+    return Choice(SAMPLE, f"{len(plans)} plans are beside the script, and its first line names none" if plans else "no plan is beside the script")
+
+
+def _plans_beside(path: pathlib.Path) -> List[pathlib.Path]:
+    with contextlib.suppress(OSError):
+        return [it for it in sorted(path.parent.glob("*.toml")) if _is_plan(str(it), it.stat().st_mtime_ns)]
+    return []
+
+
+@functools.lru_cache(maxsize=1000)
+def _is_plan(path: str, _changed: int) -> bool:
+    with contextlib.suppress(OSError), open(path, "rb") as file:
+        return is_plan_text(file.read(GREATEST_TEXT))
+    return False
+
+
+class Judge:
+    """What the checker says of scripts on one plan, given as its text. The plan stands in a file of its own as long as this is used."""
+
+    def __init__(self, data: bytes, room: str) -> None:
+        self.data, self.program = data, quickest()
+        descriptor, self.file = tempfile.mkstemp(".toml", "plan-", room)
+        with open(descriptor, "wb") as out:
+            out.write(data)
+
+    def ask(self, command: str, script: bytes) -> Verdict:
+        if max(len(script), len(self.data)) > GREATEST_TEXT:
+            return Verdict(False, "fault input too long\n")
+        return verdict(command, self.file, script, self.program)
+
+    @cached_property
+    def explained(self) -> Verdict:
+        """What `camac explain` says of the plan alone."""
+        if len(self.data) > GREATEST_TEXT:
+            return Verdict(False, "fault input too long\n")
+        return explain_plan(self.file, self.program)
+
+    @cached_property
+    def plan(self) -> Plan:
+        """The crates of the plan, and the commands of its modules; of a refused plan nothing."""
+        if not self.explained.accepted:
+            return Plan(0, {}, ())
+        found = parse_plan(output_of("plan", "--", self.file, program=self.program))
+        return with_commands(found, self.data.decode("utf-8", "replace"))
+
+
+class Judged:
+    """What the checker says of one version of a script on one plan, each asked once, and what else is known of that version."""
+
+    def __init__(self, judge: Judge, text: Text) -> None:
+        self.judge, self.text = judge, text
+        self.told: Dict[str, Verdict] = {}
+        self.kept: Dict[Any, Any] = {}
+
+    def ask(self, command: str) -> Verdict:
+        if command not in self.told:
+            self.told[command] = self.judge.ask(command, self.text.data)
+        return self.told[command]
+
+    @cached_property
+    def names(self) -> Names:
+        return Names(self.text.data)
+
+    @property
+    def plan(self) -> Plan:
+        return self.judge.plan
+
+
+class Document:
+    """An open text. Of a script `choice` is its plan, and `judged` what is said of it."""
+
+    def __init__(self, uri: str, is_plan: bool, version: Optional[int], text: Text) -> None:
+        self.uri, self.is_plan, self.version, self.text = uri, is_plan, version, text
+        self.path = path_of(uri)
+        self.choice: Optional[Choice] = None
+        self.judged: Optional[Judged] = None
+
+
+class Workspace:
+    """The open documents by their URIs, and the plans that they are judged on."""
+
+    def __init__(self) -> None:
+        self.documents: Dict[str, Document] = {}
+        self.room = tempfile.TemporaryDirectory(prefix="camac-lsp-")
+        self.judges: Dict[bytes, Judge] = {}
+        self.on_choice: Callable[[Document, Choice], None] = lambda document, choice: None
+
+    def judged(self, document: Document) -> Judged:
+        """What is said of a script as it is, on its plan as that is: in the editor, where it is open, else on the disk. Raises OSError where its plan
+        cannot be read."""
+        choice = choose(document.text.line(0), document.path)
+        if choice != document.choice:
+            document.choice = choice
+            self.on_choice(document, choice)
+        judge = self.judge(self.plan_data(choice))
+        if document.judged is None or document.judged.judge is not judge or document.judged.text is not document.text:
+            document.judged = Judged(judge, document.text)
+        return document.judged
+
+    def plan_data(self, choice: Choice) -> bytes:
+        path = pathlib.Path(choice.file)
+        for it in self.documents.values():
+            if it.is_plan and it.path and it.path.absolute() == path.absolute():
+                return it.text.data
+        if choice.file == SAMPLE:
+            return plan_text(SAMPLE)
+        with open(path, "rb") as file:
+            return file.read(GREATEST_TEXT + 1)
+
+    def judge(self, data: bytes) -> Judge:
+        """The judge of a plan. Those of texts that are none of an open script's plan are forgotten."""
+        if data not in self.judges:
+            used = {it.judged.judge.data for it in self.documents.values() if it.judged}
+            for it in [it for it in self.judges if it not in used]:
+                os.remove(self.judges.pop(it).file)
+            self.judges[data] = Judge(data, self.room.name)
+        return self.judges[data]
+
+    def close(self) -> None:
+        self.room.cleanup()

@@ -1,0 +1,327 @@
+"""The record of a live run: a JSON file beside its event file that tells what made it, when, how it ended, and how long it took.
+
+Times are the computer's clock, and seconds are measured in this process: from the answer to a demand that calls a service until the next
+demand is asked for, the modules wait for the service (dead time); the rest is spent in demands (live time). No proof says anything of them."""
+import base64
+import collections
+import dataclasses
+import datetime
+import hashlib
+import json
+import operator
+import os
+import platform
+import time
+from dataclasses import dataclass
+from typing import Any, Callable, Dict, List, NamedTuple, Optional, Set, Tuple, Union
+
+from camac import native
+from camac.drive import Answer, Branch, File, ProgramFault, RunEnd, UsageFault, add_note, file_fault, one_line
+from camac.events import EventFileFault, read_events
+from camac.output import holds_bytes, output
+from camac.plans import plan
+from camac.program import output_of, version
+from camac.runs import Inputs, collect, is_event_file
+from camac.scripts import Service, parse_verdict
+from camac.texts import plan_text, script_text
+
+FORM = "camac record 1"
+# While a run goes on, its record is written anew after so many seconds.
+REFRESH = 5.0
+FAILED = "failed"
+OWN_FILE = "it holds bytes; a run needs a record of its own"
+
+
+@dataclass(frozen=True)
+class Recording:
+    """Where the record of a run is to be written, and what its caller says of the run. Raises TypeError where that is no whole number, or no text."""
+
+    file: File
+    number: Optional[int] = None
+    title: str = ""
+
+    def __post_init__(self) -> None:
+        if not isinstance(self.title, str):
+            raise TypeError(f"the title of a run is a text, not {self.title!r}")
+        if self.number is not None:
+            operator.index(self.number)
+
+
+class Played(NamedTuple):
+    """What is played: the files of a run, and the program that judges them. `events` is None where no event file is written."""
+
+    plan: File
+    script: File
+    events: Optional[File]
+    program: Optional[File]
+
+
+@dataclass(frozen=True)
+class Source:
+    """A plan or a script: its name as it was given, and its bytes."""
+
+    name: str
+    data: bytes
+
+    @property
+    def sha256(self) -> str:
+        return hashlib.sha256(self.data).hexdigest()
+
+    def told(self) -> Dict[str, str]:
+        """As the record has it: the text; of what is no UTF-8, or has a NUL, as may stand in comments, the bytes in base 64."""
+        try:
+            text = {"text": self.data.decode()}
+        except UnicodeDecodeError:
+            text = {}
+        if not text or b"\0" in self.data:
+            text = {"base64": base64.b64encode(self.data).decode()}
+        return {"name": self.name, "sha256": self.sha256, **text}
+
+    @classmethod
+    def read(cls, told: Any) -> "Source":
+        data = base64.b64decode(told["base64"]) if "base64" in told else told["text"].encode()
+        its = cls(told["name"], data)
+        if its.sha256 != told["sha256"]:
+            raise ValueError(f"the text of {its.name} is not the one of its SHA-256")
+        return its
+
+
+@dataclass(frozen=True)
+class Record:
+    """What is known of a run.
+
+    plan, script        their texts
+    verdict, response   the lines that `camac check` and `camac response` print; no response where the program does not know it
+    versions            of the package, of the program and of Python
+    number, title       what the caller says of it
+    begin, end, told    when it began and ended, and when this was written (UTC, ISO 8601); `end` is None while it goes on, and after a crash
+    how, line           how it ended: the word and the last line of the program; "failed" and what failed where none came
+    events, size        the name of the event file, and its bytes at the end
+    counts              of each service by its name how many events there are; None while the run goes on, and where the file cannot be read again
+    demands, services   the seconds measured in demands and in services: live and dead time; None of a run that was not measured"""
+
+    plan: Source
+    script: Source
+    verdict: Tuple[str, ...]
+    response: Tuple[str, ...]
+    versions: Dict[str, str]
+    number: Optional[int] = None
+    title: str = ""
+    begin: Optional[str] = None
+    end: Optional[str] = None
+    told: Optional[str] = None
+    how: Optional[str] = None
+    line: Optional[str] = None
+    events: Optional[str] = None
+    size: Optional[int] = None
+    counts: Optional[Dict[str, int]] = None
+    demands: Optional[float] = None
+    services: Optional[float] = None
+
+    def list_services(self) -> List[Service]:
+        """The services of the script with their bounds."""
+        return parse_verdict("\n".join(self.verdict))
+
+    def text(self) -> str:
+        """The record as JSON."""
+        measured = None if self.demands is None else {"demands": round(self.demands, 6), "services": round(self.services or 0.0, 6)}
+        told = {
+            "form": FORM,
+            **{name: getattr(self, name) for name in ("number", "title", "begin", "end", "told", "how", "line")},
+            "events": {"name": self.events, "bytes": self.size, "counts": self.counts},
+            "measured_seconds": measured,
+            "verdict": self.verdict,
+            "response": self.response,
+            "plan": self.plan.told(),
+            "script": self.script.told(),
+            "versions": self.versions,
+        }
+        return json.dumps(told, indent=1) + "\n"
+
+
+def read_record(file: File) -> Record:
+    """Reads a record. Raises OSError where the file cannot be read, and ValueError, with its name, where it is none."""
+    with open(file, "rb") as opened:
+        data = opened.read()
+    try:
+        return parse_record(data)
+    except (ValueError, KeyError, TypeError, AttributeError, RecursionError) as why:
+        raise ValueError(f"{os.fsdecode(file)} is no record of a run: {why if isinstance(why, ValueError) else 'a key is missing, or of another kind'}") from None
+
+
+def parse_record(data: bytes) -> Record:
+    """Reads the text of a record. Raises ValueError, KeyError, TypeError or AttributeError where it is none."""
+    told = json.loads(data)
+    if not isinstance(told, dict) or told.get("form") != FORM:
+        raise ValueError(f"its `form` is not {FORM!r}")
+    events, measured = told["events"], told["measured_seconds"] or {}
+    if not all(isinstance(it, str) for it in (told["title"], *told["verdict"], *told["response"], *told["versions"].values())):
+        raise TypeError
+    return Record(
+        **{name: told[name] for name in ("number", "title", "begin", "end", "told", "how", "line")},
+        plan=Source.read(told["plan"]),
+        script=Source.read(told["script"]),
+        verdict=tuple(told["verdict"]),
+        response=tuple(told["response"]),
+        events=events["name"],
+        size=events["bytes"],
+        counts=events["counts"],
+        demands=measured.get("demands"),
+        services=measured.get("services"),
+        versions=told["versions"],
+    )
+
+
+def describe(of: Played, number: Optional[int] = None, title: str = "") -> Record:
+    """The record of a run that has not begun.
+
+    Raises Refused where plan or script is refused, and ProgramFault and OSError as `camac.check`."""
+    texts = Source(os.fsdecode(of.plan), plan_text(of.plan)), Source(os.fsdecode(of.script), script_text(of.script))
+    verdict = output_of("check", "--", of.plan, of.script, program=of.program).splitlines()
+    try:
+        response = output_of("response", "--", of.plan, of.script, program=of.program).splitlines()
+    except UsageFault:
+        response = []
+    versions = {"package": native.version_text(native.VERSION), "program": version(of.program), "python": platform.python_version()}
+    events = None if of.events is None else os.fsdecode(of.events)
+    return Record(*texts, tuple(verdict), tuple(response), versions, number, title, events=events)
+
+
+def now() -> str:
+    return datetime.datetime.now(datetime.timezone.utc).isoformat(timespec="milliseconds").replace("+00:00", "Z")
+
+
+def count_events(events: File, services: List[Service]) -> Dict[str, int]:
+    """How many events of each service stand in an event file, up to its first fault."""
+    counts: "collections.Counter[int]" = collections.Counter()
+    try:
+        for event in read_events(events):
+            counts[event.gl] += 1
+    except EventFileFault:
+        pass
+    return {it.name: counts[it.gl] for it in services}
+
+
+def recorded(asked: Union[File, Recording], of: Played, branch: Branch, play: Callable[[Branch], RunEnd]) -> RunEnd:
+    """Plays a run, and writes its record: before it begins, while it goes on, and at its end.
+
+    Raises what `describe` and the run raise, and ProgramFault where the record cannot be written; a file that holds bytes is none."""
+    its = asked if isinstance(asked, Recording) else Recording(asked)
+    if holds_bytes(its.file):
+        raise file_fault("write", its.file, OWN_FILE)
+    record = dataclasses.replace(describe(of, None if its.number is None else operator.index(its.number), its.title), begin=now())
+    writer = _Writer(its.file, record, of)
+    watched = _Watched(branch, {it.gl for it in record.list_services()}, writer)
+    writer.write()
+    try:
+        end = play(watched)
+    except BaseException as error:
+        try:
+            writer.finish(watched, FAILED, f"{type(error).__name__}: {one_line(error)}")
+        except ProgramFault as fault:
+            add_note(error, f"and the record: {one_line(fault)}")
+        raise
+    try:
+        writer.finish(watched, end.how.value, end.line)
+    except ProgramFault as fault:
+        raise ProgramFault(fault.text, fault.status, end) from None
+    return end
+
+
+def refuse_foreign(file: File) -> None:
+    """Raises ProgramFault where a file holds bytes, and is none that `write_played` made."""
+    if holds_bytes(file):
+        try:
+            is_own = read_record(file).begin is None
+        except ValueError:
+            is_own = False
+        if not is_own:
+            raise file_fault("write", file, OWN_FILE)
+
+
+def write_played(file: File, inputs: Inputs, may_replace: bool = False) -> None:
+    """Writes the record of a run that is played or read for it: nothing of it is timed. Raises as `describe`, and as `refuse_foreign` unless it
+    `may_replace` a file."""
+    if not may_replace:
+        refuse_foreign(file)
+    events = inputs.source if is_event_file(inputs.source) else None
+    record = describe(Played(inputs.plan, inputs.script, events, None))
+    run = collect(inputs, plan(inputs.plan), record.list_services())
+    counts = collections.Counter(run.gl)
+    size = None if events is None else os.path.getsize(events)
+    how = run.end.how.value if run.end else None
+    of_services = {it.name: counts[it.gl] for it in record.list_services()}
+    _write(file, dataclasses.replace(record, told=now(), how=how, line=run.last_line(), size=size, counts=of_services))
+
+
+def _write(file: File, record: Record) -> None:
+    try:
+        with output(os.fsdecode(file)) as out:
+            out.write(record.text())
+    except OSError as why:
+        raise file_fault("write", file, why) from why
+
+
+class _Writer:
+    """Writes a record, and keeps when that was."""
+
+    def __init__(self, file: File, record: Record, of: Played) -> None:
+        self.file, self.record, self.of, self.at = file, record, of, 0.0
+
+    def write(self) -> None:
+        self.at = time.monotonic()
+        self.record = dataclasses.replace(self.record, told=now())
+        _write(self.file, self.record)
+
+    def refresh(self, watched: "_Watched") -> None:
+        """Writes how far the run is, if that is some seconds old. Where it cannot be written the run goes on."""
+        if time.monotonic() - self.at >= REFRESH:
+            self.measured(watched)
+            try:
+                self.write()
+            except ProgramFault:
+                pass
+
+    def measured(self, watched: "_Watched") -> None:
+        self.record = dataclasses.replace(self.record, demands=watched.demands, services=watched.services)
+
+    def finish(self, watched: "_Watched", how: str, line: str) -> None:
+        """Writes the last record of a run."""
+        watched.count()
+        self.measured(watched)
+        self.record = dataclasses.replace(self.record, end=now(), how=how, line=line)
+        if self.of.events is not None and os.path.isfile(self.of.events):
+            counts = count_events(self.of.events, self.record.list_services())
+            self.record = dataclasses.replace(self.record, counts=counts, size=os.path.getsize(self.of.events))
+        self.write()
+
+
+class _Watched:
+    """Hands all on to a branch, and measures the seconds in demands and in services."""
+
+    def __init__(self, branch: Branch, bits: Set[int], writer: _Writer) -> None:
+        self.cycle, self.lock, self.unlock = branch.cycle, branch.lock, branch.unlock
+        self.branch, self.writer = branch, writer
+        self.pattern = sum(1 << (bit - 1) for bit in bits)
+        self.demands = self.services = 0.0
+        self.since, self.is_serving = time.perf_counter(), False
+
+    def demand(self) -> Optional[Answer]:
+        self.count(self.is_serving)
+        self.writer.refresh(self)
+        self.count()
+        answer: Optional[Answer] = None
+        try:
+            answer = self.branch.demand()
+        finally:
+            self.count(isinstance(answer, Answer) and bool(answer.gl & self.pattern))
+        return answer
+
+    def count(self, is_serving: bool = False) -> None:
+        """The time until now belongs to the service that was called, or to the demands; from now on to a service where one `is_serving`."""
+        at = time.perf_counter()
+        if self.is_serving:
+            self.services += at - self.since
+        else:
+            self.demands += at - self.since
+        self.since, self.is_serving = at, is_serving

@@ -1,0 +1,53 @@
+"""What `camac-check` found, in SARIF 2.1.0 (OASIS), as code scanning of forges reads it."""
+import json
+import pathlib
+import re
+from typing import Any, Dict, List, Sequence
+from urllib.parse import quote
+
+from camac.judge import LEVELS, Found, Judged
+
+SCHEMA = "https://docs.oasis-open.org/sarif/sarif/v2.1.0/errata01/os/schemas/sarif-schema-2.1.0.json"
+# What SARIF calls the levels of annotations.
+LEVEL_OF = {"error": "error", "warning": "warning", "notice": "note"}
+
+
+def sarif(judged: Sequence[Judged], version: str) -> str:
+    """One run of `camac-check` over files. `version` is that of the program."""
+    found = [(it, one) for it in judged for one in it.found]
+    rules = sorted({_rule(one) for _, one in found})
+    driver: Dict[str, Any] = {"name": "camac-check", "rules": [{"id": it} for it in rules]}
+    numbers = re.search(r"\d+\.\d+\.\d+", version)
+    if numbers:
+        driver["semanticVersion"] = numbers[0]
+    faults = [it for it in judged if any(one.kind == "fault" for one in it.found)]
+    run = {
+        "tool": {"driver": driver},
+        "columnKind": "unicodeCodePoints",
+        "invocations": [{"executionSuccessful": not faults}],
+        "results": [_result(it, one, rules) for it, one in found],
+    }
+    return json.dumps({"$schema": SCHEMA, "version": "2.1.0", "runs": [run]}, indent=2) + "\n"
+
+
+def _rule(it: Found) -> str:
+    return it.code or it.kind
+
+
+def _result(of: Judged, it: Found, rules: List[str]) -> Dict[str, Any]:
+    place: Dict[str, Any] = {"artifactLocation": {"uri": uri_of(of.file)}}
+    if it.line is not None:
+        place["region"] = {"startLine": it.line} if it.column is None else {"startLine": it.line, "startColumn": it.column}
+    return {
+        "ruleId": _rule(it),
+        "ruleIndex": rules.index(_rule(it)),
+        "level": LEVEL_OF[LEVELS[it.kind]],
+        "message": {"text": "\n".join([it.text, *it.explanation])},
+        "locations": [{"physicalLocation": place}],
+    }
+
+
+def uri_of(file: str) -> str:
+    """A file as a reference of a URI: a relative one stays relative."""
+    path = pathlib.PurePath(file)
+    return path.as_uri() if path.is_absolute() else quote(path.as_posix())

@@ -1,0 +1,233 @@
+"""A script at work on modules without hardware, with a clock: how many look-at-mes are lost at a rate, and how long the others wait.
+
+Each dataway cycle, ours or that of an auxiliary controller, takes the same time, and nothing else takes any. Triggers come at random (as
+those of a Poisson process) or regularly. One is **lost** if no service answers it: the look-at-me is still up, the module may not call again
+so soon (`every`), its crate has inhibit, or the look-at-me is cleared before its service begins. All that is random comes from a seed."""
+import dataclasses
+import heapq
+import math
+import random
+import tempfile
+from typing import Callable, Dict, List, Mapping, NamedTuple, Optional, Sequence, Tuple
+
+from camac import library
+from camac.drive import Answer, File, RunEnd, UsageFault, drive
+from camac.mock import Declared, MockBranch, Module, Place
+from camac.plans import Plan
+from camac.plans import plan as read_plan
+from camac.program import quickest
+from camac.scripts import Response, response
+
+# While so many triggers one after another call nobody, all crates are silent: the run has come to its end.
+PATIENCE = 1000
+GREATEST_RATE = 1e7
+# The rates of a curve beside those that were told.
+FACTORS = tuple(2.0**k for k in range(-3, 4))
+
+
+class Setting(NamedTuple):
+    """What is simulated: triggers a second by service, the seconds of a cycle, whether triggers come regularly, after how many cycles a
+    module may call again, how many services are made, and the seed."""
+
+    rates: Mapping[str, float]
+    cycle: float
+    is_regular: bool = False
+    every: Mapping[str, int] = {}
+    services: int = 10_000
+    seed: int = 1
+
+
+@dataclasses.dataclass
+class Simulated:
+    """What was simulated of a service: the triggers that came, of them those that were lost, and for each look-at-me that was answered the cycles
+    until its service had ended. `length` are the cycles of its services together; `again` of them were called once more for the same
+    look-at-me, which the service before had left up. `end` is the E of `camac response`, None where that has no number."""
+
+    name: str
+    gl: int
+    rate: float
+    end: Optional[int]
+    came: int = 0
+    lost: int = 0
+    length: int = 0
+    again: int = 0
+    waits: List[float] = dataclasses.field(default_factory=list)
+
+    def live(self) -> float:
+        """The share of the triggers that were answered."""
+        return 1 - self.lost / self.came if self.came else 1.0
+
+    def reckoned(self, cycle: float) -> float:
+        """The live share of a dead time of the mean length of a service after each trigger that is taken: 1 / (1 + rate * dead time)."""
+        return 1 / (1 + self.rate * cycle * self.length / max(len(self.waits), 1))
+
+    def quantile(self, share: float) -> float:
+        """So many cycles after its look-at-me, this share of the services has ended."""
+        return sorted(self.waits)[max(math.ceil(share * len(self.waits)), 1) - 1] if self.waits else 0.0
+
+    def later(self) -> int:
+        """How many services ended later than `end`."""
+        return 0 if self.end is None else sum(it > self.end + 1e-6 for it in self.waits)
+
+
+class Simulation(NamedTuple):
+    """What was simulated of the services that have a rate, in the order of bits; of all of them together the seconds that passed, the
+    share of them in services, and how the run ended."""
+
+    services: List[Simulated]
+    seconds: float
+    busy: float
+    end: RunEnd
+
+
+@dataclasses.dataclass
+class _Source:
+    """The triggers of a module: when the next one comes, when its look-at-me was raised last, and which rise was answered last."""
+
+    of: Simulated
+    place: Place
+    every: float
+    random: random.Random
+    is_regular: bool
+    next: float = 0.0
+    raised: float = -math.inf
+    answered: float = -math.inf
+
+    def __post_init__(self) -> None:
+        self.next = self.random.random() / self.of.rate if self.is_regular else self.random.expovariate(self.of.rate)
+
+    def is_waiting(self, branch: MockBranch) -> bool:
+        """Whether a look-at-me is up that no service has answered."""
+        return branch.modules[self.place].lam and self.raised != self.answered
+
+    def take(self, branch: MockBranch) -> None:
+        """The next trigger comes."""
+        module, now = branch.modules[self.place], self.next
+        self.of.came += 1
+        if not module.lam and now >= self.raised + self.every:
+            branch.trigger(self.place)
+            if module.lam:
+                self.raised = now
+        self.next = now + (1 / self.of.rate if self.is_regular else self.random.expovariate(self.of.rate))
+
+
+class _Clocked(MockBranch):
+    """Modules whose triggers come as time passes. A service has ended at the graded-L operation behind it."""
+
+    def __init__(self, its: MockBranch, sources: Sequence[_Source], setting: Setting) -> None:
+        super().__init__(its.modules, its.gl, (), its.auxiliaries)
+        self.setting, self.sources = setting, {its.gl[it.place]: it for it in sources}
+        self.order = [(it.next, gl) for gl, it in self.sources.items()]
+        heapq.heapify(self.order)
+        self.now = self.began = self.busy = 0.0
+        self.left = setting.services
+        self.called: Optional[_Source] = None
+        self.rise: Optional[float] = None
+
+    def take_next(self) -> None:
+        it = self.sources[self.order[0][1]]
+        it.take(self)
+        heapq.heapreplace(self.order, (it.next, self.order[0][1]))
+
+    def pass_by(self, cycles: int) -> None:
+        """So many cycles pass, and the triggers of that time come."""
+        self.now += cycles * self.setting.cycle
+        while self.order[0][0] <= self.now:
+            self.take_next()
+
+    def begin(self, it: _Source) -> None:
+        self.called, self.began, self.left = it, self.now, self.left - 1
+        self.rise = None if it.answered == it.raised else it.raised
+        it.answered = it.raised
+
+    def close(self) -> None:
+        """The service in progress, if there is one, has ended."""
+        it, self.called = self.called, None
+        if it:
+            self.busy += self.now - self.began
+            it.of.length += round((self.now - self.began) / self.setting.cycle)
+            if self.rise is None:
+                it.of.again += 1
+            else:
+                it.of.waits.append((self.now - self.rise) / self.setting.cycle)
+
+    def demand(self) -> Optional[Answer]:
+        self.close()
+        for _ in range(PATIENCE if self.left else 0):
+            pattern = self.demanded()
+            called = next((it for gl, it in sorted(self.sources.items()) if pattern >> (gl - 1) & 1), None)
+            if called:
+                self.begin(called)
+                return Answer(gl=pattern)
+            self.now = max(self.now, self.order[0][0])
+            self.take_next()
+        return None
+
+    def wait(self, crate: int) -> int:
+        wait = super().wait(crate)
+        self.pass_by(wait)
+        return wait
+
+    def cycle(self, c: int, n: int, a: int, f: int, data: Optional[int]) -> Answer:
+        self.pass_by(1)
+        return super().cycle(c, n, a, f, data)
+
+
+def declared_modules(plan: Plan, seed: int = 1) -> Dict[Place, Module]:
+    """A module at each station of a plan, which accepts what its type declares."""
+    places = [(crate.number, it) for crate in plan.crates for it in crate.stations]
+    return {(c, it.number): Declared(plan.types[it.type].declarations, seed + 32 * c + it.number) for c, it in places}
+
+
+def simulate(
+    plan: File, script: File, setting: Setting, modules: Optional[Mapping[Place, Module]] = None, events: Optional[File] = None
+) -> Simulation:
+    """Simulates a script. Where no modules are given, each one accepts what the plan declares of its type, as `declared_modules` makes it.
+    The event file is written to `events`, which must not hold bytes.
+
+    Raises UsageFault where a rate is none of a service of the script, or no module stands where one calls, and what `camac.check` and `camac.drive` raise."""
+    its = read_plan(plan)
+    every = {name: _period(rate, setting) for name, rate in setting.rates.items()} if setting.is_regular else {}
+    responses = response(plan, script, {**every, **setting.every})
+    told = {it.name: it for it in responses}
+    for name in setting.rates:
+        if name not in told:
+            raise UsageFault(f"a rate of {name}: the script has no such service, but {', '.join(told) or 'none'}", 2)
+    simulated = [Simulated(it.name, it.gl, setting.rates[it.name], it.end) for it in responses if it.name in setting.rates]
+    places = {gl: (crate.number, station.number) for gl, crate, station in its.demands()}
+    sources = [
+        _Source(it, places[it.gl], setting.every.get(it.name, 0) * setting.cycle, random.Random(f"{setting.seed} {it.name}"), setting.is_regular)
+        for it in simulated
+    ]
+    there = declared_modules(its, setting.seed) if modules is None else modules
+    for it in sources:
+        if it.place not in there:
+            raise UsageFault(f"no module stands in crate {it.place[0]} at station {it.place[1]}, which calls for {it.of.name}", 2)
+    branch = _Clocked(MockBranch.of_plan(its, there), sources, setting)
+    end = _run(plan, script, branch, events)
+    for it in sources:
+        it.of.lost = it.of.came - len(it.of.waits) - it.is_waiting(branch)
+    return Simulation(simulated, branch.now, branch.busy / branch.now if branch.now else 0.0, end)
+
+
+def _period(rate: float, setting: Setting) -> int:
+    """The whole cycles between two triggers that come regularly; what is lacking by less than a millionth counts."""
+    return min(max(int(1 / rate / setting.cycle + 1e-6), 1), 4_294_967_295)
+
+
+def _run(plan: File, script: File, branch: MockBranch, events: Optional[File]) -> RunEnd:
+    """Plays by the quickest of what is here: the library, else the program."""
+    if quickest() is not None:
+        return library.play(plan, script, branch, events)
+    if events is not None:
+        return drive(plan, script, branch, events)
+    with tempfile.NamedTemporaryFile(suffix=".events") as dropped:
+        return drive(plan, script, branch, dropped.name)
+
+
+def curve(
+    plan: File, script: File, setting: Setting, make_modules: Callable[[], Optional[Mapping[Place, Module]]], factors: Sequence[float] = FACTORS
+) -> List[Simulation]:
+    """Simulates a script at multiples of its rates, with new modules each time. Raises as `simulate`."""
+    scaled = [setting._replace(rates={name: factor * rate for name, rate in setting.rates.items()}) for factor in factors]
+    return [simulate(plan, script, it, make_modules()) for it in scaled]

@@ -1,0 +1,262 @@
+"""Where the keys and values of a plan stand in its text. The text may have faults: what stands before the first one is found."""
+import re
+from dataclasses import dataclass
+from typing import Any, Dict, Iterator, List, NamedTuple, Optional, Tuple, Union
+from camac.plans import Declaration, Plan
+
+TOKEN = re.compile(
+    r"(?P<skip>#[^\n]*|[ \t\r]+)|(?P<line>\n)|\"\"\"(?P<long>.*?)\"\"\"|\"(?P<text>(?:[^\"\\\n]|\\.)*)\"|'(?P<plain>[^'\n]*)'"
+    r"|(?P<word>[A-Za-z0-9_+-]+)|(?P<sign>.)",
+    re.S,
+)
+
+
+class Place(NamedTuple):
+    """A part of a text, in signs."""
+
+    start: int
+    end: int
+
+
+class Key(NamedTuple):
+    """The place of a key, and its value."""
+
+    place: Place
+    value: "Value"
+
+
+@dataclass
+class Value:
+    """A value and its place: a number, a text or a truth value, a list of values, or a table by its keys."""
+
+    value: Any
+    place: Place
+
+
+class Table(Value):
+    """A value whose parts are `Key`s by their names."""
+
+    def __init__(self, place: Place) -> None:
+        found: Dict[str, Key] = {}
+        super().__init__(found, place)
+
+
+class _End(Exception):
+    """The text has a fault here, or ends."""
+
+
+class _Token(NamedTuple):
+    kind: str
+    text: str
+    place: Place
+
+
+class _Reader:
+    """Tokens of a text, of which those before `at` are read."""
+
+    def __init__(self, text: str) -> None:
+        self.tokens = [
+            _Token(it.lastgroup or "", it[it.lastgroup or 0], Place(it.start(), it.end())) for it in TOKEN.finditer(text) if it.lastgroup != "skip"
+        ]
+        self.at = 0
+        self.root = Table(Place(0, len(text)))
+        self.table = self.root
+
+    def next(self) -> _Token:
+        if self.at >= len(self.tokens):
+            raise _End
+        self.at += 1
+        return self.tokens[self.at - 1]
+
+    def is_sign(self, *signs: str) -> bool:
+        """Whether these signs come next."""
+        its = self.tokens[self.at : self.at + len(signs)]
+        return [(it.kind, it.text) for it in its] == [("sign", sign) for sign in signs]
+
+    def takes(self, *signs: str) -> bool:
+        is_there = self.is_sign(*signs)
+        self.at += len(signs) if is_there else 0
+        return is_there
+
+    def pass_lines(self) -> None:
+        while self.at < len(self.tokens) and self.tokens[self.at].kind == "line":
+            self.at += 1
+
+    def read(self) -> None:
+        self.pass_lines()
+        while self.at < len(self.tokens):
+            if self.takes("[", "["):
+                self.header(True)
+            elif self.takes("["):
+                self.header(False)
+            else:
+                self.pair(self.table)
+            self.pass_lines()
+
+    def names(self) -> List[_Token]:
+        found = [self.next()]
+        while self.takes("."):
+            found.append(self.next())
+        return found
+
+    def header(self, is_array: bool) -> None:
+        its = self.names()
+        table = self.root
+        for it in its[:-1]:
+            table = _below(table, it)
+        last = its[-1]
+        if is_array:
+            array = table.value.setdefault(last.text, Key(last.place, Value([], last.place))).value
+            if not isinstance(array.value, list):
+                raise _End
+            self.table = Table(last.place)
+            array.value.append(self.table)
+        else:
+            self.table = _below(table, last)
+        while self.takes("]"):
+            pass
+
+    def pair(self, table: Table) -> None:
+        its = self.names()
+        for it in its[:-1]:
+            table = _below(table, it)
+        if not self.takes("="):
+            raise _End
+        table.value[its[-1].text] = Key(its[-1].place, self.value())
+
+    def value(self) -> Value:
+        it = self.next()
+        if it.kind == "sign" and it.text == "[":
+            return self.array(it.place.start)
+        if it.kind == "sign" and it.text == "{":
+            return self.inline(it.place.start)
+        if it.kind != "word":
+            return Value(it.text, it.place)
+        return Value(_scalar(it.text), it.place)
+
+    def array(self, start: int) -> Value:
+        values = []
+        self.pass_lines()
+        while not self.takes("]"):
+            values.append(self.value())
+            self.pass_lines()
+            self.takes(",")
+            self.pass_lines()
+        return Value(values, Place(start, self.tokens[self.at - 1].place.end))
+
+    def inline(self, start: int) -> Table:
+        table = Table(Place(start, start + 1))
+        self.pass_lines()
+        while not self.takes("}"):
+            self.pair(table)
+            self.pass_lines()
+            self.takes(",")
+            self.pass_lines()
+        table.place = Place(start, self.tokens[self.at - 1].place.end)
+        return table
+
+
+def _scalar(word: str) -> Union[int, bool, str]:
+    if word in ("true", "false"):
+        return word == "true"
+    try:
+        return int(word, 0)
+    except ValueError:
+        return word
+
+
+def _below(table: Table, it: _Token) -> Table:
+    """The table below another one, the last one of an array; made where it is not there."""
+    found = table.value.setdefault(it.text, Key(it.place, Table(it.place))).value
+    if isinstance(found.value, list) and found.value:
+        found = found.value[-1]
+    if not isinstance(found, Table):
+        raise _End
+    return found
+
+
+def read_places(text: str) -> Table:
+    reader = _Reader(text)
+    try:
+        reader.read()
+    except _End:
+        pass
+    return reader.root
+
+
+def tables(of: Table, key: str) -> List[Table]:
+    """The tables of an array."""
+    its = of.value.get(key)
+    return [it for it in its.value.value if isinstance(it, Table)] if its and isinstance(its.value.value, list) else []
+
+
+def number(of: Table, key: str) -> Optional[int]:
+    its = of.value.get(key)
+    return its.value.value if its and type(its.value.value) is int else None
+
+
+# How a sentence names a table: by what it is known by, or by its place among others.
+BY_VALUE = re.compile(r"(type|crate|station) (?:`([^`]*)`|(\d+))")
+BY_PLACE = re.compile(r"(?:(\w+) )?(command|entry|type|crate|station)(?: number (\d+))?(?: of `(\w+)`)?")
+BY_KEY = re.compile(r"`?(\w+)`?")
+ORDINALS = ("first", "second", "third", "fourth", "fifth", "sixth", "seventh", "eighth", "ninth", "tenth")
+ARRAYS = {"type": ("type", "name"), "command": ("commands", "f"), "crate": ("crate", "number"), "station": ("station", "n")}
+AT = re.compile(r"Line (\d+), column (\d+)")
+
+
+def place_of(text: str, sentence: str) -> Place:
+    """Where what a fault of a plan tells stands: "crate 1, station 5, gl: the value is 25", or "Line 8, column 8: ..". The first line where it is
+    not found."""
+    at = AT.match(sentence)
+    if at:
+        starts = [0, *(it.end() for it in re.finditer("\n", text))]
+        start = min(len(text), starts[min(int(at[1]), len(starts)) - 1] + int(at[2]) - 1)
+        return Place(start, min(len(text), start + 1))
+    table = read_places(text)
+    place = Place(0, text.find("\n") if "\n" in text else len(text))
+    for step in sentence.partition(":")[0].split(", "):
+        found = _stepped(table, step)
+        if found is None:
+            break
+        place, below = found
+        if not isinstance(below, Table):
+            break
+        table = below
+    return place
+
+
+def _stepped(table: Table, step: str) -> Optional[Tuple[Place, Optional[Value]]]:
+    """The place of a step of such a sentence below a table, and the value there."""
+    fitting: List[Table] = []
+    value, place = BY_VALUE.fullmatch(step), BY_PLACE.fullmatch(step)
+    if value:
+        array, name = ARRAYS[value[1]]
+        # The second of two that are known by the same is the one that is refused.
+        fitting = [it for it in tables(table, array) if name in it.value and str(it.value[name].value.value) == (value[2] or value[3])]
+    elif place and (place[1] in ORDINALS or place[3]):
+        number = int(place[3]) if place[3] else ORDINALS.index(place[1]) + 1
+        fitting = tables(table, ARRAYS[place[4] or place[2]][0])[number - 1 : number] if (place[4] or place[2]) in ARRAYS else []
+    else:
+        key = BY_KEY.fullmatch(step)
+        found = table.value.get(key[1]) if key else None
+        return (Place(found.place.start, found.value.place.end), found.value) if found else None
+    return (fitting[-1].place, fitting[-1]) if fitting else None
+
+
+def declarations(text: str) -> Iterator[Tuple[str, Declaration]]:
+    """The commands of a plan that the checker accepts, each with its type."""
+    for it in tables(read_places(text), "type"):
+        name = it.value["name"].value.value if "name" in it.value else ""
+        for one in tables(it, "commands"):
+            function, first, last = number(one, "f"), number(one, "a"), number(one, "to")
+            if function is not None and first is not None:
+                is_probe = "probe" in one.value and one.value["probe"].value.value is True
+                yield name, Declaration(function, first, first if last is None else last, number(one, "width"), is_probe)
+
+
+def with_commands(plan: Plan, text: str) -> Plan:
+    """A plan as the checker reads it, with the commands of its types as they stand in its text."""
+    found: Dict[str, List[Declaration]] = {it: [] for it in plan.types}
+    for name, it in declarations(text):
+        found.setdefault(name, []).append(it)
+    return plan._replace(types={name: it._replace(declarations=tuple(found[name])) for name, it in plan.types.items()})

@@ -1,0 +1,257 @@
+"""What the words of events mean: their columns, each with a name and a unit.
+
+A column is a number that stands in words of a service: at a place in the event, in some bits, or chosen by a tag in the same word.
+`read_words` reads columns from a file of the user's (words.toml); `words_of_script` takes them from a script, where the place of a word is
+fixed."""
+import importlib
+import itertools
+from dataclasses import dataclass
+from typing import Any, Dict, Iterator, List, NamedTuple, Optional, Sequence, Tuple, Union
+
+from camac.arrays import Array, EventArrays
+from camac.events import GREATEST_COUNT, Event
+
+Range = Tuple[int, int]
+Amount = Union[int, float]
+WHOLE: Range = (0, 23)
+ANYWHERE: Range = (1, GREATEST_COUNT)
+# The tag that every word has: its place in the event.
+PLACE = "place"
+
+
+@dataclass(frozen=True)
+class Field:
+    """A number in the words of a service.
+
+    name, unit     as they are shown: any text
+    gl             the bit of the graded-L pattern whose service it is, from 1 to 24
+    bits           the first and last bit of the word; bit k has the value 2^k
+    places         the first and last place in the event, from 1
+    count          where it is not None, only events of exactly so many words have it
+    of, tags       the name of the field of the same word, or PLACE, whose number chooses the column, and the first and last such number
+    scale, offset  a number means scale * number + offset
+    line           where it stands in the file of the user, or in the script
+    is_expression  whether nothing is known of it but the expression in the script"""
+
+    name: str
+    gl: int
+    unit: str = ""
+    bits: Range = WHOLE
+    places: Range = ANYWHERE
+    count: Optional[int] = None
+    of: Optional[str] = None
+    tags: Range = (0, 0)
+    scale: Amount = 1
+    offset: Amount = 0
+    line: int = 0
+    is_expression: bool = False
+
+    @property
+    def is_plain(self) -> bool:
+        """Whether a number means itself."""
+        return (self.scale, self.offset) == (1, 0)
+
+    @property
+    def greatest(self) -> int:
+        """The greatest number that the bits hold."""
+        return int((1 << (self.bits[1] - self.bits[0] + 1)) - 1)
+
+    def number(self, word: Any) -> Any:
+        """The number in a word, or the numbers in an array of words."""
+        return (word >> self.bits[0]) & self.greatest
+
+    def value(self, number: Any) -> Any:
+        """What a number, or an array of them, means in the unit."""
+        return number if self.is_plain else self.scale * number + self.offset
+
+
+@dataclass(frozen=True)
+class Column:
+    """The numbers of a field, or those of them that have one tag. Where a field has a column for each of several tags, the tag stands behind
+    the name: "adc[3]"."""
+
+    field: Field
+    tag: Optional[int] = None
+
+    @property
+    def name(self) -> str:
+        its = self.field
+        return its.name if self.tag is None or its.tags[0] == its.tags[1] else f"{its.name}[{self.tag}]"
+
+    @property
+    def unit(self) -> str:
+        return self.field.unit
+
+    @property
+    def is_expression(self) -> bool:
+        """Whether it is a word of which only the expression in the script is known."""
+        return self.field.is_expression
+
+    @property
+    def greatest(self) -> int:
+        return self.field.greatest
+
+    def value(self, number: Any) -> Any:
+        return self.field.value(number)
+
+
+class Value(NamedTuple):
+    """A number in an event: its column, the place of its word from 1, and the number as it stands in the bits."""
+
+    column: Column
+    place: int
+    number: int
+
+
+class Numbers(NamedTuple):
+    """The numbers of a column in many events, and, of a column of all 24 bits, for each the number of its event."""
+
+    column: Column
+    events: Sequence[int]
+    numbers: List[int]
+
+
+class Values(NamedTuple):
+    """The numbers of a column, or of all columns of a field, in the order of the file: the index of each one's word in `EventArrays.words`,
+    and the numbers as they stand in the bits."""
+
+    at: Array
+    numbers: Array
+
+
+class _Reader:
+    """Reads the numbers of a field. `columns` are by tag; a field that has no tag has one at 0."""
+
+    def __init__(self, field: Field, tag: Optional[Field]) -> None:
+        self.field, self.tag, self.is_whole = field, tag, field.bits == WHOLE
+        first, last = field.tags
+        self.columns = {it: Column(field, it) for it in range(first, last + 1)} if field.of else {0: Column(field)}
+
+    def column(self, word: int, place: int) -> Optional[Column]:
+        if self.tag is not None:
+            return self.columns.get(self.tag.number(word))
+        return self.columns.get(place if self.field.of else 0)
+
+    def split(self, events: Sequence[int], words: Sequence[int], place: int) -> Iterator[Numbers]:
+        """The numbers in the words of many events, by column. They stand at this place, where the place chooses the column."""
+        low, mask = self.field.bits[0], self.field.greatest
+        if self.tag is None:
+            column = self.column(0, place)
+            if column is not None:
+                yield Numbers(column, events, [word >> low & mask for word in words])
+            return
+        tag_low, tag_mask = self.tag.bits[0], self.tag.greatest
+        found: Dict[int, Tuple[List[int], List[int]]] = {}
+        for event, word in zip(events if self.is_whole else itertools.repeat(0), words):
+            tag = word >> tag_low & tag_mask
+            if tag not in found:
+                found[tag] = [], []
+            found[tag][0].append(event)
+            found[tag][1].append(word >> low & mask)
+        for tag, (its_events, numbers) in found.items():
+            if tag in self.columns:
+                yield Numbers(self.columns[tag], its_events, numbers)
+
+    def stands_at(self, count: int, place: int) -> bool:
+        """Whether the word at a place of an event of so many words has this field."""
+        return self.field.places[0] <= place <= self.field.places[1] and self.field.count in (None, count)
+
+
+class Words:
+    """The columns of words, by the bit of their service. Fields stand in the order in which they are told."""
+
+    def __init__(self, fields: Sequence[Field] = ()) -> None:
+        self.fields = tuple(fields)
+        self._readers: Dict[int, List[_Reader]] = {}
+        for it in self.fields:
+            self._readers.setdefault(it.gl, []).append(_Reader(it, self.tag_of(it)))
+        self._counts = {(it.gl, it.count) for it in self.fields if it.count is not None}
+        self._layouts: Dict[Tuple[int, int], List[Tuple[_Reader, ...]]] = {}
+
+    def tag_of(self, its: Field) -> Optional[Field]:
+        """The field whose number chooses the column of another one: it stands in the same words. None where none does."""
+        for it in self.fields:
+            if it.gl == its.gl and it.name == its.of and it.places[0] <= its.places[0] and its.places[1] <= it.places[1]:
+                return it
+        return None
+
+    def columns(self, gl: int) -> Tuple[Column, ...]:
+        """The columns of a service, in their order."""
+        return tuple(column for it in self._readers.get(gl, ()) for column in it.columns.values())
+
+    def by_name(self) -> Dict[str, List[Field]]:
+        """The fields of each name, in the order of the names."""
+        found: Dict[str, List[Field]] = {}
+        for it in self.fields:
+            found.setdefault(it.name, []).append(it)
+        return found
+
+    def values(self, event: Event) -> Iterator[Value]:
+        """The numbers in an event, by place. A word of which nothing is told has none."""
+        layout = self._layout(event.gl, len(event.words))
+        for place, (word, readers) in enumerate(zip(event.words, layout), 1):
+            for it in readers:
+                column = it.column(word, place)
+                if column is not None:
+                    yield Value(column, place, it.field.number(word))
+
+    def numbers(self, events: Sequence[Event]) -> Iterator[Numbers]:
+        """The numbers in many events, by column: what `values` gives of each, far quicker."""
+        alike: Dict[Tuple[int, int], List[Event]] = {}
+        for event in events:
+            alike.setdefault((event.gl, len(event.words)), []).append(event)
+        gathered: Dict[Tuple[_Reader, int], Tuple[List[int], List[int]]] = {}
+        for key, its in alike.items():
+            at = [it.number for it in its]
+            for place, (words, readers) in enumerate(zip(zip(*(it.words for it in its)), self._layout(*key)), 1):
+                for it in readers:
+                    bucket = it, place if it.field.of == PLACE else 0
+                    if bucket not in gathered:
+                        gathered[bucket] = [], []
+                    gathered[bucket][1].extend(words)
+                    if it.is_whole:
+                        gathered[bucket][0].extend(at)
+        for (reader, place), (numbers, words_of) in gathered.items():
+            yield from reader.split(numbers, words_of, place)
+
+    def _layout(self, gl: int, count: int) -> List[Tuple[_Reader, ...]]:
+        """What reads the word at each place of an event of so many words. It is kept, since it is asked for each event."""
+        key = gl, count if (gl, count) in self._counts else 0
+        if key not in self._layouts:
+            its = self._readers.get(gl, [])
+            last = max((it.field.places[1] for it in its), default=0)
+            self._layouts[key] = [tuple(it for it in its if it.stands_at(count, place)) for place in range(1, last + 1)]
+        return self._layouts[key]
+
+    def values_of(self, its: Union[Field, Column], events: EventArrays) -> Values:
+        """The numbers of a field, or of a column of one, in the events of a file. Raises ImportError where numpy is not there."""
+        numpy = importlib.import_module("numpy")
+        field, tags = (its, its.tags) if isinstance(its, Field) else (its.field, (its.tag or 0, its.tag or 0))
+        places = field.places
+        if field.of == PLACE:
+            places = max(places[0], tags[0]), min(places[1], tags[1])
+        at = _rows(numpy, field, places, events)
+        words = events.words[at]
+        tag = self.tag_of(field)
+        if tag is not None:
+            its_tags = tag.number(words)
+            has_tag = (tags[0] <= its_tags) & (its_tags <= tags[1])
+            at, words = at[has_tag], words[has_tag]
+        return Values(at, field.number(words))
+
+
+def _rows(numpy: Any, field: Field, places: Range, events: EventArrays) -> Array:
+    """The indices of the words at these places, in events that have the field."""
+    counts = numpy.diff(events.first)
+    has_field = events.gl == field.gl
+    if field.count is not None:
+        has_field &= counts == field.count
+    its = numpy.flatnonzero(has_field)
+    starts = events.first[its] + places[0] - 1
+    lengths = numpy.clip(numpy.minimum(counts[its], places[1]) - places[0] + 1, 0, None)
+    before = numpy.cumsum(lengths) - lengths
+    # Numbers of four bytes, where they are enough, take half of the memory; they count modulo 2^32.
+    kind = "u4" if len(events.words) < 1 << 32 else "i8"
+    found = numpy.repeat((starts - before).astype(kind), lengths)
+    found += numpy.arange(len(found), dtype=kind)
+    return found

@@ -1,0 +1,185 @@
+#!/usr/bin/env python3
+"""Tries the layout of scripts (camac-fmt): the examples have it, it keeps tokens and comments, a second layout changes nothing, and the verdict and the event
+file of a run are as before; so they are with a name that is another one (camac-lsp).
+
+usage: tests/fmt_test.py [-v] [TEST ..]     from any folder; takes some seconds
+
+CAMAC_CASES tells how many random scripts are tried, 60 where it is not set; SEED begins them. Where the library for C is there (tests/of_c.py), it judges,
+else what needs it is left out.
+"""
+import os
+import random
+import re
+import subprocess
+import sys
+import unittest
+
+import of_c
+from live import TOP, Case
+from camac import library
+from camac.edits import edited
+from camac.layout import LayoutFault, formatted, kept_by
+from camac.lsp.documents import Text
+from camac.lsp.protocol import ResponseError
+from camac.lsp.symbols import renamed
+from camac.lsp.workspace import Judge, Judged
+from camac.names import Names
+from camac.texts import SAMPLE, plan_text
+from camac.tokens import tokens_of
+
+sys.path.insert(0, str(TOP / "tools"))
+
+from oracle.cases import edge_case, script_case
+
+CASES = int(os.environ.get("CAMAC_CASES", "60"))
+SEED = os.environ.get("SEED", "1")
+HEAD = "cdlam adc 1 1 5 12\nservice adc within 9 cycles event 9 words {\n"
+# What stands in a service, and how it is laid out.
+BODIES = [
+    ("put 1  put 2", "  put 1\n  put 2\n"),
+    ("put(1+2)*3-4/5", "  put (1 + 2) * 3 - 4 / 5\n"),
+    ("if q{put 1}else{put 2}", "  if q { put 1 } else { put 2 }\n"),
+    ("if q{put 1 put 2}", "  if q {\n    put 1\n    put 2\n  }\n"),
+    ("if q{put 1}else{put 2 put 3}", "  if q {\n    put 1\n  } else {\n    put 2\n    put 3\n  }\n"),
+    ("if q {\n put 1 }", "  if q {\n    put 1\n  }\n"),
+    ("if q{ if x {} }", "  if q {\n    if x {}\n  }\n"),
+    ("lock 1 { }", "  lock 1 {}\n"),
+    ("lock 1 {\n\n\n}", "  lock 1 {}\n"),
+    ("lock 1 { # a\n}", "  lock 1 {  # a\n  }\n"),
+    ("if q { put 1 } # a\nelse { put 2 }", "  if q { put 1 }  # a\n  else { put 2 }\n"),
+    ("put 1   #   a\t\nput 1000 # b", "  put 1     #   a\n  put 1000  # b\n"),
+    ("put 1 # a\n\nput 1000 # b", "  put 1  # a\n\n  put 1000  # b\n"),
+    ("\n\n# a\n\n\n# b\nput 1\n\n", "  # a\n\n  # b\n  put 1\n"),
+    ("put 1 + # a\n 2 # b\n # c\n", "  put 1 +  # a\n      2    # b\n  # c\n"),
+    ("put 1 +\n# a\n 2", "  put 1 +\n      # a\n      2\n"),
+    ("for i=1 to 3 keep v in 0 .. 4,w in 1..2{v=1}", "  for i = 1 to 3 keep v in 0..4, w in 1..2 { v = 1 }\n"),
+    ("while k>0 turns 3 by k{k=k-1}", "  while k > 0 turns 3 by k { k = k - 1 }\n"),
+    ("call p ( 1,2 )", "  call p(1, 2)\n"),
+    ("cfsa 0 r->v cfsa 16 r<-v v=v-1", "  cfsa 0 r -> v\n  cfsa 16 r <- v\n  v = v - 1\n"),
+    ("put v < -1", "  put v < - 1\n"),
+    ("put " + "+".join(["1234567890"] * 12), "  put " + " + ".join(["1234567890"] * 8) + " +\n      " + " + ".join(["1234567890"] * 4) + "\n"),
+    ("\r\nput 1\r\nput 2\r\n", "  put 1\n  put 2\n"),
+]
+WHOLE = [
+    ("", ""),
+    ("# a", "# a\n"),
+    ("\n\nvar a var b\n\n\n\nvar c", "var a\nvar b\n\nvar c\n"),
+    ("table g=1 2\n3 table h = 4", "table g = 1 2 3\ntable h = 4\n"),
+    ("proc p( a in 0..1,b in 0..2 )within 1 cycles event 0 words steps 1{}", "proc p(a in 0..1, b in 0..2) within 1 cycles event 0 words steps 1 {}\n"),
+]
+
+
+class Layout(unittest.TestCase):
+    def test_examples(self):
+        for it in sorted((TOP / "examples").rglob("*.script")):
+            self.assertEqual(formatted(it.read_bytes()), it.read_bytes(), it)
+
+    def test_bodies(self):
+        for given, wanted in [*((f"{HEAD}{body}\n}}\n", f"{HEAD}{laid}}}\n") for body, laid in BODIES), *WHOLE]:
+            with self.subTest(given=given):
+                self.assertEqual(formatted(given.encode()).decode(), wanted)
+                self.assertEqual(formatted(wanted.encode()).decode(), wanted)
+
+    def test_bytes_of_comments(self):
+        self.assertEqual(formatted(b"var a # \xff \xc3\xa4 \r\n"), b"var a  # \xff \xc3\xa4\n")
+
+    def test_texts_without_layout(self):
+        for text, line, said in [("var a\nvar $", 2, "the byte `$` begins no token"), ("var a }", 1, "this `}` closes nothing"), ("\nlock 1 {", 2, "this `{` is not closed")]:
+            with self.assertRaises(LayoutFault) as why:
+                formatted(text.encode())
+            self.assertEqual((why.exception.line, str(why.exception)), (line, said))
+
+    def test_text_that_would_be_too_long(self):
+        text = HEAD.encode() + b"if q {" + b"put 1\n" * 174_000 + b"}}"
+        self.assertLess(len(text), 1_048_576)
+        with self.assertRaises(LayoutFault):
+            formatted(text)
+
+
+class Command(Case):
+    def run_fmt(self, *words, given=b""):
+        ran = subprocess.run([sys.executable, "-m", "camac", "fmt", *words], input=given, capture_output=True, cwd=self.room, env={**os.environ, "PYTHONPATH": str(TOP / "python")})
+        return ran.returncode, ran.stdout.decode(), ran.stderr.decode()
+
+    def test_files(self):
+        bad = self.write("bad.script", "var a  var b")
+        self.write("good.script", "var a\n")
+        self.write("none.script", "var }")
+        said = "camac: none.script:1: this `}` closes nothing\n"
+        self.assertEqual(self.run_fmt("--check", "bad.script", "good.script", "none.script"), (1, "bad.script: its layout is another one\n", said))
+        self.assertEqual(bad.read_text(), "var a  var b")
+        bad.chmod(0o640)
+        self.assertEqual(self.run_fmt("bad.script", "good.script"), (0, "", ""))
+        self.assertEqual((bad.read_text(), bad.stat().st_mode & 0o777), ("var a\nvar b\n", 0o640))
+        self.assertEqual(self.run_fmt("none.script"), (1, "", said))
+        self.assertEqual(self.file("none.script"), b"var }")
+        self.assertEqual(self.run_fmt("lost.script"), (3, "", "camac: No such file or directory: lost.script\n"))
+        self.assertEqual(self.run_fmt(), (2, "", self.run_fmt()[2]))
+
+    def test_standard_input(self):
+        self.assertEqual(self.run_fmt("-", given=b"var a var b"), (0, "var a\nvar b\n", ""))
+        self.assertEqual(self.run_fmt("-", given=b"var {"), (1, "", "camac: -:1: this `{` is not closed\n"))
+
+
+@unittest.skipIf(of_c.lacking(), of_c.lacking() or "it is here")
+class RandomScripts(Case):
+    """What the checker says of a script, and what a run of it does, stays with its layout and with other names."""
+
+    @classmethod
+    def setUpClass(cls):
+        os.environ.update(of_c.environment())
+
+    def cases(self):
+        for number in range(CASES):
+            its = random.Random(f"{SEED} {number}")
+            yield number, its, (edge_case if number % 4 == 3 else script_case)(its).inputs
+
+    def told(self, plan, script, answers):
+        """The verdict, without the lines of refusals, and what a run lists and writes."""
+        verdict = library.check(plan, script)
+        run = library.run(plan, script, answers or b"") if verdict.accepted else None
+        return re.sub(r" line \d+", "", verdict.text), run
+
+    def test_layout(self):
+        tried = 0
+        for number, _, its in self.cases():
+            with self.subTest(number=number):
+                plan = plan_text(SAMPLE) if its.plan is None else its.plan
+                try:
+                    made = formatted(its.script)
+                except LayoutFault:
+                    self.assertRegex(library.check(plan, its.script).text, "refused [SP]")
+                    continue
+                tried += 1
+                self.assertEqual([it.text for it in tokens_of(made)], [it.text for it in tokens_of(its.script)])
+                self.assertEqual(kept_by(made), kept_by(its.script))
+                self.assertEqual(formatted(made), made)
+                self.assertEqual(self.told(plan, made, its.answers), self.told(plan, its.script, its.answers))
+        self.assertGreater(tried, CASES // 2)
+
+    def test_rename(self):
+        tried = 0
+        for number, chance, its in self.cases():
+            plan = plan_text(SAMPLE) if its.plan is None else its.plan
+            text = Text(its.script.decode("utf-8", "replace"))
+            judged = Judged(Judge(plan, str(self.room)), text)
+            mentions = judged.names.mentions
+            if not mentions or not judged.ask("check").accepted:
+                continue
+            with self.subTest(number=number):
+                mention, new = chance.choice(mentions), chance.choice(("other", "cfs", "n" * 32, "Q", "service1"))
+                try:
+                    made = edited(text.data, renamed(judged, mention, new))
+                except ResponseError:
+                    self.assertIn(new, {it.symbol.name for it in mentions})
+                    continue
+                tried += 1
+                name = mention.symbol.name
+                told = self.told(plan, text.data, its.answers), self.told(plan, made, its.answers)
+                self.assertNotIn(name, [it.symbol.name for it in Names(made).mentions if it.symbol.body == mention.symbol.body])
+                self.assertEqual(*(re.sub(rf"\b({name}|{new})\b", "it", repr(one)) for one in told))
+        self.assertGreater(tried, CASES // 4)
+
+
+if __name__ == "__main__":
+    unittest.main()

@@ -1,0 +1,88 @@
+/* consumer.c: what a data acquisition program makes of a run: the listing and the event file of `camac run`. The run is begun again before it is
+ * played.
+ *
+ *     consumer FOLDER COUNT     of FOLDER/K.plan and FOLDER/K.script, K below COUNT, it makes K.answers at random, K.listing and K.events */
+#include "common.h"
+
+#define ANSWERS 150
+
+static FILE *to_file(const char *folder, long k, const char *kind) {
+    char path[4096];
+    snprintf(path, sizeof path, "%s/%ld.%s", folder, k, kind);
+    FILE *file = fopen(path, "wb");
+    if (!file) fail("%s cannot be written", path);
+    return file;
+}
+
+static text of_file(const char *folder, long k, const char *kind) {
+    char path[4096];
+    snprintf(path, sizeof path, "%s/%ld.%s", folder, k, kind);
+    return read_file(path);
+}
+
+/* Writes what a call tells, which has to be what it tells of its size alone. */
+static void put(FILE *to, int (*call)(const camac_session *, void *, size_t, size_t *), const camac_session *s) {
+    static char bytes[1 << 15];
+    size_t size, alone;
+    EXPECT(CAMAC_OK, call(s, bytes, sizeof bytes, &size));
+    EXPECT(CAMAC_OK, call(s, NULL, 0, &alone));
+    if (size != alone || size > sizeof bytes) fail("%zu bytes are told, or %zu", size, alone);
+    if (fwrite(bytes, 1, size, to) != size) fail("a file cannot be written");
+}
+
+static int item(const camac_session *s, void *bytes, size_t room, size_t *size) { return camac_item(s, bytes, room, size); }
+
+/* A pattern that calls one of the services, or any. */
+static uint32_t any_pattern(const camac_session *s, uint32_t *seed) {
+    camac_service_info info = CAMAC_SERVICE_INFO;
+    const uint32_t services = (uint32_t)camac_services(s);
+    if (!services || chance(seed, 4) == 0) return chance(seed, 1u << 24);
+    EXPECT(CAMAC_OK, camac_service(s, 1 + chance(seed, services), &info));
+    return 1u << (info.gl - 1);
+}
+
+/* Plays up to an overrun, or to the end of the answers. */
+static void play(camac_session *s, const char *folder, long k) {
+    FILE *answers = to_file(folder, k, "answers"), *listing = to_file(folder, k, "listing"), *events = to_file(folder, k, "events");
+    camac_want want = CAMAC_WANT;
+    camac_progress did = CAMAC_PROGRESS;
+    char header[8];
+    uint32_t seed = (uint32_t)k, count = 0;
+    const uint32_t most = chance(&seed, ANSWERS), before = camac_answers_left(s);
+    int code = camac_wants(s, &want);
+    if (camac_file_header(header, sizeof header) != 8 || fwrite(header, 1, 8, events) != 8) fail("a header cannot be written");
+    for (uint32_t i = 0; i < most && code == CAMAC_OK; i++) {
+        camac_answer answer = any_answer(&seed);
+        if (want.kind == CAMAC_DEMAND) answer.gl = any_pattern(s, &seed);
+        fprintf(answers, "%d %d %06x %x %06x\n", answer.x, answer.q, (unsigned)answer.word, answer.wait, (unsigned)answer.gl);
+        code = camac_step(s, &answer, &did, &want);
+        put(listing, item, s);
+        put(events, camac_record, s);
+        if (code == CAMAC_OK && camac_answers_left(s) != before - i - 1) fail("%u answers are left", (unsigned)camac_answers_left(s));
+        if (did.event) count = did.event;
+    }
+    if (code == CAMAC_OVERRUN) fprintf(listing, "overrun %d wait %d events %u\n", did.c, did.wait, (unsigned)count);
+    else fprintf(listing, "%s events %u\n", want.kind == CAMAC_DEMAND ? "ended" : "short", (unsigned)count);
+    if (fclose(answers) || fclose(listing) || fclose(events)) fail("a file cannot be written");
+}
+
+int main(int words_count, char **words) {
+    if (words_count != 3) return 2;
+    for (long k = 0; k < atol(words[2]); k++) {
+        camac_session s = CAMAC_NONE;
+        uint32_t seed = (uint32_t)k;
+        const text plan = of_file(words[1], k, "plan"), script = of_file(words[1], k, "script");
+        open_session(&s, &plan, &script);
+        for (camac_want want = CAMAC_WANT; chance(&seed, 30) && camac_wants(&s, &want) == CAMAC_OK;) {
+            camac_progress did = CAMAC_PROGRESS;
+            camac_answer answer = any_answer(&seed);
+            if (want.kind == CAMAC_DEMAND) answer.gl = any_pattern(&s, &seed);
+            if (camac_next(&s, &answer, &did) > CAMAC_OVERRUN) fail("an answer is not taken");
+        }
+        EXPECT(CAMAC_OK, camac_rewind(&s));
+        play(&s, words[1], k);
+        camac_close(&s);
+        free(plan.bytes), free(script.bytes);
+    }
+    return 0;
+}

@@ -1,0 +1,187 @@
+/* sessions.c: what a session tells of itself and of its last answer, next to what other calls tell of the same run.
+ *
+ *     sessions PLAN SCRIPT */
+#include "common.h"
+
+#define ANSWERS 3000
+
+static text plan, script;
+static const camac_want no_want = CAMAC_WANT;
+static const camac_progress no_progress = CAMAC_PROGRESS;
+static const camac_service_info no_service = CAMAC_SERVICE_INFO;
+static const camac_answer no_answer = CAMAC_ANSWER;
+
+static void expect_zeros(const void *found, const void *zeros, size_t size, int line) {
+    if (memcmp(found, zeros, size)) fail("line %d: what is no result is not zeros", line);
+}
+
+/* Fills a struct with what is no result, but for its size. */
+static void spoil(void *its, uint32_t size) {
+    memset(its, 9, size);
+    memcpy(its, &size, sizeof size);
+}
+
+/* Of a none nothing is told. */
+static void none(void) {
+    camac_session s = CAMAC_NONE;
+    camac_want want;
+    camac_progress did;
+    camac_service_info info;
+    char text[4] = "#";
+    size_t size = 9;
+    spoil(&want, sizeof want), spoil(&did, sizeof did), spoil(&info, sizeof info);
+    EXPECT(CAMAC_MISUSE, camac_step(&s, &no_answer, &did, &want));
+    expect_zeros(&want, &no_want, sizeof want, __LINE__);
+    expect_zeros(&did, &no_progress, sizeof did, __LINE__);
+    EXPECT(CAMAC_MISUSE, camac_service(&s, 1, &info));
+    expect_zeros(&info, &no_service, sizeof info, __LINE__);
+    EXPECT(CAMAC_MISUSE, camac_item(&s, text, sizeof text, &size));
+    if (size || text[0] != '#') fail("a none has a last answer");
+    EXPECT(CAMAC_MISUSE, camac_record(&s, text, sizeof text, NULL));
+    EXPECT(CAMAC_MISUSE, camac_rewind(&s));
+    EXPECT(CAMAC_MISUSE, camac_rewind(NULL));
+    if (camac_services(&s) || camac_answers_left(&s) || camac_held(&s, NULL, 0) || camac_held(NULL, NULL, 1)) fail("a none has something");
+}
+
+/* What C hands in, and no proof sees. */
+static void handed_in(camac_session *s) {
+    camac_want want = CAMAC_WANT;
+    camac_progress did = CAMAC_PROGRESS;
+    camac_answer answer = CAMAC_ANSWER;
+    camac_service_info info = CAMAC_SERVICE_INFO;
+    char text[4] = "#";
+    size_t size = 9;
+    EXPECT(CAMAC_MISUSE, camac_item(s, NULL, 1, &size));
+    EXPECT(CAMAC_MISUSE, camac_record(s, NULL, 1, &size));
+    if (size) fail("misuse has a size");
+    want.size--;
+    EXPECT(CAMAC_MISUSE, camac_step(s, &no_answer, &did, &want));
+    want.size++, did.size = 0;
+    EXPECT(CAMAC_MISUSE, camac_step(s, &no_answer, &did, &want));
+    did.size = sizeof did, answer.spare[0] = 1;
+    EXPECT(CAMAC_MISUSE, camac_step(s, &answer, &did, &want));
+    EXPECT(CAMAC_MISUSE, camac_step(s, NULL, &did, &want));
+    EXPECT(CAMAC_MISUSE, camac_step(s, &no_answer, NULL, &want));
+    info.size--;
+    EXPECT(CAMAC_MISUSE, camac_service(s, 1, &info));
+    EXPECT(CAMAC_MISUSE, camac_service(s, 1, NULL));
+    answer.spare[0] = 0, answer.wait = 16;
+    spoil(&want, sizeof want), spoil(&did, sizeof did);
+    EXPECT(CAMAC_RANGE, camac_step(s, &answer, &did, &want));
+    expect_zeros(&want, &no_want, sizeof want, __LINE__);
+    expect_zeros(&did, &no_progress, sizeof did, __LINE__);
+    if (camac_file_header(NULL, 9) != 8 || camac_file_header(text, 3) != 8 || memcmp(text, "CAM", 4)) fail("the header says otherwise");
+}
+
+/* The services as the verdict tells them. */
+static void services(const camac_session *s, const char *verdict) {
+    camac_service_info info;
+    char name[40];
+    unsigned gl, numbers[5];
+    size_t count = 0;
+    for (const char *at = strstr(verdict, "\nservice "); at; at = strstr(at + 1, "\nservice ")) {
+        if (sscanf(at, "\nservice %39s gl %u cycles %u of %u words %u of %u steps %u", name, &gl, numbers, numbers + 1, numbers + 2, numbers + 3,
+                   numbers + 4) != 7)
+            fail("a verdict says otherwise");
+        spoil(&info, sizeof info);
+        EXPECT(CAMAC_OK, camac_service(s, (uint32_t)++count, &info));
+        const uint32_t found[5] = {info.cycles, info.most_cycles, info.words, info.most_words, info.steps};
+        if (strcmp(info.name, name) || info.gl != gl || memcmp(found, numbers, sizeof found)) fail("a service is told otherwise");
+        /* its heading stands on its line, and its LAM in the declaration */
+        char *line = script.bytes, wanted[80];
+        for (uint32_t k = 1; k < info.line; k++) line = strchr(line, '\n') + 1;
+        snprintf(wanted, sizeof wanted, "service %s ", info.name);
+        if (strncmp(line, wanted, strlen(wanted))) fail("no heading stands on line %u", (unsigned)info.line);
+        snprintf(wanted, sizeof wanted, "cdlam %s 1 %u %u %u", info.name, (unsigned)info.c, (unsigned)info.n, (unsigned)info.a);
+        if (!strstr(script.bytes, wanted)) fail("no LAM is declared as %s", wanted);
+    }
+    if (!count || camac_services(s) != count) fail("%zu services, not %zu", camac_services(s), count);
+    for (size_t i = 0; i < 2; i++) {
+        spoil(&info, sizeof info);
+        EXPECT(CAMAC_RANGE, camac_service(s, i ? (uint32_t)count + 1 : 0, &info));
+        expect_zeros(&info, &no_service, sizeof info, __LINE__);
+    }
+}
+
+/* The crates that are held, as the driver was told of locks and releases. */
+static void held(const camac_session *s, const camac_want *want, const camac_progress *did) {
+    static uint32_t mine[8], found[8];
+    static size_t count;
+    if (want->kind == CAMAC_LOCK) {
+        memmove(mine + 1, mine, count++ * sizeof *mine);
+        mine[0] = want->c;
+    }
+    for (const uint8_t *c = did->unlocked; *c; c++) {
+        if (!count || mine[0] != *c) fail("the crate that is released is not the last");
+        memmove(mine, mine + 1, --count * sizeof *mine);
+    }
+    if (camac_held(s, found, 8) != count || memcmp(found, mine, count * sizeof *mine)) fail("other crates are held");
+    if (camac_held(s, NULL, 8) != count) fail("the count without room differs");
+}
+
+/* Each cut of what is told of the last answer. */
+static void cut(const camac_session *s) {
+    char whole[300], part[301];
+    size_t size, again;
+    EXPECT(CAMAC_OK, camac_item(s, whole, sizeof whole, &size));
+    for (size_t room = 0; room <= size; room++) {
+        memset(part, '#', sizeof part);
+        EXPECT(CAMAC_OK, camac_item(s, part, room, &again));
+        if (again != size || memcmp(part, whole, room) || part[room] != '#') fail("cut at %zu the text differs", room);
+    }
+}
+
+/* `step` does what `next` and `wants` do, and after `rewind` a run is as at first. */
+static void stepped(camac_session *s) {
+    camac_session other = CAMAC_NONE;
+    camac_want want = CAMAC_WANT, its_want = CAMAC_WANT;
+    camac_progress did = CAMAC_PROGRESS, its_did = CAMAC_PROGRESS;
+    size_t size;
+    open_session(&other, &plan, &script);
+    for (uint32_t seed = 1; seed < 20; seed++) {
+        uint32_t chances = seed;
+        EXPECT(CAMAC_OK, camac_rewind(s));
+        EXPECT(CAMAC_OK, camac_item(s, NULL, 0, &size));
+        if (size || camac_held(s, NULL, 0) || camac_answers_left(s) != 4294967295u) fail("a run is not at its beginning");
+        camac_close(&other);
+        open_session(&other, &plan, &script);
+        EXPECT(CAMAC_OK, camac_wants(s, &want));
+        for (uint32_t i = 0; i < ANSWERS; i++) {
+            camac_answer answer = any_answer(&chances);
+            const camac_want before = want;
+            if (want.kind == CAMAC_DEMAND) answer.gl = 4;
+            const int code = camac_step(s, &answer, &did, &want);
+            EXPECT(code, camac_next(&other, &answer, &its_did));
+            EXPECT(code, camac_wants(&other, &its_want));
+            if (memcmp(&did, &its_did, sizeof did) || memcmp(&want, &its_want, sizeof want)) fail("a step differs");
+            if (code == CAMAC_OVERRUN) {
+                if (camac_answers_left(s)) fail("answers are left after an overrun");
+                EXPECT(CAMAC_OK, camac_item(s, NULL, 0, &size));
+                if (size) fail("an overrun has lines");
+                break;
+            }
+            if (camac_answers_left(s) != 4294967294u - i) fail("so many answers are not left");
+            if (i < 40) cut(s);
+            if (seed == 1) held(s, &before, &did);
+        }
+    }
+    camac_close(&other);
+}
+
+int main(int count, char **words) {
+    static char verdict[4096];
+    camac_session s = CAMAC_NONE;
+    size_t size;
+    if (count != 3) return 2;
+    plan = read_file(words[1]);
+    script = read_file(words[2]);
+    script.bytes[script.size] = 0;
+    none();
+    EXPECT(CAMAC_OK, camac_open(&s, plan.bytes, plan.size, script.bytes, script.size, verdict, sizeof verdict - 1, &size));
+    handed_in(&s);
+    services(&s, verdict);
+    stepped(&s);
+    camac_close(&s);
+    free(plan.bytes), free(script.bytes);
+    return 0;
+}

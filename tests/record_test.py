@@ -1,0 +1,249 @@
+#!/usr/bin/env python3
+"""The record of a run, and a recorded run that is played again.
+
+usage: tests/record_test.py [-v] [TEST ..]     from any folder, over a built program; takes some seconds
+"""
+import hashlib
+import json
+import os
+import signal
+import subprocess
+import sys
+import time
+import unittest
+import unittest.mock
+
+import of_c
+from live import PROGRAM, TOP, Broken, Case, Listed, script
+
+import camac
+from camac.mock import Adc, Auxiliary, MockBranch, Recorded, Recorder, Register
+
+PLAN = "@sample"
+PLAN_FILE = TOP / "examples/sample_plan.toml"
+SCRIPT = TOP / "examples/lockout.script"
+READ = script(["cdreg r 1 1 5 0", "cfsa 0 r -> v", "put v"], 3, 1)
+ANSWER = camac.Answer(x=1, q=1, word=5)
+HOSTILE = '<script>alert(1)</script> "\u00b5\u202e,\n' + "x" * 32 + "\udcff"
+
+
+def branch(count, kind=MockBranch):
+    modules = {(1, 5): Adc(channels=12, width=12), (1, 6): Register(width=8)}
+    return kind.of_plan(PLAN, modules, triggers=([(1, 5)] for _ in range(count)))
+
+
+class Seconds(MockBranch):
+    """A branch whose demands and whose cycles take some time."""
+
+    def demand(self):
+        time.sleep(0.02)
+        return super().demand()
+
+    def cycle(self, c, n, a, f, data):
+        time.sleep(0.01)
+        return super().cycle(c, n, a, f, data)
+
+
+class Record(Case):
+    def setUp(self):
+        super().setUp()
+        self.record, self.events = self.room / "run.json", self.room / "run.events"
+
+    def drive(self, its, text=SCRIPT, **more):
+        return camac.drive(PLAN_FILE, text, its, self.events, program=PROGRAM, timeout=60, **more)
+
+    def told(self):
+        return json.loads(self.record.read_text())
+
+    def test_a_run(self):
+        before = time.time()
+        end = self.drive(branch(4, Seconds), record=camac.Recording(self.record, 17, HOSTILE))
+        took = time.time() - before
+        told, record = self.told(), camac.read_record(self.record)
+        self.assertEqual((told["how"], told["line"], told["number"], told["title"]), ("ended", end.line, 17, HOSTILE))
+        for word, file in (("plan", PLAN_FILE), ("script", SCRIPT)):
+            data = file.read_bytes()
+            self.assertEqual(told[word], {"name": str(file), "sha256": hashlib.sha256(data).hexdigest(), "text": data.decode()})
+            self.assertEqual(getattr(record, word).data, data)
+        verdict = subprocess.run([PROGRAM, "check", PLAN_FILE, SCRIPT], capture_output=True, text=True, check=True).stdout
+        response = subprocess.run([PROGRAM, "response", PLAN_FILE, SCRIPT], capture_output=True, text=True, check=True).stdout
+        self.assertEqual(("\n".join(told["verdict"]) + "\n", "\n".join(told["response"]) + "\n"), (verdict, response))
+        self.assertEqual(told["events"], {"name": str(self.events), "bytes": self.events.stat().st_size, "counts": {"adc": 4}})
+        self.assertEqual(told["versions"]["program"], subprocess.run([PROGRAM, "--version"], capture_output=True, text=True, check=True).stdout.strip())
+        begin, last = (time.strptime(told[it].partition(".")[0], "%Y-%m-%dT%H:%M:%S") for it in ("begin", "end"))
+        self.assertLess(abs(time.mktime(begin) - time.timezone - before), 60)
+        self.assertLessEqual(begin, last)
+        # five demands of 20 ms, 4 services of four cycles of 10 ms
+        measured = told["measured_seconds"]
+        self.assertGreaterEqual(measured["demands"], 0.1)
+        self.assertGreaterEqual(measured["services"], 0.16)
+        self.assertLessEqual(measured["demands"] + measured["services"], took)
+        self.assertEqual([(it.name, it.cycles) for it in record.list_services()], [("adc", 6)])
+
+    def test_it_is_there_from_the_beginning_and_a_crash_leaves_it(self):
+        program = f"""\
+import os, signal, sys
+sys.path.insert(0, {str(TOP / "python")!r})
+import camac
+class Killed:
+    calls = 0
+    def demand(self):
+        Killed.calls += 1
+        if Killed.calls == 3:
+            os.kill(os.getpid(), signal.SIGKILL)
+        return camac.Answer(gl=4)
+    def cycle(self, c, n, a, f, data): return camac.Answer(x=1, q=1)
+    def lock(self, c): return camac.Answer()
+    def unlock(self, c): pass
+camac.drive("@sample", {str(SCRIPT)!r}, Killed(), "run.events", program={PROGRAM!r}, record="run.json")
+"""
+        ran = subprocess.run([sys.executable, "-c", program], cwd=self.room, timeout=60, check=False)
+        self.assertEqual(ran.returncode, -signal.SIGKILL)
+        told = self.told()
+        self.assertIsNotNone(told["begin"])
+        self.assertEqual((told["end"], told["how"], told["events"]["counts"]), (None, None, None))
+        self.assertEqual([it.name for it in self.room.iterdir() if it.name.endswith(".new")], [])
+
+    def test_while_it_goes_on(self):
+        """The record is written anew at demands."""
+        seen = []
+
+        class Looks(Seconds):
+            def demand(its):
+                seen.append(self.told())
+                return super().demand()
+
+        with unittest.mock.patch("camac.record.REFRESH", 0.0):
+            self.drive(branch(2, Looks), record=self.record)
+        self.assertEqual([it["end"] for it in seen], [None] * 3)
+        self.assertLess(0.04, seen[1]["measured_seconds"]["services"])
+        self.assertLess(seen[1]["measured_seconds"]["services"], seen[2]["measured_seconds"]["services"])
+
+    def test_a_run_that_fails(self):
+        with self.assertRaises(Broken):
+            self.drive(Listed(camac.Answer(gl=4), ANSWER, camac.Answer(gl=4), Broken("<b>no power</b>")), self.write("read.script", READ), record=self.record)
+        told = self.told()
+        self.assertEqual((told["how"], told["line"], told["events"]["counts"]), ("failed", "Broken: <b>no power</b>", {"adc": 1}))
+        self.assertIsNotNone(told["end"])
+
+    def test_an_overrun(self):
+        its = branch(3)
+        its.auxiliaries[1] = Auxiliary(0)
+        its.auxiliaries[1].wait = lambda is_locked: 3
+        end = self.drive(its, record=self.record)
+        self.assertEqual((self.told()["how"], self.told()["line"]), ("overrun", end.line))
+
+    def test_nothing_is_written_over_and_nothing_is_left_of_a_refused_script(self):
+        self.record.write_text("mine")
+        with self.assertRaises(camac.ProgramFault) as caught:
+            self.drive(branch(1), record=self.record)
+        self.assertEqual(caught.exception.text, f"fault write\n  {self.record}: it holds bytes; a run needs a record of its own")
+        self.assertEqual((self.record.read_text(), self.events.exists()), ("mine", False))
+        self.record.unlink()
+        with self.assertRaises(camac.Refused):
+            self.drive(branch(1), TOP / "examples/too_few_cycles.script", record=self.record)
+        with self.assertRaises(camac.ProgramFault) as caught:
+            self.drive(branch(1), record=self.room / "none/run.json")
+        self.assertIn("none/run.json: No such file or directory", caught.exception.text)
+        self.assertEqual([*self.room.iterdir()], [])
+        # a record that cannot be written at the end: the events are there, and the end of the run is told
+        class Gone(MockBranch):
+            def demand(its):
+                if self.record.is_file():
+                    self.record.unlink()
+                    self.record.mkdir()
+                return super().demand()
+        with self.assertRaises(camac.ProgramFault) as caught:
+            self.drive(branch(2, Gone), record=self.record)
+        self.assertEqual(caught.exception.end.line, "ended events 2")
+        self.assertEqual(len([*camac.read_events(self.events)]), 2)
+
+    def test_numbers_and_titles(self):
+        for wrong in ({"number": "7"}, {"number": 1.5}, {"title": 3}):
+            with self.assertRaises(TypeError):
+                camac.Recording(self.record, **wrong)
+
+    def test_texts_that_are_no_text(self):
+        text = self.room / "any.script"
+        text.write_bytes(READ.encode() + b"# \xff\0 any byte\n")
+        self.drive(branch(1), text, record=self.record)
+        self.assertEqual(camac.read_record(self.record).script.data, text.read_bytes())
+        self.assertNotIn("text", self.told()["script"])
+
+    def test_what_is_no_record(self):
+        self.drive(branch(1), record=self.record)
+        good = self.told()
+        other = {**good, "plan": {**good["plan"], "text": "# another\n"}}
+        for wrong in ("", "[]", "{}", '{"form": "camac record 1"}', json.dumps(other), json.dumps({**good, "title": 3}), "\xff", 100_000 * "["):
+            self.record.write_text(wrong)
+            with self.assertRaises(ValueError, msg=wrong[:99]) as caught:
+                camac.read_record(self.record)
+            self.assertTrue(str(caught.exception).startswith(f"{self.record} is no record of a run"), caught.exception)
+
+    def test_report(self):
+        """It writes a record that tells no time, writes over its own alone, and refuses before any work."""
+        self.drive(branch(3))
+        call = [sys.executable, "-m", "camac", "report", PLAN_FILE, SCRIPT, self.events, "-o", "page.html", "--record", "run.json"]
+        environment = {**os.environ, "PYTHONPATH": str(TOP / "python"), "CAMAC_PROGRAM": PROGRAM}
+        for _ in range(2):
+            subprocess.run(call, cwd=self.room, env=environment, check=True)
+            told = self.told()
+            self.assertEqual((told["begin"], told["measured_seconds"], told["events"]["counts"]), (None, None, {"adc": 3}))
+        (self.room / "page.html").unlink()
+        self.record.write_text("mine")
+        ran = subprocess.run(call, cwd=self.room, env=environment, capture_output=True, text=True, check=False)
+        self.assertEqual((ran.returncode, ran.stderr), (3, "camac: fault write: run.json: it holds bytes; a run needs a record of its own\n"))
+        self.assertEqual((self.record.read_text(), (self.room / "page.html").exists()), ("mine", False))
+        call[-1] = self.events.name
+        ran = subprocess.run([*call, "--overwrite"], cwd=self.room, env=environment, capture_output=True, text=True, check=False)
+        self.assertEqual((ran.returncode, len([*camac.read_events(self.events)])), (2, 3))
+        self.assertIn("run.events is an input: it would be lost", ran.stderr)
+
+
+class Again(Case):
+    """A recorded run that is played again."""
+
+    def recorded(self, count):
+        with open(self.room / "run.answers", "w", encoding="ascii") as file:
+            camac.drive(PLAN, SCRIPT, Recorder(branch(count), file), self.room / "run.events", program=PROGRAM)
+        return self.room / "run.answers"
+
+    def test_the_same_file(self):
+        answers = self.recorded(200)
+        kept = Recorder(branch(200))
+        camac.drive(PLAN, SCRIPT, kept, self.room / "kept.events", program=PROGRAM)
+        self.assertEqual(answers.read_text(), kept.answer_lines())
+        end = camac.drive(PLAN, SCRIPT, Recorded(answers), self.room / "again.events", program=PROGRAM)
+        self.assertEqual((end.line, self.file("again.events")), ("ended events 200", self.file("run.events")))
+
+    @unittest.skipIf(of_c.lacking(), of_c.lacking())
+    def test_the_same_file_in_this_process(self):
+        os.environ.update(of_c.environment())
+        answers = self.recorded(200)
+        end = camac.play(PLAN, SCRIPT, Recorded(answers), self.room / "again.events", record=self.room / "run.json")
+        self.assertEqual((end.line, self.file("again.events")), ("ended events 200", self.file("run.events")))
+        told = json.loads(self.file("run.json"))
+        self.assertEqual((told["how"], told["events"]["counts"]), ("ended", {"adc": 200}))
+
+    def test_answers_that_end_inside_a_service(self):
+        answers = self.recorded(3)
+        lines = answers.read_bytes().splitlines(keepends=True)
+        answers.write_bytes(b"".join(lines[:-3]).rstrip(b"\n"))
+        with self.assertRaisesRegex(EOFError, "inside a service"):
+            camac.drive(PLAN, SCRIPT, Recorded(answers), self.room / "again.events", program=PROGRAM)
+        ran = subprocess.run([PROGRAM, "run", PLAN, SCRIPT, answers, self.room / "run2.events"], capture_output=True, text=True, check=True)
+        self.assertTrue(ran.stdout.endswith("short events 2\n"))
+        self.assertEqual(self.file("again.events"), self.file("run2.events"))
+
+    def test_lines_that_are_no_answers(self):
+        for wrong in ("1 1 000001 0 00000\n", "1 1 000001 0 000004\r\n", "2 1 000001 0 000004\n", "\n"):
+            answers = self.write("wrong.answers", "0 0 000000 0 000004\n" + wrong)
+            (self.room / "x.events").unlink(missing_ok=True)
+            with self.assertRaisesRegex(ValueError, r"wrong\.answers:2: this is no answer"):
+                camac.drive(PLAN, SCRIPT, Recorded(answers), self.room / "x.events", program=PROGRAM)
+        with self.assertRaises(FileNotFoundError):
+            Recorded(self.room / "none")
+
+
+if __name__ == "__main__":
+    unittest.main()

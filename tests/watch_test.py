@@ -1,0 +1,384 @@
+#!/usr/bin/env python3
+"""Tests of the page that follows an event file: what is counted of a file that grows, ends, is cut, is replaced or breaks; what the server answers,
+and to whom; and the page in a browser.
+
+usage: tests/watch_test.py [-v] [TEST ..]     from any folder; takes some seconds
+
+The program is crates/camac/out/camac (cd crates/camac && rt run makes it), or what the environment variable CAMAC_PROGRAM names. What needs
+Chromium is left out where that is not there.
+"""
+import dataclasses
+import http.client
+import json
+import os
+import re
+import signal
+import shutil
+import statistics
+import subprocess
+import sys
+import threading
+import time
+import unittest
+
+from live import PROGRAM, TOP, Case
+import bench
+import camac
+import camac.mock
+import told
+from browser import CHROMIUM, Browser
+from camac.events import NEW_FILE, Event, record
+from camac.export import Given
+from camac.follow import Counts, Follower
+from camac.record import Recording
+from camac.scripts import parse_verdict
+from camac.watch import Server, Watch
+from camac.words import Words
+
+SERVICES = parse_verdict(told.VERDICT)
+
+
+def events(count, first=1):
+    """Events of the bench: each fifth is a tick with its rates, the others an adc with packed words."""
+    made = []
+    for number in range(first, first + count):
+        if number % 5:
+            made.append(Event(number, 3, 20 + number % 7, number % 2, tuple(channel << 16 | 300 + channel for channel in range(number % 4)) + (9,)))
+        else:
+            made.append(Event(number, 5, 14, 0, tuple(1000 * at + number for at in range(12))))
+    return made
+
+
+class Clock:
+    """A clock that is set by hand."""
+
+    def __init__(self):
+        self.now = 100.0
+
+    def __call__(self):
+        return self.now
+
+
+class Following(Case):
+    """A file that is followed, step by step."""
+
+    def setUp(self):
+        super().setUp()
+        self.file, self.clock = self.room / "run.events", Clock()
+        self.follower = Follower(self.file, lambda: Counts(SERVICES, told.WORDS), self.clock)
+
+    def add(self, data):
+        with open(self.file, "ab") as out:
+            out.write(data)
+
+    def poll(self, later=1.0):
+        self.clock.now += later
+        while self.follower.poll():
+            pass
+        return self.follower.counts.events
+
+    def check(self, wanted):
+        """What is counted is what stands in these events."""
+        counts = self.follower.counts
+        self.assertEqual(counts.events, len(wanted))
+        for gl, its in counts.bits.items():
+            mine = [it for it in wanted if it.gl == gl]
+            self.assertEqual((its.count, its.missed), (len(mine), sum(it.missed for it in mine)))
+            self.assertEqual((its.cycles.count, its.cycles.total), (len(mine), sum(it.cycles for it in mine)))
+        words = [word for it in wanted if it.gl == 3 for word in it.words]
+        channels = {it.column.name: it.spectrum for it in counts.list_channels()}
+        for channel in (1, 2):
+            its = [word & 0xFFF for word in words if word >> 16 == channel]
+            if its:
+                found = channels[f"pulse height[{channel}]"]
+                self.assertEqual((found.count, found.total, sum(found.counts.values())), (len(its), sum(its), len(its)))
+        rates = [it.words[2] for it in wanted if it.gl == 5]
+        if rates:
+            self.assertEqual((channels["rate[3]"].count, channels["rate[3]"].total), (len(rates), sum(rates)))
+        self.assertEqual(list(counts.last), wanted[-12:])
+
+    def test_growth_by_any_piece(self):
+        """Whatever pieces a file grows by, only whole records are taken."""
+        its = events(60)
+        data = NEW_FILE + b"".join(map(record, its))
+        ends = [8 + sum(len(record(it)) for it in its[:at]) for at in range(61)]
+        self.assertEqual((self.poll(), self.follower.state.text), (0, f"No such file or directory: {self.file}"))
+        for at in range(0, len(data), 7):
+            self.add(data[at : at + 7])
+            there = min(at + 7, len(data))
+            self.assertEqual(self.poll(0.1), max((k for k, end in enumerate(ends) if end <= there), default=0))
+        self.check(its)
+        self.assertEqual((self.follower.state.text, self.follower.state.is_bad, self.follower.restarts), ("follows", False, []))
+
+    def test_rate_and_age(self):
+        """What was there before the first look is no rate."""
+        self.add(NEW_FILE + b"".join(map(record, events(100))))
+        os.utime(self.file, (time.time() - 50, time.time() - 50))
+        self.poll()
+        self.assertEqual(self.follower.rate(), 0.0)
+        self.assertAlmostEqual(self.follower.age(), 50, delta=2)
+        for at in range(20):
+            self.add(b"".join(map(record, events(30, 101 + 30 * at))))
+            self.poll()
+        self.assertAlmostEqual(self.follower.rate(), 30.0)
+        self.assertEqual(set(self.follower.rates), {30.0})
+        self.assertEqual(self.follower.age(), 0.0)
+        self.poll(7.0)
+        self.assertEqual(self.follower.age(), 7.0)
+        self.poll(30.0)
+        self.poll(1.0)
+        self.assertEqual(self.follower.rate(), 0.0)
+
+    def test_cut(self):
+        its = events(40)
+        self.add(NEW_FILE + b"".join(map(record, its)))
+        self.poll()
+        size = 8 + sum(len(record(it)) for it in its[:10])
+        os.truncate(self.file, size)
+        self.assertEqual(self.poll(), 10)
+        self.check(its[:10])
+        self.assertRegex(self.follower.restarts[0], r"^\d\d:\d\d:\d\d: the file was cut; counted anew from its begin$")
+
+    def test_replaced(self):
+        """Another file in its place; one that was written over in its place; one that is gone and comes back."""
+        self.add(NEW_FILE + b"".join(map(record, events(40))))
+        self.poll()
+        other = self.write("other", "")
+        other.write_bytes(NEW_FILE + b"".join(map(record, events(50))))
+        os.replace(other, self.file)
+        self.assertEqual(self.poll(), 50)
+        self.assertIn("another file has taken the place", self.follower.restarts[0])
+        its = [it._replace(cycles=it.cycles + 1) for it in events(60)]
+        with open(self.file, "r+b") as out:
+            out.write(NEW_FILE + b"".join(map(record, its)))
+        self.poll()
+        self.check(its)
+        self.assertIn("written over", self.follower.restarts[1])
+        self.file.unlink()
+        self.assertEqual(self.poll(), 60)
+        self.assertTrue(self.follower.state.is_bad)
+        self.add(NEW_FILE + b"".join(map(record, events(3))))
+        self.assertEqual(self.poll(), 3)
+
+    def test_wrong_field(self):
+        """The events before a fault stay, and the fault is told, until another file comes."""
+        its = events(20)
+        place = 8 + sum(map(len, map(record, its)))
+        self.add(NEW_FILE + b"".join(map(record, its)) + b"\xca\x4e" + bytes(14))
+        for _ in range(2):
+            self.poll()
+            self.check(its)
+            self.assertEqual(self.follower.state, (f"refused V2 byte {place}: marker; the events before it are shown", True))
+        self.file.write_bytes(b"no event file at all")
+        self.poll()
+        self.assertEqual(self.follower.state, ("refused V1 byte 0: header; the events before it are shown", True))
+        self.file.write_bytes(NEW_FILE)
+        self.poll()
+        self.assertEqual(self.follower.state, ("follows", False))
+
+    def test_no_file(self):
+        """A folder and a pipe are no files, and nothing is waited for."""
+        for make in (os.mkdir, os.mkfifo):
+            self.file = self.room / make.__name__
+            make(self.file)
+            self.follower = Follower(self.file, lambda: Counts(SERVICES, told.WORDS), self.clock)
+            self.assertEqual((self.poll(), self.follower.state), (0, (f"this is no file: {self.file}", True)))
+
+    def test_version_one_and_unknown_services(self):
+        self.follower = Follower(self.file, lambda: Counts((), Words()), self.clock)
+        self.add(b"CAMACEV1" + bytes.fromhex("ca4d0003 00000001 0002 00000fff 00ffffff"))
+        self.assertEqual(self.poll(), 1)
+        its = self.follower.counts.bits[3]
+        self.assertEqual((its.cycles.count, its.words.total), (0, 2))
+
+
+class ServedCase(Case):
+    """A server of a file of the bench."""
+
+    @classmethod
+    def setUpClass(cls):
+        super().setUpClass()
+        os.environ["CAMAC_PROGRAM"] = PROGRAM
+        cls.made = Case()
+        cls.made.setUp()
+        cls.addClassCleanup(cls.made.doCleanups)
+        bench.record(cls.made.room, 60)
+
+    def setUp(self):
+        super().setUp()
+        shutil.copytree(self.made.room, self.room, dirs_exist_ok=True)
+        self.file = self.room / "live.events"
+
+    def start(self, **given):
+        watch = Watch(Given(self.file, **given))
+        server = Server(watch, 0)
+        self.addCleanup(server.server_close)
+        threading.Thread(target=server.serve_forever, kwargs={"poll_interval": 0.05}, daemon=True).start()
+        self.addCleanup(server.shutdown)
+        return watch, server
+
+    def ask(self, server, method="GET", path="/", host=None):
+        connection = http.client.HTTPConnection("127.0.0.1", server.server_address[1], timeout=60)
+        self.addCleanup(connection.close)
+        connection.putrequest(method, path, skip_host=True)
+        connection.putheader("Host", host or f"127.0.0.1:{server.server_address[1]}")
+        connection.endheaders()
+        answer = connection.getresponse()
+        return answer.status, answer.read().decode(), answer.headers
+
+    def bench_files(self):
+        return {"plan": self.room / "bench.toml", "script": self.room / "bench.script"}
+
+class Served(ServedCase):
+    """What the server answers, and to whom."""
+
+    def test_whom_it_answers(self):
+        _, server = self.start()
+        port = server.server_address[1]
+        self.assertEqual(server.server_address[0], "127.0.0.1")
+        for host in (f"127.0.0.1:{port}", f"localhost:{port}"):
+            self.assertEqual(self.ask(server, host=host)[0], 200)
+        for host in ("127.0.0.1", "localhost", f"evil.example:{port}", f"127.0.0.1:{port}.evil.example", f"127.0.0.1:{port + 1}", ""):
+            self.assertEqual(self.ask(server, host=host or " ")[0], 403, host)
+        for path in ("/x", "/state?a", "/../state", "/run.events", "http://127.0.0.1/state"):
+            self.assertEqual(self.ask(server, path=path)[0], 404, path)
+        for method in ("POST", "PUT", "HEAD", "DELETE", "OPTIONS"):
+            self.assertEqual(self.ask(server, method)[0], 501, method)
+        status, _, headers = self.ask(server)
+        self.assertEqual((headers["Cache-Control"], headers["X-Frame-Options"], headers["Server"]), ("no-store", "DENY", "camac "))
+
+    def test_numbers(self):
+        """The numbers of the page beside sums over `camac events`."""
+        before = {it.name: (it.stat().st_mtime_ns, it.read_bytes()) for it in self.room.iterdir()}
+        watch, server = self.start(**self.bench_files())
+        watch.poll()
+        parts = json.loads(self.ask(server, path="/state")[1])
+        its = [it for it in camac.read_events(self.file)]
+        tiles = dict(re.findall(r'<b class="(?:bad)?">([^<]*)</b><span>([^<]*)</span>', parts["tiles"]))
+        tiles = {word: number for number, word in tiles.items()}
+        self.assertEqual((tiles["events"], tiles["cycles with X = 0"]), (f"{len(its):,}", f"{sum(it.missed for it in its):,}"))
+        rows = [re.findall(r"<td[^>]*>([^<]*)</td>", row) for row in re.findall(r"<tr><td.*?</tr>", parts["services"])]
+        ends = {it.name: it.end for it in camac.response(*self.bench_files().values())}
+        for row in rows:
+            mine = [it for it in its if it.gl == int(row[1])]
+            cycles, words = [it.cycles for it in mine], [len(it.words) for it in mine]
+            wanted = [f"{len(mine):,}", f"{statistics.mean(cycles):,.1f}", str(max(cycles)), {"adc": "43", "tick": "26"}[row[0]]]
+            wanted += [str(ends[row[0]]), f"{statistics.mean(words):,.1f}", str(max(words)), {"adc": "21", "tick": "12"}[row[0]], str(sum(it.missed for it in mine))]
+            self.assertEqual(row[2:], wanted)
+        counts = [list(map(int, it.split())) for it in re.findall(r'data-counts="([^"]*)"', parts["cycles"])]
+        self.assertEqual(counts[0], [sum(it.gl == 3 and it.cycles == value for it in its) for value in range(44)])
+        self.assertEqual(parts["last"].count("<tr><td"), 12)
+        self.assertEqual({it.name: (it.stat().st_mtime_ns, it.read_bytes()) for it in self.room.iterdir()}, before, "nothing is written")
+
+    def test_record(self):
+        """Plan and script come from the record, also where it comes later; live and dead time are what it says."""
+        self.file = self.room / "new.events"
+        watch, server = self.start(record=self.room / "run.json")
+        self.assertIn("No such file", self.state(watch, server)["notes"])
+        camac.drive(*self.bench_files().values(), camac.mock.MockBranch({}, {}, [[]] * 3), self.file, record=Recording(self.room / "run.json", 7, "<b>Co</b>"))
+        written = camac.read_record(self.room / "run.json")
+        self.change(demands=3.0, services=1.0)
+        parts = self.state(watch, server)
+        self.assertIn('<b class="">75 %</b><span>live, measured', parts["tiles"])
+        self.assertIn('<b class="">25 %</b><span>dead, measured', parts["tiles"])
+        self.assertIn("tick", parts["services"])
+        self.assertIn(f'<b class="good">{written.line}</b>', parts["notes"])
+        self.assertIn("run 7 &lt;b&gt;Co&lt;/b&gt;", self.ask(server)[1])
+        other = self.write("other.words", '[[word]]\nservice = "nobody"\nname = "x"\n')
+        watch.given = watch.given._replace(words=other)
+        self.change(script=dataclasses.replace(written.script, data=written.script.data + b"# another\n"))
+        self.assertIn("the record: ", self.state(watch, server)["notes"])
+        watch.given = watch.given._replace(words=None)
+        self.change(script=written.script)
+        self.change(end=None, how=None, line=None, demands=None, services=None)
+        parts = self.state(watch, server)
+        self.assertIn("run in progress since", parts["notes"])
+        self.assertNotIn("measured", parts["tiles"])
+
+    def state(self, watch, server):
+        watch.poll()
+        watch.due = 0.0
+        return json.loads(self.ask(server, path="/state")[1])
+
+    def change(self, **values):
+        path = self.room / "run.json"
+        new = self.write("new.json", dataclasses.replace(camac.read_record(path), **values).text())
+        os.replace(new, path)
+
+    def test_command(self):
+        command = [sys.executable, "-m", "camac", "watch", self.file, "--port", "0"]
+        environment = {**os.environ, "PYTHONPATH": str(TOP / "python")}
+        # A shell that runs this beside others has it ignore Ctrl-C.
+        heeds = {"preexec_fn": lambda: signal.signal(signal.SIGINT, signal.SIG_DFL)}
+        with subprocess.Popen(command, env=environment, stdout=subprocess.PIPE, stderr=subprocess.PIPE, text=True, **heeds) as started:
+            try:
+                address = started.stdout.readline()
+                self.assertRegex(address, r"^http://127\.0\.0\.1:\d+/\n$")
+                port = re.search(r":(\d+)/", address)[1]
+                again = subprocess.run([*command[:-1], port], env=environment, capture_output=True, text=True, timeout=60)
+                self.assertEqual((again.returncode, again.stdout), (3, ""))
+                self.assertIn("in use", again.stderr)
+            finally:
+                started.send_signal(signal.SIGINT)
+            self.assertEqual(started.wait(60), -signal.SIGINT)
+            self.assertEqual((started.stdout.read(), started.stderr.read()), ("", ""))
+        for words in (["--port", "99999"], ["--plan", "x"]):
+            done = subprocess.run([*command[:-2], *words], env=environment, capture_output=True, text=True, timeout=60)
+            self.assertEqual((done.returncode, done.stdout), (2, ""), words)
+
+
+@unittest.skipUnless(CHROMIUM, "Chromium is not here")
+class InChromium(ServedCase):
+    """The page in a browser, with names that would do harm."""
+
+    HARM = '</script><img src=x onerror="document.title=1"> \u2028 \U0001f4a5 "\' &'
+
+    def until(self, browser, expression, wanted):
+        end = time.monotonic() + 60
+        while browser.ask(expression) != wanted:
+            self.assertLess(time.monotonic(), end, (expression, browser.ask(expression)))
+            time.sleep(0.2)
+
+    def test_page(self):
+        words = self.write("words.toml", "")
+        name = self.HARM.replace("\\", "").replace('"', '\\"')
+        words.write_text(f'[[word]]\nservice = "tick"\nname = "{name}"\nunit = "{name}"\nplace = 1\n', encoding="utf-8")
+        self.file = self.file.rename(self.room / "<script>.events")
+        watch, server = self.start(words=words, **self.bench_files())
+        watch.poll()
+        there = watch.follower.counts.events
+        shown = "(it=>it&&+it.textContent.replace(/,/g,''))(document.querySelector('.tile b'))"
+        with Browser() as browser:
+            browser.said = []
+            browser.call("Page.navigate", url=server.address())
+            self.until(browser, shown, there)
+            with open(self.file, "ab") as out:
+                out.write(record(Event(there + 1, 3, 20, 1, (9,))))
+            watch.poll()
+            self.until(browser, shown, there + 1)
+            self.assertEqual(browser.said, [])
+            self.assertEqual(set(browser.asked), {server.address(), f"{server.address()}state"})
+            self.assertIsNone(browser.ask("document.querySelector('img,main script,svg script')"))
+            self.assertEqual(browser.ask("document.title"), "<script>.events: live")
+            self.assertIn(self.HARM[:20], browser.ask("document.getElementById('channels').textContent"))
+            self.assertTrue(browser.ask("document.getElementById('lost').hidden"))
+            server.shutdown()
+            server.server_close()
+            self.until(browser, "document.getElementById('lost').hidden", False)
+
+    def test_narrow(self):
+        watch, server = self.start(**self.bench_files())
+        watch.poll()
+        with Browser() as browser:
+            browser.call("Emulation.setDeviceMetricsOverride", width=400, height=800, deviceScaleFactor=1, mobile=False)
+            browser.call("Page.navigate", url=server.address())
+            self.until(browser, "document.querySelectorAll('#channels svg').length>0", True)
+            self.assertEqual(browser.ask("document.documentElement.scrollWidth"), 400)
+            cut = "Array.from(document.querySelectorAll('svg')).filter(it=>it.getBoundingClientRect().right>400).length"
+            self.assertEqual(browser.ask(cut), 0)
+
+
+if __name__ == "__main__":
+    if not os.access(PROGRAM, os.X_OK):
+        sys.exit(f"{PROGRAM} is not there: cd crates/camac && rt run makes it, or CAMAC_PROGRAM names another")
+    unittest.main()
