@@ -12,14 +12,14 @@ from live import PATIENCE, TOP
 
 
 class Client:
-    """A server and what it says. `diagnostics` has the last ones of each URI, with their version."""
+    """A server and what it says. `diagnostics` has the last ones of each URI, with their version, and `versions` the last one sent."""
 
     def __init__(self, environment, begin=True):
         words = [sys.executable, "-m", "camac", "lsp"]
         env = {**os.environ, "PYTHONPATH": str(TOP / "python"), **environment}
         self.server = subprocess.Popen(words, env=env, stdin=subprocess.PIPE, stdout=subprocess.PIPE, stderr=subprocess.PIPE)
         self.said, self.number = queue.Queue(), 0
-        self.diagnostics, self.logged, self.applied = {}, [], []
+        self.diagnostics, self.versions, self.logged, self.applied = {}, {}, [], []
         threading.Thread(target=self.read, daemon=True).start()
         if begin:
             self.capabilities = self.ask("initialize", processId=None, rootUri=None, capabilities={})["capabilities"]
@@ -85,19 +85,23 @@ class Client:
         while not is_so():
             self.next(max(0.01, end - time.monotonic()))
 
-    def found(self, uri, version, patience=PATIENCE):
-        """The diagnostics of a version, as they come first."""
-        self.until(lambda: self.diagnostics.get(uri, (None,))[0] == version, patience)
+    def found(self, uri, version=None, patience=PATIENCE):
+        """The diagnostics of a version, the last that was sent or another, as they come first."""
+        wanted = self.versions[uri] if version is None else version
+        self.until(lambda: self.diagnostics.get(uri, (None,))[0] == wanted, patience)
         return self.diagnostics[uri][1]
 
-    def open(self, path, text, version=1, language="camac"):
+    def open(self, path, text, version=None, language="camac"):
+        """Opens a text, with a version that no earlier one of this path had: what was said of those may still be on its way."""
         uri = pathlib.Path(path).as_uri()
         self.diagnostics.pop(uri, None)
+        version = self.versions[uri] = self.versions.get(uri, 0) + 1 if version is None else version
         self.tell("textDocument/didOpen", textDocument={"uri": uri, "languageId": language, "version": version, "text": text})
         return uri
 
     def change(self, uri, version, *changes):
         """Changes a text: each change is a text, or (first, last, text) with places as (line, character)."""
+        self.versions[uri] = version
         its = [{"text": it} if isinstance(it, str) else {"range": span(*it[:2]), "text": it[2]} for it in changes]
         self.tell("textDocument/didChange", textDocument={"uri": uri, "version": version}, contentChanges=its)
 

@@ -73,8 +73,8 @@ class Served(Case):
     def open(self, text, name="a.script", **how):
         return self.client.open(self.room / name, text, **how)
 
-    def shown(self, uri, version=1):
-        """The diagnostics of a version: lines and columns, codes, and the text that they stand at."""
+    def shown(self, uri, version=None):
+        """The diagnostics of the last version, or another: lines and columns, codes, and the text that they stand at."""
         return [(it["range"]["start"]["line"], it["range"]["start"]["character"], it["range"]["end"]["character"], it["code"]) for it in self.client.found(uri, version)]
 
     def warned(self, uri, count):
@@ -212,7 +212,7 @@ class Plans(Served):
         self.assertEqual(choose("# plan: a.toml", None)[0], "@sample")
         self.assertTrue(is_plan_text(PLAN.encode()) and not is_plan_text(b"[project]\ntype = 'a'\n"[:10]))
         uri = self.open("# plan: other.toml\n" + SCRIPT)
-        self.client.found(uri, 1)
+        self.client.found(uri)
         self.assertEqual(self.client.logged, [f"camac: a.script is judged on the plan {self.room}/other.toml: the first line names it"])
         self.assertIn("Plan: other.toml (the first line names it)", self.hover(uri, 8, 9))
 
@@ -229,7 +229,7 @@ class Plans(Served):
 
     def test_plan_that_is_not_there(self):
         uri = self.open("# plan: none.toml\n" + SCRIPT)
-        (it,) = self.client.found(uri, 1)
+        (it,) = self.client.found(uri)
         self.assertIn("none.toml cannot be read: No such file or directory", it["message"])
         self.assertEqual(self.client.at("hover", uri, 3, 9)["code"], -32603)
         self.write("none.toml", PLAN)
@@ -261,7 +261,7 @@ class Plans(Served):
                 made = PLAN.replace(old, new, 1)
                 self.assertNotEqual(made, PLAN)
                 uri = self.open(made, f"{number}.toml", language="toml")
-                (it,) = self.client.found(uri, 1)
+                (it,) = self.client.found(uri)
                 row = made.split("\n")[it["range"]["start"]["line"]]
                 if text:
                     self.assertEqual(row[it["range"]["start"]["character"] : it["range"]["end"]["character"]], text)
@@ -285,7 +285,7 @@ class Plans(Served):
     def test_other_toml(self):
         """It is judged once it is a plan."""
         uri = self.open("[project]\nname = 1\n", "new.toml", language="toml")
-        self.assertEqual(self.client.found(uri, 1), [])
+        self.assertEqual(self.client.found(uri), [])
         self.client.change(uri, 2, PLAN.replace("n = 5", "n = 55"))
         self.assertEqual(self.shown(uri, 2), [(26, 0, 6, "P4")])
 
@@ -308,7 +308,7 @@ class Shown(Served):
         ]:
             with self.subTest(text=text):
                 self.assertEqual(self.shown(self.open(text)), wanted)
-        (it,) = self.client.found(self.open(SCRIPT.replace("within 6", "within 5")), 1)
+        (it,) = self.client.found(self.open(SCRIPT.replace("within 6", "within 5")))
         self.assertTrue(it["message"].startswith("more cycles than annotated. The service may take 6 dataway cycles, its heading allows 5.\nWhy: "))
         self.assertTrue(it["codeDescription"]["href"].endswith("docs/REFUSALS.md#e12"))
 
@@ -323,7 +323,7 @@ class Shown(Served):
         """They come once nothing is typed, stay at their lines meanwhile, and go with their cause."""
         text = SCRIPT.replace("put v\n", "put v  if v < 0 { put 1 }\n")
         uri = self.open(text)
-        self.assertEqual(self.client.found(uri, 1), [])
+        self.assertEqual(self.client.found(uri), [])
         self.assertEqual(self.warned(uri, 1), [(11, "W1")])
         self.client.change(uri, 2, ((0, 0), (0, 0), "\n\n"))
         self.assertEqual([(it[0], it[3]) for it in self.shown(uri, 2)], [(13, "W1")])
@@ -333,7 +333,7 @@ class Shown(Served):
 
     def test_hover(self):
         uri = self.open(SCRIPT)
-        self.client.found(uri, 1)
+        self.client.found(uri)
         self.assertIn("service adc line 8 gl 3 at 1 5 12 cycles 6 of 6 words 2 of 2 steps 7", self.hover(uri, 7, 9))
         self.assertIn("response: service adc gl 3 cycles 6 once start 0 end 6", self.hover(uri, 7, 9))
         self.assertIn("LAM `adc`: crate 1, station 5, sub-address 12, ADC, bit 3", self.hover(uri, 0, 7))
@@ -419,7 +419,7 @@ class Changed(Served):
     def fixed(self, text, line, title, warnings=0):
         """A text after the first fix on a line whose title begins so."""
         uri = self.open(text)
-        self.client.found(uri, 1)
+        self.client.found(uri)
         if warnings:
             self.warned(uri, warnings)
         found = self.client.actions(uri, line)
@@ -511,7 +511,7 @@ class Size(Served):
         """Edits at random places: what is shown of the last text is what `explain` says of it; and the memory is as before."""
         chance, text, version = random.Random(5), SCRIPT, 1
         uri = self.open(text)
-        self.client.found(uri, 1)
+        self.client.found(uri)
         kept = [0, 0]
         for number in range(EDITS):
             lines = text.split("\n")
@@ -549,7 +549,7 @@ class Size(Served):
         names = " ".join(f"v{it}" for it in range(8))
         text = f"cdlam adc 1 1 5 12\nvar {names}\nservice adc within 99999 cycles event 4096 words {{\n  cdreg r 1 1 5 0\n{body}}}\n"
         uri = self.open(text)
-        self.client.found(uri, 1)
+        self.client.found(uri)
         chance, times, at = random.Random(7), [], 0
         busy = self.processor_time()
         for version in range(2, 2 + EDITS // 10 * 2):
