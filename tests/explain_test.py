@@ -454,7 +454,7 @@ class Explain(unittest.TestCase):
 
     def test_page(self):
         """Each rule has its place on the page, with an example whose explanation has the texts of the page."""
-        self.assertEqual(re.findall(r"(?m)^### (\w+): ", PAGE), RULES)
+        self.assertEqual(re.findall(r"(?m)^### ([PSLE]\w+): ", PAGE), RULES)
         for rule in RULES:
             with self.subTest(rule=rule):
                 part = part_of(rule)

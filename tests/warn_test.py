@@ -1,5 +1,5 @@
 #!/usr/bin/env python3
-"""Tests of `python3 -m camac check`: its warnings (docs/WARNINGS.md), lines, JSON and statuses.
+"""Tests of `python3 -m camac check`: its warnings (docs/REFUSALS.md), lines, JSON and statuses.
 
 usage: tests/warn_test.py [-v] [TEST ..]     from any folder; takes a few seconds
 
@@ -207,7 +207,7 @@ class Warnings(Case):
         tried = 0
         for page in sorted((TOP / "docs").rglob("*.md")):
             for words, text in ACCEPTED.findall(page.read_text()):
-                if " on " not in words and page.name != "WARNINGS.md":
+                if " on " not in words and page.name != "REFUSALS.md":
                     tried += 1
                     with self.subTest(page=page.name, script=text):
                         self.assertEqual({code for _, code in self.codes(text)} - {"W3"}, set())

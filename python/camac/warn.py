@@ -1,4 +1,4 @@
-"""What the checker accepts and what is hardly meant: warnings about an accepted script. docs/WARNINGS.md has each with an example."""
+"""What the checker accepts and what is hardly meant: warnings about an accepted script. docs/REFUSALS.md has each with an example."""
 import enum
 from typing import Dict, Iterator, List, NamedTuple, Optional, Set, Tuple
 

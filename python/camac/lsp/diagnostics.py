@@ -32,7 +32,7 @@ def shown(code: str, text: str, severity: int, place: Range) -> Diagnostic:
     its: Diagnostic = {"range": place, "severity": severity, "source": "camac", "message": text}
     if code:
         its["code"] = code
-        link = page("WARNINGS.md" if code[0] == "W" else "REFUSALS.md")
+        link = page("REFUSALS.md")
         if link:
             its["codeDescription"] = {"href": f"{link}#{code.lower()}"}
     return its
