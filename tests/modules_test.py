@@ -1,5 +1,5 @@
 #!/usr/bin/env python3
-"""Tries the kinds of modules in examples/modules: each file is taken as a plan, all types stand in one plan, docs/MODULES.md tells them as they are, and
+"""Tries the kinds of modules in examples/modules: each file is taken as a plan, all types stand in one plan, docs/PLANS.md tells them as they are, and
 the benches in examples/benches have no others.
 
 usage: tests/modules_test.py [-v] [TEST ..]     from any folder; takes a second
@@ -15,7 +15,7 @@ import unittest
 from program_test import PROGRAM, TOP
 
 FILES = sorted((TOP / "examples/modules").glob("*.toml"))
-PAGE = (TOP / "docs/MODULES.md").read_text()
+PAGE = (TOP / "docs/PLANS.md").read_text()
 # The functions that EUR 4100 reserves, and those of a LAM: test, clear, disable, enable.
 RESERVED, LAM = {5, 7, 13, 15, 29, 31}, (8, 10, 24, 26)
 ROW = re.compile(r"^\| \[(\w+)\]\(\.\./examples/modules/\1\.toml\) \|(?:[^|\n]*\|){2} ([\d, ]+) \| ([\d, ]+) \| ([^|\n]+) \|$", re.M)
