@@ -51,7 +51,7 @@ COMMAND = re.compile(r"^\$ |(?:^|[|;&(] *)(?:\./)?camac\b(?! [a-z]+ [A-Z]+\b)(?=
 STATEMENT = re.compile(r"^(?:cdlam|cdreg|cfsa|cssa|service|proc) (?!.*\b[A-Z]{2,}\b).*\d")
 FILE = re.compile(r"(?:python|toml(?! P\d)|sh|c|cpp|camac (?:accepted|\w+ line \d+)) (\S+)(?: on \S+)?")
 # Pages whose files stand in a folder of examples, too, and where the page makes them.
-KEPT = {"TUTORIAL.md": ("tutorial", "."), "BENCHES.md": ("benches", "benches")}
+KEPT = {"TUTORIAL.md": ("tutorial", "."), "RECIPES.md": ("benches", "benches")}
 COMPILER = re.compile(r"^\$ (?:cc|c\+\+) ", re.M)
 LIBRARY = re.compile(r"pkg-config|in_this_process\.py")
 ARRAYS = re.compile(r"^\$ .*(?:numpy|h5py|\.npz|\.h5)\b", re.M)
