@@ -35,7 +35,7 @@ DESCRIPTION = """\
 Judges scripts, lays them out and compares what they may take, serves editors, draws pictures of a plan, a script and a run of camac, and makes a
 report of a run.
 
-A picture is an SVG file, a report one HTML file; both open in a browser. docs/PICTURES.md shows them. The program camac is found in PATH,
+A picture is an SVG file, a report one HTML file; both open in a browser. docs/DATA.md shows them. The program camac is found in PATH,
 or where the environment variable CAMAC_PROGRAM says."""
 # A line of an annotated run that stopped.
 STOPPED = re.compile(r"  (overrun \d wait \d+ events \d+|refused A\d line \d+: [a-z ]+)$")

@@ -1,4 +1,4 @@
-"""Pictures of a plan, of a script's bounds and of a run, as SVG; docs/PICTURES.md shows them and says how they are read.
+"""Pictures of a plan, of a script's bounds and of a run, as SVG; docs/DATA.md shows them and says how they are read.
 
 Each `draw_..` returns a `Canvas`: `picture()` is a file of its own, `figure()` a part of a page. The same values give the same bytes."""
 from camac.pictures.bounds import draw_bounds
