@@ -248,7 +248,7 @@ class BlockOfC(Case):
         self.assertEqual(self.run_block(self.commands), (0, self.shown, ""))
 
     def test_lines_that_are_told(self):
-        lines = re.findall(r"does not look into .*/lib(?:/pkgconfig)?\. A line for ~/\.profile: (export .*)", self.told)
+        lines = re.findall(r"does not search .*/lib(?:/pkgconfig)?\. A line for ~/\.profile: (export .*)", self.told)
         self.assertEqual(len(lines), 2)
         self.assertEqual(self.run_block([*lines, *self.commands[1:]]), (0, self.shown, ""))
         lib = self.home / ".local/lib"

@@ -449,18 +449,18 @@ class Install(unittest.TestCase):
         script = COPY / "examples/too_few_cycles.script"
         *_, more = call(place / "bin/camac", "explain", "@sample", script)[1].splitlines()
         self.assertTrue((place / "share/doc/camac" / more.removeprefix("More: ").partition(",")[0]).is_file(), more)
-        line = next(it for it in lines if it.startswith("install: python3 does not look into ")).partition("~/.profile: ")[2]
+        line = next(it for it in lines if it.startswith("install: python3 does not search ")).partition("~/.profile: ")[2]
         ran = call("bash", "-c", f"{line}; python3 -c 'import camac; print(camac.__file__)'", env={**os.environ, "PYTHONPATH": ""})
         self.assertTrue(ran[1].startswith(f"{place}/lib/"), ran)
         again = call(COPY / "install", place, env={**os.environ, "PYTHONPATH": str(pathlib.Path(ran[1].strip()).parent.parent)})[1]
-        self.assertNotIn("python3 does not look into", again)
+        self.assertNotIn("python3 does not search", again)
 
     def test_file_of_another(self):
         place = self.folder()
         (place / "bin").mkdir()
         (place / "bin/camac").write_text("mine\n")
         status, out, err = call(COPY / "install", place)
-        wanted = f"install: {place}/bin/camac is there, and ./install did not put it there: move it away. Nothing was put\n"
+        wanted = f"install: {place}/bin/camac is there, and ./install did not put it there: move it away. Nothing was installed\n"
         self.assertEqual((status, out, err), (1, "", wanted))
         self.assertEqual([it for it in place.rglob("*") if it.is_file()], [place / "bin/camac"])
         self.assertEqual((place / "bin/camac").read_text(), "mine\n")
@@ -494,7 +494,7 @@ class Install(unittest.TestCase):
         toolchain(folder, "exit 1")
         status, out, err = call(COPY / "install", "--prove", place, env=path)
         self.assertEqual((status, out), (1, ""))
-        self.assertTrue(err.startswith("install: proves all that camac stands on: from nothing about an hour"), err)
+        self.assertTrue(err.startswith("install: proves camac and all crates below: about an hour"), err)
         self.assertTrue(err.endswith("install: the program is not proved\n"), err)
         self.assertEqual([*place.iterdir()], [])
         self.addCleanup(shutil.rmtree, COPY / "crates/camac/out")

@@ -149,7 +149,7 @@ class Simulations(Case):
         self.script.write_text(SCRIPT.replace("  cclc slow\n", "  cccz 1\n"))
         status, out, _ = self.told("--rate", "slow=1000", "--services", "50")
         self.assertEqual(status, 0)
-        self.assertIn("no look-at-me is seen any more", out)
+        self.assertIn("no look-at-me was seen in", out)
 
     def test_modules_that_are_wrong(self):
         for text, told in (
@@ -169,7 +169,7 @@ class Simulations(Case):
             (["--rate", "trig"], "SERVICE=RATE"),
             (["--rate", "trig=0"], "SERVICE=RATE"),
             (["--rate", "trig=nan"], "SERVICE=RATE"),
-            (["--rate", "trig=1", "--rate", "trig=2"], "stands twice"),
+            (["--rate", "trig=1", "--rate", "trig=2"], "is there twice"),
             (["--rate", "nobody=1"], "no such service"),
             (["--rate", "trig=1", "--services", "0"], "--services"),
             (["--rate", "trig=1", "--cycle-us", "0"], "--cycle-us"),

@@ -131,7 +131,7 @@ class OfFile(Case):
             (3, head + 'name = "\\ud800"', "this escape is none of TOML"),
             (3, head + 'name = "\\u0000"', "no NUL"),
             (3, head + "name = '" + "x" * 65 + "'", "at most 64 characters"),
-            (4, head + "name = 'x'\nname = 'y'", "`name` stands twice"),
+            (4, head + "name = 'x'\nname = 'y'", "`name` is there twice"),
             (4, head + "name = 'x'\nbits = '16..24'", "`bits` is a number from 0 to 23"),
             (4, head + "name = 'x'\nbits = '9..8'", "`bits` is a number from 0 to 23"),
             (4, head + "name = 'x'\nplace = 41", "`place` is a number from 1 to 40"),

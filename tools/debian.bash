@@ -38,7 +38,7 @@ debian_changelog() {
   cat <<TEXT
 camac ($version-$revision) unstable; urgency=medium
 
-  * Version $version. The file changelog.gz tells what is new.
+  * Version $version. See changelog.gz for what is new.
 
  -- $(maintainer)  $(LC_ALL=C date -u -R -d "@$SOURCE_DATE_EPOCH")
 TEXT

@@ -1,7 +1,7 @@
 """What stands around the program camac in Python.
 
 What the program prints is given as values: `plan`, `check`, `bounds`, `costs`, `response` and `run` call its subcommands. `warnings` tells
-what is accepted and hardly meant, and `propose` what the loops of a refused script have to keep. `read_events` reads an event file and tests
+what is probably not meant, and `propose` what the loops of a refused script have to keep. `read_events` reads an event file and tests
 it as `camac events` does (`whole` and `whole_size`: one that was cut; `event_arrays`: as arrays, where numpy is). A branch driver in Python is
 run by a checked script (`drive`, and `call` for one service once), and `camac.mock` has a branch without hardware. `play` does what `drive`
 does in this process, over the library for C (`camac.library`). Where no program is there, the library answers what needs no run. Both write a

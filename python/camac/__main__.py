@@ -32,11 +32,10 @@ from camac.scripts import Response, check, response, source_lines
 INPUTS = ("plan", "script", "source", "answers", "file", "old", "new")
 LOST = "{} is an input: it would be lost"
 DESCRIPTION = """\
-Judges scripts, lays them out and compares what they may take, serves editors, draws pictures of a plan, a script and a run of camac, and makes a
-report of a run.
+Judges scripts, lays them out and compares what they may take, serves editors, draws a plan, a script and a run of camac, and reports a run.
 
-A picture is an SVG file, a report one HTML file; both open in a browser. docs/DATA.md shows them. The program camac is found in PATH,
-or where the environment variable CAMAC_PROGRAM says."""
+A picture is an SVG file, a report one HTML file; both open in a browser. docs/DATA.md shows them. The program is camac in PATH, or the one that the environment
+variable CAMAC_PROGRAM names."""
 # A line of an annotated run that stopped.
 STOPPED = re.compile(r"  (overrun \d wait \d+ events \d+|refused A\d line \d+: [a-z ]+)$")
 DRAW = """\
@@ -47,7 +46,7 @@ DRAW = """\
   run       PLAN SCRIPT ANSWERS|EVENTS        the cycles of each service of a run against its bound
   words     PLAN SCRIPT ANSWERS|EVENTS        histograms of cycles and words
 
-PLAN may be @sample, the built-in plan. An event file is told from answers by how it begins."""
+PLAN may be @sample, the built-in plan. The first bytes tell an event file from answers."""
 
 
 class Source:
@@ -74,7 +73,7 @@ class Source:
 
 
 def _need(command: str) -> None:
-    """Raises ProgramFault where the program does not have a subcommand."""
+    """Raises ProgramFault if the program does not have a subcommand."""
     if not knows_command(command):
         raise ProgramFault(f"this program has no `{command}`", FAULT)
 
@@ -159,7 +158,7 @@ def make_report(args: argparse.Namespace) -> int:
     made = report(inputs, every=args.every, naming=naming(args))
     write_made(args.out, made.text, args.overwrite)
     if args.record:
-        # Where plan or script is refused, the page tells it.
+        # If plan or script is refused, the page says so.
         with contextlib.suppress(Refused):
             write_played(args.record, inputs, args.overwrite)
     return made.status
@@ -256,7 +255,7 @@ def _add_report(commands: Any) -> None:
 
 
 def parse(words: List[str]) -> argparse.Namespace:
-    """Reads the words of the command line; ends with status 2 where they are not understood."""
+    """Reads the words of the command line; ends with status 2 if they are not understood."""
     its = parser()
     args = its.parse_args(words)
     if args.command == "draw":

@@ -1,4 +1,4 @@
-"""What the checker accepts and what is hardly meant: warnings about an accepted script. docs/REFUSALS.md has each with an example."""
+"""Warnings about an accepted script: what is probably not meant. docs/REFUSALS.md has each with an example."""
 import enum
 from typing import Dict, Iterator, List, NamedTuple, Optional, Set, Tuple
 
@@ -43,7 +43,7 @@ Place = Tuple[int, int]
 
 
 def warnings(plan: File, script: File, program: Optional[File] = None) -> List[Warned]:
-    """Returns what is hardly meant in an accepted script, by lines. Where the program has no `costs`, W1 and W2 are not looked for
+    """Returns what is probably not meant in an accepted script, by lines. If the program has no `costs`, W1 and W2 are not looked for
     (`looks_for_all`).
 
     Raises as `camac.check`."""

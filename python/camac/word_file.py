@@ -76,7 +76,7 @@ def _tables(text: bytes, file: File) -> List[_Table]:
             tables.append(_Table(number, {}))
         elif found and tables:
             if found[1] in tables[-1].keys:
-                raise WordsFault(file, number, f"`{found[1]}` stands twice in this [[word]]")
+                raise WordsFault(file, number, f"`{found[1]}` is there twice in this [[word]]")
             tables[-1].keys[found[1]] = number, _value(found[2], file, number)
         else:
             raise WordsFault(file, number, "`[[word]]` has to stand before the first key" if found else "expected `[[word]]` or `KEY = VALUE`")

@@ -1,4 +1,4 @@
-"""check: judges scripts, and warns of what is hardly meant. `camac-check` is this module alone, without what draws and reports."""
+"""check: judges scripts, and warns of probable mistakes. `camac-check` is this module alone, without what draws and reports."""
 import argparse
 import sys
 from typing import Any, List, Optional
@@ -13,7 +13,7 @@ from camac.program import quickest, version
 def add_to(commands: Any) -> None:
     """Adds the command to those of the package."""
     raw = argparse.RawDescriptionHelpFormatter
-    _fill(commands.add_parser("check", prog="camac-check", help="Judges scripts, and warns of what is hardly meant", epilog=STATUS, formatter_class=raw))
+    _fill(commands.add_parser("check", prog="camac-check", help="Judges scripts, and warns of probable mistakes", epilog=STATUS, formatter_class=raw))
 
 
 def _fill(it: argparse.ArgumentParser) -> None:
@@ -23,7 +23,7 @@ def _fill(it: argparse.ArgumentParser) -> None:
     it.add_argument("--json", action="store_const", const="json", dest="format", help="--format json")
     it.add_argument("--strict", action="store_true", help="a warning is status 1, too")
     it.add_argument("--keeps", action="store_true", help="proposes what the loops of a refused script have to keep")
-    write = "first puts the least headings that are accepted into each script, with --keeps what loops have to keep, too"
+    write = "first puts the least accepted headings into each script, with --keeps what loops have to keep, too"
     it.add_argument("--write", action="store_true", help=write)
     it.set_defaults(do=do, out=None)
 

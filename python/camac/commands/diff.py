@@ -10,13 +10,12 @@ from camac.output import say
 
 ABOUT = """\
 Compares what each service may take: dataway cycles, event words and steps, and the most cycles from its look-at-me to its start and its end (each
-module calls once, where no rate is told).
+module without a rate calls once).
 
   python3 -m camac diff OLD NEW --plan PLAN        two scripts on one plan
-  python3 -m camac diff OLD NEW --script SCRIPT    two plans of one script; the commands that the new one gains and loses are told, too
+  python3 -m camac diff OLD NEW --script SCRIPT    two plans of one script, and the commands that the new one gains and loses
 
-A line begins with = where nothing changed, ~ where something did, + where it is new, and - where it is gone. A bound that is more than
-before is told at the end of its line."""
+A line begins with = if nothing changed, ~ if something did, + if it is new, and - if it is gone. It ends with the bounds that have grown."""
 STATUS = """\
 Status: 0 no bound has grown; 1 one has, or a plan or script is refused; 2 usage; 3 a file or the program failed."""
 

@@ -8,8 +8,8 @@ from camac.commands.running import DONE, REFUSED
 from camac.output import say
 
 ABOUT = """\
-Puts scripts into one layout: two spaces a block, one statement a line, comments kept. The tokens and comments stay the same, or the script stays
-as it is. A block of one statement that stands on a line stays there."""
+Puts scripts into one layout: two spaces a block, one statement a line, comments kept. If tokens or comments would change, the script
+stays as it is. A block of one statement on one line stays there."""
 STATUS = """\
 Status: 0 done; 1 a script has no layout, or with --check another one; 2 usage; 3 a file failed."""
 

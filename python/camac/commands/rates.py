@@ -1,4 +1,4 @@
-"""The option --every, which tells how soon a module may call again."""
+"""The option --every: how soon a module may call again."""
 import argparse
 import re
 from typing import Dict, Sequence
@@ -7,18 +7,18 @@ GREATEST_EVERY = 4_294_967_295
 
 
 def add_every(to: argparse.ArgumentParser) -> None:
-    text = "the module of a service raises its look-at-me again no sooner than so many cycles later; once for each service"
+    text = "the module of a service raises its look-at-me at least this many cycles after the time before; once for each service"
     to.add_argument("--every", action="append", default=[], metavar="SERVICE=CYCLES", help=text)
 
 
 def read_every(words: Sequence[str], its: argparse.ArgumentParser) -> Dict[str, int]:
-    """Reads the values of --every; ends with status 2 where they are not understood."""
+    """Reads the values of --every; ends with status 2 if they are not understood."""
     rates: Dict[str, int] = {}
     for word in words:
         name, _, cycles = word.partition("=")
         if not name or not re.fullmatch("[0-9]{1,10}", cycles) or not 1 <= int(cycles) <= GREATEST_EVERY:
             its.error(f"--every is SERVICE=CYCLES with 1 to {GREATEST_EVERY:,} cycles, not {word!r}")
         if name in rates:
-            its.error(f"--every {name} stands twice")
+            its.error(f"--every {name} is there twice")
         rates[name] = int(cycles)
     return rates

@@ -15,12 +15,12 @@ from camac.texts import is_standard_input
 DONE, REFUSED, USAGE, FAULT = 0, 1, 2, 3
 STATUS = """\
 Status: 0 done; 1 refused, a wait that was not permitted, or numbers that differ; 2 usage; 3 a file or the program failed."""
-# Reads the words of a command line, and ends with status 2 where they are not understood.
+# Reads the words of a command line, and ends with status 2 if they are not understood.
 Parse = Callable[[List[str]], argparse.Namespace]
 
 
 def refuse_pipes(its: argparse.ArgumentParser, inputs: Sequence[str], takes_pipes: bool = False) -> None:
-    """Ends with status 2 where an input can be read once alone."""
+    """Ends with status 2 if an input can be read only once."""
     if is_standard_input(inputs):
         its.error("@in cannot be an input here: it is read more than once")
     pipes = [it for it in inputs if os.path.exists(it) and not os.path.isfile(it) and not os.path.isdir(it)]
@@ -29,7 +29,7 @@ def refuse_pipes(its: argparse.ArgumentParser, inputs: Sequence[str], takes_pipe
 
 
 def main(parse: Parse, words: Optional[List[str]] = None) -> int:
-    """Runs a command, and returns its status. Where the reader of a pipe closed it, and at Ctrl-C, the process ends without a word, by the
+    """Runs a command, and returns its status. If the reader of a pipe closed it, and at Ctrl-C, the process ends silently, by the
     signal that says so."""
     if sys.stderr is None:
         sys.stderr = open(os.devnull, "w", encoding="utf-8")

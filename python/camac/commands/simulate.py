@@ -20,11 +20,11 @@ OF_A_CURVE = 500
 SHARES = ((0.5, "50 %"), (0.9, "90 %"), (0.99, "99 %"), (0.999, "99.9 %"), (1.0, "most"))
 ABOUT = """\
 Each dataway cycle takes --cycle-us, and nothing else takes time. Triggers are random, with the rate as their mean; --every is the dead time
-that the trigger's logic keeps. A line tells of a service: how many triggers came and were lost, the share that was answered (live), and
-1 / (1 + rate * mean length of a service) beside it (reckoned). The next one has the cycles from a look-at-me to the end of its service, and at
-last the E of `camac response`.
+of the trigger's logic. The line of a service has the triggers that came and were lost, the share that was answered (live), and
+1 / (1 + rate * mean length of a service) (reckoned). The next line has the cycles from a look-at-me to the end of its service, and then the E of
+`camac response`.
 
-Each module accepts what its type in the plan declares, with words that look random. Others are told by --modules: a file of Python that has
+Each module accepts what its type in the plan declares, with words that look random. --modules names a file of Python with others: it has
 a dictionary `modules`, with a module of camac.mock by (crate, station).
 
 Status: 0 done; 1 plan or script is refused; 2 usage; 3 a file or the program failed."""
@@ -33,10 +33,10 @@ Status: 0 done; 1 plan or script is refused; 2 usage; 3 a file or the program fa
 def add_to(commands: Any) -> None:
     """Adds the command to those of the package."""
     raw = argparse.RawDescriptionHelpFormatter
-    it = commands.add_parser("simulate", help="Tells what is lost at a rate, and how long look-at-mes wait", epilog=ABOUT, formatter_class=raw)
+    it = commands.add_parser("simulate", help="Prints what is lost at a rate, and how long look-at-mes wait", epilog=ABOUT, formatter_class=raw)
     it.add_argument("plan", metavar="PLAN", help="a plan: a TOML file, or @sample, the built-in plan")
     it.add_argument("script", metavar="SCRIPT", help="a script")
-    text = "so many triggers a second call for a service; once for each service that is called"
+    text = "this many triggers a second call for a service; once for each service that is called"
     it.add_argument("--rate", action="append", required=True, metavar="SERVICE=RATE", help=text)
     it.add_argument("--cycle-us", required=True, type=float, metavar="TIME", help="how many microseconds a dataway cycle takes on your branch")
     it.add_argument("--regular", action="store_true", help="triggers come regularly, not at random")
@@ -77,13 +77,13 @@ def _read_rates(words: Sequence[str], its: argparse.ArgumentParser) -> Dict[str,
         if not name or not 0 < rate <= GREATEST_RATE:
             its.error(f"--rate is SERVICE=RATE with a rate above 0 and at most {GREATEST_RATE:,.0f} a second, not {word!r}")
         if name in rates:
-            its.error(f"--rate {name} stands twice")
+            its.error(f"--rate {name} is there twice")
         rates[name] = rate
     return rates
 
 
 def _modules(file: Optional[str]) -> Optional[Mapping[Place, Module]]:
-    """The modules of a file of the user's. They are made anew each time."""
+    """The modules of a file of the user's. They are made again each time."""
     if file is None:
         return None
     try:
@@ -108,13 +108,13 @@ def _told(made: Simulation, setting: Setting) -> Iterator[str]:
     if made.end.how is not Ending.ENDED:
         yield made.end.line
     elif (made.end.events or 0) < setting.services:
-        yield f"no look-at-me is seen any more, of {PATIENCE:,} triggers: is it enabled, is inhibit off, and the demand output on?"
+        yield f"no look-at-me was seen in {PATIENCE:,} triggers: is it enabled, is inhibit off, and the demand output on?"
 
 
 def _notes(it: Simulated) -> List[str]:
     notes = []
     if it.later():
-        notes.append(f"{it.later()} ended later: the triggers do not keep the rates that the last number takes for granted (--every)")
+        notes.append(f"{it.later()} ended later: the triggers do not keep the rates that the last number assumes (--every)")
     if it.again:
         notes.append(f"{it.again} more services were called for a look-at-me that was answered before: this service leaves it up (cclc {it.name} clears it)")
     return notes
