@@ -371,7 +371,7 @@ class Proposed(Case):
             (["t = 2", "for i = 1 to 2 {", "t = t - 1 }"], [(6, "if t >= 1 { t = t - 1 }  # true unless it would fall below 0")]),
             ([read, "for i = 1 to 2 {", "t = v - k", "k = v }", "put t"], [
                 (5, "for i = 1 to 2 keep k in 0..4095, t in 0..4095 {"),
-                (6, "t = v + 4095 - k  if t >= 4095 { t = t - 4095 } else { t = 0 }  # 0 where it would be below 0"),
+                (6, "t = v + 4095 - k  if t >= 4095 { t = t - 4095 } else { t = 0 }  # 0 if it would be below 0"),
             ]),
             ([read, "for i = 1 to 2 {", "put v - k", "k = v }"], [
                 (5, "for i = 1 to 2 keep k in 0..4095 {"), (6, "put v + 4095 - k  # 4095 more than the difference"),

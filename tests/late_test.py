@@ -267,7 +267,7 @@ class Shown(bench.BenchCase):
         self.assertEqual(part["tables"], [])
         self.assertIn("at most 69", part["texts"])
         self.assertFalse([it for it in part["texts"] if it.startswith("seen")])
-        self.assertIn("An event file does not tell how late a service was: answers do.", part["paragraphs"])
+        self.assertIn("An event file does not show how late a service was: answers do.", part["paragraphs"])
 
     def test_no_operation(self):
         empty = self.write("empty.answers", "")

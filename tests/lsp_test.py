@@ -409,9 +409,9 @@ class Changed(Served):
         self.assertEqual(self.renamed(SCRIPT.replace("cdreg r 1 1 6", "cdreg k 1 1 6").replace("0 r -> v", "0 k -> v"), 8, 8, "r"), SCRIPT)
 
     def test_rename_that_cannot_be(self):
-        for new, said in [("9a", "is no name"), ("n" * 33, "is no name"), ("put", "is a word of the language"), ("t", "stands in the script already, as a variable"), ("get", "as a procedure")]:
+        for new, said in [("9a", "is no name"), ("n" * 33, "is no name"), ("put", "is a word of the language"), ("t", "is in the script already, as a variable"), ("get", "as a procedure")]:
             self.assertIn(said, self.renamed(SCRIPT, 1, 4, new))
-        self.assertEqual(self.renamed(SCRIPT, 6, 0, "a"), "no name stands here")
+        self.assertEqual(self.renamed(SCRIPT, 6, 0, "a"), "there is no name here")
         uri = self.open(SCRIPT)
         self.assertIsNone(self.client.at("prepareRename", uri, 6, 0))
         self.assertEqual(self.client.at("prepareRename", uri, 9, 15), span((9, 14), (9, 15)))

@@ -145,7 +145,7 @@ class Ends(bench.BenchCase):
         data = bytes.fromhex("43414d4143455631 ca4d 0003 00000001 0001 00000fff")
         _, page = self.report(source=data)
         self.assertEqual(page.tiles, {"events": 1, "event words": 1})
-        self.assertIn("The event file is of version one, which tells no cycles.", page.parts["The run"]["texts"])
+        self.assertIn("The event file is of version one, which has no cycles.", page.parts["The run"]["texts"])
         self.assertEqual(list(page.table("Services")[0]), ["event", "service", "words"])
         self.assertNotIn("adc: cycles", page.parts["Cycles and words of an event"]["texts"])
 

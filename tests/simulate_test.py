@@ -153,7 +153,7 @@ class Simulations(Case):
 
     def test_modules_that_are_wrong(self):
         for text, told in (
-            ("modules = {}", "no module stands in crate 1 at station 2, which calls for trig"),
+            ("modules = {}", "there is no module in crate 1 at station 2, which calls for trig"),
             ("modules = 3", "has no dictionary `modules`"),
             ("\nmodules = adc", "mine.py:2: NameError: name 'adc' is not defined"),
             ("modules = {", "SyntaxError"),

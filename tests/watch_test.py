@@ -137,7 +137,7 @@ class Following(Case):
         os.truncate(self.file, size)
         self.assertEqual(self.poll(), 10)
         self.check(its[:10])
-        self.assertRegex(self.follower.restarts[0], r"^\d\d:\d\d:\d\d: the file was cut; counted anew from its begin$")
+        self.assertRegex(self.follower.restarts[0], r"^\d\d:\d\d:\d\d: the file was cut; counted again from its beginning$")
 
     def test_replaced(self):
         """Another file in its place; one that was written over in its place; one that is gone and comes back."""

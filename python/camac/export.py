@@ -142,7 +142,7 @@ def tables(events: EventArrays, about: About) -> List[Series]:
 
 NUMBER = "the number of the event, from 1"
 GL = "the bit of the graded-L pattern whose service made it"
-SOURCE = "where it was read: a number in `sources`, and 0 where that is not fixed"
+SOURCE = "where it was read: a number in `sources`, and 0 if that is not fixed"
 
 
 def _sources(numpy: Any, events: EventArrays, places: Array, sources: Words) -> Array:

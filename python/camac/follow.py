@@ -108,7 +108,7 @@ class Follower:
     def restart(self, why: str) -> None:
         """Begins anew, and keeps why, if something was counted."""
         if self.place:
-            self.restarts.append(f"{time.strftime('%H:%M:%S')}: {why}; counted anew from its begin")
+            self.restarts.append(f"{time.strftime('%H:%M:%S')}: {why}; counted again from its beginning")
             del self.restarts[:-5]
         self.begin()
 

@@ -49,7 +49,7 @@ FAULTS = {NO_MEMORY: ("fault memory", 3), LONG: ("fault input too long", 3)}
 IN_PROCESS = "@library"
 COMMANDS = frozenset(("plan", "check", "explain", "bounds", "costs", "response"))
 SPENT_LINE = "refused A4 line 4294967296: too many answers"
-MISUSED = "a number is out of range, or it is told of no service"
+MISUSED = "a number is out of range, or a word names no service"
 CLOSED = "the session is closed"
 
 

@@ -179,5 +179,5 @@ def fault_of_new_name(names: Names, symbol: Symbol, new: str) -> Optional[str]:
     for it in names.mentions:
         its = it.symbol
         if its.name == new and (SCRIPT in (its.body, symbol.body) or its.body == symbol.body):
-            return f"`{new}` stands in the script already, as a {its.kind.value}"
+            return f"`{new}` is in the script already, as a {its.kind.value}"
     return None

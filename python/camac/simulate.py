@@ -202,7 +202,7 @@ def simulate(
     there = declared_modules(its, setting.seed) if modules is None else modules
     for it in sources:
         if it.place not in there:
-            raise UsageFault(f"no module stands in crate {it.place[0]} at station {it.place[1]}, which calls for {it.of.name}", 2)
+            raise UsageFault(f"there is no module in crate {it.place[0]} at station {it.place[1]}, which calls for {it.of.name}", 2)
     branch = _Clocked(MockBranch.of_plan(its, there), sources, setting)
     end = _run(plan, script, branch, events)
     for it in sources:

@@ -88,7 +88,7 @@ class Watch:
             return self.follower.poll()
 
     def read_record(self, file: File) -> None:
-        """The record was written anew; where it is that of another plan or script, all is counted anew."""
+        """The record was written again; if it is that of another plan or script, all is counted again."""
         self.record_at = self.stamp()
         try:
             record = read_record(file)

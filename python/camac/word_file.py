@@ -150,7 +150,7 @@ class _Fields:
     def gl(self) -> int:
         if "gl" in self.table.keys:
             if "service" in self.table.keys:
-                self.fail("gl", "either `service` or `gl` stands in a [[word]]")
+                self.fail("gl", "a [[word]] has either `service` or `gl`")
             return self.range("gl", 1, GREATEST_GL, (0, 0))[0]
         if "service" not in self.table.keys:
             self.fail("", "`service` is missing: the name of the service whose words these are")
@@ -189,7 +189,7 @@ class _Fields:
             return its
         if of == PLACE:
             if "place" not in self.table.keys or "tag" in self.table.keys:
-                self.fail("of", 'with `of = "place"` stands `place`, and no `tag`')
+                self.fail("of", 'with `of = "place"` write `place`, and no `tag`')
             return replace(its, of=of, tags=its.places)
         tags = [it for it in self.fields if it.gl == its.gl and it.name == of and it.of is None]
         if not tags:
@@ -217,7 +217,7 @@ class _Fields:
             for it in self.fields[:at]:
                 if (it.gl, it.name) == (its.gl, its.name) and _meet(it.places, its.places):
                     if it.of is None or it.of != its.of or _meet(it.tags, its.tags):
-                        raise WordsFault(self.file, its.line, f"`{its.name}` stands in line {it.line} for the same words")
+                        raise WordsFault(self.file, its.line, f"`{its.name}` is in line {it.line} for the same words")
         return Words(self.fields)
 
 

@@ -12,7 +12,7 @@ from camac.reader import read_statements
 from camac.tree import Assign, Expression, If, Name, Number, Operation, Part, Plain, Statement, While, expressions_of, parts_of
 
 WORD = 16_777_216
-NOT_BELOW, FALLS = "0 where it would be below 0", "true unless it would fall below 0"
+NOT_BELOW, FALLS = "0 if it would be below 0", "true unless it would fall below 0"
 OFFSET = "{} more than the difference"
 TWO_WORDS = "two words, the high one first"
 NO_TEXT = re.compile(r"(#[^\n]*|\s)+")

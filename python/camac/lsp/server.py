@@ -351,7 +351,7 @@ class Server:
     def on_rename(self, params: Params) -> Any:
         judged, mention = self.script(params), self.mention(params)
         if judged is None or mention is None:
-            raise ResponseError(FAILED, "no name stands here")
+            raise ResponseError(FAILED, "there is no name here")
         return self.workspace_edit(params["textDocument"]["uri"], judged, symbols.renamed(judged, mention, params["newName"]))
 
     def workspace_edit(self, uri: str, judged: Judged, edits: Sequence[Edit]) -> Any:

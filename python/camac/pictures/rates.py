@@ -74,7 +74,7 @@ def draw_rates(simulations: Sequence[Simulation], told: Simulation, cycle: float
         _draw_tips(canvas, y + 42, its)
         y += ROW
     words = "All rates grow together." if len(told.services) > 1 else ""
-    canvas.text(0, y + 12, f"The upright line: the rate that was told. {words}", "mute s11")
+    canvas.text(0, y + 12, f"The upright line: the given rate. {words}", "mute s11")
     canvas.grow(y + 18)
     return canvas
 

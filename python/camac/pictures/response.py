@@ -142,7 +142,7 @@ def _draw_words(canvas: Canvas, y: float, responses: Sequence[Response], late: D
     if any(it.count for it in late.values()):
         words.append("The mark below a bar: the latest end that the run showed, while the rates were kept.")
     if any(it.every is None for it in responses):
-        words.append("once: no rate was told. The numbers of a line hold where each such service up to its bit calls once before a pause.")
+        words.append("once: no rate was given. The numbers of a line hold if each such service up to its bit calls once before a pause.")
     for it in words:
         y += 16
         canvas.text(0, y, it, "mute s11")

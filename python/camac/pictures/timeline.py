@@ -63,7 +63,7 @@ def draw_run(run: Run, services: Sequence[Service]) -> Canvas:
     canvas = Canvas("The run: cycles of each service against its bound")
     total = len(run.gl)
     if not total or not run.has_cycles:
-        text = "The event file is of version one, which tells no cycles." if total else "No service came to its end in this run."
+        text = "The event file is of version one, which has no cycles." if total else "No service came to its end in this run."
         canvas.text(0, 18, text, "mute")
         canvas.grow(26)
         return canvas

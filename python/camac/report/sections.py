@@ -136,17 +136,17 @@ def late(facts: Facts) -> str:
     if facts.responses is None:
         return out[0] + '<p class="mute">This program has no <code>response</code>: how late each service can be is not known.</p>'
     out.append(
-        "<p>From a look-at-me to the end of its service no more cycles pass than these, whatever the modules answer. This holds where "
+        "<p>From a look-at-me to the end of its service no more cycles pass than these, whatever the modules answer. This holds if "
         "auxiliary controllers keep to the waits of the plan, a look-at-me stays until it is answered, the demand output of its crate is "
-        "on, and modules keep the rates that were told (<code>--every</code>).</p>"
+        "on, and modules keep the given rates (<code>--every</code>).</p>"
     )
     out.append(figure(draw_response(facts.responses, run)))
     if not run.has_listing:
-        return "".join(out) + '<p class="mute">An event file does not tell how late a service was: answers do.</p>'
+        return "".join(out) + '<p class="mute">An event file does not show how late a service was: answers do.</p>'
     if any(it.broken for it in run.late.values()):
         out.append(
             "<p>A rate was broken: in a stretch of look-at-mes without a pause a service was called more often than its rate allows, or twice "
-            "where no rate was told. Services that ended later in the stretch are left out. A listing shows a pause only where an operation "
+            "without a given rate. Services that ended later in the stretch are left out. A listing shows a pause only if an operation "
             "called no service, or one of a greater bit.</p>"
         )
     return "".join([*out, _late_table(facts.responses, run)])
