@@ -203,7 +203,7 @@ class Warnings(Case):
             self.assertEqual(camac.warnings(bench / "plan.toml", bench / "readout.script"), [])
 
     def test_pages(self):
-        """The scripts of the pages that are accepted on @sample are meant, but for the examples of the page of warnings."""
+        """The scripts of the pages that are accepted on @sample are meant, but for the examples of warnings."""
         tried = 0
         for page in sorted((TOP / "docs").rglob("*.md")):
             for words, text in ACCEPTED.findall(page.read_text()):
