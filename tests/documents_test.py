@@ -14,7 +14,7 @@ Each fenced block of a page is of one of these kinds, and is tried:
   ```python FILE, ```toml FILE, ```sh FILE, ```c FILE    a file that a later command of the page uses, or a part of an example of that name
 
 A console block is left out where it calls a compiler (cc, c++) that is not here, or asks for the library for C (by pkg-config, or by a program
-in Python named in_this_process.py) and that is not here (tests/of_c.py), or for numpy or h5py (by these words, .npz or .h5) and they are not here.
+in Python named in_this_process.py) and that is not here (tests/support/of_c.py), or for numpy or h5py (by these words, .npz or .h5) and they are not here.
 
 A page of `KEPT` has a folder in examples. Each file there has to be what a block or a command of the page made of that name, to the byte;
 pictures, too. `tests/documents_test.py --keep` writes them anew, to be looked at before they are committed.
@@ -38,10 +38,10 @@ import sys
 import tempfile
 import unittest
 
-import of_c
+from support import of_c
 
-TOP = pathlib.Path(__file__).resolve().parent.parent
-PROGRAM = os.path.abspath(os.environ.get("CAMAC_PROGRAM") or TOP / "crates/camac/out/camac")
+from support.program import PROGRAM, TOP
+
 if "CAMAC_PROGRAM" in os.environ:
     os.environ["CAMAC_PROGRAM"] = PROGRAM  # commands of pages run it from other folders, too
 PAGES = [TOP / "README.md", *sorted((TOP / "docs").rglob("*.md"))]

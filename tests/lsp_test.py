@@ -4,7 +4,7 @@
 usage: tests/lsp_test.py [--whole] [-v] [TEST ..]     from any folder; takes half a minute
 
 With --whole ten thousand edits are made, in place of 400, and the figures are told: the median time of an answer, and the memory. Where the library for C is
-there (tests/of_c.py), it judges, else the program: crates/camac/out/camac (cd crates/camac && rt run makes it), or what CAMAC_PROGRAM names.
+there (tests/support/of_c.py), it judges, else the program: crates/camac/out/camac (cd crates/camac && rt run makes it), or what CAMAC_PROGRAM names.
 """
 import json
 import os
@@ -15,9 +15,9 @@ import sys
 import time
 import unittest
 
-import of_c
-from live import PROGRAM, TOP, Case
-from lsp_client import Client, applied, span
+from support import of_c
+from support.live import PROGRAM, TOP, Case
+from support.lsp import SCRIPT, Client, applied, span
 from camac.layout import begins
 from camac.lsp.documents import Text
 from camac.lsp.workspace import choose, is_plan_text
@@ -32,21 +32,6 @@ ENVIRONMENT = {"CAMAC_PROGRAM": PROGRAM} if of_c.lacking() else {"CAMAC_PROGRAM"
 EDITS = 400
 # An answer takes so many seconds of the processor at most, on 4,096 statements.
 LIMIT = 0.05
-SCRIPT = """\
-cdlam adc 1 1 5 12
-var v t
-proc get(s in 0..11) within 3 cycles event 1 words steps 3 {
-  cdreg r 1 1 5 s
-  cfsa 0 r -> s
-  put s
-}
-service adc within 6 cycles event 2 words {
-  cdreg r 1 1 6 0
-  cfsa 0 r -> v
-  call get(v % 12)
-  put v
-}
-"""
 PLAN = (TOP / "examples/sample_plan.toml").read_text()
 
 

@@ -8,7 +8,23 @@ import sys
 import threading
 import time
 
-from live import PATIENCE, TOP
+from support.live import PATIENCE, TOP
+
+SCRIPT = """\
+cdlam adc 1 1 5 12
+var v t
+proc get(s in 0..11) within 3 cycles event 1 words steps 3 {
+  cdreg r 1 1 5 s
+  cfsa 0 r -> s
+  put s
+}
+service adc within 6 cycles event 2 words {
+  cdreg r 1 1 6 0
+  cfsa 0 r -> v
+  call get(v % 12)
+  put v
+}
+"""
 
 
 class Client:
