@@ -136,8 +136,9 @@ class Client:
         return self.server.wait(PATIENCE), said
 
     def kill(self):
-        self.server.kill()
-        self.server.wait()
+        """Ends the server, which puts away what it has on the disk."""
+        self.server.terminate()
+        self.server.wait(PATIENCE)
         for it in (self.server.stdin, self.server.stdout, self.server.stderr):
             it.close()
 
