@@ -5,15 +5,13 @@ usage: tests/bounds_test.py [-v] [TEST ..]     from any folder; takes a few seco
 
 The program is crates/camac/out/camac (cd crates/camac && rt run makes it), or what the environment variable CAMAC_PROGRAM names.
 """
-import os
-import pathlib
 import random
 import re
 import subprocess
 import unittest
 
-TOP = pathlib.Path(__file__).resolve().parent.parent
-PROGRAM = os.path.abspath(os.environ.get("CAMAC_PROGRAM") or TOP / "crates/camac/out/camac")
+from support.program import PROGRAM, TOP
+
 HEADING = re.compile(r"\b(?:proc\s+\w+\s*\([^)]*\)|service\s+\w+)\s+within\s+\d+\s+cycles\s+event\s+\d+\s+words(?:\s+steps\s+\d+)?")
 BLOCK = re.compile(r"^```camac accepted[^\n]*\n(.*?)^```$", re.M | re.S)
 # Of each number of a heading, the rule that a body above it breaks.

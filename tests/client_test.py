@@ -7,11 +7,10 @@ import json
 import os
 import pathlib
 import signal
-import sys
 import unittest
 from unittest import mock
 
-from live import PATIENCE, TOP, Broken, Case, Listed
+from support.live import PATIENCE, TOP, Broken, Case, Listed
 import camac
 from camac import Answer, Ending, RunEnd
 from camac.mock import Adc, Auxiliary, Memory, MockBranch, Module, Register, Reply, Scaler

@@ -16,8 +16,8 @@ import subprocess
 import tempfile
 import unittest
 
-TOP = pathlib.Path(__file__).resolve().parent.parent
-PROGRAM = os.path.abspath(os.environ.get("CAMAC_PROGRAM") or TOP / "crates/camac/out/camac")
+from support.program import PROGRAM, TOP
+
 EXAMPLES = [*(TOP / "examples").glob("*.toml"), TOP / "examples/three_modules.script", TOP / "examples/three_modules.answers"]
 STRAIGHT_LINE = """cdlam adc 1 1 5 12
 var v

@@ -16,7 +16,7 @@ import sys
 import tempfile
 import unittest
 
-from rows_test import PROGRAM, TOP
+from support.program import PROGRAM, TOP
 
 sys.path.insert(0, str(TOP / "tools"))
 sys.dont_write_bytecode = True

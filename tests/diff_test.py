@@ -12,7 +12,7 @@ import sys
 import unittest
 from urllib.parse import unquote
 
-from live import PROGRAM, TOP, Case
+from support.live import PROGRAM, TOP, Case
 from camac.diff import Bounds, Change, command_lines
 
 PLAN = """\

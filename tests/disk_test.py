@@ -13,7 +13,7 @@ import signal
 import subprocess
 import unittest
 
-from program_test import ANSWERS, EVENT_FILE, FULL, LISTING, PROGRAM, REQUESTS, VERDICT, Case, unwritten
+from support.program import ANSWERS, EVENT_FILE, FULL, LISTING, PROGRAM, REQUESTS, VERDICT, Case, unwritten
 
 HEADER, RECORD = 8, len(EVENT_FILE) - 8
 # What is written before the answers' end: the lines of the demand and the cycle, and the requests for them.

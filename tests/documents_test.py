@@ -1,6 +1,6 @@
 #!/usr/bin/env python3
 """Runs what README.md, the pages of docs/ and the examples of man/camac.1 and man/*.5 show, and compares it with what they say comes of it; follows
-their links. Checks that docs/inside/first_task.diff applies.
+their links. Checks that the diffs of the tasks in docs/inside/CHANGING.md apply.
 
 usage: tests/documents_test.py [-v] [TEST ..]     from any folder; takes a few seconds
 
@@ -14,7 +14,7 @@ Each fenced block of a page is of one of these kinds, and is tried:
   ```python FILE, ```toml FILE, ```sh FILE, ```c FILE    a file that a later command of the page uses, or a part of an example of that name
 
 A console block is left out where it calls a compiler (cc, c++) that is not here, or asks for the library for C (by pkg-config, or by a program
-in Python named in_this_process.py) and that is not here (tests/of_c.py), or for numpy or h5py (by these words, .npz or .h5) and they are not here.
+in Python named in_this_process.py) and that is not here (tests/support/of_c.py), or for numpy or h5py (by these words, .npz or .h5) and they are not here.
 
 A page of `KEPT` has a folder in examples. Each file there has to be what a block or a command of the page made of that name, to the byte;
 pictures, too. `tests/documents_test.py --keep` writes them anew, to be looked at before they are committed.
@@ -38,10 +38,10 @@ import sys
 import tempfile
 import unittest
 
-import of_c
+from support import of_c
 
-TOP = pathlib.Path(__file__).resolve().parent.parent
-PROGRAM = os.path.abspath(os.environ.get("CAMAC_PROGRAM") or TOP / "crates/camac/out/camac")
+from support.program import PROGRAM, TOP
+
 if "CAMAC_PROGRAM" in os.environ:
     os.environ["CAMAC_PROGRAM"] = PROGRAM  # commands of pages run it from other folders, too
 PAGES = [TOP / "README.md", *sorted((TOP / "docs").rglob("*.md"))]
@@ -64,7 +64,8 @@ service adc within 15 cycles event 1 words {
   cdreg r 1 1 5 0
   cfsa 0 r -> a  cfsa 0 r -> b  cfsa 0 r -> c  cfsa 0 r -> k  cfsa 0 r -> v
 """
-FIRST_TASK = TOP / "docs/inside/first_task.diff"
+# The section of docs/inside/CHANGING.md that each diff belongs to.
+TASKS = {"first_task.diff": "## A first task", "line_task.diff": "## Change a line of the listing"}
 WAIT = 60
 SCRIPT = "cdlam adc 1 1 5 12\nservice adc within 3 cycles event 0 words { }\n"
 
@@ -336,24 +337,27 @@ class Documents(unittest.TestCase):
         self.refuse("```console\n$ ./camac plan @sample |\n>   grep buffer\nbuffer 4095\n```\n")
 
 
-class FirstTask(unittest.TestCase):
-    """The diff of the first task, which docs/inside/CHANGING.md tells step by step."""
+class Tasks(unittest.TestCase):
+    """The diffs of tasks, which docs/inside/CHANGING.md tells step by step."""
 
-    def check(self, *words):
-        """Whether git would apply the diff to these sources."""
-        return subprocess.run(["git", "apply", "--check", *words, FIRST_TASK], cwd=TOP, capture_output=True, timeout=WAIT).returncode == 0
+    def applies(self, *words):
+        """Whether git would apply a diff to these sources."""
+        return subprocess.run(["git", "apply", "--check", *words], cwd=TOP, capture_output=True, timeout=WAIT).returncode == 0
 
-    def test_diff_applies(self):
-        """The diff fits the sources, which do not have its rule."""
-        mend = "apply it by `git apply --3way`, mend and prove it as the page says, and keep `git diff -U1 HEAD`"
-        self.assertTrue(self.check(), mend)
-        self.assertFalse(self.check("--reverse"))
+    def test_diffs_apply(self):
+        """Each diff fits the sources, which do not have its change."""
+        for name in TASKS:
+            with self.subTest(name):
+                self.assertTrue(self.applies(f"docs/inside/{name}"), "make the change again as the page says, and keep its `git diff`")
+                self.assertFalse(self.applies("--reverse", f"docs/inside/{name}"))
 
-    def test_steps_name_its_files(self):
-        section = (TOP / "docs/inside/CHANGING.md").read_text().partition("## A first task")[2].partition("\n## ")[0]
-        files = re.findall(r"^\+\+\+ b/(?:crates/)?(.*)$", FIRST_TASK.read_text(), re.M)
-        self.assertGreater(len(files), 10)
-        self.assertEqual([it for it in files if f"`{it}`" not in section], [])
+    def test_steps_name_their_files(self):
+        for name, head in TASKS.items():
+            with self.subTest(name):
+                section = (TOP / "docs/inside/CHANGING.md").read_text().partition(head)[2].partition("\n## ")[0]
+                files = re.findall(r"^\+\+\+ b/(?:crates/)?(.*)$", (TOP / "docs/inside" / name).read_text(), re.M)
+                self.assertGreater(len(files), 10)
+                self.assertEqual([it for it in files if f"`{it}`" not in section], [])
 
 
 def keep():

@@ -15,8 +15,7 @@ import subprocess
 import sys
 import unittest
 
-from live import TOP, Case
-from live_test import LOCKOUT, PATIENCE, STRAIGHT_LINE, Pipes
+from support.live import LOCKOUT, PATIENCE, STRAIGHT_LINE, TOP, Case, Pipes
 
 sys.path.insert(0, str(TOP / "tools"))
 

@@ -4,7 +4,7 @@ mended by a fix, and nothing is shown then; what is told under the pointer; and 
 
 usage: tests/editors_test.py [-v] [TEST ..]     from any folder; takes some seconds
 
-Neovim, Emacs with eglot, Vim with ALE, and Node for the extension of VS Code are each left out where they are not here. Where the library for C is there (tests/of_c.py), it
+Neovim, Emacs with eglot, Vim with ALE, and Node for the extension of VS Code are each left out where they are not here. Where the library for C is there (tests/support/of_c.py), it
 judges, else the program: crates/camac/out/camac (cd crates/camac && rt run makes it), or what CAMAC_PROGRAM names.
 """
 import json
@@ -18,9 +18,9 @@ import unittest
 import zipfile
 from xml.etree import ElementTree
 
-import of_c
-from live import PROGRAM, TOP, Case
-from lsp_test import SCRIPT
+from support import of_c
+from support.live import PROGRAM, TOP, Case
+from support.lsp import SCRIPT
 
 ALE = pathlib.Path("/usr/share/vim-scripts/ale"), pathlib.Path("/usr/share/vim/vimfiles/pack/dist-bundle/opt/ale"), pathlib.Path("/usr/share/vim/vimfiles/pack/dist-bundle/start/ale")
 WRONG = SCRIPT.replace("within 6", "within 5")

@@ -17,10 +17,9 @@ import tempfile
 import unittest
 from typing import NamedTuple
 
-from rows_test import ROWS
+from support.program import PROGRAM, TOP
+from support.rows import ROWS
 
-TOP = pathlib.Path(__file__).resolve().parent.parent
-PROGRAM = os.path.abspath(os.environ.get("CAMAC_PROGRAM") or TOP / "crates/camac/out/camac")
 PAGE = (TOP / "docs/REFUSALS.md").read_text()
 RULES = [f"{letter}{n}" for letter, last in (("P", 9), ("S", 7), ("L", 4), ("E", 18)) for n in range(1, last + 1)] + ["E21"]
 

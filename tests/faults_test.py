@@ -14,7 +14,7 @@ import sys
 import tempfile
 import unittest
 
-from program_test import ANSWERS, DEMAND, EVENT_FILE, LISTING, PROGRAM, REQUESTS, STRAIGHT_LINE, TWICE, Case, fault, lacks, unwritten
+from support.program import ANSWERS, DEMAND, EVENT_FILE, LISTING, PROGRAM, REQUESTS, STRAIGHT_LINE, TWICE, Case, fault, lacks, unwritten
 
 # FAILING_TURN is the number of the call that fails, and FAILING_ERROR its error, 0 for a write that takes nothing, or SHORT for a read or
 # write that moves one byte. With FAILING_LATER each later call of this name on this file fails too. PIECE is how many bytes a read or a

@@ -4,7 +4,7 @@ file of a run are as before; so they are with a name that is another one (camac-
 
 usage: tests/fmt_test.py [-v] [TEST ..]     from any folder; takes some seconds
 
-CAMAC_CASES tells how many random scripts are tried, 60 where it is not set; SEED begins them. Where the library for C is there (tests/of_c.py), it judges,
+CAMAC_CASES tells how many random scripts are tried, 60 where it is not set; SEED begins them. Where the library for C is there (tests/support/of_c.py), it judges,
 else what needs it is left out.
 """
 import os
@@ -14,8 +14,8 @@ import subprocess
 import sys
 import unittest
 
-import of_c
-from live import TOP, Case
+from support import of_c
+from support.live import TOP, Case
 from camac import library
 from camac.edits import edited
 from camac.layout import LayoutFault, formatted, kept_by

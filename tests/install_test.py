@@ -15,11 +15,10 @@ import tempfile
 import time
 import unittest
 
-import launcher_test
-import of_c
-from launcher_test import TOP, call
+from support import launcher, of_c
+from support.launcher import call, copy, stand_in, start, toolchain
+from support.program import PROGRAM, TOP
 
-PROGRAM = os.path.abspath(os.environ.get("CAMAC_PROGRAM") or TOP / "crates/camac/out/camac")
 # What ./camac calls, and ./install besides.
 OF_LAUNCHER = "find sort xargs sha256sum stat mkdir mv rm".split()
 OF_INSTALLER = "cat grep cmp cp chmod ln mktemp rmdir realpath python3".split()
@@ -34,7 +33,7 @@ def setUpModule():
     global ROOM, COPY
     ROOM = tempfile.TemporaryDirectory(prefix="camac-install-")
     COPY = pathlib.Path(ROOM.name) / "a copy"
-    launcher_test.copy(COPY)
+    copy(COPY)
     keep("camac.{}", PROGRAM, "crates/*/src")
     if not of_c.lacking():
         keep("libcamac.{}.a", of_c.ARCHIVE, "crates/*/src tools/library_main.text")
@@ -54,9 +53,7 @@ def keep(name, file, texts):
     place.chmod(0o755)
 
 
-class Case(unittest.TestCase):
-    folder = launcher_test.Launcher.folder
-
+class Case(launcher.Case):
     def files(self, folder):
         return [it for it in folder.rglob("*") if not it.is_dir()]
 
@@ -99,10 +96,10 @@ class Lacking(Case):
         before = self.files(COPY / "out")
         for tool in ("find", "sort", "sha256sum", "xargs"):
             env = self.but(tool, *OF_LAUNCHER)
-            launcher_test.stand_in(pathlib.Path(env["PATH"]), tool, "exit 1")
+            stand_in(pathlib.Path(env["PATH"]), tool, "exit 1")
             self.assertEqual(call(COPY / "camac", "--version", env=env), (3, "", "camac: the sources cannot be read\n"))
         env = self.path(*OF_LAUNCHER)
-        launcher_test.toolchain(pathlib.Path(env["PATH"]), "exit 1")
+        toolchain(pathlib.Path(env["PATH"]), "exit 1")
         said = "camac: the toolchain's command rt does not tell its version\n"
         self.assertEqual(call(COPY / "camac", "--version", env=env), (3, "", said))
         self.assertEqual(self.files(COPY / "out"), before)
@@ -174,9 +171,9 @@ class Beside(Case):
         shutil.copytree(TOP / "tools", copy / "tools")
         for name in ("crates", "crates.txt"):
             (copy / name).symlink_to(COPY / name)
-        launcher_test.toolchain(pathlib.Path(tools["PATH"]), "echo a kit")
-        launcher_test.stand_in(copy / "tools", "quick_build", f"cd {room}; {program}")
-        launcher_test.stand_in(copy / "tools", "quick_library", f"cd {room}; touch begun; {library}")
+        toolchain(pathlib.Path(tools["PATH"]), "echo a kit")
+        stand_in(copy / "tools", "quick_build", f"cd {room}; {program}")
+        stand_in(copy / "tools", "quick_library", f"cd {room}; touch begun; {library}")
         (copy / "out").mkdir()
         line = 'top=$1; source "$top/tools/program.bash"; trap end_library EXIT; with_library=yes; '
         line += f"is_idle() {{ {is_idle}; }}; find_program && find_library"
@@ -217,12 +214,12 @@ class Named(Case):
         self.refuse("the name of the folder is empty", "")
         env = {**bare, **self.path(*OF_LAUNCHER, *(it for it in OF_INSTALLER if it != "realpath"))}
         for line in ("exit 1", "exit 0"):
-            launcher_test.stand_in(pathlib.Path(env["PATH"]), "realpath", line)
+            stand_in(pathlib.Path(env["PATH"]), "realpath", line)
             self.refuse("the folder has no path", "place", env=env)
 
     def test_help_that_cannot_be_written(self):
         with open("/dev/full", "w", encoding="utf-8") as full:
-            ran = launcher_test.start(COPY / "install", "--help", cwd=self.folder(), stdout=full)
+            ran = start(COPY / "install", "--help", cwd=self.folder(), stdout=full)
             ran.communicate()
         self.assertEqual(ran.returncode, 1)
 

@@ -5,7 +5,7 @@ out; and against the independent reader of tools/oracle.
 usage: tests/keeps_test.py [--whole] [-v] [TEST ..]     from any folder; takes some seconds
 
 With --whole all of it is tried and the figures are told: 300 accepted scripts made at random that keep something, and 300 that are refused without
-it. That takes about five minutes. Where the library for C is there (tests/of_c.py), it judges, else the program: crates/camac/out/camac (cd crates/camac && rt
+it. That takes about five minutes. Where the library for C is there (tests/support/of_c.py), it judges, else the program: crates/camac/out/camac (cd crates/camac && rt
 run makes it), or what the environment variable CAMAC_PROGRAM names. CAMAC_SEED is another seed than the usual one.
 """
 import functools
@@ -19,8 +19,8 @@ import sys
 import time
 import unittest
 
-import of_c
-from live import PROGRAM, TOP, Case, script
+from support import of_c
+from support.live import PROGRAM, TOP, Case, script
 import camac
 from camac.edits import Edit, edited
 from camac.loops.search import propose

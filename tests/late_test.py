@@ -15,10 +15,10 @@ import unittest
 import xml.etree.ElementTree as ElementTree
 from unittest import mock
 
-from live import PROGRAM, TOP
-import bench
+from support.live import PROGRAM, TOP
+from support import laboratory
 import camac
-import told
+from support import told
 from camac import Response
 from camac import __main__ as commands
 from camac import pictures
@@ -199,7 +199,7 @@ class Watched(unittest.TestCase):
         self.assertIn("no service ended later", run.checks[-1].text)
 
 
-class Shown(bench.BenchCase):
+class Shown(laboratory.BenchCase):
     """The picture, and the part of the report."""
 
     RATES = ("--every", "adc=60", "--every", "tick=400")
@@ -217,12 +217,12 @@ class Shown(bench.BenchCase):
     def page(self, *rates, source=None):
         plan, script, answers = self.files
         self.assertEqual(self.call("report", plan, script, source or answers, *rates, "-o", self.room / "run.html"), "")
-        return bench.Page((self.room / "run.html").read_text(encoding="utf-8"))
+        return laboratory.Page((self.room / "run.html").read_text(encoding="utf-8"))
 
     def operations(self):
         """The bit and the cycles of each service of the bench's run, and (0, 0) where none was called."""
         found = []
-        for line in bench.call("run", *self.files, self.room / "run.events").splitlines():
+        for line in laboratory.call("run", *self.files, self.room / "run.events").splitlines():
             words = line.split()
             if words[0] == "demand":
                 found.append([{"adc": 3, "tick": 5, "-": 0}[words[2]], 0])
@@ -274,7 +274,7 @@ class Shown(bench.BenchCase):
         self.assertEqual([(row["seen"], row["services"]) for row in self.page(source=empty).table("How late")], [("", "0"), ("", "0")])
         script = self.write("empty.script", "var v\n")
         self.call("report", self.files[0], script, empty, "-o", self.room / "run.html")
-        page = bench.Page((self.room / "run.html").read_text())
+        page = laboratory.Page((self.room / "run.html").read_text())
         self.assertIn("The script has no service.", page.parts["How late"]["texts"])
 
     def test_picture(self):

@@ -21,8 +21,9 @@ import threading
 import time
 import unittest
 
-TOP = pathlib.Path(__file__).resolve().parent.parent
-TAKEN = ("camac", "install", "crates.txt", "crates.sum", "crates", "tools", "man", "completions", "editors", "include", "library", "python", "examples", "docs", "tests", "CHANGELOG.md", "README.md", "LICENSE")
+from support.launcher import Case, call, copy, start, toolchain
+from support.program import TOP
+
 VERDICT = "accepted\nservice adc gl 3 cycles 3 of 3 words 1 of 1 steps 3\n"
 NOT_PROVED = "It is not proved; to prove it (about an hour) and keep that: cd crates/camac && rt run\n"
 NEEDED = "bash env readlink find sort stat xargs sha256sum mkdir mv rm cat".split()
@@ -40,28 +41,6 @@ def setUpModule():
 
 def tearDownModule():
     ROOM.cleanup()
-
-
-def copy(folder):
-    """Copies the repository, without what was built."""
-    folder.mkdir()
-    for name in TAKEN:
-        if (TOP / name).is_dir():
-            shutil.copytree(TOP / name, folder / name, ignore=shutil.ignore_patterns("out", "__pycache__"))
-        else:
-            shutil.copy2(TOP / name, folder / name)
-
-
-def start(*words, **how):
-    how = {"stdin": subprocess.PIPE, "stdout": subprocess.PIPE, "stderr": subprocess.PIPE, "text": True, "cwd": "/", **how}
-    return subprocess.Popen([str(it) for it in words], **how)
-
-
-def call(*words, given="", **how):
-    """Status, standard output and standard error."""
-    ran = start(*words, **how)
-    out, err = ran.communicate(given)
-    return ran.returncode, out, err
 
 
 class Terminal:
@@ -97,16 +76,11 @@ def kept():
     return sorted((COPY / "out").glob("camac.*"))
 
 
-class Launcher(unittest.TestCase):
+class Launcher(Case):
     """In the order of the names of the tests: the first ones build."""
 
     launcher = property(lambda self: COPY / "camac")
     script = property(lambda self: (COPY / "examples/straight_line.script").read_text())
-
-    def folder(self):
-        made = tempfile.TemporaryDirectory(prefix="camac-launcher-")
-        self.addCleanup(made.cleanup)
-        return pathlib.Path(made.name)
 
     def without_toolchain(self):
         """An environment in whose PATH is what the launcher uses, but not rt."""
@@ -247,17 +221,7 @@ class Launcher(unittest.TestCase):
         self.assertEqual((status, out, err.splitlines(True)[-1]), (3, "", said))
 
 
-def stand_in(folder, name, line):
-    """Makes a stand-in for a command, which does this line of sh."""
-    (folder / name).write_text(f"#!/bin/sh\n{line}\n")
-    (folder / name).chmod(0o755)
-
-
-def toolchain(folder, line):
-    stand_in(folder, "rt", line)
-
-
-class Proved(unittest.TestCase):
+class Proved(Case):
     """When the launcher takes crates/camac/out/camac. The program and the stamp of its proof are stand-ins."""
 
     launcher = property(lambda self: COPY / "camac")
@@ -287,7 +251,6 @@ class Proved(unittest.TestCase):
         """Whether the stand-in runs. Nothing is built in its place, since rt is not in PATH."""
         return call(self.launcher, "--version", env=Launcher.without_toolchain(self))[:2] == (0, "proved\n")
 
-    folder = Launcher.folder
 
     def test_stamp_of_run(self):
         self.assertFalse(self.taken(), "no stamp")
@@ -359,10 +322,9 @@ class Proved(unittest.TestCase):
         line = 'top=$1; source "$top/tools/program.bash"; find_library; echo "$is_library_proved"'
         return call("bash", "-c", line, "bash", COPY, env=Launcher.without_toolchain(self))[1] == "yes\n"
 
-class Install(unittest.TestCase):
+class Install(Case):
     """The library for C that is put in place is a stand-in, where gcc is there to make one."""
 
-    folder = Launcher.folder
     lacking = [it for it in ("gcc", "ld", "ar", "nm", "objcopy") if not shutil.which(it)]
     of_c = "include/camac/camac.h include/camac/camac.hpp include/camac/camac_esone.h include/camac/camac_mcstd.h lib/libcamac.a lib/libcamac.so lib/libcamac.so.0" \
         " share/man/man3/camac.3 lib/pkgconfig/camac.pc lib/cmake/camac/camac-config.cmake lib/cmake/camac/camac-config-version.cmake"

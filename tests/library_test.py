@@ -4,7 +4,7 @@ the program make of the same answers has to be the same, byte for byte.
 
 usage: tests/library_test.py [-v] [TEST ..]     from any folder; takes a minute or two on four cores
 
-It needs gcc and the archive that tests/of_c.py names, else all is left out. The program is crates/camac/out/camac (cd crates/camac && rt run
+It needs gcc and the archive that tests/support/of_c.py names, else all is left out. The program is crates/camac/out/camac (cd crates/camac && rt run
 makes it), or what the environment variable CAMAC_PROGRAM names.
 """
 import collections
@@ -22,9 +22,8 @@ import unittest
 import zipfile
 from random import Random
 
-import of_c
-from live import PROGRAM, TOP, Broken, Case, Listed
-from live_test import LOCKOUT, STRAIGHT_LINE
+from support import of_c
+from support.live import LOCKOUT, PROGRAM, STRAIGHT_LINE, TOP, Broken, Case, Listed
 import camac
 from camac import Answer, Ending, ProgramFault, Refused, UsageFault, judge, library
 from camac.mock import Adc, Auxiliary, MockBranch, Recorder, Register

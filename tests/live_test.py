@@ -7,26 +7,22 @@ The program is crates/camac/out/camac (cd crates/camac && rt run makes it), or w
 """
 import contextlib
 import os
-import select
 import signal
 import subprocess
 import sys
 import unittest
 
-from live import OPENING, PATIENCE, PROGRAM, TOP, Broken, Case, Listed, script
+from support.live import LOCKOUT, OPENING, PATIENCE, PROGRAM, STRAIGHT_LINE, TOP, Broken, Case, Listed, Pipes, script
 import camac
 from camac import Answer, Ending, RunEnd
 from camac.mock import Adc, Auxiliary, MockBranch, Recorder, Register
 
-STRAIGHT_LINE = "cdlam adc 1 1 5 12\nvar v\nservice adc within 3 cycles event 1 words {\n  cdreg r 1 1 5 0\n  cfsa 0 r -> v\n  put v\n}\n"
-LOCKOUT = OPENING.format(6, 100) + "cdreg r 1 1 5 0\nlock 1 {\n" + "  cfsa 0 r -> v\n" * 4 + "}\n}\n"
 LONG = OPENING.format(30_000, 0) + "for i = 1 to 9999 { cclc adc }\n}\n"
 DEMAND = "0 0 000000 0 000004"
 CYCLE = "1 1 123fff 2 000000"
 WAIT_0, WAIT_1, WAIT_2 = (f"0 0 000000 {wait} 000000" for wait in range(3))
 HEADER = b"CAMACEV2"
 EVENT_FILE = bytes.fromhex("43414d4143455632 ca4d 0003 00000001 00000003 0000 0001 00000fff")
-REQUESTS = (b"demand", b"cycle", b"lock")
 HOLDS_BYTES = b"fault write\n  night: it holds bytes; a live run needs a file of its own\n"
 CLOSED = b"fault read\n  @in: it is closed, or a folder\n"
 # A driver that waits for ever in a cycle of its second service.
@@ -53,49 +49,6 @@ try:
 except KeyboardInterrupt:
     print("interrupted")
 """
-
-
-class Pipes:
-    """The program at work, with a pipe at its input and one at its output."""
-
-    def __init__(self, room, *words):
-        how = {"stdin": subprocess.PIPE, "stdout": subprocess.PIPE, "stderr": subprocess.PIPE}
-        self.process = subprocess.Popen([PROGRAM, "drive", *words], bufsize=0, cwd=room, **how)
-
-    def __enter__(self):
-        return self
-
-    def __exit__(self, *_raised):
-        self.process.kill()
-        self.process.communicate()
-
-    def read(self):
-        """What stands on the pipe as soon as something does; nothing at the end of the output."""
-        if not select.select([self.process.stdout], [], [], PATIENCE)[0]:
-            raise TimeoutError("the program wrote nothing")
-        return self.process.stdout.read(65_536)
-
-    def is_quiet(self):
-        """Whether the program writes nothing for a moment."""
-        return not select.select([self.process.stdout], [], [], 0.02)[0]
-
-    def requests(self):
-        """Reads up to a request or the last line: whole lines alone."""
-        text = b""
-        while not text.endswith(b"\n") or not text.splitlines()[-1].split(b" ")[0] in REQUESTS:
-            piece = self.read()
-            if not piece:
-                break
-            text += piece
-        return text
-
-    def answer(self, line):
-        self.process.stdin.write(f"{line}\n".encode())
-
-    def end(self):
-        """Ends the input. Returns what the program still wrote, its status and its standard error."""
-        output, errors = self.process.communicate(timeout=PATIENCE)
-        return output, self.process.returncode, errors
 
 
 def requested(line):

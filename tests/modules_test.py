@@ -12,7 +12,7 @@ import subprocess
 import sys
 import unittest
 
-from program_test import PROGRAM, TOP
+from support.program import PROGRAM, TOP
 
 FILES = sorted((TOP / "examples/modules").glob("*.toml"))
 PAGE = (TOP / "docs/PLANS.md").read_text()

@@ -12,7 +12,8 @@ import sys
 import tempfile
 import unittest
 
-from rows_test import NOT_MADE, PROGRAM, ROWS, TOP
+from support.program import PROGRAM, TOP
+from support.rows import NOT_MADE, ROWS
 
 sys.path.insert(0, str(TOP / "tools"))
 sys.dont_write_bytecode = True

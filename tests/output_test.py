@@ -14,7 +14,7 @@ import sys
 import tempfile
 import unittest
 
-from live import TOP, Case
+from support.live import TOP, Case
 
 NIGHT_BEFORE = "of the night before\n"
 HEAD = "number,gl,cycles,missed,count,word_0\n"

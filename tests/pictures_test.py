@@ -16,11 +16,12 @@ import unittest
 import xml.etree.ElementTree as ElementTree
 from unittest import mock
 
-from live import PROGRAM, TOP
-import bench
+from support.live import PROGRAM, TOP
+from support import laboratory
 import camac
-import told
-from browser import CHROMIUM, Browser
+from support import told
+from support.browser import CHROMIUM, Browser
+from support.rows import ROWS
 from camac import __main__ as commands
 from camac import pictures, scripts
 from camac.bodies import Kind, calls_of, opened, parse_costs
@@ -36,7 +37,6 @@ from camac.report import report
 from camac.runs import Asked, Inputs, Run
 from camac.scripts import parse_response, parse_verdict
 from camac.simulate import FACTORS, Simulated, Simulation
-from rows_test import ROWS
 
 KEPT = TOP / "tests/pictures"
 FIGURE = re.compile(r"<svg .*?</svg>", re.S)
@@ -46,16 +46,16 @@ def number(text):
     return float(text.replace(",", "")) if text else None
 
 
-class Numbers(bench.BenchCase):
+class Numbers(laboratory.BenchCase):
     """The numbers of the page beside sums made apart, from the listing and from `camac events`."""
 
     @classmethod
     def setUpClass(cls):
         super().setUpClass()
         cls.made = report(Inputs(*cls.files))
-        cls.page = bench.Page(cls.made.text)
+        cls.page = laboratory.Page(cls.made.text)
         cls.events = cls.case.room / "run.events"
-        cls.sums = bench.Sums(*cls.files, cls.events)
+        cls.sums = laboratory.Sums(*cls.files, cls.events)
 
     def test_run(self):
         self.assertEqual(self.made.status, 0)
@@ -82,7 +82,7 @@ class Numbers(bench.BenchCase):
         for row in self.page.table("The run"):
             its = [(it, event) for it, event in zip(self.sums.services, self.sums.events) if it.name == row["service"]]
             cycles, words = [it.cycles for it, _ in its], [len(event[4]) for _, event in its]
-            bound = re.search(rf"service {row['service']} .* cycles (\d+) of (\d+) words (\d+) of", bench.call("check", *self.inputs[:2]))
+            bound = re.search(rf"service {row['service']} .* cycles (\d+) of (\d+) words (\d+) of", laboratory.call("check", *self.inputs[:2]))
             wanted = [len(its), min(cycles), sum(cycles) / len(its), max(cycles), int(bound[1]), int(bound[2])]
             wanted += [sum(it.waits for it, _ in its) / len(its), sum(words) / len(its), int(bound[3])]
             wanted += [sum(getattr(it, name) for it, _ in its) for name in ("no_q", "of_transfers", "no_x")]
@@ -96,7 +96,7 @@ class Numbers(bench.BenchCase):
             wanted = [at + 1, it.name, it.cycles, None, it.waits, it.locked, it.no_q, it.of_transfers, it.no_x, len(event[4])]
             found = [cell if title == "service" else None if title == "of bound" else number(cell) for title, cell in row.items()]
             self.assertEqual(found, wanted)
-            self.assertEqual(bench.NAMES[event[0]], it.name)
+            self.assertEqual(laboratory.NAMES[event[0]], it.name)
 
     def test_commands(self):
         has_widths = knows_option("plan", "--commands", PROGRAM)
@@ -105,7 +105,7 @@ class Numbers(bench.BenchCase):
         for row in rows:
             at = tuple(int(it) for it in row["crate station A F"].replace("F", "").split())
             its = self.sums.commands[at]
-            width = bench.WIDTHS.get((at[0], at[1], at[3]), 24) if has_widths else 24
+            width = laboratory.WIDTHS.get((at[0], at[1], at[3]), 24) if has_widths else 24
             words = [word & ((1 << width) - 1) for word in its["words"]]
             wanted = [its["count"], its["no_q"], its["no_x"], its["waits"]]
             wanted += [min(words), sum(words) / len(words), max(words)] if words else [None] * 3
@@ -125,7 +125,7 @@ class Numbers(bench.BenchCase):
         drawn = [(at, words) for at, words in channels if at[:2] != (2, 2)]
         self.assertEqual(len(part["counts"]), len(drawn))
         for found, (at, words) in zip(part["counts"], drawn):
-            width = bench.WIDTHS[at[0], at[1], at[3]]
+            width = laboratory.WIDTHS[at[0], at[1], at[3]]
             each = max(1 << width >> 7, 1)
             words = [word & ((1 << width) - 1) for word in words]
             self.assertEqual(found, [sum(low <= word < low + each for word in words) for low in range(0, 1 << width, each)])
@@ -141,7 +141,7 @@ class Numbers(bench.BenchCase):
     def test_places_of_words(self):
         tips = [tip for tip in self.page.parts["By the place of the word in its event"]["tips"] if tip.startswith("word ")]
         wanted = []
-        for gl in bench.NAMES:
+        for gl in laboratory.NAMES:
             events = [event[4] for event in self.sums.events if event[0] == gl]
             for place in range(max(map(len, events))):
                 words = [words[place] for words in events if len(words) > place]
@@ -195,7 +195,7 @@ class Numbers(bench.BenchCase):
             with mock.patch("camac.runs.read_events", lambda _, wrong=wrong: iter(wrong)):
                 made = report(self.inputs)
             self.assertEqual(made.status, 1)
-            self.assertIn("DIFFERS", [row[0] for row in bench.Page(made.text).parts["Checks of this page"]["tables"][0]])
+            self.assertIn("DIFFERS", [row[0] for row in laboratory.Page(made.text).parts["Checks of this page"]["tables"][0]])
         low = [it._replace(words=0) for it in services]
         with mock.patch("camac.report.check", lambda *_: low):
             self.assertEqual(report(self.inputs).status, 1)
@@ -204,13 +204,13 @@ class Numbers(bench.BenchCase):
         """Spectra of an event file by the names of a file and by those of the script, and two numbers against each other, beside counts made here."""
         self.inputs = self.inputs._replace(source=self.events)
         tick = [event[4] for event in self.sums.events if event[0] == 5]
-        texts = bench.Page(report(self.inputs).text).parts["Event words by their names"]["texts"]
+        texts = laboratory.Page(report(self.inputs).text).parts["Event words by their names"]["texts"]
         for place in range(12):
             mean = statistics.mean(words[place] for words in tick)
             at = texts.index(f"SCALER-12 crate 2 station 2 A{place}")
             self.assertEqual(texts[at + 1 : at + 3], [f"{len(tick)} words: values", f"mean {mean:,.1f}"])
         words = self.write("words.toml", WORDS)
-        page = bench.Page(report(self.inputs, naming=Naming(words, ("time", "count"))).text)
+        page = laboratory.Page(report(self.inputs, naming=Naming(words, ("time", "count"))).text)
         packed = [word for event in self.sums.events if event[0] == 3 for word in event[4] if word >> 16 == 3]
         found = page.parts["Event words by their names"]["counts"]
         self.assertEqual(found[-1], [sum(word & 0xFFF >= low and word & 0xFFF < low + 32 for word in packed) for low in range(0, 4096, 32)])
@@ -224,7 +224,7 @@ class Numbers(bench.BenchCase):
         """Of an event file alone the page tells what it holds, and the numbers are those of the listing."""
         self.inputs = self.inputs._replace(source=self.events)
         made = report(self.inputs)
-        page = bench.Page(made.text)
+        page = laboratory.Page(made.text)
         self.assertEqual(made.status, 0)
         wanted = {it: self.page.tiles[it] for it in ("events", "cycles, waits counted", "event words", "cycles with X = 0")}
         self.assertEqual(page.tiles, wanted)
@@ -234,7 +234,7 @@ class Numbers(bench.BenchCase):
         self.assertNotIn("Q = 0", page.table("Services")[0])
 
 
-class Costs(bench.BenchCase):
+class Costs(laboratory.BenchCase):
     """The cost of each line."""
 
     def test_what_is_told_without_the_program(self):
@@ -304,12 +304,12 @@ class Costs(bench.BenchCase):
         self.assertEqual(table[14:], ["1", "1", "11 %", "of this line: cfsa", "4", "1", "4", "44 %"])
 
     def test_page(self):
-        page = bench.Page(report(self.inputs).text)
+        page = laboratory.Page(report(self.inputs).text)
         texts = page.parts["Cost by line"]["texts"]
         self.assertIn("service adc (line 11): at most 43 cycles of 64 annotated", texts)
         self.assertIn("at most 43 = 27 ours + 16 waits", texts)
         self.assertIn("at most 26 = 14 ours + 0 waits + 12 promised by procedures, not needed", texts)
-        for line, text in enumerate(bench.SCRIPT.splitlines()[10:31], 11):
+        for line, text in enumerate(laboratory.SCRIPT.splitlines()[10:31], 11):
             self.assertIn(str(line), texts)
             self.assertIn(svg.cut(text, 70), texts)
 
@@ -349,7 +349,7 @@ bits = "12..15"
 """
 
 
-class Texts(bench.BenchCase):
+class Texts(laboratory.BenchCase):
     """Texts that would do harm are shown, and do none."""
 
     HARM = b'# </text></svg></style><script>document.title="harm"</script> "\' & \x00\x1b[31m \xff\xfe \t ]]> <!-- \xc2\x85 \xed\xa0\x80\n'
@@ -357,7 +357,7 @@ class Texts(bench.BenchCase):
     def hostile(self, name):
         """The bench's script with harm in its comments, in a file of this name."""
         path = self.room / name
-        lines = [line.replace(b"\n", b"  ") + self.HARM for line in bench.SCRIPT.encode().splitlines() if b"#" not in line]
+        lines = [line.replace(b"\n", b"  ") + self.HARM for line in laboratory.SCRIPT.encode().splitlines() if b"#" not in line]
         path.write_bytes(b"".join(lines))
         return path
 
@@ -480,7 +480,7 @@ def kept_pictures():
     asked = Asked(told.WORDS, (rate[0], rate[1]))
     plan, services, bodies, run = parse_plan(told.PLAN), parse_verdict(told.VERDICT), parse_costs(told.COSTS), told.told_run(200, asked)
     calls = parse_costs(COSTS.printed.decode())
-    source, seen, responses = bench.SCRIPT.split("\n"), run.seen, parse_response(told.RESPONSE)
+    source, seen, responses = laboratory.SCRIPT.split("\n"), run.seen, parse_response(told.RESPONSE)
     drawn = {
         "plan": pictures.draw_plan(plan, services, run),
         "plan-alone": pictures.draw_plan(parse_plan(LISTED_PLAN)),
@@ -555,7 +555,7 @@ class Kept(unittest.TestCase):
 
 
 @unittest.skipUnless(CHROMIUM, "Chromium is not here")
-class InChromium(bench.BenchCase):
+class InChromium(laboratory.BenchCase):
     """The page in a browser."""
 
     def opened(self, browser, text):
@@ -672,9 +672,9 @@ class InChromium(bench.BenchCase):
 
     def test_labels_stay_inside(self):
         """No text of a picture begins left of it or ends right of it."""
-        plan = self.write("largest.toml", bench.largest_plan())
-        script = self.write("largest.script", bench.largest_script())
-        answers = self.write("largest.answers", bench.random_answers(20_000, [1 << bit for bit in range(24)]))
+        plan = self.write("largest.toml", laboratory.largest_plan())
+        script = self.write("largest.script", laboratory.largest_script())
+        answers = self.write("largest.answers", laboratory.random_answers(20_000, [1 << bit for bit in range(24)]))
         outside = "Array.from(document.querySelectorAll('svg text')).filter(t=>{const b=t.getBBox(),m=t.getAttribute('transform');"
         outside += "return !m&&(b.x<-1||b.x+b.width>t.ownerSVGElement.width.baseVal.value+1)}).map(t=>t.textContent)"
         with Browser() as browser:

@@ -6,83 +6,20 @@ usage: tests/program_test.py [-v] [TEST ..]     from any folder; takes a few sec
 The program is crates/camac/out/camac (cd crates/camac && rt run makes it), or what the environment variable CAMAC_PROGRAM names.
 """
 import errno
-import glob
 import json
 import os
-import pathlib
 import re
 import select
 import subprocess
 import sys
-import tempfile
 import time
 import unittest
 
-TOP = pathlib.Path(__file__).resolve().parent.parent
-PROGRAM = os.path.abspath(os.environ.get("CAMAC_PROGRAM") or TOP / "crates/camac/out/camac")
-STRAIGHT_LINE = b"""cdlam adc 1 1 5 12
-var v
-service adc within 3 cycles event 1 words {
-  cdreg r 1 1 5 0
-  cfsa 0 r -> v
-  put v
-}
-"""
-VERDICT = b"accepted\nservice adc gl 3 cycles 3 of 3 words 1 of 1 steps 3\n"
-DEMAND = b"0 0 000000 0 000004\n"
-ANSWERS = DEMAND + b"1 1 123fff 2 000000\n"
-LISTING = b"demand 000004 adc\ncycle 1 5 0 0 in 123fff x1 q1 wait 2\nended events 1\n"
-REQUESTS = b"demand\ncycle 1 5 0 0 in\ndemand\nended events 1\n"
-EVENT_FILE = bytes.fromhex("43414d4143455632 ca4d 0003 00000001 00000003 0000 0001 00000fff")
-EVENT_FILE_ONE = bytes.fromhex("43414d4143455631 ca4d 0003 00000001 0001 00000fff")
+from support.program import ANSWERS, CLOSED, DEMAND, EVENT_FILE, EVENT_FILE_ONE, FULL, LISTING, PROGRAM, STRAIGHT_LINE, TOO_LONG, TOP, TWICE, VERDICT, Case, fault, keywords, lacks, unwritten
+
 WORDS = {"plan": ["PLAN"], "check": ["PLAN", "SCRIPT"], "explain": ["PLAN", "[SCRIPT]"], "bounds": ["PLAN", "SCRIPT"], "costs": ["PLAN", "SCRIPT"], "response": ["PLAN", "SCRIPT"], "run": ["PLAN", "SCRIPT", "ANSWERS", "EVENTS"], "drive": ["PLAN", "SCRIPT", "EVENTS"], "events": ["FILE"]}
 # The options of a command but those of help, with the values that they take.
 OPTIONS = {"plan": {"commands": ""}, "response": {"every": "SERVICE=CYCLES", "within": "SERVICE=CYCLES"}}
-TOO_LONG, TWICE = b"fault input too long\n", b"fault @in twice\n"
-CLOSED = "it is closed, or a folder"
-
-
-def fault(kind, name, why):
-    """What is told of a file, or of a standard stream: `why` is an error of the system, or words of the program's own."""
-    return f"fault {kind}\n  {name}: {why if isinstance(why, str) else os.strerror(why)}\n".encode()
-
-
-def lacks(name):
-    return fault("read", name, errno.ENOENT)
-
-
-def unwritten(why, name="standard output"):
-    return fault("write", name, why)
-
-
-FULL = unwritten(errno.ENOSPC)
-
-
-class Case(unittest.TestCase):
-    """A test in a folder of its own, which has the straight-line script, its answers and a plan."""
-
-    def setUp(self):
-        room = tempfile.TemporaryDirectory(prefix="camac-test-")
-        self.addCleanup(room.cleanup)
-        self.room = pathlib.Path(room.name)
-        (self.room / "straight.script").write_bytes(STRAIGHT_LINE)
-        (self.room / "answers").write_bytes(ANSWERS)
-        (self.room / "plan.toml").write_bytes((TOP / "examples/sample_plan.toml").read_bytes())
-
-    def call(self, *words, given=b"", **how):
-        """Status, standard output and standard error of the program on these words."""
-        how = {"stdout": subprocess.PIPE, "stderr": subprocess.PIPE, "cwd": self.room, "timeout": 60, **how}
-        ran = subprocess.run([PROGRAM, *words], input=given, **how)
-        return ran.returncode, ran.stdout, ran.stderr
-
-    def shell(self, line):
-        """The same of a line of bash, in which $camac is the program."""
-        how = {"stdin": subprocess.DEVNULL, "capture_output": True, "cwd": self.room, "timeout": 60}
-        ran = subprocess.run(["bash", "-c", line], env={**os.environ, "camac": PROGRAM}, **how)
-        return ran.returncode, ran.stdout, ran.stderr
-
-    def file(self, name):
-        return (self.room / name).read_bytes()
 
 
 class WorkedRow(Case):
@@ -518,14 +455,6 @@ def options(help_text):
     """What help says of each option, by its names."""
     part = help_text.partition("\nOptions:\n")[2].partition("\n\n")[0]
     return {(short, long): said for short, long, said in re.findall(r"(?m)^  -(\w), --([\w-]+) +(.*)$", part)}
-
-
-def keywords():
-    """The words of the language, from the one table that has them."""
-    found = []
-    for file in glob.glob(str(TOP / "crates/*/src/words.rt")):
-        found += re.findall(r'b"(\w+)" => [A-Z]', pathlib.Path(file).read_text())
-    return found
 
 
 class Pages(Case):

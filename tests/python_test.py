@@ -23,8 +23,8 @@ try:
 except ImportError:
     numpy = None
 
-TOP = pathlib.Path(__file__).resolve().parent.parent
-PROGRAM = os.path.abspath(os.environ.get("CAMAC_PROGRAM") or TOP / "crates/camac/out/camac")
+from support.program import PROGRAM, TOP
+
 sys.path.insert(0, str(TOP / "python"))
 sys.dont_write_bytecode = True
 import camac  # noqa: E402

@@ -13,8 +13,8 @@ import time
 import unittest
 import unittest.mock
 
-import of_c
-from live import PROGRAM, TOP, Broken, Case, Listed, script
+from support import of_c
+from support.live import PROGRAM, TOP, Broken, Case, Listed, script
 
 import camac
 from camac.mock import Adc, Auxiliary, MockBranch, Recorded, Recorder, Register

@@ -7,15 +7,13 @@ usage: tests/refused_memory_test.py [-v] [TEST ..]     from any folder; takes so
 The program is crates/camac/out/camac (cd crates/camac && rt run makes it), or what the environment variable CAMAC_PROGRAM names. A small
 library in front of the C library's allocator answers null; it is compiled here by cc or clang.
 """
-import os
 import pathlib
 import shutil
 import subprocess
 import tempfile
 import unittest
 
-TOP = pathlib.Path(__file__).resolve().parent.parent
-PROGRAM = os.path.abspath(os.environ.get("CAMAC_PROGRAM") or TOP / "crates/camac/out/camac")
+from support.program import PROGRAM, TOP
 
 SHIM = r"""
 #define _GNU_SOURCE

@@ -17,7 +17,8 @@ import sys
 import tempfile
 import unittest
 
-TOP = pathlib.Path(__file__).resolve().parent.parent
+from support.program import TOP
+
 EDITS = sorted((TOP / "tests/refuted").glob("*.edit"))
 
 

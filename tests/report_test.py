@@ -16,8 +16,8 @@ import unittest
 import xml.etree.ElementTree as ElementTree
 from unittest import mock
 
-from live import PROGRAM, TOP
-import bench
+from support.live import PROGRAM, TOP
+from support import laboratory
 import camac
 from camac import __main__ as commands
 from camac import pictures, plans
@@ -44,7 +44,7 @@ def ran(*words):
         return status, out.read().decode(), err.getvalue()
 
 
-class Ends(bench.BenchCase):
+class Ends(laboratory.BenchCase):
     """Each input and each end: the page, its status and its size."""
 
     def report(self, plan="@sample", script=STRAIGHT, source="", status=0):
@@ -56,7 +56,7 @@ class Ends(bench.BenchCase):
             self.assertEqual(report(Inputs(plan, script_path, path)), made)
         for figure in FIGURE.findall(made.text):
             ElementTree.fromstring(figure)
-        return made.text, bench.Page(made.text)
+        return made.text, laboratory.Page(made.text)
 
     def last_line(self, page):
         return next(it for it in page.parts[""]["paragraphs"] if it.startswith("The run: "))
@@ -93,10 +93,10 @@ class Ends(bench.BenchCase):
         self.assertRegex(self.last_line(page), r"^The run: short events \d+ ")
 
     def bench_of_two_crates(self):
-        return self.files[0], bench.SCRIPT
+        return self.files[0], laboratory.SCRIPT
 
     def test_overrun(self):
-        bench.record(self.room, 40, ignores_lockout=True)
+        laboratory.record(self.room, 40, ignores_lockout=True)
         text, page = self.report(*self.bench_of_two_crates(), source=self.file("bench.answers"), status=1)
         self.assertRegex(self.last_line(page), r"^The run: overrun 1 wait [12] events \d+ \(a wait that the plan does not permit")
         self.assertIn("(it did not come to its end)", text)
@@ -119,7 +119,7 @@ class Ends(bench.BenchCase):
     def test_refused_script(self):
         text, page = self.report(script=STRAIGHT.replace("within 3", "within 2"), status=1)
         self.assertEqual(page.parts[""]["paragraphs"][0], "refused E12 line 3: more cycles than annotated")
-        explained = bench.call("explain", "@sample", self.room / "a.script")
+        explained = laboratory.call("explain", "@sample", self.room / "a.script")
         self.assertIn(svg.escape(explained.rstrip("\n")), text)
         place = re.search(r"<h2>The place</h2><pre>(.*?)</pre>", text, re.S)[1].split("\n")
         self.assertEqual(place[0], "     1   cdlam adc 1 1 5 12")
@@ -133,7 +133,7 @@ class Ends(bench.BenchCase):
         self.assertNotIn("The place", page.parts)
 
     def test_cut_event_file(self):
-        bench.call("run", *self.inputs, self.room / "run.events")
+        laboratory.call("run", *self.inputs, self.room / "run.events")
         data = self.file("run.events")
         for cut, line in ((data[:500], r"refused V7 byte \d+: truncated"), (data[:9], "refused V7 byte 8: truncated"), (b"CAMACEV9", "refused V1 byte 0")):
             _, page = self.report(*self.bench_of_two_crates(), source=cut, status=1)
@@ -156,9 +156,9 @@ class Ends(bench.BenchCase):
 
     def test_largest(self):
         """The largest plan, 24 services, 100,000 answers."""
-        plan = self.write("largest.toml", bench.largest_plan())
-        answers = bench.random_answers(100_000, [1 << bit for bit in range(24)])
-        text, page = self.report(plan, bench.largest_script(), answers)
+        plan = self.write("largest.toml", laboratory.largest_plan())
+        answers = laboratory.random_answers(100_000, [1 << bit for bit in range(24)])
+        text, page = self.report(plan, laboratory.largest_script(), answers)
         self.assertLess(len(text), 2_300_000)
         self.assertEqual([row[0] for row in page.parts["Checks of this page"]["tables"][0]][:4], ["agrees"] * 4)
         drawn = pictures.draw_plan(plans.plan(plan)).picture()
@@ -168,7 +168,7 @@ class Ends(bench.BenchCase):
     def test_time(self):
         """100,000 answers in three seconds of processor time, a million in fifteen, in little memory."""
         for count, seconds in ((100_000, 3), (999_999, 15)):
-            answers = self.write("many.answers", bench.random_answers(count))
+            answers = self.write("many.answers", laboratory.random_answers(count))
             words = ["report", "@sample", self.write("a.script", STRAIGHT), answers, "-o", self.room / "many.html"]
             call = "from camac.__main__ import main; status = main(sys.argv[1:])"
             # The least of three calls, and beside it what the processor's seconds are worth just then: other programs may use the computer.
@@ -191,7 +191,7 @@ class Ends(bench.BenchCase):
         return tuple(map(float, done.stdout.split()))
 
 
-class Commands(bench.BenchCase):
+class Commands(laboratory.BenchCase):
     """The command line: words, statuses, and what is left behind."""
 
     def call(self, *words, status=0):
@@ -201,7 +201,7 @@ class Commands(bench.BenchCase):
 
     def test_pictures(self):
         plan, script, answers = self.files
-        bench.call("run", *self.files, self.room / "run.events")
+        laboratory.call("run", *self.files, self.room / "run.events")
         tried = [("plan", plan), ("plan", plan, script), ("plan", plan, script, answers), ("plan", "@sample"), ("bounds", plan, script)]
         tried += [(kind, plan, script, source) for kind in ("plan", "bounds", "run", "words") for source in (answers, self.room / "run.events")]
         for words in tried:
@@ -275,9 +275,9 @@ class Commands(bench.BenchCase):
         lines = [
             "#!/bin/sh",
             "case $1 in",
-            f"--help) '{bench.PROGRAM}' --help | grep -v '^  costs ' ;;",
+            f"--help) '{laboratory.PROGRAM}' --help | grep -v '^  costs ' ;;",
             "costs) exit 2 ;;",
-            f"*) exec '{bench.PROGRAM}' \"$@\" ;;",
+            f"*) exec '{laboratory.PROGRAM}' \"$@\" ;;",
             "esac",
         ]
         older = self.write("older", "".join(f"{it}\n" for it in lines))

@@ -14,10 +14,9 @@ import tempfile
 import unittest
 
 import explain_test
-import program_test
 import rows_test
+from support.program import TOP, keywords
 
-TOP = pathlib.Path(__file__).resolve().parent.parent
 SCHEMA = json.loads((TOP / "editors/plan.schema.json").read_text())
 SCRIPTS = sorted((TOP / "examples").rglob("*.script"))
 # The tables of PLANS, in their order.
@@ -111,7 +110,7 @@ class ManualPages(unittest.TestCase):
     def test_script(self):
         text = page("man/camac-script.5")
         forms = " ".join(re.findall(r"(?m)^\.(?:It )?Cm (.*)$", text)).split()
-        self.assertEqual([it for it in program_test.keywords() if it not in forms], [])
+        self.assertEqual([it for it in keywords() if it not in forms], [])
         its = [(most, what.replace("`", "")) for what, most in rows(page("docs/LANGUAGE.md"), "## Limits")]
         found = re.findall(r"(?m)^\.It (.*)\n(.*)$", text.partition(".Ss Limits")[2].partition(".El")[0])
         self.assertEqual(found[:-1], its[:-1])

@@ -12,7 +12,7 @@ import subprocess
 import sys
 import unittest
 
-from program_test import EVENT_FILE_ONE, TOP, Case, unwritten
+from support.program import EVENT_FILE_ONE, TOP, Case, unwritten
 
 
 class RunningPage(Case):

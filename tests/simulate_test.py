@@ -15,7 +15,7 @@ import unittest
 import unittest.mock
 import xml.etree.ElementTree as ElementTree
 
-from live import PROGRAM, Case
+from support.live import PROGRAM, Case
 import camac
 from camac import __main__ as commands
 from camac import mock

@@ -10,7 +10,7 @@ import shutil
 import subprocess
 import unittest
 
-from live import TOP, Case
+from support.live import TOP, Case
 
 PROGRAM = """\
 from typing import Optional

@@ -14,9 +14,9 @@ import statistics
 import sys
 import unittest
 
-from live import PROGRAM, TOP, Case
+from support.live import PROGRAM, TOP, Case
 import camac
-import told
+from support import told
 from camac import Cycle, Demand, Ending, Lock, Move, RunEnd, Unlock, bodies, plans, scripts
 from camac.annotate import annotate
 from camac.bodies import Cost, Kind

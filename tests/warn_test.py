@@ -14,7 +14,7 @@ import time
 import unittest
 from unittest import mock
 
-from live import PROGRAM, TOP, Case, script
+from support.live import PROGRAM, TOP, Case, script
 import camac
 from camac.warn import Code
 

@@ -21,12 +21,12 @@ import threading
 import time
 import unittest
 
-from live import PROGRAM, TOP, Case
-import bench
+from support.live import PROGRAM, TOP, Case
+from support import laboratory
 import camac
 import camac.mock
-import told
-from browser import CHROMIUM, Browser
+from support import told
+from support.browser import CHROMIUM, Browser
 from camac.events import NEW_FILE, Event, record
 from camac.export import Given
 from camac.follow import Counts, Follower
@@ -202,7 +202,7 @@ class ServedCase(Case):
         cls.made = Case()
         cls.made.setUp()
         cls.addClassCleanup(cls.made.doCleanups)
-        bench.record(cls.made.room, 60)
+        laboratory.record(cls.made.room, 60)
 
     def setUp(self):
         super().setUp()

@@ -17,7 +17,7 @@ import sys
 import unittest
 import unittest.mock
 
-from live import PROGRAM, TOP, Case, script
+from support.live import PROGRAM, Case, script
 
 import camac
 from camac.__main__ import main

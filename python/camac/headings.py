@@ -4,7 +4,7 @@ from typing import List, NamedTuple, Optional, Sequence, Tuple
 from camac.drive import File
 from camac.edits import Edit, edited
 from camac.output import bytes_output
-from camac.reader import read_script
+from camac.reader import read_headings
 from camac.scripts import Heading, bounds
 
 
@@ -34,7 +34,7 @@ def least_headings(text: bytes, least: Sequence[Heading]) -> List[Written]:
     """The headings of a script that change where all get their least numbers, which are given in its order.
 
     Raises ValueError where they are those of another text."""
-    bodies = read_script(text).bodies
+    bodies = read_headings(text)
     if [it.name for it in bodies] != [it.name for it in least]:
         raise ValueError("the script changed while it was judged")
     written: List[Written] = []

@@ -1,10 +1,11 @@
 """The one layout of scripts: two spaces a block, one statement a line, comments kept. What is laid out has the same tokens and the same comments."""
 import re
+from itertools import chain
 from typing import Iterator, List, NamedTuple, Optional, Sequence, Tuple
 
 from camac.reader import CRATE_CALLS, LAM_CALLS
 from camac.texts import GREATEST_TEXT
-from camac.tokens import PIECE, TOKEN
+from camac.tokens import Row, is_token, rows_of
 
 STEP, WIDTH = 2, 120
 # Words that begin a declaration or a statement; `table` does where it names one.
@@ -12,9 +13,13 @@ DECLARATIONS = frozenset(("cdlam", "var", "proc", "service"))
 STATEMENTS = frozenset(("cdreg", "cfsa", "cssa", "cfmad", "cfubc", "cfubr", "put", "if", "for", "while", "lock", "call")) | CRATE_CALLS | LAM_CALLS
 # Signs that stand without a blank on one side.
 TIGHT = frozenset(("(", ")", ",", "..", "{", "}"))
+# A procedure's name stands before its bracket without a blank.
+CALLED = re.compile(r"(?<!\S)((?:call|proc) \S+) \(")
 BEGIN = DECLARATIONS | STATEMENTS | {"}"}
-# What bytes are blanks at the end of a comment.
-BLANKS = " \t\r\v\f"
+# What ends a statement that is laid out as a whole, besides the end of its line; and so long it is at most.
+BREAKS = BEGIN | {"table", "=", "{"}
+SHORT = 80
+ENDS = (["}"], ["}", "else", "{"])
 # A name and `=` after one of these are no assignment.
 NO_ASSIGNMENT = frozenset(("for", "table", "if", "while", "and", "not"))
 
@@ -28,14 +33,15 @@ class LayoutFault(Exception):
 
 
 class Piece(NamedTuple):
-    """A token or a comment; its line, how many lines ended between it and what stands before it, and for a token whether it begins a line of the
-    layout."""
+    """A token, a comment, or a statement, a head or an end of a block that stands on a line alone; its line, how many lines ended between it and what
+    stands before it, whether it begins a line of the layout, and whether it is all of it."""
 
     text: str
     is_comment: bool
     line: int
     ended: int
-    begins: bool = False
+    begins: bool
+    is_whole: bool
 
 
 class Line(NamedTuple):
@@ -50,34 +56,77 @@ class Line(NamedTuple):
 def formatted(text: bytes) -> bytes:
     """A script in the one layout. Raises LayoutFault where it has a byte that begins no token or braces that are not closed, or where it would be too
     long."""
-    made = _written(_Layout(_pieces(text)).lines()).encode("latin-1")
+    rows = rows_of(text)
+    made = _written(_Layout(list(_pieces(rows))).lines()).encode("latin-1")
     if len(made) > GREATEST_TEXT >= len(text):
         raise LayoutFault(1, "laid out, this script would be longer than a script may be")
-    if kept_by(made) != kept_by(text):
+    if _kept(rows_of(made)) != _kept(rows):
         raise LayoutFault(1, "the layout would change this script, so it stays as it is")
     return made
 
 
-def kept_by(text: bytes) -> Tuple[List[str], List[bytes]]:
+def kept_by(text: bytes) -> Tuple[List[str], List[str]]:
     """What the layout of a text keeps: its tokens, and its comments without the blanks at their ends."""
-    return [it for it in TOKEN.findall(text.decode("latin-1")) if it], [it.rstrip() for it in re.findall(rb"#[^\n]*", text)]
+    return _kept(rows_of(text))
 
 
-def _pieces(text: bytes) -> List[Piece]:
-    """The tokens and comments of a text. Bytes are signs of the same number, so that what is no UTF-8 is kept."""
-    found: List[Tuple[str, bool, int, int]] = []
-    line, ended = 1, 1
-    for it in PIECE.finditer(text.decode("latin-1")):
-        kind = it.lastgroup
-        if kind == "lines":
-            line, ended = line + 1, ended + 1
-        elif kind == "bad":
-            raise LayoutFault(line, f"the byte `{_shown(it[0])}` begins no token")
-        elif kind:
-            found.append((it[0].rstrip(BLANKS), kind == "comment", line, ended))
+def _kept(rows: List[Row]) -> Tuple[List[str], List[str]]:
+    return list(chain.from_iterable(words for words, _ in rows)), [comment for _, comment in rows if comment]
+
+
+def _pieces(rows: List[Row]) -> Iterator[Piece]:
+    """The parts of a text that are laid out. Raises LayoutFault at a byte that begins no token."""
+    tokens, _ = _kept(rows)
+    bad = {it for it in set(tokens) if not is_token(it)}
+    at, ended, is_next = 0, 1, True
+    for line, (words, comment) in enumerate(rows, 1):
+        if bad and not bad.isdisjoint(words):
+            raise LayoutFault(line, f"the byte `{_shown(next(it for it in words if it in bad))}` begins no token")
+        if words:
+            end = at + len(words)
+            is_this, is_next = is_next, end == len(tokens) or is_first(tokens, end)
+            # An empty block stands behind its head.
+            is_block = words[-1] != "{" or bool(comment) or tokens[end : end + 1] != ["}"]
+            code = _whole(words) if is_this and is_next and is_block else ""
+            if code:
+                yield Piece(code, False, line, ended, True, True)
+            else:
+                for text, is_begin in _parts_of_row(tokens, at, end):
+                    yield Piece(text, False, line, ended, is_begin, False)
+                    ended = 0
+            at, ended = end, 0
+        if comment:
+            yield Piece(comment, True, line, ended, False, False)
             ended = 0
-    first = begins([text for text, is_comment, _, _ in found if not is_comment])
-    return [Piece(*it, not it[1] and next(first)) for it in found]
+        ended += 1
+
+
+def _whole(words: List[str]) -> str:
+    """A line's tokens with the blanks between them, where they are one statement, or a head or an end of a block, and short enough; else nothing."""
+    if words[0] == "}":
+        return " ".join(words) if words in ENDS else ""
+    # What assigns has one `=` behind a name, and so has `for`.
+    first = 2 if words[1:2] == ["="] else 3 if words[0] == "for" and words[2:3] == ["="] else 1
+    is_head = words[-1] == "{" and len(words) > first
+    if not BREAKS.isdisjoint(words[first : len(words) - is_head]) or words[-1] in NO_ASSIGNMENT or words[0] == "{":
+        return ""
+    code = _spaced(words)
+    return code if len(code) <= SHORT else ""
+
+
+def _parts_of_row(tokens: List[str], start: int, end: int) -> Iterator[Tuple[str, bool]]:
+    """The parts of a line, given as its tokens, and whether each begins a line of the layout: heads and statements that end here as a whole, else
+    each token."""
+    for place in [at for at in range(start, end) if tokens[at] in "{}"] + [end]:
+        is_ended = place == len(tokens) or tokens[place] == "{" or is_first(tokens, place)
+        code = _whole(tokens[start:place]) if place > start and is_ended and is_first(tokens, start) else ""
+        if code:
+            yield code, True
+        else:
+            yield from ((tokens[at], is_first(tokens, at)) for at in range(start, place))
+        if place < end:
+            yield tokens[place], is_first(tokens, place)
+        start = place + 1
 
 
 def _shown(sign: str) -> str:
@@ -86,18 +135,20 @@ def _shown(sign: str) -> str:
 
 
 def begins(tokens: Sequence[str]) -> Iterator[bool]:
-    """Of each token whether it begins a declaration or a statement, or is a brace that ends a block, or stands after one."""
-    before = "{"
-    for at, it in enumerate(tokens):
-        if it == "table":
-            yield list(tokens[at + 2 : at + 3]) == ["="]
-        elif it in BEGIN:
-            yield True
-        elif before in "{}":
-            yield it != "else"
-        else:
-            yield it[0].isalpha() and list(tokens[at + 1 : at + 2]) == ["="] and before not in NO_ASSIGNMENT
-        before = it
+    return (is_first(tokens, at) for at in range(len(tokens)))
+
+
+def is_first(tokens: Sequence[str], at: int) -> bool:
+    """Whether a token begins a declaration or a statement, or is a brace that ends a block, or stands after one."""
+    it = tokens[at]
+    if it == "table":
+        return at + 2 < len(tokens) and tokens[at + 2] == "="
+    if it in BEGIN:
+        return True
+    before = tokens[at - 1] if at else "{"
+    if before in "{}":
+        return it != "else"
+    return it[0].isalpha() and at + 1 < len(tokens) and tokens[at + 1] == "=" and before not in NO_ASSIGNMENT
 
 
 class _Layout:
@@ -113,12 +164,12 @@ class _Layout:
         ends: List[Optional[int]] = [None] * len(self.pieces)
         open_at: List[int] = []
         for at, it in enumerate(self.pieces):
-            if it.text == "{":
-                open_at.append(at)
-            elif it.text == "}":
+            if it.text[0] == "}":
                 if not open_at:
                     raise LayoutFault(it.line, "this `}` closes nothing")
                 ends[open_at.pop()] = at
+            if it.text[-1] == "{" and not it.is_comment:
+                open_at.append(at)
         if open_at:
             raise LayoutFault(self.pieces[open_at[-1]].line, "this `{` is not closed")
         return ends
@@ -126,12 +177,19 @@ class _Layout:
     def lines(self) -> List[Line]:
         at = 0
         while at < len(self.pieces):
-            at = self.comment(at) if self.pieces[at].is_comment else self.statement(at)
+            it = self.pieces[at]
+            if it.is_whole:
+                self.depth -= it.text[0] == "}"
+                self.add(it.text, "", it.ended)
+                self.depth += it.text[-1] == "{"
+                at += 1
+            else:
+                at = self.comment(at) if it.is_comment else self.statement(at)
         return self.made
 
     def add(self, code: str, comment: str, ended: int, more: int = 0) -> None:
-        is_first = not self.made or self.made[-1].code.endswith("{")
-        self.made.append(Line(self.depth * STEP + more, code, comment, ended > 1 and not is_first and code[:1] != "}" and not more))
+        is_apart = ended > 1 and bool(self.made) and self.made[-1].code[-1:] != "{" and code[:1] != "}" and not more
+        self.made.append(Line(self.depth * STEP + more, code, comment, is_apart))
 
     def comment(self, at: int) -> int:
         """A comment between statements: behind what ends on its line, else on a line of its own."""
@@ -178,7 +236,7 @@ class _Layout:
             if it.begins and place > at:
                 return self.without_comments(place)
             if it.text == "{":
-                return place + 2 if self.ends[place] == place + 1 and not self.has_else(place + 1) else place + 1
+                return place + 2 if self.pieces[place + 1].text == "}" and not self.has_else(place + 1) else place + 1
             place += 1
         return self.without_comments(place)
 
@@ -219,7 +277,7 @@ class _Layout:
             self.add(code, comment, ended, more)
             return 2 * STEP
         code = ""
-        for part in _parts(words):
+        for part in re.findall("[^ ]+ ?", _spaced(words)):
             if code and self.depth * STEP + more + len(code) + len(part) > WIDTH:
                 self.add(code.rstrip(), "", ended, more)
                 code, more, ended = "", 2 * STEP, 0
@@ -228,28 +286,13 @@ class _Layout:
         return 2 * STEP
 
 
-def _parts(words: List[str]) -> Iterator[str]:
-    """The words of a line with the blanks between them, in parts that are not broken."""
-    part = ""
-    for at, it in enumerate(words):
-        part += it
-        if at + 1 == len(words):
-            yield part
-        elif _are_apart(words, at):
-            yield part + " "
-            part = ""
-
-
 def _spaced(words: List[str]) -> str:
-    return " ".join(words) if TIGHT.isdisjoint(words) else "".join(_parts(words))
-
-
-def _are_apart(words: List[str], at: int) -> bool:
-    """Whether a blank stands between a word and the next one."""
-    it, after = words[at], words[at + 1]
-    if it in ("(", "..") or after in (")", ",", "..") or it + after == "{}":
-        return False
-    return not (after == "(" and at and words[at - 1] in ("call", "proc"))
+    """Words with the blanks between them."""
+    code = " ".join(words)
+    if TIGHT.isdisjoint(words):
+        return code
+    code = code.replace("( ", "(").replace(" )", ")").replace(" ,", ",").replace(" ..", "..").replace(".. ", "..").replace("{ }", "{}")
+    return CALLED.sub(r"\1(", code) if "call" in words or "proc" in words else code
 
 
 def _written(lines: List[Line]) -> str:
@@ -260,7 +303,7 @@ def _written(lines: List[Line]) -> str:
         code = " " * it.indent + it.code
         if it.code and it.comment:
             if not (at and _is_in_row(lines[at - 1]) and not it.is_apart):
-                width = max(len(" " * one.indent + one.code) for one in _row(lines, at))
+                width = _width(lines, at)
             code = f"{code:{width}}  {it.comment}"
         made.append("\n" * it.is_apart + (code if it.code else code + it.comment) + "\n")
     return "".join(made)
@@ -270,10 +313,10 @@ def _is_in_row(it: Line) -> bool:
     return bool(it.code and it.comment)
 
 
-def _row(lines: List[Line], at: int) -> Iterator[Line]:
-    """The lines from one on whose comments stand below each other."""
-    yield lines[at]
-    for it in lines[at + 1 :]:
-        if not _is_in_row(it) or it.is_apart:
-            break
-        yield it
+def _width(lines: List[Line], at: int) -> int:
+    """How long the code is of the longest of the lines from one on whose comments stand below each other."""
+    width = 0
+    while at < len(lines) and _is_in_row(lines[at]) and not (width and lines[at].is_apart):
+        width = max(width, lines[at].indent + len(lines[at].code))
+        at += 1
+    return width

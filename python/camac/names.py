@@ -7,12 +7,12 @@ from typing import Dict, Iterator, List, NamedTuple, Optional, Set, Tuple
 
 from camac.layout import DECLARATIONS, STATEMENTS
 from camac.reader import LAM_CALLS
+from camac.tokens import NAME, NAMES
 
 # The words of the language besides those that begin a declaration or a statement.
 OTHERS = "table within cycles event words steps max limit tally on off else to turns by keep in and not q x"
 WORDS = DECLARATIONS | STATEMENTS | frozenset(OTHERS.split())
-NAME = re.compile(r"[A-Za-z][A-Za-z0-9_]{0,31}")
-PIECE = re.compile(rb"#[^\n]*|([A-Za-z][A-Za-z0-9_]*|[{}])")
+LONGEST = 32
 SCRIPT = -1
 
 
@@ -25,6 +25,14 @@ class Kind(enum.Enum):
     PARAMETER = "parameter"
     REGISTER = "register"
     PROCEDURE = "procedure"
+
+    # A kind is looked up with each name.
+    __hash__ = object.__hash__  # type: ignore[assignment]
+
+
+# A lookup in the class takes as long as the rest that is done at a name.
+LAM, TABLE, VARIABLE, PARAMETER, REGISTER, PROCEDURE = Kind
+OF_BODIES = frozenset((REGISTER, PARAMETER))
 
 
 class Symbol(NamedTuple):
@@ -57,19 +65,18 @@ class Block:
 
 
 # What the next names are after a word, and whether they are declared there.
-AFTER: Dict[bytes, Tuple[Tuple[Kind, bool], ...]] = {
-    b"cdlam": ((Kind.LAM, True),),
-    b"table": ((Kind.TABLE, False),),
-    b"proc": ((Kind.PROCEDURE, True),),
-    b"service": ((Kind.LAM, False),),
-    b"cdreg": ((Kind.REGISTER, True),),
-    b"cfmad": ((Kind.REGISTER, False), (Kind.REGISTER, False)),
-    b"call": ((Kind.PROCEDURE, False),),
-    **{it.encode(): ((Kind.REGISTER, False),) for it in ("cfsa", "cssa", "cfubc", "cfubr")},
-    **{it.encode(): ((Kind.LAM, False),) for it in LAM_CALLS},
+AFTER: Dict[str, Tuple[Tuple[Kind, bool], ...]] = {
+    "cdlam": ((LAM, True),),
+    "table": ((TABLE, False),),
+    "proc": ((PROCEDURE, True),),
+    "service": ((LAM, False),),
+    "cdreg": ((REGISTER, True),),
+    "cfmad": ((REGISTER, False), (REGISTER, False)),
+    "call": ((PROCEDURE, False),),
+    **{it: ((REGISTER, False),) for it in ("cfsa", "cssa", "cfubc", "cfubr")},
+    **{it: ((LAM, False),) for it in LAM_CALLS},
 }
-_WORDS = frozenset(it.encode() for it in WORDS)
-_BEGIN = frozenset((b"service", b"proc", b"cdlam", b"var"))
+_BEGIN = frozenset(("service", "proc", "cdlam", "var"))
 NO_NAMES: Tuple[Tuple[Kind, bool], ...] = ()
 
 
@@ -82,29 +89,27 @@ class Names:
         self.blocks: List[Block] = []
         self.symbols: Dict[Tuple[Kind, str, int], Symbol] = {}
         self.depth, self.is_inside, self.is_declaration, self.expected = 0, False, False, NO_NAMES
-        for it in PIECE.finditer(text):
-            if it[1]:
-                self.read(it[1], it.start())
+        for it in NAMES.finditer(text.decode("latin-1")):
+            word = it[1]
+            if word in WORDS:
+                self.word(word, it.start())
+            elif word == "{":
+                self.open(it.start())
+            elif word == "}":
+                self.close(it.end())
+            elif word:
+                self.name(word, *it.span())
         self.end_block(self.size)
         self.starts = [it[0] for it in self.mentions]
 
-    def read(self, word: bytes, at: int) -> None:
-        if word == b"{":
-            self.open(at)
-        elif word == b"}":
-            self.depth -= 1
-            if self.depth <= 0:
-                self.end_block(at + 1)
-        elif word in _WORDS:
-            if word in _BEGIN:
-                self.end_block(at)
-                if word in (b"service", b"proc"):
-                    self.blocks.append(Block("", word == b"service", at, at, self.size))
-                    self.is_inside = True
-            self.is_declaration = word == b"var"
-            self.expected = AFTER.get(word, NO_NAMES)
-        else:
-            self.name(word.decode(), at)
+    def word(self, word: str, at: int) -> None:
+        if word in _BEGIN:
+            self.end_block(at)
+            if word in ("service", "proc"):
+                self.blocks.append(Block("", word == "service", at, at, self.size))
+                self.is_inside = True
+        self.is_declaration = word == "var"
+        self.expected = AFTER.get(word, NO_NAMES)
 
     def open(self, at: int) -> None:
         if self.is_inside and not self.depth:
@@ -112,32 +117,38 @@ class Names:
         self.depth += 1
         self.expected, self.is_declaration = NO_NAMES, False
 
+    def close(self, end: int) -> None:
+        self.depth -= 1
+        if self.depth <= 0:
+            self.end_block(end)
+
     def end_block(self, at: int) -> None:
         if self.is_inside:
             self.blocks[-1].end = at
         self.is_inside, self.depth, self.expected, self.is_declaration = False, 0, NO_NAMES, False
 
-    def name(self, name: str, at: int) -> None:
+    def name(self, name: str, start: int, end: int) -> None:
         if self.expected:
             (kind, declares), self.expected = self.expected[0], self.expected[1:]
-            if kind is Kind.TABLE and not self.is_inside:
+            if kind is TABLE and not self.is_inside:
                 declares = True
-            if self.is_inside and not self.blocks[-1].name and kind in (Kind.LAM, Kind.PROCEDURE):
+            if self.is_inside and not self.blocks[-1].name and kind in (LAM, PROCEDURE):
                 self.blocks[-1].name = name
         elif self.is_inside and not self.depth:
             self.blocks[-1].parameters.add(name)
-            kind, declares = Kind.PARAMETER, True
+            kind, declares = PARAMETER, True
         elif self.is_inside:
-            kind, declares = Kind.PARAMETER if name in self.blocks[-1].parameters else Kind.VARIABLE, False
+            kind, declares = PARAMETER if name in self.blocks[-1].parameters else VARIABLE, False
         elif self.is_declaration:
-            kind, declares = Kind.VARIABLE, True
+            kind, declares = VARIABLE, True
         else:
             return
-        body = len(self.blocks) - 1 if kind in (Kind.REGISTER, Kind.PARAMETER) else SCRIPT
+        body = len(self.blocks) - 1 if kind in OF_BODIES else SCRIPT
         key = kind, name, body
-        if key not in self.symbols:
-            self.symbols[key] = Symbol(*key)
-        self.mentions.append(Mention(at, at + len(name), self.symbols[key], declares))
+        symbol = self.symbols.get(key)
+        if symbol is None:
+            symbol = self.symbols[key] = Symbol(*key)
+        self.mentions.append(Mention(start, end, symbol, declares))
 
     def at(self, place: int) -> Optional[Mention]:
         """The name at a place, or right before it."""
@@ -164,7 +175,7 @@ class Names:
                 break
             if not it.declares or its.body not in (SCRIPT, body):
                 continue
-            if its.kind is Kind.VARIABLE and block and not block.is_service or its.kind is Kind.PROCEDURE and block and its.name == block.name:
+            if its.kind is VARIABLE and block and not block.is_service or its.kind is PROCEDURE and block and its.name == block.name:
                 continue
             found[its.name] = its.kind
         return found
@@ -172,7 +183,7 @@ class Names:
 
 def fault_of_new_name(names: Names, symbol: Symbol, new: str) -> Optional[str]:
     """Why a symbol cannot get a name; None where it can. A name of a body may stand in other bodies, too."""
-    if not NAME.fullmatch(new):
+    if not re.fullmatch(NAME, new) or len(new) > LONGEST:
         return f"`{new}` is no name: a letter, then letters, digits and `_`, at most 32 in all"
     if new in WORDS:
         return f"`{new}` is a word of the language"

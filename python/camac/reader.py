@@ -1,7 +1,7 @@
 """Reads a script that is no refused text into a tree."""
 from typing import Callable, Dict, List, Tuple
 
-from camac.tokens import Token, tokens_of
+from camac.tokens import NAMES, Token, tokens_of
 from camac.tree import (
     Assign, Body, Cycle, Expression, For, If, Keep, Lock, Loop, Name, Number, Operation, Part, Plain, Range, Script, SetRegister, Statement, Transfer, While,
     all_in, written_by,
@@ -16,6 +16,19 @@ END = Token("", 0, 0, 0)
 
 def read_script(text: bytes) -> Script:
     return _Reader(tokens_of(text)).script()
+
+
+def read_headings(text: bytes) -> List[Body]:
+    """The services and procedures of a script without their statements."""
+    found: List[Body] = []
+    start = -1
+    for it in NAMES.finditer(text.decode("latin-1")):
+        if it[1] in ("service", "proc"):
+            start = it.start()
+        elif it[1] == "{" and start >= 0:
+            found.append(_Reader(tokens_of(text, start, it.end())).heading())
+            start = -1
+    return found
 
 
 def read_statements(text: bytes) -> List[Statement]:
@@ -75,7 +88,7 @@ class _Reader:
                 self.next()
         return script
 
-    def body(self) -> Body:
+    def heading(self) -> Body:
         first, name = self.next(), self.next().text
         is_service = first.text == "service"
         body = Body(name, is_service, first.line, first.start, dict(self.variables) if is_service else self.parameters())
@@ -83,6 +96,10 @@ class _Reader:
             token = self.next()
             if token.text.isdigit():
                 body.numbers.append(Number(int(token.text), token.start, token.end))
+        return body
+
+    def body(self) -> Body:
+        body = self.heading()
         body.statements = self.block()
         body.end = self.end()
         return body

@@ -54,6 +54,9 @@ plan_told plan.DeclaredTwice =
 plan_told plan.BitTwice =
     told (codes "a bit of the graded-L pattern tells which station calls, so it belongs to one station.")
     (codes "give one of the stations another bit, as it is wired.")
+plan_told plan.TooDeep =
+    told (codes "a plan opens at most 16 arrays, inline tables, dots of keys and keys of a heading in each other, which bounds the stack that it takes; docs/PLANS.md needs 4.")
+    (codes "close the brackets that are still open, or write the tables as docs/PLANS.md shows them.")
 
 abbrev pub text_told : TextRule → Told
 text_told text.BadByte =

@@ -66,6 +66,10 @@ pub fn plan_advice(rule: PlanRule) -> Advice
             "a bit of the graded-L pattern tells which station calls, so it belongs to one station.",
             "give one of the stations another bit, as it is wired.",
         ),
+        PlanRule::TooDeep => (
+            "a plan opens at most 16 arrays, inline tables, dots of keys and keys of a heading in each other, which bounds the stack that it takes; docs/PLANS.md needs 4.",
+            "close the brackets that are still open, or write the tables as docs/PLANS.md shows them.",
+        ),
     };
     Advice { why, mend }
 }

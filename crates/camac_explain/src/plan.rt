@@ -12,13 +12,17 @@ pub fn plan_sentence(
     text: &[u8],
     case: PlanCase,
 ) -> Result<Option<String>, AllocError> {
+    if let PlanCase::Nested { at } = case {
+        let (before, _) = text.split_at(at.min(text.len()));
+        return Ok(Some(place_sentence(alloc, before, DEEPER)?));
+    }
     match toml::table_from_slice(alloc, text) {
         Ok(top) => case_sentence(alloc, &top, case),
         Err(error) if error.is_memory() => Err(AllocError),
         Err(error) => match case {
             PlanCase::Text { at } => {
                 let (before, rest) = text.split_at(at.min(text.len()));
-                let sentence = toml_sentence(alloc, before, error.message())?;
+                let sentence = place_sentence(alloc, before, error.message())?;
                 match hint_of_text(text, before, rest) {
                     Some(hint) => Ok(Some(format!(in alloc; "{sentence} {hint}")?)),
                     None => Ok(Some(sentence)),
@@ -29,8 +33,10 @@ pub fn plan_sentence(
     }
 }
 
-// After what the text is no TOML, and why.
-fn toml_sentence(alloc: Global, before: &[u8], message: &str) -> Result<String, AllocError> {
+const DEEPER: &str = "this is 17 deep";
+
+// After what a rule is broken, and how.
+fn place_sentence(alloc: Global, before: &[u8], message: &str) -> Result<String, AllocError> {
     let lines = before.iter().filter(|b| **b == b'\n').count();
     let last = before.iter().rev().take_while(|b| **b != b'\n');
     let characters = last.filter(|b| **b & 0xC0 != 0x80).count();
@@ -90,7 +96,7 @@ impl fmt::Display for Needed {
 // What a rule knew, where the text is this table.
 fn case_sentence(alloc: Global, top: &Table, case: PlanCase) -> Result<Option<String>, AllocError> {
     let (table, key) = match case {
-        PlanCase::Text { .. } => return Ok(None),
+        PlanCase::Text { .. } | PlanCase::Nested { .. } => return Ok(None),
         PlanCase::Unknown { table, entry } => return unknown_sentence(alloc, top, table, entry),
         PlanCase::Full { table } | PlanCase::Command { table, .. } => (table, None),
         PlanCase::Probe { table, .. } => (table, Some(PlanKey::Width)),

@@ -1,5 +1,5 @@
 -- No rule of a table is that of the bytes.
-use Rattle.std.proofs.Common.{◌≡◌, ℕ, Bool, true, false, ◌&&◌, Option, Some, None, Result, Ok, Err, if◌then◌else◌, zero, suc, refl, nat_le}
+use Rattle.std.proofs.Common.{◌≡◌, ℕ, Bool, true, false, ◌&&◌, Option, Some, None, Result, Ok, Err, if◌then◌else◌, zero, suc, refl, sym, ap, ◌∙◌, nat_le}
 use Rattle.std.specs.Prelude.{pos, negsuc, ◌+◌, unwrap_or}
 use Rattle.std.proofs.lemmas.Bool.{false≢true}
 use Rattle.toml.specs.Data.{Data, string, integer, float, boolean, datetime, table, array, Items, no_items, item, Members}
@@ -28,6 +28,7 @@ use Rattle.camac_plan.specs.Reading.{empty_plan, plan_of, by_rule}
 -- the rule is of a table
 abbrev pub of_table : PlanRule → Bool
 of_table rule.NotToml = false
+of_table rule.TooDeep = false
 of_table _ = true
 
 -- the result breaks no rule but those of a table
@@ -224,10 +225,9 @@ plan_of-tabular ms =
     next-tabular _ _ (tables_or_none-tabular Top key.Crates (value_at key.Crates ms)) (λ crates.
     next-tabular _ _ (with_types-tabular (empty_plan (unwrap_or buffer 4096)) types) (λ plan. with_crates-tabular crates 0 plan crates)))))
 
-pub tabular-rule : {A : Type 0} (r : Result A BrokenRule) → tabular r ≡ true → by_rule r ≡ Err rule.NotToml → ⊥
+pub tabular-rule : {A : Type 0} (r : Result A BrokenRule) (other : PlanRule) → of_table other ≡ false → tabular r ≡ true → by_rule r ≡ Err other → ⊥
 unfolding tabular
-tabular-rule (Ok x) h e = absurd (cc)
-tabular-rule (Err b) h e = go b.rule h (cc)
-  where
-    go : (r : PlanRule) → of_table r ≡ true → r ≡ rule.NotToml → ⊥
-    go r h e = false≢true (rw e at h)
+tabular-rule (Ok x) other o h e = absurd (cc)
+tabular-rule (Err b) other o h e =
+    let is : b.rule ≡ other = cc in
+    false≢true (sym o ∙ ap of_table (sym is) ∙ h)

@@ -4,5 +4,6 @@ pub mod Field
 pub mod Commands
 pub mod Types
 pub mod Crates
+pub mod Nesting
 pub mod Reading
 pub mod Twice

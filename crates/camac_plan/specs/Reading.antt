@@ -1,5 +1,5 @@
 -- The plan reading: what a plan's text says, which is a plan or the first rule that is broken.
-use Rattle.std.specs.Prelude.{◌≡◌, ◌↔◌, ◌≤◌, ⊤, IsUtf8, ℕ, List, [], length, Option, Some, None, Result, Ok, Err, if◌then◌else◌, unwrap_or}
+use Rattle.std.specs.Prelude.{◌≡◌, ◌↔◌, ◌≤◌, ⊤, IsUtf8, IsSome, IsNone, ℕ, List, [], length, Option, Some, None, Result, Ok, Err, if◌then◌else◌, unwrap_or}
 use Rattle.std.specs.Str.{is_utf8}
 use Rattle.toml.specs.Parse.{parse_document}
 use Rattle.toml.specs.Data.{Members}
@@ -9,11 +9,12 @@ use Rattle.camac_plan.specs.declared.fault.PlanFault.{PlanFault}
 use Rattle.camac_plan.specs.declared.fault.PlanFault.TheVariants.{OutOfMemory, Broken}
 use Rattle.camac_plan.specs.declared.fault.PlanTable.TheVariants.{Top}
 use Rattle.camac_plan.specs.declared.fault.PlanCase.{PlanCase}
-use Rattle.camac_plan.specs.declared.fault.PlanCase.TheVariants.{Text}
+use Rattle.camac_plan.specs.declared.fault.PlanCase.TheVariants.{Text, Nested}
 use Rattle.camac_plan.specs.declared.fault.BrokenRule.{BrokenRule}
 use Rattle.camac_plan.specs.declared.fault.PlanRule.{PlanRule}
-use Rattle.camac_plan.specs.declared.fault.PlanRule.TheVariants.{NotToml}
+use Rattle.camac_plan.specs.declared.fault.PlanRule.TheVariants.{NotToml, TooDeep}
 use Rattle.camac_plan.specs.Broken.{broken, next}
+use Rattle.camac_plan.specs.Nesting.{too_deep}
 use Rattle.camac_plan.specs.Field.{has_only, number_at, tables_at}
 use Rattle.camac_plan.specs.Types.{with_types}
 use Rattle.camac_plan.specs.Crates.{with_crates}
@@ -39,9 +40,14 @@ parsed at (Some ms) = Ok ms
 abbrev pub document_of : ℕ → List ℕ → Result Members BrokenRule
 document_of at bytes = if is_utf8 bytes then parsed at (parse_document bytes) else Err (broken NotToml (Text at))
 
+-- the bytes nest no deeper than a plan may
+abbrev pub shallow : Option ℕ → Result (Unit {0}) BrokenRule
+shallow None = Ok tt
+shallow (Some at) = Err (broken TooDeep (Nested at))
+
 -- what the bytes say, with the case of the rule that they break
 abbrev pub reading_at : ℕ → List ℕ → Result Layout BrokenRule
-reading_at at bytes = next (document_of at bytes) plan_of
+reading_at at bytes = next (shallow (too_deep bytes)) (λ _. next (document_of at bytes) plan_of)
 
 -- the rule alone
 abbrev pub by_rule : {A : Type 0} → Result A BrokenRule → Result A PlanRule
@@ -51,9 +57,13 @@ by_rule (Err e) = Err e.rule
 abbrev pub reading : List ℕ → Result Layout PlanRule
 reading bytes = by_rule (reading_at 0 bytes)
 
--- P1 is the answer to no TOML, and to nothing else
+-- P11 is the answer to what nests too deep, and to nothing else
+abbrev pub TellsTooDeep : List ℕ → Type 0
+TellsTooDeep bytes = (reading bytes ≡ Err TooDeep) ↔ IsSome (too_deep bytes)
+
+-- P1 is the answer to what does not, and is no TOML, and to nothing else
 abbrev pub TellsNoToml : List ℕ → Type 0
-TellsNoToml bytes = (reading bytes ≡ Err NotToml) ↔ (IsUtf8 bytes → parse_document bytes ≡ None)
+TellsNoToml bytes = (reading bytes ≡ Err NotToml) ↔ (IsNone (too_deep bytes) × (IsUtf8 bytes → parse_document bytes ≡ None))
 
 -- a fault tells the broken rule and its case, unless memory ran out
 abbrev pub Tells : {A : Type 0} → PlanFault → Result A BrokenRule → Type 0

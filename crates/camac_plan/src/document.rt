@@ -5,28 +5,43 @@ ghost use Rattle.toml.specs.View.{table_view};
 ghost use Rattle.camac_plan.specs.Field.{number_at, items_or_none};
 ghost use Rattle.camac_plan.specs.Types.{with_types};
 ghost use Rattle.camac_plan.specs.Crates.{with_crates};
-ghost use Rattle.camac_plan.specs.Reading.{AddsOrTells, GivesOrTells, ReadsOrTells, TellsCase, Tells, plan_of, document_of, reading, stops_at, StopsWithin, TellsNoToml};
+ghost use Rattle.camac_plan.specs.Nesting.{too_deep};
+ghost use Rattle.camac_plan.specs.Reading.{AddsOrTells, GivesOrTells, ReadsOrTells, TellsCase, Tells, plan_of, document_of, reading, shallow, stops_at, StopsWithin, TellsNoToml, TellsTooDeep};
 
 use crate::crates::add_crates;
 use crate::fault::{BrokenRule, PlanCase, PlanFault, PlanRule, PlanTable, broken};
 use crate::field::{has_only, number_at, out_of_range, tables_at};
 use crate::key::PlanKey;
 use crate::module_type::add_types;
+use crate::nesting::too_deep;
 use camac_branch::Plan;
 use std::alloc::Global;
 use toml::Table;
 use toml::value::Array;
 
-/// Reads a plan from TOML (own). The first rule that is broken is answered, with its case: that the bytes are TOML (P1), then the rules
-/// of the top table, then those of each type and its commands in order, then those of each crate and its stations in order. A
-/// table is judged by its keys first, then by what each key holds, then by what stands above it. P10: memory ran out.
+/// Reads a plan from TOML (own). The first rule that is broken is answered, with its case: that the bytes nest at most 16 deep (P11), which is
+/// judged before they are read; that they are TOML (P1); then the rules of the top table, then those of each type and its commands in
+/// order, then those of each crate and its stations in order. A table is judged by its keys first, then by what each key holds, then by what
+/// stands above it. P10: memory ran out.
 pub fn read(alloc: Global, bytes: &[u8]) -> Result<Plan, PlanFault>
     ensures reads { ReadsOrTells result (reading bytes.now) }
     ensures case { IfErr result (TellsCase bytes.now) }
     ensures no_toml { TellsNoToml bytes.now }
+    ensures too_deep { TellsTooDeep bytes.now }
 {
+    is_shallow(bytes)?;
     let table = read_document(alloc, bytes)?;
     read_table(alloc, &table)
+}
+
+// The bytes nest no deeper than a plan may.
+fn is_shallow(bytes: &[u8]) -> Result<(), BrokenRule>
+    ensures { result ≡ shallow (too_deep bytes.now) }
+{
+    match too_deep(bytes) {
+        Some(at) => Err(broken(PlanRule::TooDeep, PlanCase::Nested { at })),
+        None => Ok(()),
+    }
 }
 
 // The table that a text says as TOML. Bytes that are not UTF-8 are no TOML.

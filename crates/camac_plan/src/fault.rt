@@ -28,6 +28,8 @@ pub enum PlanRule {
     DeclaredTwice,
     /// P9: a station above has the GL bit already.
     BitTwice,
+    /// P11: more than 16 arrays, inline tables, dots of keys and keys of a heading stand in each other.
+    TooDeep,
 }
 
 /// A table of a plan. A `place` is the number of a table in its array, in text order, from 0.
@@ -56,6 +58,10 @@ pub enum ValueKind {
 pub enum PlanCase {
     /// P1: how many bytes stand before the place at which the text is no TOML.
     Text {
+        at: usize,
+    },
+    /// P11: how many bytes stand before the one that goes deeper.
+    Nested {
         at: usize,
     },
     /// P2: the number of the key among those of its table, in the order of their bytes, from 0.

@@ -9,6 +9,7 @@ mod field;
 mod key;
 mod laws;
 mod module_type;
+mod nesting;
 mod station;
 
 pub use document::read;

@@ -23,6 +23,7 @@ plan_code plan.StationTwice = (codes "P6", codes "station twice")
 plan_code plan.UnknownType = (codes "P7", codes "unknown module type")
 plan_code plan.DeclaredTwice = (codes "P8", codes "declared twice")
 plan_code plan.BitTwice = (codes "P9", codes "GL bit twice")
+plan_code plan.TooDeep = (codes "P11", codes "nested too deeply")
 
 abbrev pub text_code : TextRule → List ℕ × List ℕ
 text_code text.BadByte = (codes "S1", codes "bad byte")

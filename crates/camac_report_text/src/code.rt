@@ -25,7 +25,7 @@ pub const LONGEST_NAME: usize = 3;
 /// The length of the longest meaning of a code, in bytes.
 pub const LONGEST_MEANING: usize = 31;
 
-/// The code of a rule of plans: P1 to P9.
+/// The code of a rule of plans: P1 to P9, and P11.
 pub fn plan_code(rule: PlanRule) -> Code
     ensures name { result.name.now ≡ (plan_code rule).0 }
     ensures meaning { result.meaning.now ≡ (plan_code rule).1 }
@@ -41,6 +41,7 @@ pub fn plan_code(rule: PlanRule) -> Code
         PlanRule::UnknownType => ("P7", "unknown module type"),
         PlanRule::DeclaredTwice => ("P8", "declared twice"),
         PlanRule::BitTwice => ("P9", "GL bit twice"),
+        PlanRule::TooDeep => ("P11", "nested too deeply"),
     };
     Code { name, meaning }
 }

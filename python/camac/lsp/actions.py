@@ -8,7 +8,7 @@ from camac.loops.search import propose
 from camac.lsp.refusals import Refusal, refusals
 from camac.lsp.workspace import Judged
 from camac.scripts import parse_bounds
-from camac.tokens import Token, tokens_of
+from camac.tokens import NAMES, tokens_of
 from camac.warn import Code, Warned
 
 NEAR = re.compile(r"Perhaps `([^`]+)` is meant\.")
@@ -47,9 +47,9 @@ def fixes(judged: Judged, lines: range, warned: Sequence[Warned]) -> Iterator[Fi
 def _of_refusal(judged: Judged, it: Refusal) -> Iterator[Fix]:
     near, to_be = NEAR.search(it.sentence), TO_BE.search(it.sentence)
     if to_be:
-        wrong = _last_before(judged.text.data, it.start, to_be[1])
+        wrong = [one for one in NAMES.finditer(judged.text.data[: it.start].decode("latin-1")) if one[1] == to_be[1]]
         if wrong:
-            yield Fix(f"Write `{to_be[2]}` in place of `{to_be[1]}`", (Edit(wrong.start, wrong.end, to_be[2]),), it.code)
+            yield Fix(f"Write `{to_be[2]}` in place of `{to_be[1]}`", (Edit(*wrong[-1].span(), to_be[2]),), it.code)
     elif near:
         yield Fix(f"Write `{near[1]}`", (Edit(it.start, it.end, near[1]),), it.code)
     number = _number(judged, it)
@@ -59,11 +59,6 @@ def _of_refusal(judged: Judged, it: Refusal) -> Iterator[Fix]:
         yield from _headings(judged, it.code)
     if it.code in OF_LOOPS and len(judged.text.data) <= QUICK:
         yield from kept(judged)
-
-
-def _last_before(data: bytes, place: int, word: str) -> Optional[Token]:
-    its = [it for it in tokens_of(data[:place]) if it.text == word]
-    return its[-1] if its else None
 
 
 def _number(judged: Judged, it: Refusal) -> Optional[Fix]:
@@ -77,11 +72,11 @@ def _number(judged: Judged, it: Refusal) -> Optional[Fix]:
         return None
     # A heading or the head of a loop ends with its `{`.
     end = judged.text.data.find(b"{", it.start)
-    tokens = tokens_of(judged.text.data[it.start : end if end > 0 else it.end])
+    tokens = tokens_of(judged.text.data, it.start, end if end > 0 else it.end)
     old = next((after for token, after in zip(tokens, tokens[1:]) if token.text == word and after.text.isdigit()), None)
     if old is None or int(number) > (MOST_TURNS if word == "turns" else 4_294_967_295):
         return None
-    return Fix(f"Write {number} after `{word}`", (Edit(it.start + old.start, it.start + old.end, number),), it.code)
+    return Fix(f"Write {number} after `{word}`", (Edit(old.start, old.end, number),), it.code)
 
 
 def _headings(judged: Judged, code: str) -> Iterator[Fix]:

@@ -83,6 +83,9 @@ class Text:
     def position(self, place: int) -> Position:
         """The position of a place in bytes."""
         place = min(max(0, place), len(self.data))
+        if self.text.isascii():
+            number = bisect.bisect_right(self.starts, place) - 1
+            return {"line": number, "character": place - self.starts[number]}
         while self.data[place : place + 1] and self.data[place] & 0xC0 == 0x80:
             place -= 1  # a byte within a sign
         number = bisect.bisect_right(self.byte_starts, place) - 1

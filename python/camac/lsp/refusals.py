@@ -5,13 +5,15 @@ from typing import Iterator, List, NamedTuple, Optional, Tuple
 
 from camac.layout import begins
 from camac.lsp.workspace import Judged
-from camac.tokens import PIECE, tokens_of
+from camac.tokens import PIECE, is_token, tokens_of
 
 FIRST = re.compile(r"refused ([A-Z]\d+) line (\d+): (.*)")
 MARK = re.compile(r"[ |]*\^")
 # So many are told at most.
 MOST = 10
 SIGN = re.compile(rb"[\x00-\xff][\x80-\xbf]*")
+# What takes the place of each byte of statements that are left out.
+BLANK = bytes(it if it == ord("\n") else ord(" ") for it in range(256))
 BODY = re.compile(rb"#[^\n]*|\b(service|proc)\b|([{}])")
 
 
@@ -32,7 +34,10 @@ class Refusal(NamedTuple):
 
 def refusals(judged: Judged) -> List[Refusal]:
     """The first refusal, and the first of each other body of a script, where a rule of the checker refuses it."""
-    return list(_refusals(judged))
+    if "refusals" not in judged.kept:
+        judged.kept["refusals"] = list(_refusals(judged))
+    found: List[Refusal] = judged.kept["refusals"]
+    return found
 
 
 def _refusals(judged: Judged) -> Iterator[Refusal]:
@@ -63,7 +68,7 @@ def _place(judged: Judged, data: bytes, code: str, line: int) -> Tuple[int, int]
     its = judged.text.line_of(line)
     at = judged.text.line_starts[min(line, len(judged.text.line_starts)) - 1]
     if code == "S1":
-        bad = next((it for it in PIECE.finditer(its.decode("latin-1")) if it["bad"]), None)
+        bad = next((it for it in PIECE.finditer(its.partition(b"#")[0].decode("latin-1")) if not is_token(it[0])), None)
         # A sign may have several bytes.
         return (at + bad.start(), at + bad.start() + len(SIGN.match(its, bad.start())[0])) if bad else (at, at + len(its))  # type: ignore[index]
     tokens = tokens_of(its)
@@ -94,6 +99,6 @@ def _without_body(data: bytes, place: int) -> Optional[bytes]:
             depth -= 1
             if not depth and start <= place < it.end():
                 inside = data[brace + 1 : it.start()]
-                rest = re.sub(rb"[^\n]", b" ", inside)
+                rest = inside.translate(BLANK)
                 return None if rest == inside else data[: brace + 1] + rest + data[it.start() :]
     return None

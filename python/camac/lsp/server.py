@@ -1,4 +1,5 @@
 """The server: what is done at each message of a client."""
+import signal
 import sys
 import threading
 import time
@@ -423,7 +424,8 @@ def between(old: bytes, new: bytes) -> List[Edit]:
 
 
 def serve() -> int:
-    """Serves over standard input and output."""
+    """Serves over standard input and output. A client that ends this process by SIGTERM leaves nothing on the disk."""
+    signal.signal(signal.SIGTERM, lambda number, _: sys.exit(128 + number))
     # The thread that reads may still wait at the end, so this is not sys.stdin, which Python closes then.
     source, target = open(0, "rb", closefd=False), sys.stdout.buffer
     # What is printed by mistake goes to standard error, since standard output has the messages alone.

@@ -8,7 +8,23 @@ import sys
 import threading
 import time
 
-from live import PATIENCE, TOP
+from support.live import PATIENCE, TOP
+
+SCRIPT = """\
+cdlam adc 1 1 5 12
+var v t
+proc get(s in 0..11) within 3 cycles event 1 words steps 3 {
+  cdreg r 1 1 5 s
+  cfsa 0 r -> s
+  put s
+}
+service adc within 6 cycles event 2 words {
+  cdreg r 1 1 6 0
+  cfsa 0 r -> v
+  call get(v % 12)
+  put v
+}
+"""
 
 
 class Client:
@@ -120,8 +136,9 @@ class Client:
         return self.server.wait(PATIENCE), said
 
     def kill(self):
-        self.server.kill()
-        self.server.wait()
+        """Ends the server, which puts away what it has on the disk."""
+        self.server.terminate()
+        self.server.wait(PATIENCE)
         for it in (self.server.stdin, self.server.stdout, self.server.stderr):
             it.close()
 

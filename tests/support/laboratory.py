@@ -6,7 +6,7 @@ import random
 import re
 import subprocess
 
-from live import PROGRAM, Case
+from support.live import PROGRAM, Case
 import camac
 from camac.mock import Adc, Auxiliary, MockBranch, Recorder, Register, Reply, Scaler
 from camac.runs import Inputs

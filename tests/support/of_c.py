@@ -9,7 +9,8 @@ import shutil
 import subprocess
 import tempfile
 
-TOP = pathlib.Path(__file__).resolve().parent.parent
+from support.program import TOP
+
 ARCHIVE = pathlib.Path(os.environ.get("CAMAC_ARCHIVE") or TOP / "crates/camac_c/out/libcamac_c.a").absolute()
 TOOLS = ("gcc", "ld", "ar", "nm", "objcopy")
 WARNINGS = ("-Wall", "-Wextra", "-Wpedantic", "-Wconversion", "-Werror")

@@ -1,0 +1,49 @@
+"""What tests of ./camac and ./install share: a copy of the repository, a call of any command, a folder for each test, stand-ins for commands."""
+import pathlib
+import shutil
+import subprocess
+import tempfile
+import unittest
+
+from support.program import TOP
+
+TAKEN = ("camac", "install", "crates.txt", "crates.sum", "crates", "tools", "man", "completions", "editors", "include", "library", "python", "examples", "docs", "tests", "CHANGELOG.md", "README.md", "LICENSE")
+
+
+def copy(folder):
+    """Copies the repository, without what was built."""
+    folder.mkdir()
+    for name in TAKEN:
+        if (TOP / name).is_dir():
+            shutil.copytree(TOP / name, folder / name, ignore=shutil.ignore_patterns("out", "__pycache__"))
+        else:
+            shutil.copy2(TOP / name, folder / name)
+
+
+def start(*words, **how):
+    how = {"stdin": subprocess.PIPE, "stdout": subprocess.PIPE, "stderr": subprocess.PIPE, "text": True, "cwd": "/", **how}
+    return subprocess.Popen([str(it) for it in words], **how)
+
+
+def call(*words, given="", **how):
+    """Status, standard output and standard error."""
+    ran = start(*words, **how)
+    out, err = ran.communicate(given)
+    return ran.returncode, out, err
+
+
+def stand_in(folder, name, line):
+    """Makes a stand-in for a command, which does this line of sh."""
+    (folder / name).write_text(f"#!/bin/sh\n{line}\n")
+    (folder / name).chmod(0o755)
+
+
+def toolchain(folder, line):
+    stand_in(folder, "rt", line)
+
+
+class Case(unittest.TestCase):
+    def folder(self):
+        made = tempfile.TemporaryDirectory(prefix="camac-launcher-")
+        self.addCleanup(made.cleanup)
+        return pathlib.Path(made.name)

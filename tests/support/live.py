@@ -1,0 +1,113 @@
+"""What tests of live runs share: a folder for each test, a branch that answers from a list, and the program's Python package."""
+import pathlib
+import select
+import subprocess
+import sys
+import tempfile
+import unittest
+
+from support.program import PROGRAM as PROGRAM, TOP as TOP
+
+sys.path.insert(0, str(TOP / "python"))
+sys.dont_write_bytecode = True
+
+OPENING = "cdlam adc 1 1 5 12\nvar v k i t\nservice adc within {} cycles event {} words {{\n"
+PATIENCE = 60
+STRAIGHT_LINE = "cdlam adc 1 1 5 12\nvar v\nservice adc within 3 cycles event 1 words {\n  cdreg r 1 1 5 0\n  cfsa 0 r -> v\n  put v\n}\n"
+LOCKOUT = OPENING.format(6, 100) + "cdreg r 1 1 5 0\nlock 1 {\n" + "  cfsa 0 r -> v\n" * 4 + "}\n}\n"
+REQUESTS = (b"demand", b"cycle", b"lock")
+
+
+def script(body, cycles=100, words=100):
+    """A script of the standard opening with this body, each statement on a line."""
+    return OPENING.format(cycles, words) + "".join(f"{line}\n" for line in body) + "}\n"
+
+
+class Case(unittest.TestCase):
+    """A test in a folder of its own."""
+
+    def setUp(self):
+        room = tempfile.TemporaryDirectory(prefix="camac-live-")
+        self.addCleanup(room.cleanup)
+        self.room = pathlib.Path(room.name)
+
+    def write(self, name, text):
+        (self.room / name).write_text(text)
+        return self.room / name
+
+    def file(self, name):
+        return (self.room / name).read_bytes()
+
+
+class Listed:
+    """A branch that gives the answers of a list, and keeps what it was asked. An exception in the list is raised; after the list a demand
+    has no answer."""
+
+    def __init__(self, *answers):
+        self.answers, self.asked = iter(answers), []
+
+    def next(self, *asked):
+        self.asked.append(asked)
+        answer = next(self.answers, None)
+        if isinstance(answer, BaseException):
+            raise answer
+        return answer
+
+    def demand(self):
+        return self.next("demand")
+
+    def cycle(self, c, n, a, f, data):
+        return self.next("cycle", c, n, a, f, data)
+
+    def lock(self, c):
+        return self.next("lock", c)
+
+    def unlock(self, c):
+        self.asked.append(("unlock", c))
+
+
+class Broken(Exception):
+    """The branch is out of order."""
+
+
+class Pipes:
+    """The program at work, with a pipe at its input and one at its output."""
+
+    def __init__(self, room, *words):
+        how = {"stdin": subprocess.PIPE, "stdout": subprocess.PIPE, "stderr": subprocess.PIPE}
+        self.process = subprocess.Popen([PROGRAM, "drive", *words], bufsize=0, cwd=room, **how)
+
+    def __enter__(self):
+        return self
+
+    def __exit__(self, *_raised):
+        self.process.kill()
+        self.process.communicate()
+
+    def read(self):
+        """What stands on the pipe as soon as something does; nothing at the end of the output."""
+        if not select.select([self.process.stdout], [], [], PATIENCE)[0]:
+            raise TimeoutError("the program wrote nothing")
+        return self.process.stdout.read(65_536)
+
+    def is_quiet(self):
+        """Whether the program writes nothing for a moment."""
+        return not select.select([self.process.stdout], [], [], 0.02)[0]
+
+    def requests(self):
+        """Reads up to a request or the last line: whole lines alone."""
+        text = b""
+        while not text.endswith(b"\n") or not text.splitlines()[-1].split(b" ")[0] in REQUESTS:
+            piece = self.read()
+            if not piece:
+                break
+            text += piece
+        return text
+
+    def answer(self, line):
+        self.process.stdin.write(f"{line}\n".encode())
+
+    def end(self):
+        """Ends the input. Returns what the program still wrote, its status and its standard error."""
+        output, errors = self.process.communicate(timeout=PATIENCE)
+        return output, self.process.returncode, errors
