@@ -309,6 +309,8 @@ class Shown(Served):
         (it,) = self.client.found(self.open(SCRIPT.replace("within 6", "within 5")))
         self.assertTrue(it["message"].startswith("more cycles than annotated. The service may take 6 dataway cycles, its heading allows 5.\nWhy: "))
         self.assertTrue(it["codeDescription"]["href"].endswith("docs/REFUSALS.md#e12"))
+        (it,) = self.client.found(self.open("var\t5\n"))
+        self.assertTrue(it["message"].startswith("unexpected token. Found `5`"), it["message"])
 
     def test_columns_behind_a_comment(self):
         """A comment may hold any sign; columns on its line and behind it are units of UTF-16."""

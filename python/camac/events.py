@@ -5,7 +5,8 @@ import os
 import struct
 from typing import Any, BinaryIO, Callable, Dict, Iterator, List, NamedTuple, Optional, Tuple, Union
 
-File = Union[str, bytes, "os.PathLike[str]", "os.PathLike[bytes]", BinaryIO]
+Path = Union[str, bytes, "os.PathLike[str]", "os.PathLike[bytes]"]
+File = Union[Path, BinaryIO]
 HEADER = 8
 MARKER = 0xCA4D
 GREATEST_GL = 24
@@ -129,6 +130,12 @@ def read_events(file: File) -> Iterator[Event]:
         if form is None:
             raise EventFileFault("V1", 0)
         yield from _read_records(source, form, data[HEADER:])
+
+
+def read_from(file: BinaryIO, form: Form, data: bytes, number: int, place: int) -> Iterator[Event]:
+    """Yields the events of an open file from that of a number on, which begins at a place; `data` are the bytes of them that were read. Raises as
+    `read_events`."""
+    return _read_records(_Source(file), form, data, number, place)
 
 
 def read_further(form: Form, data: bytes, number: int, place: int) -> Iterator[Event]:

@@ -23,11 +23,11 @@ class Totals:
         self.least: Optional[int] = None
         self.greatest: Optional[int] = None
 
-    def take(self, values: Sequence[int]) -> None:
-        least, greatest = min(values), max(values)
-        self.count += len(values)
-        self.total += sum(values)
-        self.squares += sum(map(operator.mul, values, values))
+    def note(self, count: int, total: int, squares: int, least: int, greatest: int) -> None:
+        """Takes so many numbers, of which these are the sum and so on."""
+        self.count += count
+        self.total += total
+        self.squares += squares
         self.least = least if self.least is None else min(self.least, least)
         self.greatest = greatest if self.greatest is None else max(self.greatest, greatest)
 
@@ -59,14 +59,17 @@ class Spectrum(Totals):
         """Counts many numbers at once, which is far quicker than one after another."""
         if not values:
             return
-        self.take(values)
-        while self.is_open and (self.greatest or 0) >= self.end:
-            self._double()
+        self.note(len(values), sum(values), sum(map(operator.mul, values, values)), min(values), max(values))
         if max(values) >= self.end:
             inside = [value for value in values if value < self.end]
             self.overflow += len(values) - len(inside)
             values = inside
         self.counts.update([value >> self.shift for value in values] if self.shift else values)
+
+    def note(self, count: int, total: int, squares: int, least: int, greatest: int) -> None:
+        super().note(count, total, squares, least, greatest)
+        while self.is_open and greatest >= self.end:
+            self._double()
 
     def _double(self) -> None:
         self.end *= 2
@@ -108,9 +111,7 @@ class Series:
 
     def add_all(self, numbers: Sequence[int], values: Sequence[int]) -> None:
         """Takes values of services with these numbers in the run, from 1, in the order of the run."""
-        while numbers and numbers[-1] > self.per * self.MOST:
-            self.per *= 2
-            self.columns, self.rises = _halved(self.columns), _halved(self.rises)
+        self.widen(numbers[-1] if numbers else 0)
         for number, value in zip(numbers, values):
             at = (number - 1) // self.per
             count, total = self.columns.get(at, (0, 0))
@@ -120,6 +121,12 @@ class Series:
                 count, total = self.rises.get(at, (0, 0))
                 self.rises[at] = count + 1, total + (value - self.last) % self.FULL
             self.last = value
+
+    def widen(self, last: int) -> None:
+        """Makes room for the service of a number."""
+        while last > self.per * self.MOST:
+            self.per *= 2
+            self.columns, self.rises = _halved(self.columns), _halved(self.rises)
 
     def is_counter(self) -> bool:
         """Whether the numbers only rise, as those of a counter that nobody clears: then what it counts is how much."""
@@ -152,11 +159,15 @@ class Pairs:
         self.count = 0
 
     def add(self, across: int, up: int) -> None:
-        for axis, number in enumerate((across, up)):
-            while number >= self.ends[axis]:
-                self._double(axis)
+        self.widen(across, up)
         self.count += 1
         self.cells[across >> self.shifts[0], up >> self.shifts[1]] += 1
+
+    def widen(self, *numbers: int) -> None:
+        """Makes room for two numbers."""
+        for axis, number in enumerate(numbers):
+            while number >= self.ends[axis]:
+                self._double(axis)
 
     def _double(self, axis: int) -> None:
         self.ends[axis] *= 2

@@ -6,6 +6,7 @@ import tempfile
 from array import array
 from typing import Dict, FrozenSet, Iterable, Iterator, List, NamedTuple, Optional, Sequence, Tuple, Union
 
+from camac.arrays import BATCH, EventArrays, batches, event_pieces
 from camac.drive import Ending, File, RunEnd
 from camac.events import Event, EventFileFault, read_events
 from camac.bodies import costs
@@ -24,8 +25,6 @@ Operation = Union[Cycle, Lock, Unlock]
 KEPT_OPERATIONS = 150
 GREATEST_MISSED = 65_535
 CONTROLLER_STATIONS = (28, 30)
-# So many events are counted at once.
-BATCH = 4096
 # A register of so many bits is taken for a scaler.
 SCALER = (1 << 24) - 1
 
@@ -84,25 +83,6 @@ class SeenOfBit(NamedTuple):
     no_q: int
     of_transfers: int
     no_x: int
-
-
-class Tally:
-    """Numbers that come one after another: how many, the least, their sum, the most."""
-
-    __slots__ = ("count", "least", "total", "most")
-
-    def __init__(self) -> None:
-        self.count = self.total = self.most = 0
-        self.least: Optional[int] = None
-
-    def add(self, value: int) -> None:
-        self.count += 1
-        self.total += value
-        self.most = max(self.most, value)
-        self.least = value if self.least is None or value < self.least else self.least
-
-    def seen(self) -> Seen:
-        return Seen(self.count, self.least or 0, self.total / self.count, self.most)
 
 
 class Sent:
@@ -274,15 +254,22 @@ def collect(
     return collected
 
 
+def by_bit(bits: Sequence[int], *columns: Sequence[int]) -> Iterator[Tuple[int, List[Sequence[int]]]]:
+    """The numbers of columns by the bits of their services."""
+    its = sorted({*bits})
+    for gl in its:
+        is_its = [it == gl for it in bits] if len(its) > 1 else []
+        yield gl, [array("I", itertools.compress(column, is_its)) if is_its else column for column in columns]
+
+
 def _seen(run: Run) -> Dict[int, SeenOfBit]:
     """By bit, what was seen of its services."""
-    tallies: Dict[int, Tuple[Tally, ...]] = {}
-    for gl, *numbers in zip(run.gl, run.cycles, run.words, run.waits, run.no_q, run.of_transfers, run.no_x):
-        if gl not in tallies:
-            tallies[gl] = tuple(Tally() for _ in numbers)
-        for tally, number in zip(tallies[gl], numbers):
-            tally.add(number)
-    return {gl: SeenOfBit(its[0].seen(), its[1].seen(), *(it.total for it in its[2:])) for gl, its in sorted(tallies.items())}
+    columns = by_bit(run.gl, run.cycles, run.words, run.waits, run.no_q, run.of_transfers, run.no_x)
+    return {gl: SeenOfBit(_seen_of(its[0]), _seen_of(its[1]), *map(sum, its[2:])) for gl, its in columns}
+
+
+def _seen_of(numbers: Sequence[int]) -> Seen:
+    return Seen(len(numbers), min(numbers), sum(numbers) / len(numbers), max(numbers))
 
 
 class _Collector:
@@ -370,21 +357,6 @@ class _Collector:
             sent.add(word & sent.mask, len(self.run.gl) + 1)
 
 
-def batches(events: Iterable[Event]) -> Iterator[List[Event]]:
-    """Events by the thousands. What comes before a fault is given before it is raised."""
-    batch: List[Event] = []
-    try:
-        for event in events:
-            batch.append(event)
-            if len(batch) == BATCH:
-                yield batch
-                batch = []
-    except EventFileFault:
-        yield batch
-        raise
-    yield batch
-
-
 def _compare(collector: _Collector, path: File, services: List[Service]) -> Run:
     """Reads the event file of a run beside its listing. An event stands there once its service ended."""
     run, of = collector.run, {it.gl: it for it in services}
@@ -434,7 +406,14 @@ def _read_event_file(path: File, services: List[Service], asked: Optional[Asked]
     run, of = Run(False, asked), {it.gl: it for it in services}
     served = within = 0
     try:
-        for batch in batches(read_events(path)):
+        for batch in event_pieces(path):
+            if isinstance(batch, EventArrays):
+                # It needs this module, and few runs are so long.
+                from camac.array_counts import take
+
+                more = take(run, batch, services)
+                served, within = served + more[0], within + more[1]
+                continue
             run.take_words(batch)
             for event in batch:
                 run.gl.append(event.gl)

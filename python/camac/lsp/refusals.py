@@ -8,7 +8,7 @@ from camac.lsp.workspace import Judged
 from camac.tokens import PIECE, is_token, tokens_of
 
 FIRST = re.compile(r"refused ([A-Z]\d+) line (\d+): (.*)")
-MARK = re.compile(r"[ |]*\^")
+MARK = re.compile(r"[ |\t]*\^")
 # So many are told at most.
 MOST = 10
 SIGN = re.compile(rb"[\x00-\xff][\x80-\xbf]*")

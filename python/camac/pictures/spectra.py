@@ -2,13 +2,13 @@
 
 The panels of a group have one axis. Each is a picture of its own, so that a page can set as many beside each other as it has room for."""
 import math
-from typing import Dict, Iterable, List, Mapping, NamedTuple, Optional, Sequence, Tuple, Union
+from typing import Dict, List, Mapping, NamedTuple, Optional, Sequence, Tuple, Union
 
 from camac.functions import writes
 from camac.histograms import Bins, Series, Spectrum
 from camac.pictures.svg import WIDTH, Canvas, count, cut, number, ticks
 from camac.plans import Plan
-from camac.runs import Channel, Run
+from camac.runs import Channel, Run, by_bit
 from camac.scripts import Service
 
 ACROSS, GAP = 4, 16
@@ -69,14 +69,11 @@ def seen_groups(cycles: Mapping[int, Spectrum], words: Mapping[int, Spectrum], s
     return groups
 
 
-def _of_bits(bits: Iterable[int], values: Iterable[int], bounds: Dict[int, int]) -> Dict[int, Spectrum]:
+def _of_bits(bits: Sequence[int], values: Sequence[int], bounds: Dict[int, int]) -> Dict[int, Spectrum]:
     """By bit the spectrum of the values of its services, on an axis that holds the greatest bound and the greatest value."""
-    found: Dict[int, List[int]] = {gl: [] for gl in bounds}
-    for gl, value in zip(bits, values):
-        if gl in found:
-            found[gl].append(value)
-    end = max([*bounds.values(), *(max(it, default=0) for it in found.values())], default=0) + 1
-    spectra = {gl: Spectrum(end) for gl in found}
+    found = {gl: its for gl, (its,) in by_bit(bits, values) if gl in bounds}
+    end = max([*bounds.values(), *map(max, found.values())], default=0) + 1
+    spectra = {gl: Spectrum(end) for gl in bounds}
     for gl, its in found.items():
         spectra[gl].add_all(its)
     return spectra

@@ -2,7 +2,7 @@
 from typing import Dict, List, NamedTuple, Sequence, Tuple
 
 from camac.pictures.svg import BOLD_12, LEVELS, WIDTH, Canvas, count, number, ticks
-from camac.runs import Run
+from camac.runs import Run, by_bit
 from camac.scripts import Service
 
 LEFT, RIGHT = 64, 108
@@ -15,13 +15,16 @@ APART = 13
 FAR = 2
 
 
-class Column:
+class Column(NamedTuple):
     """What the services of one kind in a column took together, and the most of one."""
 
-    __slots__ = ("services", "cycles", "waits", "most", "no_q", "no_x", "locked")
-
-    def __init__(self) -> None:
-        self.services = self.cycles = self.waits = self.most = self.no_q = self.no_x = self.locked = 0
+    services: int
+    cycles: int
+    waits: int
+    most: int
+    no_q: int
+    no_x: int
+    locked: int
 
 
 class Axis:
@@ -89,19 +92,11 @@ def draw_run(run: Run, services: Sequence[Service]) -> Canvas:
 def _gather(run: Run, axis: Axis) -> Dict[int, Dict[int, Column]]:
     """By bit and by column, what the services took."""
     gathered: Dict[int, Dict[int, Column]] = {}
-    numbers = zip(run.gl, run.cycles, run.waits, run.no_q, run.no_x, run.locked)
-    for at, (gl, cycles, waits, no_q, no_x, locked) in enumerate(numbers):
-        its = gathered.setdefault(gl, {})
-        column = its.get(at // axis.per)
-        if column is None:
-            column = its[at // axis.per] = Column()
-        column.services += 1
-        column.cycles += cycles
-        column.waits += waits
-        column.most = max(column.most, cycles)
-        column.no_q += no_q
-        column.no_x += no_x
-        column.locked += locked
+    numbers = (run.gl, run.cycles, run.waits, run.no_q, run.no_x, run.locked)
+    for at, start in enumerate(range(0, len(run.gl), axis.per)):
+        for gl, (cycles, *others) in by_bit(*(it[start : start + axis.per] for it in numbers)):
+            waits, no_q, no_x, locked = map(sum, others)
+            gathered.setdefault(gl, {})[at] = Column(len(cycles), sum(cycles), waits, max(cycles), no_q, no_x, locked)
     return gathered
 
 

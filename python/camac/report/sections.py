@@ -1,6 +1,7 @@
 """The parts of the page of a run, from its head to the checks."""
 import hashlib
 import heapq
+import operator
 import os
 from typing import Dict, List, NamedTuple, Optional, Sequence, Tuple, Union
 
@@ -282,8 +283,8 @@ def histograms(facts: Facts) -> str:
 def services(facts: Facts) -> str:
     """The table of the services of the run: the first ones, and the worst ones."""
     run, total, rows = facts.run, len(facts.run.gl), []
-    worst = heapq.nsmallest(WORST_SERVICES, range(total), key=lambda k: (-run.no_x[k], -run.cycles[k], k))
-    chosen = sorted({*worst, *range(min(total, FIRST_SERVICES))})
+    worst = heapq.nsmallest(WORST_SERVICES, zip(map(operator.neg, run.no_x), map(operator.neg, run.cycles), range(total)))
+    chosen = sorted({*(k for _, _, k in worst), *range(min(total, FIRST_SERVICES))})
     for k in chosen:
         service = facts.service(run.gl[k])
         part = Cell(round(run.cycles[k] / max(service.cycles, 1), 4), share(run.cycles[k], service.cycles)) if service else ""

@@ -1,0 +1,86 @@
+#!/usr/bin/env python3
+"""Tries what a run has in numbers with numpy and without: a page of a long event file is the same, byte for byte.
+
+usage: tests/arrays_test.py [-v] [TEST ..]     from any folder; takes some seconds
+
+It is left out where numpy (package python3-numpy of Debian) is not there for this Python.
+"""
+import importlib.util
+import random
+import unittest
+from unittest import mock
+
+from live import Case
+from camac import arrays
+from camac.events import NEW_FILE, Event, EventFileFault, record
+from camac.runs import Asked, _read_event_file
+from camac.scripts import Service
+from camac.words import Column, Field, Words
+
+SERVICES = [Service("adc", 3, 20, 20, 6, 6, 9), Service("reg", 5, 9, 9, 2, 2, 3)]
+FIELDS = [
+    Field("amplitude", 3, bits=(0, 11), places=(1, 3)), Field("time", 3, places=(2, 2)), Field("tag", 3, bits=(12, 15), places=(4, 9)),
+    Field("channel", 3, bits=(0, 11), places=(4, 9), of="tag", tags=(2, 9)), Field("of place", 5, of="place", tags=(1, 2)), Field("counted", 3, count=2),
+    Field("scaler", 5, places=(1, 1)),
+]
+
+
+def events_at_random(chance, count):
+    rising = 0
+    for number in range(1, count + 1):
+        gl = chance.choice((3, 3, 5, 7))
+        rising += chance.randrange(3)
+        words = tuple(rising if at == 0 and gl == 5 else chance.randrange(1 << chance.choice((4, 12, 16, 24))) for at in range(chance.choice((0, 1, 2, 4, 8))))
+        yield Event(number, gl, chance.randrange(25), 0, words)
+
+
+def told(run):
+    """All that a run has, as lists and numbers."""
+    spectrum = lambda it: (it.count, it.total, it.squares, it.least, it.greatest, it.end, it.shift, it.overflow, dict(it.counts))
+    series = lambda it: it and (it.per, it.columns, it.rises, it.last, it.falls)
+    return (
+        [list(it) for it in (run.gl, run.cycles, run.no_x, run.words)], {at: spectrum(it) for at, it in run.by_place.items()},
+        {column: (spectrum(it.spectrum), series(it.series)) for column, it in run.channels.items()}, str(run.fault), run.checks,
+        run.pairs and (run.pairs.ends, run.pairs.shifts, dict(run.pairs.cells), run.pairs.count),
+    )
+
+
+@unittest.skipUnless(importlib.util.find_spec("numpy"), "numpy is not here")
+class Arrays(Case):
+    def read(self, data, long, piece=arrays.PIECE):
+        (self.room / "events").write_bytes(data)
+        names = Words(FIELDS)
+        with mock.patch.multiple(arrays, LONG=long, PIECE=piece):
+            return told(_read_event_file(self.room / "events", SERVICES, Asked(names, (Column(FIELDS[0]), Column(FIELDS[1])))))
+
+    def test_same_numbers(self):
+        """The same with pieces of every size, with a fault anywhere, and with a word that looks like a marker."""
+        chance = random.Random(5)
+        for number in range(40):
+            its = list(events_at_random(chance, chance.choice((0, 1, 5, 300, 3000))))
+            data = NEW_FILE + b"".join(map(record, its))
+            if number % 3 == 1:
+                at = chance.randrange(8, len(data) + 1)
+                data = data[:at] + bytes([chance.randrange(256)]) + data[at + 1 :]
+            elif number % 3 == 2:
+                data = data[: chance.randrange(8, len(data) + 1)]
+            with self.subTest(number=number):
+                lists = self.read(data, 1 << 30)
+                for piece in (20_000, 1 << 22):
+                    self.assertEqual(self.read(data, 0, piece), lists)
+
+    def test_arrays_are_used(self):
+        """A long file without a fault is read in arrays alone."""
+        (self.room / "events").write_bytes(NEW_FILE + b"".join(map(record, events_at_random(random.Random(1), 60_000))))
+        its = [*arrays.event_pieces(self.room / "events")]
+        self.assertEqual([type(it) for it in its[:-1]], [arrays.EventArrays] * (len(its) - 1))
+        self.assertEqual((sum(len(it.gl) for it in its[:-1]), its[-1]), (60_000, []))
+        (self.room / "events").write_bytes(NEW_FILE)
+        self.assertEqual([*arrays.event_pieces(self.room / "events")], [[]])
+        (self.room / "events").write_bytes(b"")
+        with self.assertRaises(EventFileFault):
+            [*arrays.event_pieces(self.room / "events")]
+
+
+if __name__ == "__main__":
+    unittest.main()
