@@ -40,7 +40,7 @@
  *              nobody reads or writes it during the call.
  *           3. One call at a time on a session.
  *           4. malloc, realloc and free belong to one allocator, and align as C demands.
- *           5. 4 MiB of stack are left, or 256 KiB where arrays, inline tables, dotted keys and table headings of a plan nest at most 16 deep.
+ *           5. 256 KiB of stack are left.
  */
 #ifndef CAMAC_CHECKER_H
 #define CAMAC_CHECKER_H
