@@ -28,6 +28,7 @@ from camac.native import (
     READ as READ,
     REFUSED,
     SPENT,
+    STOPPED as STOPPED,
     WRITE,
     Progress,
     Want,
