@@ -93,10 +93,10 @@ def dotted_key(parts):
 
 
 def dotted_keys(size):
-    """Keys of 79 parts, each of which makes a table: what takes the TOML library most memory."""
+    """Keys of 17 parts, each of which makes a table: what takes the TOML library most memory, of what nests at most 16 deep."""
     lines, number = [], 0
     while size > 0:
-        lines.append(f"k{number}." + ".".join("a" * 78) + "=1\n")
+        lines.append(f"k{number}." + ".".join("a" * 16) + "=1\n")
         size -= len(lines[-1])
         number += 1
     return "".join(lines[:-1])
@@ -134,8 +134,8 @@ PLANS = [
     ("100,000 times [[crate]]", "[[crate]]\n" * 104_857),
     ("50,000 keys", "".join(f"a{i}=1\n" for i in range(50_000))),
     ("100,000 keys", "".join(f"a{i}=1\n" for i in range(100_000))),
-    ("keys of 79 parts, half a megabyte", dotted_keys(524_288)),
-    ("keys of 79 parts, one megabyte", dotted_keys(1_048_576)),
+    ("keys of 17 parts, half a megabyte", dotted_keys(524_288)),
+    ("keys of 17 parts, one megabyte", dotted_keys(1_048_576)),
     ("one byte too long", blanks(1_048_577)),
 ]
 

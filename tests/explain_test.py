@@ -21,7 +21,8 @@ from support.program import PROGRAM, TOP
 from support.rows import ROWS
 
 PAGE = (TOP / "docs/REFUSALS.md").read_text()
-RULES = [f"{letter}{n}" for letter, last in (("P", 9), ("S", 7), ("L", 4), ("E", 18)) for n in range(1, last + 1)] + ["E21"]
+NUMBERED = {"P": (*range(1, 10), 11), "S": range(1, 8), "L": range(1, 5), "E": (*range(1, 19), 21)}
+RULES = [f"{letter}{n}" for letter, numbers in NUMBERED.items() for n in numbers]
 
 
 def service(*body, heading="within 100 cycles event 100 words", more=""):
@@ -232,6 +233,7 @@ PLANS = [
     ("a bit in two crates", TYPE + CRATE + "gl = 3\n" + CRATE.replace("number = 1", "number = 2").replace("n = 5", "n = 7") + "gl = 3\n", "P9", "crate 2, station 7, gl: the value is 3, which stands before already, at crate 1, station 5."),
     ("a key twice", "buffer = 1\nbuffer = 2\n", "P1", "Line 2, column 1: duplicate key."),
     ("a comment of another language", TYPE + "// the crates\n", "P1", "Line 4, column 1: "),
+    ("many brackets", TYPE + "crate = " + 17 * "[", "P11", "Line 4, column 24: this is 17 deep."),
 ]
 
 # A case whose mend is one of several, the script, the mend's begin, the script with the mend.

@@ -102,6 +102,7 @@ PROCEDURE = (TOP / "examples/procedure.script").read_bytes()
 BROKEN_PLANS = {
     "P1": b"[[type]\n",
     "P2": b"[[crate]]\nnumber = 1\nwiats = 2\n",
+    "P11": b"a = " + 17 * b"[",
     "P9": b"[[type]]\nname = 'A'\ncommands = []\n[[crate]]\nnumber = 1\nstation = [{ n = 1, type = 'A', gl = 3 }, { n = 2, type = 'A', gl = 3 }]\n",
 }
 STRAIGHT_LINE = (TOP / "examples/straight_line.script").read_bytes()

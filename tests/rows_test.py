@@ -138,6 +138,40 @@ FIELDS = [
     ("probe = true", "probe = true, width = 12", "P4: value out of range"),
 ]
 
+def deep(levels, inner="1"):
+    return levels * "[" + inner + levels * "]"
+
+
+# Texts of plans, and how deep they nest: P11 above 16. None of their keys is one of a plan, so the others are P2.
+OPEN = 20 * "[{"
+NESTED = [
+    *((f"a = {deep(it)}", it) for it in (16, 17)),
+    ("a = " + 17 * "[", 17),
+    *(("a = " + it * "{ b = " + "1" + it * " }", it) for it in (16, 17)),
+    *((f"a{it * ' . b'} = 1", it) for it in (16, 17)),
+    *((f"[a{(it - 1) * '.b'}]", it) for it in (16, 17)),
+    *((f"[[ a{(it - 1) * '.b'} ]]\nc = 1", it) for it in (16, 17)),
+    *((f"[x.y]\na.b = {{ c = {deep(it)} }}", it + 4) for it in (12, 13)),
+    *((f"[x.y]\na.b = {{ c.d.e = {deep(it)} }}", it + 6) for it in (10, 11)),
+    # what has ended is open no longer: brackets, the dots of a key, a heading
+    ("a = [ " + 40 * "[ 1 ], " + "]", 2),
+    ("a = { " + ", ".join(f"b{it}.c.d = [ 1 ]" for it in range(40)) + " }", 4),
+    ("\n".join(f"a{it}.b.c = [ 1 ]" for it in range(40)), 3),
+    ("\n".join(f"[a.b{it}.c]\nd.e = 1" for it in range(40)), 4),
+    *((f"a = [ [ {{ b.c = 1 }}, {deep(it)} ] ]", it + 2) for it in (14, 15)),
+    *((f"a = {{\n  b.c = [ [\n 1 ] ],\n  d = {deep(it)} }}", it + 1) for it in (15, 16)),
+    # the dot of a number is none of a key
+    (f"a = {deep(16, '1.5, 1979-05-27T07:32:00.25Z')}", 16),
+    # what stands in strings and comments opens and ends nothing
+    (f'a = "{OPEN}"\nb = \'{OPEN}\' # {OPEN}', 0),
+    *((rf'a = "\"{OPEN}" # "' + rf"{OPEN}" + f"\nb = '\\'\nc = {deep(it)}", it) for it in (16, 17)),
+    *((f"a = \"\"\nb = ''\nc = {deep(it)}", it) for it in (16, 17)),
+    *((f'a = """\n{OPEN}"" \\"""{OPEN}"""""\nb = {deep(it)}', it) for it in (16, 17)),
+    *((f"a = '''\n{OPEN}'' \\'''''\nb = {deep(it)}", it) for it in (16, 17)),
+    *((f'a = """""" # "{OPEN}\nb = {deep(it)}', it) for it in (16, 17)),
+    *((f"\"b]\" . 'c.d' = [\n # ]\n {deep(it)} ]", it + 2) for it in (14, 15)),
+]
+
 # The begin of a service, what stands there many times, how often, and what is said of it.
 SERVICE = "cdlam adc 1 1 5 12\nvar v\nservice adc within 100 cycles event 100 words {"
 REPEATED = [
@@ -194,6 +228,12 @@ class NoRows(Playing):
 
     def test_plan_faults_of_what_is_twice(self):
         self.expect_refused_plans(TWICE)
+
+    def test_plans_that_nest(self):
+        for text, depth in NESTED:
+            with self.subTest(text=text):
+                refusal = b"P2: unknown key" if depth <= 16 else b"P11: nested too deeply"
+                self.expect("plan", 1, b"refused " + refusal + b"\n", PLAN=text.encode())
 
     def test_plan_field_faults(self):
         self.expect_refused_plans(FIELDS)

@@ -34,13 +34,15 @@
  *           one of the copies may be used.
  * THREADS   Different sessions may be used by different threads at the same time. The calls on one session come one after another, each
  *           after the one before (by a lock, by a join). No call is for a signal handler, or for the child of a fork of a process with threads.
+ * TIME      camac_next and camac_step go on until an operation is wanted: at most as many steps as camac_service tells of the service in progress, some
+ *           7 to 200 ns each. Nothing interrupts them.
  * YOU KEEP  what the proof takes for granted, and nothing can test:
  *           1. A session is CAMAC_NONE or what camac_open left there, and nobody else changes its bytes.
  *           2. Each pointer leads to as many bytes as its length says. What the library writes overlaps nothing else that you hand in, and
  *              nobody reads or writes it during the call.
  *           3. One call at a time on a session.
  *           4. malloc, realloc and free belong to one allocator, and align as C demands.
- *           5. 4 MiB of stack are left, or 256 KiB where arrays, inline tables, dotted keys and table headings of a plan nest at most 16 deep.
+ *           5. 256 KiB of stack are left.
  */
 #ifndef CAMAC_CHECKER_H
 #define CAMAC_CHECKER_H

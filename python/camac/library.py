@@ -28,7 +28,7 @@ from camac.native import (
     READ as READ,
     REFUSED,
     SPENT,
-    STOPPED,
+    STOPPED as STOPPED,
     WRITE,
     Progress,
     Want,
@@ -230,8 +230,8 @@ class Session:
         # what ctypes hands on at each call, made once
         self._at, self._to_want = byref(self._session), byref(self._want)
         self._to_answer, self._to_progress = byref(self._answer), byref(self._progress)
-        self._room, self._size = ctypes.create_string_buffer(LONGEST), c_size_t()
-        self._to_size = byref(self._size)
+        self._room, self._longest, self._size = ctypes.create_string_buffer(LONGEST), c_size_t(LONGEST), c_size_t()
+        self._to_size, self._written = byref(self._size), memoryview(self._room).cast("B")
         buffer = _Buffer()
         code = calls.texts.camac_open(self._at, *_given(plan, script), *buffer.words())
         if code == REFUSED:
@@ -263,8 +263,8 @@ class Session:
         return self._progress, None if code == OVERRUN else self._want
 
     def _give(self, answer: Answer) -> None:
-        to = self._answer
-        to.word, to.gl, to.x, to.q, to.wait = answer.word, answer.gl, answer.x, answer.q, answer.wait
+        x, q, word, wait, gl = answer
+        native.write_answer(self._answer, native.BEHIND_SIZE, word, gl, x, q, wait)
 
     def words(self) -> Tuple[int, ...]:
         """The words of the event that the last answer left; none where it left none."""
@@ -280,10 +280,10 @@ class Session:
         return self._bytes(self._calls.camac_record)
 
     def _bytes(self, call: Any) -> bytes:
-        code = call(self._at, self._room, LONGEST, self._to_size)
+        code = call(self._at, self._room, self._longest, self._to_size)
         if code != OK:
             raise _fault(code)
-        return ctypes.string_at(self._room, self._size.value)
+        return self._written[: self._size.value].tobytes()
 
     def held(self) -> Tuple[int, ...]:
         """The crates whose lockout is held, the last that was taken first."""
@@ -376,20 +376,21 @@ class _Game:
                 progress, want = self.session.step(answer)
             except OverflowError:
                 return RunEnd(Ending.REFUSED, SPENT_LINE)
-            if progress.kind != STOPPED:
+            if progress.event or progress.first_unlocked:
                 self.settle(progress)
         line = f"overrun {progress.c} wait {progress.wait} events {self.events}"
         return RunEnd(Ending.OVERRUN, line, self.events, progress.c, progress.wait)
 
     def make(self, want: Want) -> Optional[Answer]:
         """Has the branch make an operation. Only a demand may be without an answer."""
-        if want.kind == DEMAND:
+        kind, c, n, a, f, data = native.read_want(want, native.BEHIND_SIZE)
+        if kind == CYCLE:
+            answer = self.branch.cycle(c, n, a, f, want.word if data == WRITE else None)
+        elif kind == DEMAND:
             answer = self.branch.demand()
-        elif want.kind == CYCLE:
-            answer = self.branch.cycle(want.c, want.n, want.a, want.f, want.word if want.data == WRITE else None)
         else:
-            answer = self.lockouts.lock(want.c)
-        if isinstance(answer, Answer) or (answer is None and want.kind == DEMAND):
+            answer = self.lockouts.lock(c)
+        if isinstance(answer, Answer) or (answer is None and kind == DEMAND):
             return answer
         raise TypeError(f"the branch has to answer an operation with an Answer, not {answer!r}")
 
@@ -414,10 +415,11 @@ def _writes(path: File) -> Iterator[None]:
 
 
 def _write(path: File, file: FileIO, data: bytes) -> None:
-    left = memoryview(data)
-    with _writes(path):
-        while left:
-            left = left[file.write(left) :]
+    try:
+        while data:
+            data = data[file.write(data) :]
+    except OSError as why:
+        raise file_fault("write", path, why) from why
 
 
 @contextlib.contextmanager

@@ -1,5 +1,4 @@
-/* calls.c: each code of each call, sessions in turn and in threads, and texts that nest deep, in 256 KiB of stack; plans that nest deeper, in 4 MiB;
- * openings in flat memory.
+/* calls.c: each code of each call, sessions in turn and in threads, and texts that nest deep, in 256 KiB of stack; openings in flat memory.
  *
  *     calls PLAN SCRIPT OPENINGS */
 #define _GNU_SOURCE
@@ -278,17 +277,13 @@ static void deep(void) {
     }
 }
 
-/* Plans that nest dotted keys in inline tables: so many parts of a key in each of so many tables. */
-static void nest_both(int parts, int tables) {
-    static char its[CAMAC_TEXT_BYTES], out[65536], part[200];
+/* What each call says of a plan that is no plan. */
+static void no_plan(const char *its, size_t length, const char *refusal) {
+    static char out[65536];
     size_t size;
     camac_session s = CAMAC_NONE;
-    char *end = part + sprintf(part, "{b");
-    for (int i = 1; i < parts; i++) end += sprintf(end, ".b");
-    sprintf(end, "=");
-    const size_t length = nested(its, "a = ", part, tables, "1");
     EXPECT(CAMAC_REFUSED, camac_plan(its, length, out, sizeof out, &size));
-    if (size < 10 || memcmp(out, "refused P2", 10)) fail("the plan is not read: %.*s", (int)size, out);
+    if (size < strlen(refusal) || memcmp(out, refusal, strlen(refusal))) fail("not %s: %.*s", refusal, (int)size, out);
     EXPECT(CAMAC_REFUSED, camac_explain_plan(its, length, out, sizeof out, &size));
     EXPECT(CAMAC_REFUSED, camac_explain(its, length, script.bytes, script.size, out, sizeof out, &size));
     EXPECT(CAMAC_REFUSED, camac_response(its, length, script.bytes, script.size, NULL, 0, NULL, 0, out, sizeof out, &size));
@@ -296,9 +291,29 @@ static void nest_both(int parts, int tables) {
     EXPECT(CAMAC_REFUSED, camac_open(&s, its, length, script.bytes, script.size, out, sizeof out, &size));
 }
 
-static void *deepest(void *none_more) {
-    nest_both(79, 79);
-    return none_more;
+/* Plans that nest dotted keys in inline tables, so many parts of a key in each of so many tables, or in arrays of tables under headings. */
+static void nest_both(int parts, int tables, const char *refusal) {
+    static char its[CAMAC_TEXT_BYTES], part[200];
+    char *end = part + sprintf(part, "{b");
+    for (int i = 1; i < parts; i++) end += sprintf(end, ".b");
+    sprintf(end, "=");
+    no_plan(its, nested(its, "a = ", part, tables, "1"), refusal);
+}
+
+static void nest_headings(int keys, const char *refusal) {
+    static char its[CAMAC_TEXT_BYTES];
+    size_t size = 0;
+    for (int last = 1; last <= keys; last++)
+        for (int key = 1; key <= last; key++) size += (size_t)sprintf(its + size, "%s%s", key == 1 ? "[[a" : ".a", key == last ? "]]\n" : "");
+    no_plan(its, size, refusal);
+}
+
+static void nest(void) {
+    static const int allowed[][2] = {{16, 1}, {8, 2}, {4, 4}, {3, 5}, {2, 8}, {1, 16}}, deeper[][2] = {{17, 1}, {4, 5}, {2, 9}, {1, 17}, {8, 80}, {79, 79}};
+    for (int i = 0; i < 6; i++) nest_both(allowed[i][0], allowed[i][1], "refused P2");
+    for (int i = 0; i < 6; i++) nest_both(deeper[i][0], deeper[i][1], "refused P11");
+    nest_headings(16, "refused P2");
+    nest_headings(17, "refused P11");
 }
 
 /* All answers spent. To give them takes a quarter of an hour, so the run's count of them is found in its memory and set: no user may do that. */
@@ -415,8 +430,7 @@ static void openings(long many) {
 }
 
 static void *all_calls(void *none_more) {
-    nest_both(3, 5);
-    nest_both(2, 7);
+    nest();
     none();
     handed_in();
     of_a_later_version();
@@ -435,10 +449,7 @@ int main(int count, char **words) {
     plan = read_file(words[1]);
     script = read_file(words[2]);
     if (atol(words[3]) > 0) openings(atol(words[3]));
-    else {
-        pthread_join(begun(all_calls, NULL, 256 << 10), NULL);
-        pthread_join(begun(deepest, NULL, 4 << 20), NULL);
-    }
+    else pthread_join(begun(all_calls, NULL, 256 << 10), NULL);
     free(plan.bytes);
     free(script.bytes);
     return 0;

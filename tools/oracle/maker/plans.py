@@ -13,6 +13,7 @@ RANGES = {"buffer": (1, 4096), "f": (0, 31), "a": (0, 15), "to": (0, 15), "width
 WRONG_KINDS = (1.5, True, False, "x", "1", 0, 3, [], [1], [[]], {}, {"f": 0}, [{}], ["a"])
 NAMES = ("ADC", "REG", "SCALER", "T-DC", "q_1", "a", "-", "_", "Z" * 31, "z" * 32)
 WRONG_NAMES = ("", "a b", "a.b", "Z" * 33, "\u00e4", "a\n", "\u0661")
+OPEN = "[{ a.b.c = " * 9
 OTHER_KEYS = ("colour", "F", "name", "f", "type", "gl", "crate", "buffer", "")
 
 
@@ -128,8 +129,17 @@ def table_twice(random: Random, plan: Table, _table: Table) -> None:
         tables.insert(random.randrange(len(tables) + 1), copy.deepcopy(random.choice(tables)))
 
 
+def nested_value(random: Random, _plan: Table, table: Table) -> None:
+    """A value that stands as deep as it may, or deeper, in arrays, tables and dotted keys."""
+    value: Any = random.choice((1, 1.5, OPEN, [[OPEN], {"x.y": 1}]))
+    for _ in range(random.choice((2, 5, 8, 11, 12, 13, 14, 15, 16, 17, 30, 90))):
+        value = [value] if random.random() < 0.6 else {random.choice(("x", "x.y", "x.y.z")): value}
+    table[random.choice((*OTHER_KEYS, *table, "x.y", "x . y"))] = value
+
+
 BREAKS: List[Callable[[Random, Table, Table], None]] = [
     unknown_key, lacking_key, wrong_kind, edge_number, edge_number, edge_number, other_name, value_twice, value_twice, value_twice, table_twice,
+    nested_value, nested_value,
 ]
 
 

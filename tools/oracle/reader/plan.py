@@ -3,6 +3,7 @@ from __future__ import annotations
 
 from typing import Any, Dict, List, NamedTuple, Optional, Tuple
 
+from oracle.reader.nesting import judge_nesting
 from oracle.reader.refusals import Refused
 from oracle.reader.toml_text import read_toml
 
@@ -109,6 +110,7 @@ class Table:
 
 def read_plan(text: bytes) -> Plan:
     """The plan of a text, or the first fault of the walk (`Refused`). `LeftOut` where this reader does not judge it."""
+    judge_nesting(text)
     top = Table(read_toml(text), "buffer type crate")
     plan = Plan(top.number("buffer", 1, 4096, 4096))
     types, crates = top.tables("type"), top.tables("crate")

@@ -4,6 +4,7 @@ from __future__ import annotations
 TEXTS = {
     "P1": "not TOML", "P2": "unknown key", "P3": "missing key or wrong kind", "P4": "value out of range", "P5": "crate twice",
     "P6": "station twice", "P7": "unknown module type", "P8": "declared twice", "P9": "GL bit twice",
+    "P11": "nested too deeply",
     "S1": "bad byte", "S2": "unexpected token", "S3": "number too large", "S4": "name declared twice", "S5": "name not declared",
     "S6": "limit passed", "S7": "branch not 1",
     "L1": "LAM at no installed station", "L2": "station without GL bit", "L3": "two services on one station", "L4": "event above the buffer",
