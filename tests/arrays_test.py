@@ -10,7 +10,7 @@ import random
 import unittest
 from unittest import mock
 
-from live import Case
+from support.live import Case
 from camac import arrays
 from camac.events import NEW_FILE, Event, EventFileFault, record
 from camac.runs import Asked, _read_event_file

@@ -14,8 +14,8 @@ import re
 import sys
 import unittest
 
-import of_c
-from live import PROGRAM, TOP, Case
+from support import of_c
+from support.live import PROGRAM, TOP, Case
 from camac.edits import Edit, edited
 from camac.loops.search import propose
 from camac.lsp.actions import OF_LOOPS, _of_refusal
