@@ -1,11 +1,19 @@
 -- What the search computes, in one form for a stretch and for a call.
-use Rattle.std.specs.Prelude.{ℕ, ◌+◌, ◌*◌, ◌/◌, ◌^◌, ◌≤◌, Bool, List, [], ◌∷◌, Option, Some, None, nat_le, option_and_then, option_map, slice_get, if◌then◌else◌}
+use Rattle.std.specs.Prelude.{◌≡◌, ℕ, ◌+◌, ◌*◌, ◌/◌, ◌^◌, ◌≤◌, Bool, true, List, [], ◌∷◌, Option, Some, None, IfSome, nat_le, option_and_then, option_map, slice_get, if◌then◌else◌}
+use Rattle.std.specs.List.{All}
 use Rattle.camac_response_times.specs.declared.source.Source.{Source}
 use Rattle.camac_response_times.specs.declared.search.Caller.{Caller}
 use Rattle.camac_response_times.specs.declared.search.Response.{Response}
 use Rattle.camac_response_times.specs.declared.search.Wanted.{Wanted}
 use Rattle.camac_response_times.specs.Response.{is_up_to, is_below, called_within}
 use Rattle.camac_response_times.specs.Rounds.{longest, most_cycles, response}
+
+-- a service up to a bit takes no more cycles than lie between its calls at its rate
+abbrev pub FitsRate : (bit : ℕ) → Source → Type 0
+FitsRate g t = is_up_to g t ≡ true → IfSome t.every (λ rate. t.cycles ≤ rate)
+
+abbrev pub FitRates : List Caller → Type 0
+FitRates cs = All (λ c. c.cycles ≤ c.rate) cs
 
 -- services up to a bit, or below it
 abbrev pub is_meant : (bit : ℕ) → (own : Bool) → Source → Bool
