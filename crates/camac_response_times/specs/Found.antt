@@ -1,5 +1,5 @@
 -- What the search computes, in one form for a stretch and for a call.
-use Rattle.std.specs.Prelude.{◌≡◌, ℕ, ◌+◌, ◌*◌, ◌/◌, ◌^◌, ◌≤◌, Bool, true, List, [], ◌∷◌, Option, Some, None, IfSome, nat_le, option_and_then, option_map, slice_get, if◌then◌else◌}
+use Rattle.std.specs.Prelude.{◌≡◌, ℕ, ◌+◌, ◌*◌, ◌/◌, ◌^◌, ◌<◌, ◌≤◌, Bool, true, List, [], ◌∷◌, Option, Some, None, IfSome, length, nat_le, option_and_then, option_map, slice_get, slice_index_or, if◌then◌else◌}
 use Rattle.std.specs.List.{All}
 use Rattle.camac_response_times.specs.declared.source.Source.{Source}
 use Rattle.camac_response_times.specs.declared.search.Caller.{Caller}
@@ -49,3 +49,8 @@ answer ts s = option_and_then (λ most. option_map (told s most) (response ts s)
 -- the response of the service of this number
 abbrev pub response_at : List Source → ℕ → Option Response
 response_at ts number = option_and_then (answer ts) (slice_get ts number)
+
+-- these are the responses of these services
+pub record AreFound (ts : List Source) (found : List (Option Response)) : Type 0 where
+  pub count : length found ≡ length ts
+  pub each : (i : ℕ) (d : Option Response) → i < length found → slice_index_or found i d ≡ response_at ts i

@@ -23,7 +23,8 @@ pub struct Response {
     pub longest: u32,
 }
 
-// A service with a rate that takes cycles, of those that are meant. They are `u64` for the loop over all rounds, which is what takes time.
+// A service that calls again and takes cycles, of those that are meant: no more of them than lie between its calls. They are a `u64` as a sum
+// of them is, since the loop over callers is what takes time.
 #[derive(Clone, Copy, Debug, Default, PartialEq, Eq)]
 struct Caller {
     rate: Rate,
@@ -198,8 +199,8 @@ fn wanted_within(first: u64, wanted: &Wanted<'_>, cycles: u32) -> Option<u32>
     )
 }
 
-// So many cycles and those of all calls of these but their first ones; none above the limit. Each of these takes part of the cycles, so that the
-// sum needs no test within the loop.
+// So many cycles and those of all calls of these but their first ones; none above the limit. Each caller takes at most all cycles, so that the
+// sum needs no test before its end.
 fn repeated_within(first: u64, callers: &[Caller], cycles: u32) -> Option<u32>
     requires few { length callers.now ≤ 24 }
     requires fit { FitRates callers.now }
