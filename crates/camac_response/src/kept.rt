@@ -8,29 +8,29 @@ ghost use Rattle.camac_response_times.specs.Setting.{told_for};
 
 use crate::of_checked::service_name;
 use camac_check_result::Checked;
-use camac_response_times::{Setting, Source, response_of, told_for};
+use camac_response_times::{Responses, Setting, told_for};
 
 /// Whether each service for which a number is asked for has a response, and has ended by then.
-pub fn are_kept(checked: &Checked, sources: &[Source], within: &[Setting<'_>]) -> bool
-    requires { length sources.now ≡ length checked.now.script.services }
-    ensures { IsTrue result ↔ AreKept checked.now.script within.now sources.now }
+pub fn are_kept(checked: &Checked, responses: &Responses, within: &[Setting<'_>]) -> bool
+    requires { length responses.now ≡ length checked.now.script.services }
+    ensures { IsTrue result ↔ AreKept checked.now.script within.now responses.now }
 {
-    'services: for number in 0..sources.len() {
-        if !is_kept(checked, sources, within, number) {
+    'services: for number in 0..responses.sources().len() {
+        if !is_kept(checked, responses, within, number) {
             return false;
         }
     }
     true
 }
 
-fn is_kept(checked: &Checked, sources: &[Source], within: &[Setting<'_>], number: usize) -> bool
+fn is_kept(checked: &Checked, responses: &Responses, within: &[Setting<'_>], number: usize) -> bool
     requires { number < length checked.now.script.services }
-    ensures { IsTrue result ↔ IsKept (told_for within.now (service_name checked.now.script number)) (response_at sources.now number) }
+    ensures { IsTrue result ↔ IsKept (told_for within.now (service_name checked.now.script number)) (response_at responses.now number) }
 {
     let Some(most) = told_for(within, service_name(checked, number)) else {
         return true;
     };
-    match response_of(sources, number) {
+    match responses.at(number) {
         Some(response) => response.end <= most,
         None => false,
     }

@@ -7,8 +7,8 @@ mod lines;
 mod of_checked;
 
 pub use camac_response_times::{
-    MOST_ROUNDS, Misuse, Rate, Response, Setting, SettingOption, Settings, Source, read_settings,
-    response_of, told_for,
+    MOST_ROUNDS, Misuse, Rate, Response, Responses, Setting, SettingOption, Settings, Source,
+    read_settings, response_of, told_for,
 };
 pub use kept::are_kept;
 pub use lines::write_responses;

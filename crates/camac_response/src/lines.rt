@@ -9,7 +9,7 @@ ghost use Rattle.camac_word.specs.Writing.{Writes};
 use crate::of_checked::service_name;
 use camac_check_result::Checked;
 use camac_report_text::Line;
-use camac_response_times::{Rate, Response, Setting, Source, response_of, told_for};
+use camac_response_times::{Rate, Response, Responses, Setting, Source, told_for};
 use camac_word::{Watched, WriteFault};
 use std::io::Write;
 
@@ -18,27 +18,27 @@ use std::io::Write;
 pub fn write_responses<W: Write>(
     out: &mut Watched<W>,
     checked: &Checked,
-    sources: &[Source],
+    responses: &Responses,
     within: &[Setting<'_>],
 ) -> Result<(), WriteFault>
-    requires { length sources.now ≡ length checked.now.script.services }
-    ensures text { Writes (W.contents (inner_of out.old)) (W.contents (inner_of out.new)) result (responses_text checked.now.script within.now sources.now) }
+    requires { length responses.now ≡ length checked.now.script.services }
+    ensures text { Writes (W.contents (inner_of out.old)) (W.contents (inner_of out.new)) result (responses_text checked.now.script within.now responses.now) }
     ensures failed { has_failed out.new ≡ (has_failed out.old || is_err result) }
 {
     'bits: for bit in 1..25 {
-        let line = line_of_bit(checked, sources, within, bit);
+        let line = line_of_bit(checked, responses, within, bit);
         out.write_text(line.as_bytes())?;
     }
     Ok(())
 }
 
 // The line of the service of a bit, nothing where there is none.
-fn line_of_bit(checked: &Checked, sources: &[Source], within: &[Setting<'_>], bit: u32) -> Line
-    requires { length sources.now ≡ length checked.now.script.services }
-    ensures { result ≡ bit_text checked.now.script within.now sources.now bit }
+fn line_of_bit(checked: &Checked, responses: &Responses, within: &[Setting<'_>], bit: u32) -> Line
+    requires { length responses.now ≡ length checked.now.script.services }
+    ensures { result ≡ bit_text checked.now.script within.now responses.now bit }
 {
-    match place_of(sources, bit) {
-        Some(number) => line_of(checked, sources, within, number),
+    match place_of(responses.sources(), bit) {
+        Some(number) => line_of(checked, responses, within, number),
         None => Line::new(),
     }
 }
@@ -49,17 +49,17 @@ fn place_of(sources: &[Source], bit: u32) -> Option<usize>
     sources.iter().position(|source| source.bit.get() == bit)
 }
 
-fn line_of(checked: &Checked, sources: &[Source], within: &[Setting<'_>], number: usize) -> Line
-    requires many { length sources.now ≡ length checked.now.script.services }
-    requires one { number < length sources.now }
-    ensures { result ≡ service_text checked.now.script within.now sources.now number }
+fn line_of(checked: &Checked, responses: &Responses, within: &[Setting<'_>], number: usize) -> Line
+    requires many { length responses.now ≡ length checked.now.script.services }
+    requires one { number < length responses.now }
+    ensures { result ≡ service_text checked.now.script within.now responses.now number }
 {
     let name = service_name(checked, number);
     laid_out(
         name,
-        sources[number],
+        responses.sources()[number],
         told_for(within, name),
-        response_of(sources, number),
+        responses.at(number),
     )
 }
 

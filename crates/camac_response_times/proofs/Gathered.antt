@@ -1,18 +1,24 @@
 -- Services, laid out for the rounds, one after the other.
-use Rattle.std.proofs.Common.{◌≡◌, ℕ, zero, suc, ◌+◌, ◌*◌, ◌/◌, ◌^◌, ◌<◌, ◌≤◌, List, [], ◌∷◌, ◌++◌, take, drop, length, slice_index_or, Option, Some, None, Bool, true, false, refl, sym, ◌∙◌, ap, arith}
+use Rattle.std.proofs.Common.{◌≡◌, ℕ, zero, suc, ◌+◌, ◌*◌, ◌^◌, ◌<◌, ◌≤◌, List, [], ◌∷◌, ◌++◌, take, drop, length, slice_index_or, Option, Some, None, Bool, true, false, refl, sym, ◌∙◌, ap, arith}
 use Rattle.std.specs.Prelude.{if◌then◌else◌}
+use Rattle.std.specs.Option.{option_to_list}
 use Rattle.camac_response_times.specs.declared.source.Source.{Source}
 use Rattle.camac_response_times.specs.declared.search.Caller.{Caller}
-use Rattle.camac_response_times.specs.Response.{called_within, calls_within}
-use Rattle.camac_response_times.specs.Found.{repeated}
+use Rattle.camac_response_times.specs.Response.{called_within, calls_within, is_up_to}
+use Rattle.std.proofs.lemmas.List.Elements.{All-append}
+use Rattle.camac_response_times.specs.Found.{FitRates, is_meant, repeated}
 
-repeated_more : (e : ℕ) (cs : List Caller) (c : Caller) → repeated e (cs ++ c ∷ []) ≡ repeated e cs + e / c.rate * c.cycles
+repeated_more : (e : ℕ) (cs : List Caller) (c : Option Caller) → repeated e (cs ++ option_to_list c) ≡ repeated e cs + repeated e (option_to_list c)
 repeated_more e [] c = omega arith
 repeated_more e (d ∷ cs) c = let rest = repeated_more e cs c in omega (arith, rest)
 
-length_more : (cs : List Caller) (c : Caller) → length (cs ++ c ∷ []) ≡ length cs + 1
-length_more [] c = refl
+length_more : (cs : List Caller) (c : Option Caller) → length (cs ++ option_to_list c) ≡ length cs + length (option_to_list c)
+length_more [] c = omega arith
 length_more (d ∷ cs) c = let rest = length_more cs c in omega (arith, rest)
+
+at_most_one : (c : Option Caller) → length (option_to_list c) ≤ 1
+at_most_one None = omega arith
+at_most_one (Some c) = omega arith
 
 pub next_is : (ts : List Source) (i : ℕ) (t : Source) → i < length ts → t ≡ slice_index_or ts i t → drop i ts ≡ t ∷ drop (i + 1) ts
 next_is [] i t less at = absurd (omega (arith, less))
@@ -26,12 +32,17 @@ split m e zero ts = omega arith
 split m e (suc n) [] = refl
 split m e (suc n) (t ∷ ts) = let rest = split m e n ts in omega (arith, rest)
 
+pub up_to : (g : ℕ) (own : Bool) (t : Source) → is_meant g own t ≡ true → is_up_to g t ≡ true
+up_to g true t up = up
+up_to g false t below = grind (arith, below)
+
 module _ (m : Source → Bool) where
   -- those before a place are laid out
   pub record IsGathered (ts : List Source) (i once : ℕ) (cs : List Caller) : Type 0 where
     pub same : (e : ℕ) → once + repeated e cs + called_within m e (drop i ts) ≡ called_within m e ts
     pub few : once ≤ i * 2 ^ 32
     pub count : length cs ≤ i
+    pub fit : FitRates cs
 
   module _ (ts : List Source) (i once : ℕ) (cs : List Caller) (t : Source) (at : IsGathered ts i once cs) (next : drop i ts ≡ t ∷ drop (i + 1) ts) where
     left : (e : ℕ) → once + repeated e cs + ((if m t then calls_within t.every e * t.cycles else 0) + called_within m e (drop (i + 1) ts)) ≡ called_within m e ts
@@ -42,6 +53,7 @@ module _ (m : Source → Bool) where
         let few = at.few in
         let count = at.count in
         record {
+          fit = rw cs_is at.fit;
           same = λ e.
               let none = ap (λ b. if b then calls_within t.every e * t.cycles else 0) is in
               let all = left e in
@@ -52,30 +64,18 @@ module _ (m : Source → Bool) where
         }
 
     module _ (is : m t ≡ true) (fits : t.cycles < 2 ^ 32) (once' : ℕ) (cs' : List Caller) (once_is : once' ≡ once + t.cycles) where
-      pub meant_once : t.every ≡ None → cs' ≡ cs → IsGathered ts (i + 1) once' cs'
-      meant_once never cs_is =
+      pub meant : (c : Option Caller) → ((e : ℕ) → calls_within t.every e * t.cycles ≡ t.cycles + repeated e (option_to_list c)) → FitRates (option_to_list c) → cs' ≡ cs ++ option_to_list c → IsGathered ts (i + 1) once' cs'
+      meant c again fit cs_is =
           let few = at.few in
           let count = at.count in
           record {
             same = λ e.
-                let one = ap (λ b. if b then calls_within t.every e * t.cycles else 0) is ∙ ap (λ r. calls_within r e * t.cycles) never in
-                let all = left e in
-                let callers = ap (repeated e) cs_is in
-                omega (arith, all, one, once_is, callers);
-            few = omega (arith, few, fits, once_is);
-            count = let long = ap length cs_is in omega (arith, count, long);
-          }
-
-      pub meant_again : (c : Caller) → t.every ≡ Some c.rate → t.cycles ≡ c.cycles → cs' ≡ cs ++ c ∷ [] → IsGathered ts (i + 1) once' cs'
-      meant_again c rate cycles cs_is =
-          let few = at.few in
-          let count = at.count in
-          record {
-            same = λ e.
-                let here = ap (λ b. if b then calls_within t.every e * t.cycles else 0) is ∙ ap (λ r. calls_within r e * t.cycles) rate ∙ ap (λ n. (e / c.rate + 1) * n) cycles in
+                let here = ap (λ b. if b then calls_within t.every e * t.cycles else 0) is in
+                let calls = again e in
                 let all = left e in
                 let callers = ap (repeated e) cs_is ∙ repeated_more e cs c in
-                omega (arith, all, here, callers, cycles, once_is);
+                omega (arith, all, here, calls, callers, once_is);
             few = omega (arith, few, fits, once_is);
-            count = let long = ap length cs_is ∙ length_more cs c in omega (arith, count, long);
+            count = let long = ap length cs_is ∙ length_more cs c in let one = at_most_one c in omega (arith, count, long, one);
+            fit = rw cs_is (All-append (λ d. d.cycles ≤ d.rate) cs (option_to_list c) at.fit fit);
           }

@@ -1,11 +1,19 @@
 -- What the search computes, in one form for a stretch and for a call.
-use Rattle.std.specs.Prelude.{ℕ, ◌+◌, ◌*◌, ◌/◌, ◌^◌, ◌≤◌, Bool, List, [], ◌∷◌, Option, Some, None, nat_le, option_and_then, option_map, slice_get, if◌then◌else◌}
+use Rattle.std.specs.Prelude.{◌≡◌, ℕ, ◌+◌, ◌*◌, ◌/◌, ◌^◌, ◌<◌, ◌≤◌, Bool, true, List, [], ◌∷◌, Option, Some, None, IfSome, length, nat_le, option_and_then, option_map, slice_get, slice_index_or, if◌then◌else◌}
+use Rattle.std.specs.List.{All}
 use Rattle.camac_response_times.specs.declared.source.Source.{Source}
 use Rattle.camac_response_times.specs.declared.search.Caller.{Caller}
 use Rattle.camac_response_times.specs.declared.search.Response.{Response}
 use Rattle.camac_response_times.specs.declared.search.Wanted.{Wanted}
 use Rattle.camac_response_times.specs.Response.{is_up_to, is_below, called_within}
 use Rattle.camac_response_times.specs.Rounds.{longest, most_cycles, response}
+
+-- a service up to a bit takes no more cycles than lie between its calls at its rate
+abbrev pub FitsRate : (bit : ℕ) → Source → Type 0
+FitsRate g t = is_up_to g t ≡ true → IfSome t.every (λ rate. t.cycles ≤ rate)
+
+abbrev pub FitRates : List Caller → Type 0
+FitRates cs = All (λ c. c.cycles ≤ c.rate) cs
 
 -- services up to a bit, or below it
 abbrev pub is_meant : (bit : ℕ) → (own : Bool) → Source → Bool
@@ -41,3 +49,8 @@ answer ts s = option_and_then (λ most. option_map (told s most) (response ts s)
 -- the response of the service of this number
 abbrev pub response_at : List Source → ℕ → Option Response
 response_at ts number = option_and_then (answer ts) (slice_get ts number)
+
+-- these are the responses of these services
+pub record AreFound (ts : List Source) (found : List (Option Response)) : Type 0 where
+  pub count : length found ≡ length ts
+  pub each : (i : ℕ) (d : Option Response) → i < length found → slice_index_or found i d ≡ response_at ts i

@@ -1,9 +1,11 @@
 // The response of a service, found by rounds.
 
-ghost use Rattle.std.specs.Prelude.{◌≡◌, ◌+◌, ◌-◌, ◌*◌, ◌^◌, ◌<◌, ◌≤◌, ◌∷◌, [], ℕ, IsTrue};
+ghost use Rattle.std.specs.Prelude.{◌≡◌, ◌+◌, ◌-◌, ◌*◌, ◌^◌, ◌<◌, ◌≤◌, ◌∷◌, [], ℕ, IfSome, IsTrue, IsFalse, length};
+ghost use Rattle.std.specs.List.{All};
+ghost use Rattle.std.specs.Option.{option_to_list};
 ghost use Rattle.camac_response_times.specs.Response.{before, called_within, calls_within, is_up_to, period};
 ghost use Rattle.camac_response_times.specs.Rounds.{greatest_wait, settle};
-ghost use Rattle.camac_response_times.specs.Found.{TakesAll, gathered, is_meant, repeated, response_at, within};
+ghost use Rattle.camac_response_times.specs.Found.{FitRates, FitsRate, TakesAll, gathered, is_meant, repeated, response_at, within};
 
 use crate::source::{Rate, Source};
 use arrayvec::ArrayVec;
@@ -21,11 +23,12 @@ pub struct Response {
     pub longest: u32,
 }
 
-// A service with a rate, of those that are meant.
+// A service that calls again and takes cycles, of those that are meant: no more of them than lie between its calls. They are a `u64` as a sum
+// of them is, since the loop over callers is what takes time.
 #[derive(Clone, Copy, Debug, Default, PartialEq, Eq)]
 struct Caller {
     rate: Rate,
-    cycles: u32,
+    cycles: u64,
 }
 
 // The services up to a bit, or with `own` false below it, laid out for the rounds: those of the first 24 (a pattern has no more bits) by one call
@@ -72,7 +75,8 @@ pub fn response_of(sources: &[Source], number: usize) -> Option<Response>
 // services before these take of 2^32 cycles.
 fn is_overloaded(load: u64, bit: GlBit, sources: &[Source]) -> bool
     requires { load < 2 ^ 32 }
-    ensures { IsTrue result → (e : ℕ) → TakesAll load e (called_within (is_up_to bit) e sources.now) }
+    ensures all { IsTrue result → (e : ℕ) → TakesAll load e (called_within (is_up_to bit) e sources.now) }
+    ensures fit { IsFalse result → All (FitsRate bit) sources.now }
 {
     let [source, rest @ ..] = sources else {
         return false;
@@ -85,6 +89,7 @@ fn is_overloaded(load: u64, bit: GlBit, sources: &[Source]) -> bool
 fn load_of(bit: GlBit, source: Source) -> u64
     ensures few { result ≤ 2 ^ 64 - 2 ^ 32 }
     ensures takes { (e : ℕ) → result * (e + 1) ≤ 2 ^ 32 * called_within (is_up_to bit) e (source ∷ []) }
+    ensures fits { result < 2 ^ 32 → FitsRate bit source }
 {
     match source.every {
         Some(rate) if source.bit <= bit => {
@@ -96,7 +101,8 @@ fn load_of(bit: GlBit, source: Source) -> u64
 
 // The most cycles from the look-at-me of a service to its call, over all its calls in the longest stretch.
 fn most_wait(sources: &[Source], source: Source, blocked: u64, longest: Settled) -> Option<u64>
-    requires { (blocked ≡ before source.bit sources.now) × (blocked < 2 ^ 32) }
+    requires blocked { (blocked ≡ before source.bit sources.now) × (blocked < 2 ^ 32) }
+    requires fit { All (FitsRate source.bit) sources.now }
     ensures { result ≡ greatest_wait sources.now source (calls_within source.every longest.cycles) 1 longest.rounds 0 }
 {
     let calls = most_calls(source.every, longest.cycles);
@@ -117,7 +123,9 @@ fn most_wait(sources: &[Source], source: Source, blocked: u64, longest: Settled)
 
 // The services that are meant, laid out.
 fn gather(bit: GlBit, own: bool, sources: &[Source]) -> Wanted<'_>
-    ensures { (e : ℕ) → gathered e result ≡ called_within (is_meant bit own) e sources.now }
+    requires { All (FitsRate bit) sources.now }
+    ensures same { (e : ℕ) → gathered e result ≡ called_within (is_meant bit own) e sources.now }
+    ensures fit { FitRates result.callers.items }
 {
     let (near, rest) = sources.split_at(sources.len().min(24));
     let mut once = 0;
@@ -125,11 +133,8 @@ fn gather(bit: GlBit, own: bool, sources: &[Source]) -> Wanted<'_>
     'services: for source in near {
         if is_meant(bit, own, *source) {
             once += u64::from(source.cycles);
-            if let Some(rate) = source.every {
-                callers.push(Caller {
-                    rate,
-                    cycles: source.cycles,
-                });
+            if let Some(caller) = caller_of(*source) {
+                callers.push(caller);
             }
         }
     }
@@ -142,8 +147,24 @@ fn gather(bit: GlBit, own: bool, sources: &[Source]) -> Wanted<'_>
     }
 }
 
+// What of a service calls again, and takes cycles when it does.
+fn caller_of(source: Source) -> Option<Caller>
+    requires { IfSome source.every (λ rate. source.cycles ≤ rate) }
+    ensures again { (e : ℕ) → calls_within source.every e * source.cycles ≡ source.cycles + repeated e (option_to_list result) }
+    ensures fit { FitRates (option_to_list result) }
+{
+    match source.every {
+        Some(rate) if source.cycles > 0 => Some(Caller {
+            rate,
+            cycles: u64::from(source.cycles),
+        }),
+        _ => None,
+    }
+}
+
 // The fewest cycles that are enough for so many and for what is wanted, found in so many rounds.
 fn settle_from(first: u64, wanted: &Wanted<'_>, rounds: u32) -> Option<Settled>
+    requires { FitRates wanted.now.callers.items }
     ensures { result ≡ settle (λ e. first + gathered e wanted.now) rounds 0 }
 {
     let mut cycles = 0;
@@ -164,6 +185,7 @@ fn settle_from(first: u64, wanted: &Wanted<'_>, rounds: u32) -> Option<Settled>
 
 // So many cycles and what is wanted within so many; none above the limit.
 fn wanted_within(first: u64, wanted: &Wanted<'_>, cycles: u32) -> Option<u32>
+    requires { FitRates wanted.now.callers.items }
     ensures { result ≡ within (first + gathered cycles wanted.now) }
 {
     let once = first.checked_add(wanted.once)?;
@@ -177,16 +199,19 @@ fn wanted_within(first: u64, wanted: &Wanted<'_>, cycles: u32) -> Option<u32>
     )
 }
 
-// So many cycles and those of all calls of these but their first ones; none above the limit.
+// So many cycles and those of all calls of these but their first ones; none above the limit. Each caller takes at most all cycles, so that the
+// sum needs no test before its end.
 fn repeated_within(first: u64, callers: &[Caller], cycles: u32) -> Option<u32>
+    requires few { length callers.now ≤ 24 }
+    requires fit { FitRates callers.now }
     ensures { result ≡ within (first + repeated cycles callers.now) }
 {
+    if first > u64::from(u32::MAX) {
+        return None;
+    }
     let mut all = first;
     'callers: for caller in callers {
-        if all > u64::from(u32::MAX) {
-            return None;
-        }
-        all += u64::from(caller.rate.times_in(cycles)) * u64::from(caller.cycles);
+        all += u64::from(caller.rate.times_in(cycles)) * caller.cycles;
     }
     u32::try_from(all).ok()
 }

@@ -15,7 +15,7 @@ use crate::outcome::Outcome;
 use crate::plan::PlanSource;
 use camac_check::Checked;
 use camac_response::{
-    Misuse, Settings, Source, are_kept, no_service, read_settings, sources_of, write_responses,
+    Misuse, Responses, Settings, are_kept, no_service, read_settings, sources_of, write_responses,
 };
 use camac_word::Watched;
 use std::alloc::Global;
@@ -83,15 +83,16 @@ fn respond_to<'a, W: Write>(
         return Ok(Responded::Misused(misuse));
     }
     let sources = sources_of(alloc, checked, &settings.every)?;
-    write_responses(out, checked, &sources, &settings.within)?;
-    Ok(Responded::Told(outcome_of(checked, &sources, settings)))
+    let responses = Responses::of(alloc, sources)?;
+    write_responses(out, checked, &responses, &settings.within)?;
+    Ok(Responded::Told(outcome_of(checked, &responses, settings)))
 }
 
-fn outcome_of(checked: &Checked, sources: &[Source], settings: &Settings<'_>) -> Outcome
-    requires { length sources.now ≡ length checked.now.script.services }
-    ensures { SaysKept (AreKept checked.now.script settings.now.within.items sources.now) result }
+fn outcome_of(checked: &Checked, responses: &Responses, settings: &Settings<'_>) -> Outcome
+    requires { length responses.now ≡ length checked.now.script.services }
+    ensures { SaysKept (AreKept checked.now.script settings.now.within.items responses.now) result }
 {
-    if are_kept(checked, sources, &settings.within) {
+    if are_kept(checked, responses, &settings.within) {
         Outcome::Good
     } else {
         Outcome::Refused

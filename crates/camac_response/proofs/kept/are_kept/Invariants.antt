@@ -6,4 +6,4 @@ use Rattle.camac_response.specs.Kept.{IsKept}
 use Rattle.camac_response.proofs.kept.are_kept.Given as goal
 
 abbrev pub invariant-services : goal.invariant-services
-invariant-services l = (i : ℕ) → i < l.number → IsKept (told_for l.within (service_name l.checked.script i)) (response_at l.sources i)
+invariant-services l = (i : ℕ) → i < l.number → IsKept (told_for l.within (service_name l.checked.script i)) (response_at l.responses i)

@@ -1,8 +1,9 @@
-use Rattle.std.proofs.Common.{◌≡◌, ◌<◌, ◌+◌, ◌^◌, drop, length, ap, refl, sym, ◌∙◌, arith}
-use Rattle.std.proofs.lemmas.List.{drop_all}
-use Rattle.camac_response_times.specs.Found.{is_meant, repeated}
+use Rattle.std.proofs.Common.{◌≡◌, ◌+◌, ◌++◌, drop, ap, sym, ◌∙◌, arith}
+use Rattle.std.specs.Option.{option_to_list}
+use Rattle.std.proofs.lemmas.List.{append-nil, drop_all}
+use Rattle.camac_response_times.specs.Found.{is_meant}
 use Rattle.camac_response_times.specs.Response.{called_within}
-use Rattle.camac_response_times.proofs.Gathered.{meant_again, meant_once, next_is, not_meant, split}
+use Rattle.camac_response_times.proofs.Gathered.{meant, next_is, not_meant, split}
 use Rattle.camac_response_times.proofs.search.gather.Goals.{then-is_meant+in-Some, then-is_meant+in_default, else-is_meant}
 use Rattle.camac_response_times.proofs.search.gather.Goals as goal
 
@@ -16,17 +17,17 @@ services-preserved c =
     let next = next_is ts i t c.services-test.true c.source-item.is in
     elim c.if-is_meant.branch [
       | then-is_meant+in-Some w ↦
-          meant_again m ts i c.services.once cs t c.services.invariant next (sym c.is_meant.ensures ∙ w.if-is_meant.true) (omega arith) c.if-is_meant.once c.if-is_meant.callers.items (w.once-is ∙ ap (λ n. c.services.once + n) w.from-once.ensures)
-          (record { rate = w.in-Some.rate; cycles = t.cycles }) w.in-Some.is refl (ap (λ v. v.items) w.callers-is ∙ w.push.ensures.items)
+          meant m ts i c.services.once cs t c.services.invariant next (sym c.is_meant.ensures ∙ w.if-is_meant.true) (omega arith) c.if-is_meant.once c.if-is_meant.callers.items (w.once-is ∙ ap (λ n. c.services.once + n) w.from-once.ensures)
+          w.caller_of.result w.caller_of.ensures.again w.caller_of.ensures.fit (ap (λ v. v.items) w.callers-is ∙ w.push.ensures.items ∙ ap (λ o. cs ++ option_to_list o) (sym w.in-Some.is))
       | then-is_meant+in_default w ↦
-          meant_once m ts i c.services.once cs t c.services.invariant next (sym c.is_meant.ensures ∙ w.if-is_meant.true) (omega arith) c.if-is_meant.once c.if-is_meant.callers.items (w.once-is ∙ ap (λ n. c.services.once + n) w.from-once.ensures)
-          w.in_default.is (ap (λ v. v.items) w.callers-is)
+          meant m ts i c.services.once cs t c.services.invariant next (sym c.is_meant.ensures ∙ w.if-is_meant.true) (omega arith) c.if-is_meant.once c.if-is_meant.callers.items (w.once-is ∙ ap (λ n. c.services.once + n) w.from-once.ensures)
+          w.caller_of.result w.caller_of.ensures.again w.caller_of.ensures.fit (ap (λ v. v.items) w.callers-is ∙ sym (append-nil cs) ∙ ap (λ o. cs ++ option_to_list o) (sym w.in_default.is))
       | else-is_meant w ↦
           not_meant m ts i c.services.once cs t c.services.invariant next (sym c.is_meant.ensures ∙ w.if-is_meant.false) c.if-is_meant.once c.if-is_meant.callers.items w.once-is (ap (λ v. v.items) w.callers-is)
     ]
 
-pub returns : goal.returns
-returns c e =
+pub returns-clause-same : goal.returns-clause-same
+returns-clause-same c e =
     let m = is_meant c.args.bit c.args.own in
     let ts = c.split_at.result.0.now in
     let whole = c.services.invariant.same e in

@@ -17,7 +17,7 @@ small : (c : goal.In_ok-start) → c.in_ok-start.start + c.in-Some.source.now.cy
 unfolding most_rounds
 small c =
     fits c.args.sources.now c.in-Some.source.now c.from-blocked.result (c.from-blocked.ensures ∙ c.most_before.ensures) c.in_ok-longest.longest
-    (sym (c.in_ok-longest.ensures ∙ laid_out c.from-blocked.result c.in-Some.source.now.bit true c.args.sources.now c.gather.result c.gather.ensures most_rounds)) c.args.number c.in_ok-start.start (at_number c) (sym c.in_ok-start.ensures)
+    (sym (c.in_ok-longest.ensures ∙ laid_out c.from-blocked.result c.in-Some.source.now.bit true c.args.sources.now c.gather.result c.gather.ensures.same most_rounds)) c.args.number c.in_ok-start.start (at_number c) (sym c.in_ok-start.ensures)
 
 pub returns-in_err-longest : goal.returns-in_err-longest
 unfolding most_rounds
@@ -25,7 +25,7 @@ returns-in_err-longest c =
     let there = c.in-Some.ensures.lookup in
     c.from_residual.ensures
     ∙ sym (ap (option_and_then (answer c.args.sources.now)) (slice_get_read c.args.sources.now (length c.args.sources.now) c.args.number c.in-Some.source.now refl there.3.0 (there.3.1 c.in-Some.source.now))
-    ∙ no_stretch_found c.args.sources.now c.in-Some.source.now c.from-blocked.result (c.from-blocked.ensures ∙ c.most_before.ensures) (sym (c.in_err-longest.ensures ∙ laid_out c.from-blocked.result c.in-Some.source.now.bit true c.args.sources.now c.gather.result c.gather.ensures most_rounds)))
+    ∙ no_stretch_found c.args.sources.now c.in-Some.source.now c.from-blocked.result (c.from-blocked.ensures ∙ c.most_before.ensures) (sym (c.in_err-longest.ensures ∙ laid_out c.from-blocked.result c.in-Some.source.now.bit true c.args.sources.now c.gather.result c.gather.ensures.same most_rounds)))
 
 pub returns-in_err-start : goal.returns-in_err-start
 unfolding most_rounds
@@ -33,7 +33,7 @@ returns-in_err-start c =
     let there = c.in-Some.ensures.lookup in
     c.from_residual-in_err-start.ensures
     ∙ sym (ap (option_and_then (answer c.args.sources.now)) (slice_get_read c.args.sources.now (length c.args.sources.now) c.args.number c.in-Some.source.now refl there.3.0 (there.3.1 c.in-Some.source.now))
-    ∙ by_stretch c.args.sources.now c.in-Some.source.now c.from-blocked.result (c.from-blocked.ensures ∙ c.most_before.ensures) c.in_ok-longest.longest (sym (c.in_ok-longest.ensures ∙ laid_out c.from-blocked.result c.in-Some.source.now.bit true c.args.sources.now c.gather.result c.gather.ensures most_rounds))
+    ∙ by_stretch c.args.sources.now c.in-Some.source.now c.from-blocked.result (c.from-blocked.ensures ∙ c.most_before.ensures) c.in_ok-longest.longest (sym (c.in_ok-longest.ensures ∙ laid_out c.from-blocked.result c.in-Some.source.now.bit true c.args.sources.now c.gather.result c.gather.ensures.same most_rounds))
     ∙ ap (option_map (told c.in-Some.source.now c.in_ok-longest.longest.cycles)) (sym c.in_err-start.ensures))
 
 pub overflow_cast-result : goal.overflow_cast-result
@@ -49,7 +49,7 @@ pub returns : goal.returns
 unfolding most_rounds
 returns c =
     sym (ap (option_and_then (answer c.args.sources.now)) (at_number c)
-    ∙ by_stretch c.args.sources.now c.in-Some.source.now c.from-blocked.result (c.from-blocked.ensures ∙ c.most_before.ensures) c.in_ok-longest.longest (sym (c.in_ok-longest.ensures ∙ laid_out c.from-blocked.result c.in-Some.source.now.bit true c.args.sources.now c.gather.result c.gather.ensures most_rounds))
+    ∙ by_stretch c.args.sources.now c.in-Some.source.now c.from-blocked.result (c.from-blocked.ensures ∙ c.most_before.ensures) c.in_ok-longest.longest (sym (c.in_ok-longest.ensures ∙ laid_out c.from-blocked.result c.in-Some.source.now.bit true c.args.sources.now c.gather.result c.gather.ensures.same most_rounds))
     ∙ ap (option_map (told c.in-Some.source.now c.in_ok-longest.longest.cycles)) (sym c.in_ok-start.ensures))
 
 pub returns-then-is_overloaded : goal.returns-then-is_overloaded
@@ -57,4 +57,4 @@ unfolding most_rounds
 returns-then-is_overloaded c =
     let there = c.in-Some.ensures.lookup in
     sym (ap (option_and_then (answer c.args.sources.now)) (slice_get_read c.args.sources.now (length c.args.sources.now) c.args.number c.in-Some.source.now refl there.3.0 (there.3.1 c.in-Some.source.now))
-    ∙ no_stretch c.args.sources.now c.in-Some.source.now (overloaded c.args.sources.now c.in-Some.source.now.bit most_rounds (c.if-is_overloaded.ensures refl)))
+    ∙ no_stretch c.args.sources.now c.in-Some.source.now (overloaded c.args.sources.now c.in-Some.source.now.bit most_rounds (c.if-is_overloaded.ensures.all refl)))

@@ -14,7 +14,7 @@ returns-in_err-write_responses-clause-shows g c =
     rw (fault.1, fault.2) (told_in_part settings c.args.checked.now c.in_ok-sources.sources.items (g.W.Write.contents (inner_of c.args.out.now)) (g.W.Write.contents (inner_of c.write_responses.new.out))
     (subst (IsNoService c.args.checked.now.script settings.every.items settings.within.items) c.in_default.is c.no_service.ensures)
     (subst (λ every. AreTold c.args.checked.now every c.in_ok-sources.sources.items) c.deref.ensures.value c.in_ok-sources.ensures)
-    (rw (c.deref-2.ensures.value, c.deref-3.ensures.value) at c.in_err-write_responses.ensures.text))
+    (rw (c.in_ok-responses.ensures, c.deref-2.ensures.value) at c.in_err-write_responses.ensures.text))
 
 pub returns-clause-shows : goal.returns-clause-shows
 returns-clause-shows g c =
@@ -22,5 +22,5 @@ returns-clause-shows g c =
     told_whole settings c.args.checked.now c.in_ok-sources.sources.items c.outcome_of.result (g.W.Write.contents (inner_of c.args.out.now)) (g.W.Write.contents (inner_of c.write_responses.new.out))
     (subst (IsNoService c.args.checked.now.script settings.every.items settings.within.items) c.in_default.is c.no_service.ensures)
     (subst (λ every. AreTold c.args.checked.now every c.in_ok-sources.sources.items) c.deref.ensures.value c.in_ok-sources.ensures)
-    (subst (λ ts. SaysKept (AreKept c.args.checked.now.script settings.within.items ts) c.outcome_of.result) c.deref-4.ensures.value c.outcome_of.ensures)
-    (rw (c.deref-2.ensures.value, c.deref-3.ensures.value) at c.in_ok-write_responses.ensures.text)
+    (subst (λ ts. SaysKept (AreKept c.args.checked.now.script settings.within.items ts) c.outcome_of.result) c.in_ok-responses.ensures c.outcome_of.ensures)
+    (rw (c.in_ok-responses.ensures, c.deref-2.ensures.value) at c.in_ok-write_responses.ensures.text)
