@@ -7,10 +7,10 @@ With --whole ten thousand edits are made, in place of 400, and the figures are t
 there (tests/support/of_c.py), it judges, else the program: crates/camac/out/camac (cd crates/camac && rt run makes it), or what CAMAC_PROGRAM names.
 """
 import json
+import math
 import os
 import random
 import re
-import signal
 import statistics
 import sys
 import time
@@ -24,7 +24,7 @@ from camac.lsp.documents import Text
 from camac.lsp.workspace import choose, is_plan_text
 from camac.names import WORDS
 from camac.plans import parse_plan
-from camac.program import output_of
+from camac.program import lines_of, output_of
 from camac.toml_places import declarations, place_of
 
 PARSE_ERROR, INVALID_REQUEST, METHOD_NOT_FOUND, INVALID_PARAMS = -32700, -32600, -32601, -32602
@@ -32,7 +32,7 @@ NOT_INITIALIZED, CANCELLED, FAILED = -32002, -32800, -32803
 ENVIRONMENT = {"CAMAC_PROGRAM": PROGRAM} if of_c.lacking() else {"CAMAC_PROGRAM": "", **of_c.environment()}
 EDITS = 400
 # An answer takes so many seconds of the processor at most, on 4,096 statements, and so many times as much where others use the same processor.
-LIMIT, BUSY = 0.05, 2
+LIMIT, BUSY = 0.05, 3
 LONG = "cdlam adc 1 1 5 12\nvar v0 v1 v2 v3 v4 v5 v6 v7\nservice adc within 99999 cycles event 4096 words {\n  cdreg r 1 1 5 0\n"
 LONG += "".join(f"  cfsa 0 r -> v{it % 8}\n" if it % 2 else f"  put v{it % 8} + 1\n" for it in range(4095)) + "}\n"
 PLAN = (TOP / "examples/sample_plan.toml").read_text()
@@ -108,7 +108,7 @@ class Messages(Served):
 
     def test_nothing_is_left(self):
         """However a server ends that is not killed, the folder with its plans goes."""
-        for end in (lambda it: it.send_signal(signal.SIGTERM), lambda it: it.stdin.close()):
+        for end in (lambda it: it.terminate(), lambda it: it.stdin.close()):
             client = self.start(environment={**ENVIRONMENT, "TMPDIR": str(self.room)})
             client.found(client.open(self.room / "a.script", SCRIPT))
             self.assertEqual(len([*self.room.glob("camac-lsp-*")]), 1)
@@ -164,7 +164,7 @@ class Documents(unittest.TestCase):
     def test_changes_at_random(self):
         chance = random.Random(3)
         for _ in range(300):
-            text = Text("".join(chance.choice("ab\n\r\u00e4\U0001F600") for _ in range(chance.randrange(30))))
+            text = Text("".join(chance.choices("ab\n\r\u00e4\U0001F600", k=chance.randrange(30))))
             first, last = sorted(chance.randrange(len(text.text) + 1) for _ in range(2))
             # A place between CR and LF is none of the protocol, nor is it an edge of a line.
             if "\r\n" in (text.text[first - 1 : first + 1], text.text[last - 1 : last + 1]):
@@ -488,12 +488,7 @@ class Size(Served):
 
     def explained(self, text):
         self.write("final.script", text)
-        return re.match(r"(accepted|refused (\w+) line (\d+))", "".join(self.output("explain", "@sample", self.room / "final.script")))
-
-    def output(self, *words):
-        from camac.program import lines_of
-
-        return lines_of(*words, program=PROGRAM)
+        return re.match(r"(accepted|refused (\w+) line (\d+))", "".join(lines_of("explain", "@sample", self.room / "final.script", program=PROGRAM)))
 
     def test_megabyte(self):
         """A text of the greatest length, and one byte past it."""
@@ -546,33 +541,26 @@ class Size(Served):
         """On 4,096 statements, what is shown after an edit."""
         uri = self.open(LONG)
         self.client.found(uri)
-        chance, times, used, at = random.Random(7), [], [], 0
+        chance, used, at = random.Random(7), [], 0
         for version in range(2, 2 + EDITS // 10 * 2):
-            began, before = time.perf_counter(), self.processor_time()
-            if version % 2:
-                self.client.change(uri, version, ((at, 2), (at, 3), ""))
-            else:
-                at = chance.randrange(4, 4000)
-                self.client.change(uri, version, ((at, 2), (at, 2), "x"))
+            before = self.processor_time()
+            at = at if version % 2 else chance.randrange(4, 4000)
+            self.client.change(uri, version, ((at, 2), (at, 3), "") if version % 2 else ((at, 2), (at, 2), "x"))
             shown = self.client.found(uri, version)
-            times.append(time.perf_counter() - began)
             used.append(self.processor_time() - before)
             self.assertEqual([it["code"] for it in shown if it["severity"] == 1], [] if version % 2 else ["S5"])
-        print(f"an edit of 4,096 statements: a median of {statistics.median(times) * 1000:.1f} ms", file=sys.stderr)
         self.see_time("what is shown", used)
 
     def test_time_of_requests(self):
         """On 4,096 statements, in versions that are new."""
         uri = self.open(LONG)
-        whole = span((2, 0), (2, 1))
-        for method, line, more in [
-            *((method, 5, {"position": {"line": 5, "character": len("  cfsa 0 ")}}) for method in ("hover", "completion", "definition", "references", "documentHighlight")),
-            ("rename", 5, {"position": {"line": 5, "character": len("  cfsa 0 ")}, "newName": "other"}), ("formatting", 5, {"options": {}}), ("foldingRange", 5, {}),
-            ("documentSymbol", 5, {}), ("codeAction", 2, {"range": whole, "context": {"diagnostics": []}}),
+        at = {"position": {"line": 5, "character": len("  cfsa 0 ")}}
+        for method, more in [
+            *((method, at) for method in ("hover", "completion", "definition", "references", "documentHighlight")), ("rename", {**at, "newName": "other"}),
+            ("formatting", {"options": {}}), ("foldingRange", {}), ("documentSymbol", {}), ("codeAction", {"range": span((2, 0), (2, 1)), "context": {"diagnostics": []}}),
         ]:
-            used = []
+            used, text = [], LONG.replace("within 99999", "within 1") if method == "codeAction" else LONG
             for _ in range(9):
-                text = LONG.replace("within 99999", "within 1") if method == "codeAction" else LONG
                 version = self.client.versions[uri] + 1
                 self.client.change(uri, version, text + " " * version)
                 self.client.found(uri, version)
@@ -583,10 +571,8 @@ class Size(Served):
             self.see_time(method, used)
 
     def see_time(self, what, used):
-        median = statistics.median(used)
-        print(f"{what} on 4,096 statements: a median of {median * 1000:.0f} ms of the processor", file=sys.stderr)
-        if not of_c.lacking():
-            self.assertLess(median, BUSY * LIMIT)
+        print(f"{what} on 4,096 statements: a median of {statistics.median(used) * 1000:.0f} ms of the processor", file=sys.stderr)
+        self.assertLess(statistics.median(used), BUSY * LIMIT if not of_c.lacking() else math.inf)
 
 
 if __name__ == "__main__":

@@ -106,11 +106,22 @@ class Refused:
         for fix in _of_refusal(self.judged, its):
             if not fix.title.startswith("Write what helps"):
                 yield f"{its.code} {re.sub('`[^`]*`|[0-9]+', '..', fix.title)}", fix.edits
+        yield from self.of_text(text, advice)
+        yield from self.of_statement(text, advice)
+        yield from self.of_ranges(text)
+        if "--keeps` finds" in advice and its.code in OF_LOOPS:
+            found = propose(self.judge.file, self.data, self.judge.program)
+            edits = tuple(edit for one in found.proposals for edit in one.edits)
+            yield f"{its.code} --keeps", edits
+
+    def of_text(self, text, advice):
+        """What mends a fault of the text."""
+        its = self.first
         put = lambda new: (Edit(its.start, its.end, new),)
         if "remove the byte" in advice:
             yield "S1 remove the byte", put("")
             yield "S1 begin a comment", (Edit(its.start, its.start, "#"),)
-        if its.code == "S3" and (most := re.search(r"at most (\d+)", its.sentence)):
+        if its.code == "S3" and (most := re.search(r"(?:at most|above) (\d+)", its.sentence)):
             yield "S3 write a number in the range", put(most[1])
         if "choose another name" in advice and text.isidentifier():
             yield "S4 choose another name", put(FRESH)
@@ -118,6 +129,11 @@ class Refused:
             yield "S5 declare it above", (Edit(0, 0, f"var {text}\n"),)
         if its.code == "S7":
             yield "S7 write 1", put("1")
+
+    def of_statement(self, text, advice):
+        """What mends a statement."""
+        its = self.first
+        put = lambda new: (Edit(its.start, its.end, new),)
         if "as in `v + 4095 - w`" in advice:
             yield from self.of_difference(text)
         value = re.fullmatch(r"(put|cfsa \d+ \w+ <-|cssa \d+ \w+ <-) (.*)", text, re.S)
@@ -137,17 +153,12 @@ class Refused:
         if its.code == "E14" and (has := re.search(r"the table has (\d+)", its.sentence)):
             if most := re.compile(r"[^<>{}]*?\bmax\s+(\d+)\s+(?:limit|tally)").match(self.data.decode(), its.start):
                 yield "E14 a smaller max", (Edit(*most.span(1), has[1]),)
-        if its.code == "E15" and "locked already" in its.sentence and (lock := re.match(r"lock \d+ \{([^{}]*)\}", text)):
-            yield "E15 remove the inner lock", put(lock[1])
+        if its.code == "E15" and "locked already" in its.sentence and (lock := re.compile(r"lock\s+\d+\s*\{([^{}]*)\}").match(self.data.decode(), its.start)):
+            yield "E15 remove the inner lock", (Edit(*lock.span(), lock[1]),)
         if its.code == "E15" and "not one crate of the plan" in its.sentence and (crate := re.match(r"(\w+ )\d+", text)):
             yield "E15 a crate of the plan", (Edit(its.start, its.start + crate.end(), f"{crate[1]}{self.judged.plan.crates[0].number}"),)
-        yield from self.of_ranges(text)
         if its.code == "E17" and (name := re.match(r"\w+", text)):
             yield "E17 another variable", (Edit(0, 0, f"var {FRESH}\n"), Edit(its.start, its.start + len(name[0]), FRESH))
-        if "--keeps` finds" in advice and its.code in OF_LOOPS:
-            found = propose(self.judge.file, self.data, self.judge.program)
-            edits = tuple(edit for one in found.proposals for edit in one.edits)
-            yield f"{its.code} --keeps", edits
 
     def of_ranges(self, text):
         """A range that is made wider, or what has to stand in it bounded: of an argument, and of what a loop keeps."""

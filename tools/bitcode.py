@@ -5,7 +5,9 @@ In the text of a module each global value is a line that begins with `@`, and ea
 that is `}`. The functions that are not internal are the beginnings of all that is reached. All global values are constants without an address
 of their own.
 """
+import bisect
 import glob
+import itertools
 import os
 import re
 
@@ -99,16 +101,17 @@ class Module:
                     (left if crate in first or crate in LIBRARIES else later).append(its)
         return list(found)
 
-    def parts(self, count, first=frozenset()):
-        """The texts of so many modules which, linked, are what is reached of this one. They are about equally long. The crates that come first
-        are in one part, as far as it takes them."""
+    def parts(self, shares, first=frozenset()):
+        """The texts of modules which, linked, are what is reached of this one. Each has its share of what is no small function. The crates that come
+        first are in one part, as far as it takes them."""
         reached = self.reached(first)
         small = {it for it in reached if it in self.functions and self._is_small(self.functions[it])}
         large = [it for it in reached if it in self.functions and it not in small]
         length = sum(len(self.functions[it]) for it in large)
-        parts, so_far = [[] for _ in range(count)], 0
+        ends = [length * it for it in itertools.accumulate(shares)]
+        parts, so_far = [[] for _ in shares], 0
         for name in large:
-            parts[so_far * count // length].append(name)
+            parts[min(bisect.bisect_right(ends, so_far), len(parts) - 1)].append(name)
             so_far += len(self.functions[name])
         named = [self._named(it, small) for it in parts]
         shared = {it for part, its in zip(parts, named) for it in its - small - set(part) if it in self.functions}

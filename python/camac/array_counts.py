@@ -15,6 +15,8 @@ def take(run: Run, events: EventArrays, services: Sequence[Service]) -> Tuple[in
     """Takes events that follow those that were taken before. Returns how many are of a service of the script, and how many of these are within its
     bounds."""
     numpy = importlib.import_module("numpy")
+    # A file of version two has both.
+    assert events.cycles is not None and events.missed is not None
     first, counts = len(run.gl) + 1, numpy.diff(events.first)
     for numbers, its, kind in ((run.gl, events.gl, "u1"), (run.cycles, events.cycles, "u4"), (run.no_x, events.missed, "u4"), (run.words, counts, "u4")):
         numbers.frombytes(its.astype(kind).tobytes())

@@ -26,13 +26,9 @@ class Kind(enum.Enum):
     REGISTER = "register"
     PROCEDURE = "procedure"
 
-    # A kind is looked up with each name.
-    __hash__ = object.__hash__  # type: ignore[assignment]
-
 
 # A lookup in the class takes as long as the rest that is done at a name.
 LAM, TABLE, VARIABLE, PARAMETER, REGISTER, PROCEDURE = Kind
-OF_BODIES = frozenset((REGISTER, PARAMETER))
 
 
 class Symbol(NamedTuple):
@@ -87,7 +83,7 @@ class Names:
         self.size = len(text)
         self.mentions: List[Mention] = []
         self.blocks: List[Block] = []
-        self.symbols: Dict[Tuple[Kind, str, int], Symbol] = {}
+        self.symbols: Dict[Tuple[str, str, int], Symbol] = {}
         self.depth, self.is_inside, self.is_declaration, self.expected = 0, False, False, NO_NAMES
         for it in NAMES.finditer(text.decode("latin-1")):
             word = it[1]
@@ -143,11 +139,12 @@ class Names:
             kind, declares = VARIABLE, True
         else:
             return
-        body = len(self.blocks) - 1 if kind in OF_BODIES else SCRIPT
-        key = kind, name, body
+        body = len(self.blocks) - 1 if kind is REGISTER or kind is PARAMETER else SCRIPT
+        # A text is a quicker key than a kind.
+        key = kind._value_, name, body
         symbol = self.symbols.get(key)
         if symbol is None:
-            symbol = self.symbols[key] = Symbol(*key)
+            symbol = self.symbols[key] = Symbol(kind, name, body)
         self.mentions.append(Mention(start, end, symbol, declares))
 
     def at(self, place: int) -> Optional[Mention]:
