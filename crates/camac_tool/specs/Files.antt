@@ -1,9 +1,12 @@
--- What is known of the file of a name.
-use Rattle.std.specs.Prelude.{◌≡◌, ◌⊎◌, ◌&&◌, Bool, Option, Some, None, Result, Ok, Err, nat_eq}
-use Rattle.std.specs.Fs.{IsFile, file_type}
+-- What is known of the file of a name, and how EVENTS is opened.
+use Rattle.std.specs.Prelude.{◌≡◌, ◌⊎◌, ◌&&◌, ◌<◌, Bool, true, Option, Some, None, Result, Ok, Err, nat_eq}
+use Rattle.std.specs.Fs.{IsFile, file_type, metadata_len, new_options, with_create, with_truncate, with_write}
+use Rattle.std.specs.declared.fs.options.OpenOptions.{OpenOptions}
 use Rattle.std.specs.declared.fs.attrs.Metadata.{Metadata}
 use Rattle.camac_tool_check.specs.declared.fault.ToolFault.{ToolFault}
 use Rattle.camac_tool_check.specs.declared.fault.ToolFault.TheVariants.{Write}
+use Rattle.camac_tool.specs.declared.target.Earlier.{Earlier}
+use Rattle.camac_tool.specs.declared.target.Earlier.TheVariants.{Emptied, Refused}
 use Rattle.camac_tool.specs.declared.target.FileId.{FileId}
 
 -- one file has one device and one number there; a file of which nothing is known may be any
@@ -15,3 +18,12 @@ SaysSame file (Err why) said = said ≡ Err Write
 abbrev pub SaysRegular : {E : Type 0} → Result Metadata E → Result (Option Metadata) E → Type 0
 SaysRegular (Ok about) said = (IsFile (file_type about) → said ≡ Ok (Some about)) × ((IsFile (file_type about) → ⊥) → said ≡ Ok None)
 SaysRegular (Err why) said = (said ≡ Ok None) ⊎ (said ≡ Err why)
+
+-- a file that is not there is made; a run empties one that is there, and a live run leaves it
+abbrev pub options_of : Earlier → OpenOptions
+options_of Emptied = with_truncate (with_create (with_write new_options true) true) true
+options_of Refused = with_create (with_write new_options true) true
+
+-- a regular file that is not empty
+abbrev pub HoldsBytes : Metadata → Type 0
+HoldsBytes about = IsFile (file_type about) × (0 < metadata_len about)

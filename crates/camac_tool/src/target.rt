@@ -1,7 +1,7 @@
 // The event file of a run. No input and no standard stream is lost by it, and no run ends well before it is on the disk.
 
-ghost use Rattle.std.specs.Prelude.{◌≡◌, None, IfErr};
-ghost use Rattle.camac_tool.specs.Files.{SaysRegular, SaysSame};
+ghost use Rattle.std.specs.Prelude.{◌≡◌, ◌↔◌, None, IfErr, IsTrue};
+ghost use Rattle.camac_tool.specs.Files.{HoldsBytes, SaysRegular, SaysSame, options_of};
 ghost use Rattle.camac_tool_check.specs.declared.fault.ToolFault.TheVariants.{Write as write-fault};
 
 use crate::failure::{Failure, Named};
@@ -48,7 +48,7 @@ pub fn keep_apart<'a, R: Files, S: Drop>(
 }
 
 /// What becomes of an EVENTS that holds bytes.
-#[derive(Clone, Copy)]
+#[derive(Clone, Copy, PartialEq, Eq)]
 pub enum Earlier {
     Emptied,
     Refused,
@@ -81,10 +81,7 @@ impl<R: Files> Write for NewFile<'_, R> {
         if let Some(file) = &mut self.file {
             return file.write(buf);
         }
-        let mut file = match self.earlier {
-            Earlier::Emptied => fs::create(self.rt, self.name)?,
-            Earlier::Refused => open_empty(self.rt, self.name)?,
-        };
+        let mut file = open_events(self.rt, self.name, self.earlier)?;
         let written = file.write(buf);
         self.file = Some(file);
         written
@@ -98,15 +95,30 @@ impl<R: Files> Write for NewFile<'_, R> {
     }
 }
 
-// Opens a file that is not there, or holds nothing. What is no regular file holds none.
-fn open_empty<R: Files>(rt: &R, name: &str) -> io::Result<R::File> {
-    let file = OpenOptions::new().write(true).create(true).open(rt, name)?;
-    let about = file.metadata()?;
-    if about.is_file() && about.len() > 0 {
+fn open_events<R: Files>(rt: &R, name: &str, earlier: Earlier) -> io::Result<R::File> {
+    let file = options_of(earlier).open(rt, name)?;
+    if earlier == Earlier::Refused && holds_bytes(&file.metadata()?) {
         let refusal = "it holds bytes; a live run needs a file of its own";
         return Err(Error::new(ErrorKind::AlreadyExists, refusal));
     }
     Ok(file)
+}
+
+fn options_of(earlier: Earlier) -> OpenOptions
+    ensures { result ≡ options_of earlier }
+{
+    let mut options = OpenOptions::new();
+    options.write(true);
+    options.create(true);
+    options.truncate(earlier == Earlier::Emptied);
+    options
+}
+
+// What is no regular file holds no bytes.
+fn holds_bytes(about: &Metadata) -> bool
+    ensures { IsTrue result ↔ HoldsBytes about.now }
+{
+    about.is_file() && about.len() > 0
 }
 
 /// Waits until EVENTS is on its disk, where it was opened and is a regular file.
