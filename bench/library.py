@@ -1,5 +1,6 @@
 #!/usr/bin/env python3
-"""Measures what an answer costs through the library for C: `camac_wants`, `camac_next`, and `camac_words` where an event ends.
+"""Measures what an answer costs through the library for C: by `camac_wants` and `camac_next`, or by `camac_step`; and `camac_words` where an
+event ends.
 
 usage: bench/library.py [ARCHIVE]     ARCHIVE is crates/camac_c/out/libcamac_c.a unless given (built by: cd crates/camac_c && rt lib)
 
@@ -8,6 +9,7 @@ it calls, and for the loop in C around them. The time is the processor's, in nan
 for the instructions.
 """
 import argparse
+import itertools
 import os
 import re
 import shutil
@@ -22,7 +24,8 @@ SCRIPTS = ("straight_line", "lockout", "all_channels")
 FEW, MANY = 10_000, 20_000
 ANSWERS = 1_000_000
 BEST = 5
-LOOP = ("play", "main", "camac_wants", "camac_next", "camac_words")
+LOOP = ("play", "main", "by_next", "by_step", "camac_wants", "camac_next", "camac_step", "camac_words")
+CALLS = ("next", "step")
 INTERFACE = re.compile(r"camac_raw_|camac_c::")
 COPIES = re.compile(r"^(?:__)?mem(?:cpy|move|set)")
 
@@ -35,10 +38,10 @@ def compiled(archive, room):
     return f"{room}/library"
 
 
-def costs(program, script, answers, room):
+def costs(program, script, answers, calls, room):
     """Instructions of each function, by its name. What copies or fills memory counts to the function that calls it."""
     told = f"{room}/callgrind"
-    words = ["valgrind", "-q", "--tool=callgrind", f"--callgrind-out-file={told}", program, PLAN, script, str(answers)]
+    words = ["valgrind", "-q", "--tool=callgrind", f"--callgrind-out-file={told}", program, PLAN, script, str(answers), calls]
     subprocess.run(words, check=True, stdout=subprocess.DEVNULL)
     names, found, name, called = {}, {}, "", None
     with open(told, encoding="utf-8") as lines:
@@ -55,9 +58,9 @@ def costs(program, script, answers, room):
     return found
 
 
-def instructions(program, script, room):
+def instructions(program, script, calls, room):
     """Instructions for an answer: of the interface, of the runner, and of the loop. What comes before the first answer is left out."""
-    few, many = (costs(program, script, count, room) for count in (FEW, MANY))
+    few, many = (costs(program, script, count, calls, room) for count in (FEW, MANY))
     parts = [0.0, 0.0, 0.0]
     for name, cost in many.items():
         part = 0 if INTERFACE.search(name) else 2 if name.split("'")[0] in LOOP else 1
@@ -67,13 +70,13 @@ def instructions(program, script, room):
 
 def measure(program, room):
     """Prints the table."""
-    print("| script | interface | runner | loop in C | ns an answer |\n|---|---|---|---|---|")
-    for name in SCRIPTS:
+    print("| script | calls | interface | runner | loop in C | ns an answer |\n|---|---|---|---|---|---|")
+    for name, calls in itertools.product(SCRIPTS, CALLS):
         script = f"{TOP}/examples/{name}.script"
-        parts = instructions(program, script, room) if shutil.which("valgrind") else [float("nan")] * 3
-        words = [program, PLAN, script, str(ANSWERS)]
+        parts = instructions(program, script, calls, room) if shutil.which("valgrind") else [float("nan")] * 3
+        words = [program, PLAN, script, str(ANSWERS), calls]
         least = min(float(subprocess.run(words, check=True, stdout=subprocess.PIPE).stdout.split()[0]) for _ in range(BEST))
-        print(f"| {name} | {parts[0]:.0f} | {parts[1]:.0f} | {parts[2]:.0f} | {least:.0f} |", flush=True)
+        print(f"| {name} | {calls} | {parts[0]:.0f} | {parts[1]:.0f} | {parts[2]:.0f} | {least:.0f} |", flush=True)
 
 
 def main():

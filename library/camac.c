@@ -28,6 +28,7 @@ size_t camac_raw_answers_left(void *run);
 size_t camac_raw_services(void *run);
 uint32_t camac_raw_service_name(void *run, uint32_t number, uint8_t *text, size_t room, size_t *size);
 uint32_t camac_raw_service_numbers(void *run, uint32_t number, uint8_t *bytes, size_t room, size_t *size);
+uint32_t camac_raw_where(void *run, uint8_t *bytes, size_t room, size_t *size);
 uint32_t camac_raw_rewind(void *run);
 void camac_raw_file_header(uint8_t *bytes, size_t room, size_t *size);
 void camac_raw_close(void *run);
@@ -233,6 +234,15 @@ int camac_service(const camac_session *s, uint32_t number, camac_service_info *i
     const uint32_t code = camac_raw_service_name(run_of(s), number, (uint8_t *)info->name, sizeof info->name - 1, &size);
     /* the numbers stand one after another, from c to most_words */
     return code ? (int)code : (int)camac_raw_service_numbers(run_of(s), number, (uint8_t *)info + offsetof(camac_service_info, c), 10 * sizeof info->c, &size);
+}
+
+int camac_where(const camac_session *s, uint32_t *service, uint32_t *line) {
+    uint32_t place[2] = {0, 0};
+    size_t size;
+    const int code = is_session(s) ? (int)camac_raw_where(run_of(s), (uint8_t *)place, sizeof place, &size) : CAMAC_MISUSE;
+    if (service) *service = place[0];
+    if (line) *line = place[1];
+    return code;
 }
 
 int camac_rewind(camac_session *s) { return is_session(s) ? (int)camac_raw_rewind(run_of(s)) : CAMAC_MISUSE; }

@@ -95,6 +95,31 @@ cam_lam_read 2 -> 1 1 000000 0 800004
 """
 # what `response` tells of a script's only service, of 3 cycles: its rate, and what was told of its end
 ONE_SERVICE = "service adc gl 3 cycles 3 {} start 0 end 3 {}longest 3\n"
+# what stands on which line is counted by hand in test_where_a_session_stands
+PLACES = """cdlam adc 1 1 5 12   cdlam reg 1 1 6 0
+var v n i
+proc read(k in 0..11) within 4 cycles event 0 words steps 4 {
+  cdreg r 1 1 5 k   cfsa 0 r -> k
+}
+service adc within 50 cycles event 9 words {
+  cdreg a 1 1 5 0
+  n = 1
+  cfsa 0 a -> v
+  if q {
+    cssa 0 a -> v
+  } else {
+    cfsa 0 a -> v
+  } for i = 0 to 1 { call read(i) }
+  lock 1 {
+    cclc adc
+    cfubc 0 a max 2 tally n
+  }
+}
+service reg within 50 cycles event 0 words {
+  cdreg r 1 1 6 0   cfsa 16 r <- n
+  ccci 1 on
+}
+"""
 DEMAND, CYCLE = Answer(gl=4), Answer(1, 1, 0x123)
 
 
@@ -535,7 +560,7 @@ class Python(Case):
             session.next(DEMAND)
             self.assertEqual(session.next(Answer(wait=15)).kind, library.STOPPED)
             self.assertIsNone(session.wants())
-        for use in (session.wants, lambda: session.next(DEMAND), lambda: session.step(DEMAND), session.item, session.record, session.rewind):
+        for use in (session.wants, lambda: session.next(DEMAND), lambda: session.step(DEMAND), session.item, session.record, session.where, session.rewind):
             with self.assertRaises(UsageFault) as found:
                 use()
             self.assertEqual(str(found.exception), "the session is closed")
@@ -560,6 +585,24 @@ class Python(Case):
                 self.assertEqual(told, [*wanted, (1, f"{cycle}unlock 1\n", event, ())])
                 self.assertEqual(session.answers_left(), 4_294_967_295 - len(answers))
                 session.rewind()
+
+
+    def test_where_a_session_stands(self):
+        """The service and the line of what is wanted: in a procedure, in both arms of an `if`, in a lock and in a transfer."""
+        plan = self.sample().replace(b"n = 6\n", b"n = 6\ngl = 7\n")
+        services = library.Session(plan, PLACES).services()
+        self.assertEqual([(it.name, it.gl) for it in services], [("adc", 3), ("reg", 7)])
+        for gl, q, service, lines in ((4, 1, 1, [9, 11, 4, 4, 15, 16, 17, 17]), (4, 0, 1, [9, 13, 4, 4, 15, 16, 17, 17]), (64, 1, 2, [21, 22])):
+            with library.Session(plan, PLACES) as session:
+                self.assertIsNone(session.where())
+                session.next(Answer(gl=gl))
+                found = []
+                while (place := session.where()) is not None:
+                    found.append(place)
+                    session.next(Answer(1, q if len(found) == 1 else 1))
+                self.assertEqual(found, [(service, line) for line in lines])
+                session.next(Answer(gl=gl))
+                self.assertEqual((session.next(Answer(wait=15)).kind, session.where()), (library.STOPPED, found[0]))
 
 
 class Package(Case):

@@ -218,6 +218,10 @@ size_t camac_file_header(void *bytes, size_t room);
  * 7. After a fault of your driver these are to be released in this order. */
 size_t camac_held(const camac_session *s, uint32_t *crates, size_t room);
 
+/* Where the run stands: the service in progress, from 1 in the order of the script, and the line of its statement that wants the next answer, or
+ * whose wait ended the run. In a procedure the line is that of the procedure's statement. Both are 0 at a demand. Each pointer may be NULL. */
+CAMAC_CALL camac_where(const camac_session *s, uint32_t *service, uint32_t *line);
+
 /* How many answers may still come: 0 where the run is over by an overrun, and where the session is none. */
 uint32_t camac_answers_left(const camac_session *s);
 

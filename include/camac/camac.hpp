@@ -117,6 +117,11 @@ template <class Call> verdict judged(Call call) {
     return detail::judged([&](char *t, std::size_t room, std::size_t *n) { return camac_events(file.data(), file.size(), t, room, n); });
 }
 
+// A place in a script: a service, from 1 in its order, and a line.
+struct place {
+    std::uint32_t service, line;
+};
+
 // A run of an accepted script. It can be moved, and not copied; one that was moved from is none.
 class session {
     camac_session its = CAMAC_NONE;
@@ -212,6 +217,14 @@ public:
         std::vector<std::uint32_t> crates(camac_held(&its, nullptr, 0));
         camac_held(&its, crates.data(), crates.size());
         return crates;
+    }
+
+    // Where the run stands: the service in progress, from 1, and the line of its statement that wants; both are 0 at a demand.
+    [[nodiscard]] place where() const {
+        place its_place{};
+        const int code = camac_where(&its, &its_place.service, &its_place.line);
+        if (code != CAMAC_OK) fail(code);
+        return its_place;
     }
 
     // How many answers may still come.

@@ -70,6 +70,13 @@ class ServiceInfo(NamedTuple):
     most_words: int
 
 
+class Place(NamedTuple):
+    """A place in a script: a service, from 1 in its order, and a line."""
+
+    service: int
+    line: int
+
+
 class Verdict(NamedTuple):
     """Whether the texts were accepted, and what the program would print."""
 
@@ -289,6 +296,14 @@ class Session:
         """The crates whose lockout is held, the last that was taken first."""
         count = self._calls.camac_held(self._at, self._words, EVENT_WORDS)
         return tuple(self._words[:count])
+
+    def where(self) -> Optional[Place]:
+        """The service in progress, and the line of its statement that wants the next answer, or whose wait ended the run; None at a demand."""
+        service, line = c_uint32(), c_uint32()
+        code = self._calls.camac_where(self._at, byref(service), byref(line))
+        if code != OK:
+            raise _fault(code)
+        return Place(service.value, line.value) if service.value else None
 
     def answers_left(self) -> int:
         """How many answers may still come."""

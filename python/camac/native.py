@@ -110,6 +110,7 @@ _OF_SESSIONS: Dict[str, List[Any]] = {
     "item": [_SESSION, *_BUFFER],
     "record": [_SESSION, *_BUFFER],
     "file_header": [c_char_p, c_size_t],
+    "where": [_SESSION, POINTER(c_uint32), POINTER(c_uint32)],
     "answers_left": [_SESSION],
     "services": [_SESSION],
     "service": [_SESSION, c_uint32, POINTER(ServiceStruct)],

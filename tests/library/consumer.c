@@ -1,5 +1,5 @@
 /* consumer.c: what a data acquisition program makes of a run: the listing and the event file of `camac run`. The run is begun again before it is
- * played.
+ * played. Where it stands, each time something is wanted, is a line of the script that can want it.
  *
  *     consumer FOLDER COUNT     of FOLDER/K.plan and FOLDER/K.script, K below COUNT, it makes K.answers at random, K.listing and K.events */
 #include "common.h"
@@ -41,18 +41,41 @@ static uint32_t any_pattern(const camac_session *s, uint32_t *seed) {
     return 1u << (info.gl - 1);
 }
 
+/* Whether a line of a script has one of these words. */
+static int has_word(const text *script, uint32_t line, const char *const *words) {
+    const char *at = script->bytes, *end = at + script->size;
+    for (; line > 1 && at < end; at++) line -= *at == '\n';
+    const char *const past = at < end ? memchr(at, '\n', (size_t)(end - at)) : NULL;
+    end = past ? past : end;
+    for (; *words; words++)
+        for (const char *it = at; it + strlen(*words) <= end; it++)
+            if (!memcmp(it, *words, strlen(*words))) return 1;
+    return 0;
+}
+
+/* The service in progress stands on a line that wants this. */
+static void stands(const camac_session *s, const camac_want *want, const text *script, uint32_t in_progress) {
+    static const char *const cycles[] = {"cfsa", "cssa", "cfmad", "cfubc", "cfubr", "ccc", "ctci", "ctcd", "ctgl", "cclm", "cclc", "ctlm", NULL};
+    static const char *const locks[] = {"lock", NULL};
+    uint32_t service = 9, line = 9;
+    EXPECT(CAMAC_OK, camac_where(s, &service, &line));
+    if (want->kind == CAMAC_DEMAND ? service || line : service != in_progress || !has_word(script, line, want->kind == CAMAC_LOCK ? locks : cycles))
+        fail("the service %u stands on line %u", (unsigned)service, (unsigned)line);
+}
+
 /* Plays up to an overrun, or to the end of the answers. */
-static void play(camac_session *s, const char *folder, long k) {
+static void play(camac_session *s, const char *folder, long k, const text *script) {
     FILE *answers = to_file(folder, k, "answers"), *listing = to_file(folder, k, "listing"), *events = to_file(folder, k, "events");
     camac_want want = CAMAC_WANT;
     camac_progress did = CAMAC_PROGRESS;
     char header[8];
-    uint32_t seed = (uint32_t)k, count = 0;
+    uint32_t seed = (uint32_t)k, count = 0, service = 0;
     const uint32_t most = chance(&seed, ANSWERS), before = camac_answers_left(s);
     int code = camac_wants(s, &want);
     if (camac_file_header(header, sizeof header) != 8 || fwrite(header, 1, 8, events) != 8) fail("a header cannot be written");
     for (uint32_t i = 0; i < most && code == CAMAC_OK; i++) {
         camac_answer answer = any_answer(&seed);
+        stands(s, &want, script, service);
         if (want.kind == CAMAC_DEMAND) answer.gl = any_pattern(s, &seed);
         fprintf(answers, "%d %d %06x %x %06x\n", answer.x, answer.q, (unsigned)answer.word, answer.wait, (unsigned)answer.gl);
         code = camac_step(s, &answer, &did, &want);
@@ -60,6 +83,7 @@ static void play(camac_session *s, const char *folder, long k) {
         put(events, camac_record, s);
         if (code == CAMAC_OK && camac_answers_left(s) != before - i - 1) fail("%u answers are left", (unsigned)camac_answers_left(s));
         if (did.event) count = did.event;
+        if (did.kind == CAMAC_DEMAND) service = did.service;
     }
     if (code == CAMAC_OVERRUN) fprintf(listing, "overrun %d wait %d events %u\n", did.c, did.wait, (unsigned)count);
     else fprintf(listing, "%s events %u\n", want.kind == CAMAC_DEMAND ? "ended" : "short", (unsigned)count);
@@ -80,7 +104,7 @@ int main(int words_count, char **words) {
             if (camac_next(&s, &answer, &did) > CAMAC_OVERRUN) fail("an answer is not taken");
         }
         EXPECT(CAMAC_OK, camac_rewind(&s));
-        play(&s, words[1], k);
+        play(&s, words[1], k, &script);
         camac_close(&s);
         free(plan.bytes), free(script.bytes);
     }

@@ -38,6 +38,10 @@ static void none(void) {
     EXPECT(CAMAC_MISUSE, camac_item(&s, text, sizeof text, &size));
     if (size || text[0] != '#') fail("a none has a last answer");
     EXPECT(CAMAC_MISUSE, camac_record(&s, text, sizeof text, NULL));
+    uint32_t service = 9, line = 9;
+    EXPECT(CAMAC_MISUSE, camac_where(&s, &service, &line));
+    EXPECT(CAMAC_MISUSE, camac_where(NULL, NULL, NULL));
+    if (service || line) fail("a none stands somewhere");
     EXPECT(CAMAC_MISUSE, camac_rewind(&s));
     EXPECT(CAMAC_MISUSE, camac_rewind(NULL));
     if (camac_services(&s) || camac_answers_left(&s) || camac_held(&s, NULL, 0) || camac_held(NULL, NULL, 1)) fail("a none has something");

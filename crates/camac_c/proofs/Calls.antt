@@ -4,6 +4,7 @@ use Rattle.std.specs.Prelude.{Option, Some, None, min, reverse}
 use Rattle.camac_run.specs.Runner.{last_words_in}
 use Rattle.camac_c.specs.Filled.{filled, filled_words, over, over_words}
 use Rattle.camac_c.specs.Last.{last_lines, last_record}
+use Rattle.camac_c.specs.Place.{numbers_of_place}
 use Rattle.camac_c.specs.Plain.{only_code}
 use Rattle.camac_c.specs.Service.{name_at, numbers_at}
 use Rattle.camac_c.specs.Talk.{AnswersBytes, AnswersCode, AnswersCount, AnswersNext, AnswersStep, AnswersText, AnswersWants, Lists, Talks, TellsIf, TellsWords}
@@ -41,6 +42,7 @@ written (Some s) (Some after) ask.Words none told ws h = h.1.0 ∙ filled_words_
 written (Some s) (Some after) ask.Record none told ws h = h.1.0 ∙ filled_none (last_record s.last (last_words_in s.runner))
 written (Some s) (Some after) ask.Item none told ws h = h.1.0 ∙ filled_none (last_lines s.checked.now.script s.last)
 written (Some s) (Some after) ask.Held none told ws h = h.1.0 ∙ filled_words_none (reverse s.held.items)
+written (Some s) (Some after) ask.Where none told ws h = h.1.2.0 ∙ filled_words_none (numbers_of_place h.1.0)
 written (Some s) (Some after) ask.Left none told ws h = h.0
 written (Some s) (Some after) ask.Services none told ws h = h.0
 written (Some s) (Some after) (ask.Name k) none told ws h = listed_none (name_at s.checked.now.script k) told ws h.1

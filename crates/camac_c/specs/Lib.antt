@@ -3,6 +3,7 @@ pub mod Held
 pub mod Last
 pub mod Open
 pub mod Owned
+pub mod Place
 pub mod Plain
 pub mod Response
 pub mod Run

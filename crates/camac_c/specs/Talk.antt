@@ -8,11 +8,13 @@ use Rattle.camac_run.specs.Holds.{HoldsAfter}
 use Rattle.camac_run.specs.Operation.{Wants}
 use Rattle.camac_run.specs.Requested.{IsSafeRequest, held_in}
 use Rattle.camac_run.specs.Runner.{RunnerState, rest, last_words_in, Progresses}
+use Rattle.camac_run.specs.declared.place.Place.{Place}
 use Rattle.camac_run.specs.declared.progress.Progress.{Progress}
 use Rattle.camac_run.specs.declared.progress.Wanted.{Wanted}
 use Rattle.camac_c.specs.Filled.{filled, filled_words}
 use Rattle.camac_c.specs.Held.{held_then}
 use Rattle.camac_c.specs.Last.{last_lines, last_record}
+use Rattle.camac_c.specs.Place.{IsAt, numbers_of_place}
 use Rattle.camac_c.specs.Plain.{only_code}
 use Rattle.camac_c.specs.Service.{name_at, numbers_at}
 use Rattle.camac_c.specs.Told.{InRange, answer_in, asked, counted, did}
@@ -77,6 +79,10 @@ pub record TellsStep (a : CamacAnswer) (s after : Session) (told : Told) : Type 
 abbrev pub TellsWords : List ℕ → (old new : List ℕ) → Told → Type 0
 TellsWords words old new told = (new ≡ filled_words words old) × (told ≡ counted (length words))
 
+-- where the run stands
+abbrev pub TellsPlace : RunnerState → (old new : List ℕ) → Told → Type 0
+TellsPlace h old new told = (place : Option Place) × IsAt h place × TellsWords (numbers_of_place place) old new told
+
 -- a text, as far as there is room
 abbrev pub Lists : List ℕ → (old new : List ℕ) → Told → Type 0
 Lists text old new told = (new ≡ filled text old) × (told ≡ counted (length text))
@@ -103,6 +109,7 @@ Steps s ask.Words after old new told = (after ≡ s) × TellsWords (last_words_i
 Steps s ask.Record after old new told = (after ≡ s) × Lists (last_record s.last (last_words_in s.runner)) old new told
 Steps s ask.Item after old new told = (after ≡ s) × Lists (last_lines s.checked.now.script s.last) old new told
 Steps s ask.Held after old new told = (after ≡ s) × TellsWords (reverse s.held.items) old new told
+Steps s ask.Where after old new told = (after ≡ s) × TellsPlace s.runner old new told
 Steps s ask.Left after old new told = (new ≡ old) × (after ≡ s) × (told ≡ counted (answers_left s.runner))
 Steps s ask.Services after old new told = (new ≡ old) × (after ≡ s) × (told ≡ counted (length s.checked.now.script.services))
 Steps s (ask.Name k) after old new told = (after ≡ s) × TellsIf Lists (name_at s.checked.now.script k) old new told

@@ -15,6 +15,7 @@ mod held;
 mod last;
 mod loose;
 mod opening;
+mod place;
 mod plain;
 mod response;
 mod service;

@@ -68,6 +68,8 @@ pub enum Ask {
     Item,
     /// The crates whose lockout is held.
     Held,
+    /// The service in progress, and the line of the statement that wants an answer.
+    Where,
     /// How many answers may still come.
     Left,
     /// How many services the script has.

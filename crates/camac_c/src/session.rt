@@ -6,13 +6,14 @@ ghost use Rattle.camac_c.specs.Filled.{filled_words};
 ghost use Rattle.camac_c.specs.Last.{last_lines, last_record};
 ghost use Rattle.camac_c.specs.Plain.{only_code};
 ghost use Rattle.camac_c.specs.Service.{name_at, numbers_at};
-ghost use Rattle.camac_c.specs.Talk.{Lists, StartsOn, Steps, TellsNext, TellsIf, TellsStep, TellsWant, TellsWords, answers_left};
+ghost use Rattle.camac_c.specs.Talk.{Lists, StartsOn, Steps, TellsNext, TellsIf, TellsPlace, TellsStep, TellsWant, TellsWords, answers_left};
 ghost use Rattle.camac_c.specs.Told.{InRange, answer_in, counted, crates_in, did, event_in, flag_in, item_in, movement_in, service_in, want_in, word_in, written_in};
 
 use crate::filling::give;
 use crate::held::{Held, keep_held, write_held};
 use crate::last::{give_lines, give_record};
 use crate::loose::Loose;
+use crate::place::numbers_of_place;
 use crate::plain::{
     Ask, CYCLE, CamacAnswer, CamacProgress, CamacWant, DEMAND, LOCK, NO_PROGRESS, NO_WANT, OK,
     OVERRUN, RANGE, SPENT, STOPPED, Told, only_code,
@@ -78,6 +79,7 @@ pub fn step<'a>(
         Ask::Record => record(&session, bytes),
         Ask::Item => item(&session, bytes),
         Ask::Held => counted(write_held(session.held.as_slice(), bytes)),
+        Ask::Where => place(&session, bytes),
         Ask::Left => counted(left(&session) as usize),
         Ask::Services => counted(session.checked.services()),
         Ask::Name(number) => name(&session, number, bytes),
@@ -225,6 +227,13 @@ fn record(session: &Session, bytes: &mut [u8]) -> Told
     counted(size)
 }
 
+fn place(session: &Session, bytes: &mut [u8]) -> Told
+    ensures { TellsPlace session.now.runner bytes.old bytes.new result }
+{
+    let numbers = numbers_of_place(session.runner.at());
+    counted(write_numbers(&numbers, bytes))
+}
+
 // How many answers may still come.
 fn left(session: &Session) -> u32
     ensures { result ≡ answers_left session.now.runner }
@@ -356,7 +365,7 @@ fn word_of(done: &CycleDone) -> u32
 }
 
 // A script has at most 24 services, so that the number is never cut.
-fn service_of(service: Option<usize>) -> u32
+pub fn service_of(service: Option<usize>) -> u32
     ensures { result ≡ service_in service }
 {
     match service {

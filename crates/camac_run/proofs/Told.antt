@@ -1,9 +1,12 @@
 -- What an answer told of a runner, and what is left.
 use Rattle.std.proofs.Common.{◌≡◌, ℕ, ◌+◌, ◌<◌, ◌≤◌, List, [], ◌∷◌, length, Option, Some, None, Bool, true, false, refl, sym, ap, subst, ◌∙◌, arith}
-use Rattle.std.specs.Prelude.{slice_get, option_map, IfSome, IfNone, OnSome, IsTrue}
+use Rattle.std.specs.Prelude.{slice_get, option_map, IfSome, IfNone, OnSome, IsTrue, IsSome, IsSomeAnd}
 use Rattle.std.specs.Borrow.{Bor}
+use Rattle.std.proofs.lemmas.Bool.{false≢true}
 use Rattle.camac_lang.specs.Scope.{is_well_formed}
 use Rattle.camac_lang.specs.Tree.{Service}
+use Rattle.camac_lang.specs.View.{statement_of}
+use Rattle.camac_lang.specs.declared.tree.Stmt.{Stmt}
 use Rattle.camac_branch.specs.Crates.{branch_of}
 use Rattle.camac_branch.specs.Branch.{Answer}
 use Rattle.arrayvec.specs.ArrayVec.{ArrayVec}
@@ -20,8 +23,10 @@ use Rattle.camac_run_machine.specs.declared.machine.Machine.{Machine}
 use Rattle.camac_run_machine.specs.declared.machine.Pending.{Pending}
 use Rattle.camac_run_machine.specs.declared.machine.Pending.TheVariants as pending
 use Rattle.camac_run_machine.specs.declared.machine.Pending.TheVariants.{Cycle, Read, Lock}
-use Rattle.camac_run_machine.specs.MachineState.{bounds_at, bounds_of, opens_in, locked_among, context_in, state_of, left_in, stands, pending_of, FineThen, IsFineHere, HasRoom, IsPending, Takes, Settles, Serves, Left, bit_at, event_here}
+use Rattle.camac_run_machine.specs.MachineState.{bounds_at, bounds_of, opens_in, locked_among, context_in, state_of, left_in, stands, pending_of, FineThen, IsFineHere, HasRoom, IsPending, IsOperationOf, StandsIn, Takes, Settles, Serves, Left, bit_at, event_here}
 use Rattle.camac_run_machine.specs.Rest.{follows, rest_in, says, served}
+use Rattle.camac_run.specs.Place.{line_of, IsPlace}
+use Rattle.camac_run.specs.declared.place.Place.{Place}
 use Rattle.camac_run.specs.Runner.{RunnerState, rest, last_words_in, with_event}
 use Rattle.camac_run.specs.Sound.{runner_state, IsSound}
 use Rattle.camac_run_machine.proofs.Bounds.{fine_at}
@@ -75,15 +80,16 @@ module _ {V D C : ℕ} where
       }
 
   pub sound_after : (old new : Machine V D C) (none : ArrayVec ℕ) (before next' : Option Pending) (fed count i : ℕ) → none.items ≡ [] → IsSound old before fed count
-      → HasRoom new → new.checked ≡ old.checked → new.service ≡ i → i < length old.checked.now.script.services → IfSome next' (IsPending new) → IfNone next' (new.frames.items ≡ [])
+      → HasRoom new → new.checked ≡ old.checked → new.service ≡ i → i < length old.checked.now.script.services → IfSome next' (IsPending new) → IfSome next' (StandsIn new) → IfNone next' (new.frames.items ≡ [])
       → ((answers : List Answer) → IsFineHere new (stands next' new answers)) → IsSound (record new { unlocks = none }) next' (fed + 1) count
-  sound_after old new none before next' fed count i quiet s room e service below is_next over fine = record {
+  sound_after old new none before next' fed count i quiet s room e service below is_next begun over fine = record {
     room = room_told new none quiet room;
     quiet = quiet;
     checked = subst (λ (b : Bor CheckedScript). IsChecked b.now) (sym e) s.checked;
     formed = subst (λ (b : Bor CheckedScript). IsTrue (is_well_formed b.now.script)) (sym e) s.formed;
     fits = subst (λ (b : Bor CheckedScript). fits b.now.script V D C ≡ true) (sym e) s.fits;
     awaits = ready next' is_next;
+    begun = still next' begun;
     idle = over;
     service = there next';
     fine = is_fine next' fine;
@@ -102,6 +108,10 @@ module _ {V D C : ℕ} where
       ready (Some (Read k x bits)) f = f
       ready (Some (Lock k body)) f = f
       ready (Some (pending.Transfer w)) f = f
+
+      still : (o : Option Pending) → IfSome o (StandsIn new) → IfSome o (StandsIn (record new { unlocks = none }))
+      still None f = tt
+      still (Some w) f = f
 
       is_fine : (o : Option Pending) → ((answers : List Answer) → IsFineHere new (stands o new answers)) → IfSome o (λ w. (answers : List Answer) → IsFineHere (record new { unlocks = none }) (stands (Some w) (record new { unlocks = none }) answers))
       is_fine None f = tt
@@ -138,6 +148,12 @@ module _ {V D C : ℕ} where
       fine_told new (stands next' new answers)
       (fine_along new (record old { service = i }) s.checked s.service (says new.unlocks.items (stands next' new answers)) meaning (s.goes answers) fine)
 
+  -- an answer that is taken leaves the statement
+  pub stays_in : (old mid : Machine V D C) (w : Pending) → mid.begun ≡ old.begun → mid.checked ≡ old.checked → StandsIn old w → StandsIn mid w
+  stays_in old mid w e f s =
+      let P : Option (Bor Stmt) → Bor CheckedScript → Type 0 = λ o k. IsSomeAnd o (λ (b : Bor Stmt). IsOperationOf (context_in k.now) (pending_of w) (statement_of b.now)) in
+      subst (λ o. P o mid.checked) (sym e) (subst (λ k. P old.begun k) (sym f) s)
+
   -- what is left after an answer that was taken is fine
   pub take_fine : (old mid : Machine V D C) (w : Pending) (a : Answer) (d : Item) → ((answers : List Answer) → IsFineHere old (stands (Some w) old answers)) → Takes old w a d mid → FineThen mid (λ c. follows c (pending_of w))
   take_fine old mid w a d fine t answers =
@@ -149,6 +165,16 @@ module _ {V D C : ℕ} where
   settle_fine mid new go next' fine s answers =
       fine_told new (stands next' new answers)
       (fine_along new mid s.checked s.service (says new.unlocks.items (stands next' new answers)) (then_do (go (context_in mid.checked.now) (state_of mid answers)) (left_in mid)) (s.goes answers) (fine answers))
+
+  -- where a service is in progress, a statement was begun in it, which is the place
+  pub begun_some : (h : Machine V D C) (pending : Option Pending) → IsSome (option_map pending_of pending) → IfSome pending (StandsIn h) → h.begun ≡ None → ⊥
+  begun_some h None some s f = absurd (false≢true some)
+  begun_some h (Some w) some s f = let t = rw f at s in t
+
+  pub is_place : (h : Machine V D C) (pending : Option Pending) (b : Bor Stmt) (fed n : ℕ) (has : Bool) (o : Option Overrun) (place : Place) → IsSome (option_map pending_of pending) → h.begun ≡ Some b → IfSome pending (StandsIn h) → place.service ≡ h.service → place.line ≡ line_of (statement_of b.now)
+      → IsPlace (runner_state h pending fed n has o) place
+  is_place h None b fed n has o place some f s p q = absurd (false≢true some)
+  is_place h (Some w) b fed n has o place some f s p q = let t = rw f at s in record { service = p; line = rw f (q, t) }
 
   -- with no answer, a run is short in the service in progress, or over
   pub rest_short : (h : Machine V D C) (pending : Option Pending) (w : Pending) (fed n : ℕ) (has : Bool) (o : Option Overrun) → pending ≡ Some w → IfSome pending (IsPending h) → rest (runner_state h pending fed n has o) [] ≡ stops short (state_of h [])

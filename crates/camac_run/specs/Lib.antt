@@ -3,6 +3,7 @@ pub mod Headline
 pub mod Requested
 pub mod Called
 pub mod Runner
+pub mod Place
 pub mod Sound
 pub mod Ends
 pub mod Operation

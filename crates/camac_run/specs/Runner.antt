@@ -5,6 +5,7 @@ use Rattle.camac_branch.specs.Branch.{Answer}
 use Rattle.camac_branch.specs.Crates.{Crates, branch_of}
 use Rattle.camac_branch.specs.declared.answer.Overrun.{Overrun}
 use Rattle.camac_check_result.specs.Checked.{CheckedScript}
+use Rattle.camac_lang.specs.Tree.{Statement}
 use Rattle.camac_model.specs.State.{State}
 use Rattle.camac_model.specs.Behaviour.{Behaviour, does, ends, stops, event_left, overrun as overruns, then_do}
 use Rattle.camac_run_machine.specs.declared.item.Item.{Item}
@@ -21,6 +22,8 @@ pub record RunnerState : Type 0 where
   -- what is left of its open blocks, and what it wants an answer for, where it is in progress
   pub blocks : List Open
   pub pending : Option Operation
+  -- the statement that was begun last
+  pub begun : Option Statement
   pub crates : Crates
   -- of the innermost body
   pub variables : List ℕ

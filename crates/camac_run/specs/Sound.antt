@@ -1,13 +1,16 @@
 -- What is true of every runner.
 use Rattle.std.specs.Prelude.{◌≡◌, ℕ, ◌<◌, ◌≤◌, List, [], length, Bool, true, Option, Some, IfSome, IfNone, IsTrue, option_map}
+use Rattle.std.specs.Borrow.{Bor}
 use Rattle.camac_lang.specs.Scope.{is_well_formed}
+use Rattle.camac_lang.specs.View.{statement_of}
+use Rattle.camac_lang.specs.declared.tree.Stmt.{Stmt}
 use Rattle.camac_branch.specs.Branch.{Answer}
 use Rattle.camac_branch.specs.declared.answer.Overrun.{Overrun}
 use Rattle.camac_check_result.specs.Checked.{IsChecked}
 use Rattle.camac_lang.specs.Fits.{fits}
 use Rattle.camac_run_machine.specs.declared.machine.Machine.{Machine}
 use Rattle.camac_run_machine.specs.declared.machine.Pending.{Pending}
-use Rattle.camac_run_machine.specs.MachineState.{opens_in, pending_of, stands, IsFineHere, HasRoom, IsPending}
+use Rattle.camac_run_machine.specs.MachineState.{opens_in, pending_of, stands, IsFineHere, HasRoom, IsPending, StandsIn}
 use Rattle.camac_run_machine.specs.Store.{held_at}
 use Rattle.camac_run.specs.Runner.{RunnerState}
 
@@ -18,6 +21,7 @@ module _ {V D C : ℕ} where
     service = h.service;
     blocks = opens_in h;
     pending = option_map pending_of pending;
+    begun = option_map (λ (b : Bor Stmt). statement_of b.now) h.begun;
     crates = h.branch;
     variables = held_at h.scope.variables h.variables;
     registers = held_at h.scope.registers h.registers;
@@ -40,6 +44,7 @@ module _ {V D C : ℕ} where
     pub formed : IsTrue (is_well_formed h.checked.now.script)
     pub fits : fits h.checked.now.script V D C ≡ true
     pub awaits : IfSome pending (IsPending h)
+    pub begun : IfSome pending (StandsIn h)
     pub idle : IfNone pending (h.frames.items ≡ [])
     pub service : IfSome pending (λ w. h.service < length h.checked.now.script.services)
     pub fine : IfSome pending (λ w. (answers : List Answer) → IsFineHere h (stands (Some w) h answers))

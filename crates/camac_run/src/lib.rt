@@ -5,6 +5,7 @@
 mod items;
 mod laws;
 mod log;
+mod place;
 mod progress;
 mod runner;
 mod service;
@@ -13,5 +14,6 @@ pub use camac_run_machine::Item;
 pub use items::Items;
 pub use laws::{requests_are_safe, runner_holds_the_rest, runs_by_headline};
 pub use log::{Log, run};
+pub use place::Place;
 pub use progress::{End, Progress, Wanted};
 pub use runner::{FullRunner, Runner};

@@ -1,6 +1,6 @@
 // A run that is fed an answer at a time, and takes no memory.
 
-ghost use Rattle.std.specs.Prelude.{◌≡◌, ◌+◌, ◌<◌, ◌≤◌, List, [], length, true, Some, None, false, IsSome, IfSome, IfNone, OnSome, if◌then◌else◌};
+ghost use Rattle.std.specs.Prelude.{◌≡◌, ◌+◌, ◌<◌, ◌≤◌, List, [], length, true, Some, None, false, is_some, IsSome, IfSome, IfNone, OnSome, if◌then◌else◌};
 ghost use Rattle.camac_branch.specs.Branch.{Answer};
 ghost use Rattle.camac_run_machine.specs.MachineState.{bounds_at};
 ghost use Rattle.camac_lang.specs.Fits.{fits};
@@ -9,8 +9,10 @@ ghost use Rattle.camac_model.specs.Run.{the_run};
 ghost use Rattle.camac_run.specs.Runner.{state_in, rest, last_words_in, event_in, Progresses, steps_of, words_of};
 ghost use Rattle.camac_run.specs.Holds.{HoldsAfter};
 ghost use Rattle.camac_run.specs.Operation.{IsWaiting, Wants, operation};
+ghost use Rattle.camac_run.specs.Place.{IsPlace};
 ghost use Rattle.camac_run.specs.Requested.{IsSafeRequest, held_in};
 
+use crate::place::{Place, line_of};
 use crate::progress::{Progress, Wanted};
 use crate::service::service_for;
 use arrayvec::ArrayVec;
@@ -48,13 +50,13 @@ pub type FullRunner<'a> = Runner<
 impl<'a, const V: usize, const DEPTH: usize, const CAP: usize> Model for Runner<'a, V, DEPTH, CAP> {
     ghost use Rattle.std.specs.Coded.{codes};
     ghost use Rattle.camac_check_result.specs.Checked.{checked_coded};
-    ghost use Rattle.camac_run_machine.proofs.Codes.{want_coded, open_coded};
+    ghost use Rattle.camac_run_machine.proofs.Codes.{want_coded, open_coded, statement_coded};
     ghost use Rattle.camac_run.specs.Runner.{RunnerState};
     ghost use Rattle.camac_run.specs.Sound.{runner_state, IsSound};
 
     ghost Value = { RunnerState };
 
-    ghost coded = { Prim.hlevel (codes, checked_coded, want_coded, open_coded) };
+    ghost coded = { Prim.hlevel (codes, checked_coded, want_coded, open_coded, statement_coded) };
 
     ghost view = { λ r. runner_state r.machine r.pending r.fed r.events r.has_event r.overrun };
 
@@ -209,6 +211,31 @@ impl<'a, const V: usize, const DEPTH: usize, const CAP: usize> Runner<'a, V, DEP
         ensures { IsWaiting self.now }
     {
         let _ = &self.pending;
+    }
+
+    /// Where the service in progress stands: the statement whose operation the next answer is for. None where no service is in progress.
+    pub fn at(&self) -> Option<Place>
+        ensures place { IfSome result (IsPlace self.now) }
+        ensures some { is_some result ≡ is_some self.now.pending }
+    {
+        match self.pending {
+            None => None,
+            Some(_) => Some(self.place()),
+        }
+    }
+
+    // The same where a service is in progress.
+    fn place(&self) -> Place
+        requires { IsSome self.now.pending }
+        ensures { IsPlace self.now result }
+    {
+        match self.machine.begun {
+            Some(begun) => Place {
+                service: self.machine.service,
+                line: line_of(begun),
+            },
+            None => unreachable!(),
+        }
     }
 
     /// Whether a service is in progress.

@@ -6,8 +6,8 @@ use base.Stored.{Gv, gnil, gnum, gcons}
 use Rattle.camac_branch.specs.contracts.answer.Command as command
 use Rattle.camac_branch.specs.Address.{Address}
 use Rattle.camac_esone.specs.contracts.address.Address as address
-use Rattle.camac_lang.specs.Code.{clash, condition_coded, block_coded}
-use Rattle.camac_lang.specs.Tree.{Block}
+use Rattle.camac_lang.specs.Code.{clash, condition_coded, block_coded, statement_code, same_statement}
+use Rattle.camac_lang.specs.Tree.{Block, Statement}
 use Rattle.camac_run_machine.specs.contracts.scope.Scope as scope
 use Rattle.camac_run_machine.specs.contracts.transfer.Course as course
 use Rattle.camac_run_machine.specs.Rest.{Operation, makes, reads, locks, transfers, Owner, nothing, releases, for_loop, while_loop, returns, Open}
@@ -72,3 +72,6 @@ owner_coded = record { code = owner_code; inj = same_owner }
 abbrev pub open_coded : Coded Open
 open_coded =
     code_by (Block × Owner) (coded× block_coded owner_coded) (λ o. (o.block, o.owner)) (λ p. record { block = p.0; owner = p.1 }) (λ _. refl)
+
+abbrev pub statement_coded : Coded Statement
+statement_coded = record { code = statement_code; inj = same_statement }

@@ -34,7 +34,7 @@ use Rattle.camac_run_machine.specs.declared.machine.Pending.TheVariants.{Cycle, 
 use Rattle.camac_run_machine.specs.declared.transfer.Course.{Course}
 use Rattle.camac_run_machine.specs.declared.transfer.Transfer as held
 use Rattle.camac_run_machine.specs.Course.{left_at, words_from, words_sent, data_of, words_after}
-use Rattle.camac_run_machine.specs.MachineState.{variables_here, registers_here, reach, with_value, context_in, state_of, bounds_of, left_in, stands, made, pending_of, after_pending, cycle_of, transferred, IsFineHere, FineThen, HasRoom, IsPending, Advances, Proceeds, Settles, Makes, IsRefused, Takes, Overruns}
+use Rattle.camac_run_machine.specs.MachineState.{variables_here, registers_here, reach, with_value, context_in, state_of, bounds_of, left_in, stands, made, pending_of, after_pending, cycle_of, transferred, IsFineHere, FineThen, HasRoom, IsPending, StandsIn, Wants, Advances, Proceeds, Settles, Makes, IsRefused, Takes, Overruns}
 use Rattle.camac_run_machine.specs.Rest.{address_of, transfers, awaited, follows, transfer_left, rest_in, says}
 use Rattle.camac_run_machine.proofs.Actions.{known}
 use Rattle.camac_run_machine.proofs.Commands.{on_branch}
@@ -98,6 +98,7 @@ module _ {V D C : ℕ} (h : Machine V D C) where
         room = r;
         same = refl;
         awaits = (can.2, (lt, e, d));
+        wants = λ answers. ap (λ f. awaited (context_in h.checked.now) (transfers t.course f (words_sent t.table) t.tally) (state_of h answers)) same;
         goes = λ answers. ap (λ f. then_do (awaited (context_in h.checked.now) (transfers t.course f (words_sent t.table) t.tally) (state_of h answers)) (left_in h)) same;
       }
 
@@ -113,12 +114,18 @@ module _ {V D C : ℕ} (h : Machine V D C) where
         room = room_written h x n r;
         same = refl;
         awaits = tt;
+        wants = tt;
         goes = λ answers.
             ap (λ os. rest_in (context_in h.checked.now) os (state_of (with_value h x n) answers)) (sym (opens_written h x n r))
             ∙ ap (left_in h) (state_written h x n lt r answers)
             ∙ ap (λ m. left_in h (with_variable x m (state_of h answers))) all
             ∙ ap (λ b. then_do b (left_in h)) (sym (transfer_over plan t.function (words_from n (words_sent t.table)) left.next_address (finish n x) [] e answers (state_of h answers)));
       })
+
+  -- what is wanted is so by whatever is the same
+  wants_along : (go go' : Context → Action) (next' : Option Pending) (new : Machine V D C) → ((answers : List Answer) → go (context_in h.checked.now) (state_of h answers) ≡ go' (context_in h.checked.now) (state_of h answers)) → IfSome next' (Wants h go new) → IfSome next' (Wants h go' new)
+  wants_along go go' None new e w = tt
+  wants_along go go' (Some v) new e w = λ answers. w answers ∙ e answers
 
   -- a statement that begins a transfer
   module _ (st : Statement) (t : held.Transfer) (table : Option (List ℕ)) (next_address : NextAddress) (sends : words_sent t.table ≡ table) (starts : left_at t.course ≡ record { next_address = next_address; tally = 0 })
@@ -136,7 +143,13 @@ module _ {V D C : ℕ} (h : Machine V D C) where
 
     pub begins_proceed : (next' : Option Pending) (new : Machine V D C) → Proceeds h (λ c. transferred c t) next' new → Proceeds h (λ c. effect c most_turns st) next' new
     begins_proceed next' new p =
-        record { room = p.room; same = p.same; awaits = p.awaits; goes = λ answers. p.goes answers ∙ ap (λ b. then_do b (left_in h)) (sym (begins answers)) }
+        record {
+          room = p.room;
+          same = p.same;
+          awaits = p.awaits;
+          wants = wants_along (λ c. transferred c t) (λ c. effect c most_turns st) next' new (λ answers. sym (begins answers)) p.wants;
+          goes = λ answers. p.goes answers ∙ ap (λ b. then_do b (left_in h)) (sym (begins answers));
+        }
 
   has_some : {A : Type 0} (o : Option A) (go : A → Action) → IsFineHere h (then_do (given o go (state_of h [])) (left_in h)) → IsSome o
   has_some o go fine = let g = fine_given plan (bounds_of h) o go (state_of h []) (left_in h) fine in some_is o g.0 g.1
@@ -298,7 +311,13 @@ module _ {V D C : ℕ} (h : Machine V D C) where
 
     pub further_proceeds : (next' : Option Pending) (new : Machine V D C) → Proceeds h (λ c. transferred c further) next' new → Proceeds h (λ c. after_pending c (Some (Transfer (cycle_at k t table x)))) next' new
     further_proceeds next' new p =
-        record { room = p.room; same = p.same; awaits = p.awaits; goes = λ answers. p.goes answers ∙ ap (λ b. then_do b (left_in h)) (sym (follows_on answers)) }
+        record {
+          room = p.room;
+          same = p.same;
+          awaits = p.awaits;
+          wants = wants_along (λ c. transferred c further) (λ c. after_pending c (Some (Transfer (cycle_at k t table x)))) next' new (λ answers. sym (follows_on answers)) p.wants;
+          goes = λ answers. p.goes answers ∙ ap (λ b. then_do b (left_in h)) (sym (follows_on answers));
+        }
 
   -- what goes on at once, whatever it is
   module _ (go : Context → Action) (mid : Machine V D C) (quiet : h.unlocks.items ≡ []) where
@@ -306,13 +325,14 @@ module _ {V D C : ℕ} (h : Machine V D C) where
     mid_quiet next' p = ap (λ (m : Machine V D C). m.unlocks.items) p.same ∙ quiet
 
     -- it wants an answer
-    pub wants_settles : (next' : Option Pending) → IsSome next' → Proceeds h go next' mid → Settles h go next' mid
-    wants_settles None some p = absurd (false≢true some)
-    wants_settles (Some w) some p = record {
+    pub wants_settles : (next' : Option Pending) → IsSome next' → IfSome next' (StandsIn mid) → Proceeds h go next' mid → Settles h go next' mid
+    wants_settles None some s p = absurd (false≢true some)
+    wants_settles (Some w) some s p = record {
       room = p.room;
       checked = ap (λ (m : Machine V D C). m.checked) p.same;
       service = ap (λ (m : Machine V D C). m.service) p.same;
       awaits = p.awaits;
+      begun = s;
       over = tt;
       goes = λ answers. ap (λ us. says us (stands (Some w) mid answers)) (mid_quiet (Some w) p) ∙ p.goes answers;
     }
@@ -328,6 +348,7 @@ module _ {V D C : ℕ} (h : Machine V D C) where
       checked = s.checked ∙ ap (λ (m : Machine V D C). m.checked) p.same;
       service = s.service ∙ ap (λ (m : Machine V D C). m.service) p.same;
       awaits = s.awaits;
+      begun = s.begun;
       over = s.over;
       goes = λ answers. s.goes answers ∙ p.goes answers;
     }
@@ -335,7 +356,7 @@ module _ {V D C : ℕ} (h : Machine V D C) where
   -- nothing of the statement is left
   module _ (w : Pending) (nothing : (answers : List Answer) → follows (context_in h.checked.now) (pending_of w) (state_of h answers) ≡ ends (state_of h answers)) where
     pub alone_proceeds : HasRoom h → Proceeds h (λ c. after_pending c (Some w)) None h
-    alone_proceeds r = record { room = r; same = refl; awaits = tt; goes = λ answers. ap (λ b. then_do b (left_in h)) (sym (nothing answers)) }
+    alone_proceeds r = record { room = r; same = refl; awaits = tt; wants = tt; goes = λ answers. ap (λ b. then_do b (left_in h)) (sym (nothing answers)) }
 
   pub cycle_alone : (k : Command) (answers : List Answer) → follows (context_in h.checked.now) (pending_of (Cycle k)) (state_of h answers) ≡ ends (state_of h answers)
   unfolding follows
@@ -447,6 +468,7 @@ module _ {V D C : ℕ} (h : Machine V D C) (k : Command) (t : Course) (table : O
               room = room_kept after last.words (h.steps + 1) (room_after h k mid.branch d.reply.q d.reply.x d.wait m.branch room);
               checked = refl;
               service = refl;
+              begun = refl;
               unlocks = refl;
               can_follow = (p.1.0, some_is ((left_at t).next_address []) (address_of k) p.1.1);
               goes = λ answers.

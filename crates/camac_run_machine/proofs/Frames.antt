@@ -2,7 +2,7 @@
 use Rattle.std.proofs.Common.{◌≡◌, ℕ, ◌+◌, ◌-◌, ◌*◌, ◌<◌, ◌≤◌, List, [], ◌∷◌, ◌++◌, length, length-append, map, refl, sym, ap, subst, ◌∙◌, arith}
 use Rattle.std.proofs.lemmas.List.{append-nil, map-append, length-map}
 use Rattle.std.proofs.Math.Path.{fun_ext}
-use Rattle.std.specs.Prelude.{Option, Some, None, IsSomeAnd}
+use Rattle.std.specs.Prelude.{Option, Some, None, IfSome, IsSomeAnd}
 use Rattle.std.specs.Borrow.{Bor}
 use Rattle.camac_check_result.specs.Checked.{CheckedScript}
 use Rattle.arrayvec.specs.ArrayVec.{ArrayVec}
@@ -20,10 +20,11 @@ use Rattle.camac_run_machine.specs.declared.machine.Frame.{Frame}
 use Rattle.camac_run_machine.specs.declared.machine.Machine.{Machine}
 use Rattle.camac_run_machine.specs.declared.machine.Owner.TheVariants.{Plain}
 use Rattle.camac_run_machine.specs.declared.machine.Pending.{Pending}
+use Rattle.camac_run_machine.specs.declared.machine.Pending.TheVariants.{Cycle, Read, Lock, Transfer}
 use Rattle.camac_run_machine.specs.declared.scope.Scope.{Scope}
 use Rattle.camac_run_machine.specs.Rest.{nothing, owed, Open, left_of, rest_in, says}
 use Rattle.camac_run_machine.specs.Within.{StatementFits, Opens, OwnerFits, outer, OpenFit}
-use Rattle.camac_run_machine.specs.MachineState.{bounds_at, bounds_of, open_in, opens_in, holds, AreHeld, free, reach, context_in, state_of, left_in, stands, IsFineHere, HasRoomFor, HasRoom, Awaits, Enters, Advances}
+use Rattle.camac_run_machine.specs.MachineState.{bounds_at, bounds_of, open_in, opens_in, holds, AreHeld, free, reach, context_in, state_of, left_in, stands, IsFineHere, HasRoomFor, HasRoom, IsPending, Awaits, Wants, Enters, Advances}
 use Rattle.camac_run_machine.proofs.Blocks.{then_ends, rest_push, opens_push, opens_pop, says_more, measure_falls}
 use Rattle.camac_run_machine.proofs.Locks.{held_push, held_same}
 
@@ -53,6 +54,35 @@ module _ {V D C : ℕ} (h : Machine V D C) where
     locks = r.locks;
     unlocks = r.unlocks;
   }
+
+  -- nor on the statement that was begun, nor does what is left
+  module _ (b : Option (Bor Stmt)) where
+    pub room_at : HasRoom h → HasRoom (record h { begun = b })
+    room_at r = record {
+      variables = r.variables;
+      registers = r.registers;
+      fits = r.fits;
+      scope = r.scope;
+      blocks = r.blocks;
+      words = r.words;
+      steps = r.steps;
+      cycles = r.cycles;
+      few_missed = r.few_missed;
+      missed = r.missed;
+      locks = r.locks;
+      unlocks = r.unlocks;
+    }
+
+    pub ready_at : (o : Option Pending) → IfSome o (IsPending h) → IfSome o (IsPending (record h { begun = b }))
+    ready_at None p = tt
+    ready_at (Some (Cycle k)) p = p
+    ready_at (Some (Read k x bits)) p = p
+    ready_at (Some (Lock k body)) p = p
+    ready_at (Some (Transfer w)) p = p
+
+    pub stands_at : (o : Option Pending) (answers : List Answer) → stands o (record h { begun = b }) answers ≡ stands o h answers
+    stands_at None answers = refl
+    stands_at (Some w) answers = refl
 
   -- by other open blocks
   pub room_with : (fs : ArrayVec Frame) (os qs : List Open) → OpenFit V h.checked.now.script h.scope D qs → AreHeld (branch_of h.branch) qs → HasRoomFor h os → HasRoomFor (record h { frames = fs }) qs
@@ -143,6 +173,10 @@ module _ {V D C : ℕ} (h : Machine V D C) where
     goes = λ answers. ap (λ b. then_do b (left_in h)) (k.goes answers);
   }
   wants_advance st None r k = absurd k
+
+  pub wants_first : (st : Statement) (o : Option Pending) → IsSomeAnd o (Awaits (record h { steps = h.steps + 1 }) (λ c. effect c most_turns st)) → IfSome o (Wants h (λ c s. effect c most_turns st (stepped s)) (record h { steps = h.steps + 1 }))
+  wants_first st (Some w) k = k.goes
+  wants_first st None k = absurd k
 
   pub block_length : (body : Bor (List Stmt)) (new : Machine V D C) → new.frames.items ≡ h.frames.items ++ record { rest = body; owner = Plain } ∷ [] → length new.frames.items ≡ length h.frames.items + 1
   block_length body new pushed = ap length pushed ∙ length-append h.frames.items (record { rest = body; owner = Plain } ∷ [])

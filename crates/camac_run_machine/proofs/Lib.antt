@@ -23,3 +23,4 @@ pub mod Trees
 pub mod Lists
 pub mod Turns
 pub mod Starts
+pub mod Standing

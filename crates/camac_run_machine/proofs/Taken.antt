@@ -128,6 +128,7 @@ module _ {V D C : ℕ} (h : Machine V D C) (k : ℕ) (body : Bor (List Stmt)) (a
       room = room_taken;
       checked = refl;
       service = refl;
+      begun = refl;
       unlocks = refl;
       can_follow = tt;
       goes = λ answers.

@@ -136,6 +136,7 @@ module _ {V D C : ℕ} (h new : Machine V D C) (k : Command) (a : Answer) (d : C
         room = room_after h k new.branch d.reply.q d.reply.x d.wait m.branch room;
         checked = refl;
         service = refl;
+        begun = refl;
         unlocks = refl;
         can_follow = tt;
         goes = λ answers.
@@ -154,6 +155,7 @@ module _ {V D C : ℕ} (h new : Machine V D C) (k : Command) (a : Answer) (d : C
         room = room_written after x v r;
         checked = refl;
         service = refl;
+        begun = refl;
         unlocks = refl;
         can_follow = tt;
         goes = λ answers.

@@ -1,10 +1,10 @@
 -- What a machine holds, as the definitions see it.
-use Rattle.std.specs.Prelude.{◌≡◌, ℕ, zero, suc, ◌+◌, ◌*◌, ◌-◌, ◌<◌, ◌≤◌, List, [], ◌∷◌, ◌++◌, length, map, Option, Some, None, IsSome, IfSome, IfNone, Bool, true, false, nat_eq, if◌then◌else◌, slice_index_or, slice_set, unwrap_or}
+use Rattle.std.specs.Prelude.{◌≡◌, ℕ, zero, suc, ◌+◌, ◌*◌, ◌-◌, ◌<◌, ◌≤◌, List, [], ◌∷◌, ◌++◌, length, map, Option, Some, None, IsSome, IfSome, IfNone, IsSomeAnd, Bool, true, false, nat_eq, if◌then◌else◌, slice_index_or, slice_set, unwrap_or}
 use Rattle.std.specs.Borrow.{Bor}
-use Rattle.camac_lang.specs.Tree.{Service}
+use Rattle.camac_lang.specs.Tree.{Statement, Service}
 use Rattle.camac_lang.specs.declared.tree.Stmt.{Stmt}
 use Rattle.camac_branch.specs.Address.{Address}
-use Rattle.camac_lang.specs.View.{part_of, statements_of}
+use Rattle.camac_lang.specs.View.{part_of, statement_of, statements_of}
 use Rattle.camac_branch.specs.Branch.{Branch, Answer, reply_to, branch_after, with_lock}
 use Rattle.camac_branch.specs.Crates.{branch_of, is_permitted}
 use Rattle.camac_branch.specs.Plan.{crate_waits}
@@ -16,7 +16,7 @@ use Rattle.camac_event.specs.declared.event.Usage.{Usage}
 use Rattle.camac_model.specs.State.{State, Variables, Registers, missed_with}
 use Rattle.camac_model.specs.Behaviour.{Behaviour, does, ends, stops, Piece, demanded, cycled, lock_taken, lock_released, overrun, Action, then_do}
 use Rattle.camac_model.specs.Fine.{Bounds, IsFine, most_turns}
-use Rattle.camac_model.specs.Meaning.{Context, context}
+use Rattle.camac_model.specs.Meaning.{Context, context, effect}
 use Rattle.camac_model.specs.Run.{service_meaning}
 use Rattle.camac_model.specs.Value.{greatest}
 use Rattle.camac_names.specs.Linked.{bit_of_service}
@@ -129,6 +129,23 @@ abbrev pub after_pending : Context → Option Pending → Action
 after_pending c None = ends
 after_pending c (Some w) = follows c (pending_of w)
 
+-- a later operation is one of the statement that wanted this one first: the same, or of a transfer another cycle
+abbrev pub IsOf : Operation → Operation → Type 0
+IsOf (makes k) w = w ≡ makes k
+IsOf (reads k x bits) w = w ≡ reads k x bits
+IsOf (locks k body) w = w ≡ locks k body
+IsOf (transfers t f table x) w = (later : Course) × (w ≡ transfers later f table x)
+
+-- this statement wants the operation: begun in some state it wants one first, of which this is one
+pub record IsOperationOf (c : Context) (w : Operation) (statement : Statement) : Type 0 where
+  pub first : Operation
+  pub from : State
+  pub at : State
+  pub begins :
+      (answers : List Answer)
+      → effect c most_turns statement (record from { answers = answers }) ≡ awaited c first (record at { answers = answers })
+  pub is_of : IsOf first w
+
 -- the crate in which the answer is to be used
 abbrev pub crate_of : Pending → ℕ
 crate_of (Cycle k) = k.c
@@ -228,6 +245,10 @@ module _ {V D C : ℕ} where
   abbrev pub free : Machine V D C → ℕ
   free h = D - length h.frames.items
 
+  -- the statement that was begun last wants this
+  abbrev pub StandsIn : Machine V D C → Pending → Type 0
+  StandsIn h w = IsSomeAnd h.begun (λ (b : Bor Stmt). IsOperationOf (context_in h.checked.now) (pending_of w) (statement_of b.now))
+
   -- for a read a variable, for a lock a free crate and room for the block, for a transfer that its next cycle is this command
   abbrev pub IsReady : Machine V D C → Pending → Type 0
   IsReady h (Cycle k) = Unit {0}
@@ -289,11 +310,18 @@ module _ {V D C : ℕ} where
     pub was : old.frames.items ≡ before ++ last ∷ []
     pub advances : Advances (record old { frames = record { items = before } }) (λ c. left_of c (open_in old last)) pending new
 
+  -- what is wanted is this, whatever is answered
+  abbrev pub Wants : Machine V D C → (Context → Action) → Machine V D C → Pending → Type 0
+  Wants old go new w =
+      (answers : List Answer)
+      → awaited (context_in old.checked.now) (pending_of w) (state_of new answers) ≡ go (context_in old.checked.now) (state_of old answers)
+
   -- this goes on at once, and sets a variable at most
   pub record Proceeds (old : Machine V D C) (go : Context → Action) (next : Option Pending) (new : Machine V D C) : Type 0 where
     pub room : HasRoom new
     pub same : new ≡ record old { variables = new.variables }
     pub awaits : IfSome next (IsPending new)
+    pub wants : IfSome next (Wants old go new)
     pub goes :
         (answers : List Answer)
         → stands next new answers ≡ then_do (go (context_in old.checked.now) (state_of old answers)) (left_in old)
@@ -350,6 +378,7 @@ module _ {V D C : ℕ} where
     pub checked : new.checked ≡ old.checked
     pub service : new.service ≡ old.service
     pub awaits : IfSome pending (IsPending new)
+    pub begun : IfSome pending (StandsIn new)
     pub over : IfNone pending (new.frames.items ≡ [])
     pub goes :
         (answers : List Answer)
@@ -360,6 +389,7 @@ module _ {V D C : ℕ} where
     pub room : HasRoom new
     pub checked : new.checked ≡ old.checked
     pub service : new.service ≡ old.service
+    pub begun : new.begun ≡ old.begun
     pub unlocks : new.unlocks ≡ old.unlocks
     pub can_follow : CanFollow (reach new).variables pending
     pub goes :
@@ -378,6 +408,7 @@ module _ {V D C : ℕ} where
     pub checked : new.checked ≡ old.checked
     pub service : new.service ≡ number
     pub awaits : IfSome pending (IsPending new)
+    pub begun : IfSome pending (StandsIn new)
     pub over : IfNone pending (new.frames.items ≡ [])
     pub goes :
         (answers : List Answer)

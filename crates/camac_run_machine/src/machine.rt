@@ -1,6 +1,6 @@
 // What a service in progress holds: the open blocks, innermost last, and its store.
 
-ghost use Rattle.std.specs.Prelude.{◌≡◌, ◌+◌, ◌*◌, ◌-◌, ◌<◌, ◌≤◌, [], List, length, map, true, false, None, Some, IsSome, slice_get};
+ghost use Rattle.std.specs.Prelude.{◌≡◌, ◌+◌, ◌*◌, ◌-◌, ◌<◌, ◌≤◌, [], List, length, map, true, false, None, Some, IsSome, IfSome, slice_get};
 ghost use Rattle.camac_branch.specs.Address.{Address};
 ghost use Rattle.camac_branch.specs.Branch.{Answer, start};
 ghost use Rattle.camac_lang.specs.View.{expression_of, part_of, statement_of};
@@ -11,7 +11,7 @@ ghost use Rattle.camac_model.specs.Fine.{most_turns};
 ghost use Rattle.camac_model.specs.Meaning.{effect};
 ghost use Rattle.camac_model.specs.State.{fresh, stepped};
 ghost use Rattle.camac_model.specs.Value.{value, truth};
-ghost use Rattle.camac_run_machine.specs.MachineState.{event_here, variables_here, registers_here, state_of, reach, holds, stands, free, IsFineHere, FineThen, HasRoom, wanted_if, Advances, Settles, Serves};
+ghost use Rattle.camac_run_machine.specs.MachineState.{event_here, variables_here, registers_here, state_of, reach, holds, stands, free, IsFineHere, FineThen, HasRoom, wanted_if, Wants, Advances, Settles, Serves};
 ghost use Rattle.camac_lang.specs.Fits.{fits};
 ghost use Rattle.camac_run_machine.specs.Store.{registers_in, held_at};
 ghost use Rattle.camac_run_machine.specs.Within.{Refers, PartsRefer, StatementFits};
@@ -119,6 +119,8 @@ pub struct Machine<'a, const V: usize, const DEPTH: usize, const CAP: usize> {
     pub registers: [Option<Address>; V],
     /// What the innermost body sees of the variables and registers.
     pub scope: Scope,
+    /// The statement that was begun last.
+    pub begun: Option<&'a Stmt>,
     /// Q and X of the last dataway cycle (EUR 4100, IEEE 583).
     pub q: bool,
     pub x: bool,
@@ -174,6 +176,7 @@ impl<'a, const V: usize, const DEPTH: usize, const CAP: usize> Machine<'a, V, DE
             variables: [0; V],
             registers: [None; V],
             scope: Scope::empty(),
+            begun: None,
             q: false,
             x: false,
             words: EventBuffer::new(),
@@ -248,6 +251,7 @@ impl<'a, const V: usize, const DEPTH: usize, const CAP: usize> Machine<'a, V, DE
         requires fine { FineThen self.old (λ c s. effect c most_turns (statement_of statement.now) (stepped s)) }
         ensures advances { Advances self.old (λ c s. effect c most_turns (statement_of statement.now) (stepped s)) (wanted_if result pending.new) self.new }
         ensures some { result ≡ true → IsSome pending.new }
+        ensures wants { result ≡ true → IfSome pending.new (Wants self.old (λ c s. effect c most_turns (statement_of statement.now) (stepped s)) self.new) }
         ensures pace { length self.new.frames.items + 2 * self.old.steps < 2 * self.new.steps + length self.old.frames.items }
     {
         self.steps += 1;

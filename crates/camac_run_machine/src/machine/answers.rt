@@ -1,12 +1,12 @@
 // What an answer does: the cycle or the lock that it is for.
 
-ghost use Rattle.std.specs.Prelude.{◌≡◌, ◌+◌, ◌*◌, ◌-◌, ◌<◌, ◌≤◌, [], List, length, true, false, None, Some, IsSome, IfOk, IfErr, OnErr, IfSome, slice_set, ◌^◌, ◌%◌};
+ghost use Rattle.std.specs.Prelude.{◌≡◌, ◌+◌, ◌*◌, ◌-◌, ◌<◌, ◌≤◌, [], List, length, true, false, None, Some, IsSome, IfOk, IfErr, OnErr, IfSome, IsSomeAnd, slice_set, ◌^◌, ◌%◌};
 ghost use Rattle.camac_branch.specs.Branch.{Answer};
 ghost use Rattle.camac_branch.specs.Crates.{branch_of, is_permitted};
 ghost use Rattle.camac_branch.specs.Plan.{crate_waits};
 ghost use Rattle.camac_lang.specs.Tree.{done};
 ghost use Rattle.camac_model.specs.State.{missed_with};
-ghost use Rattle.camac_run_machine.specs.MachineState.{reach, stands, IsFineHere, FineThen, HasRoom, IsPending, CanFollow, after_pending, Makes, TakesLock, IsRefused, Proceeds, Settles, Takes, Overruns};
+ghost use Rattle.camac_run_machine.specs.MachineState.{reach, stands, IsFineHere, FineThen, HasRoom, IsPending, CanFollow, IsOf, StandsIn, pending_of, after_pending, Makes, TakesLock, IsRefused, Proceeds, Settles, Takes, Overruns};
 
 use crate::command::command;
 use crate::item::Item;
@@ -167,6 +167,7 @@ impl<'a, const V: usize, const DEPTH: usize, const CAP: usize> Machine<'a, V, DE
         requires room { HasRoom self.old }
         requires quiet { self.old.unlocks.items ≡ [] }
         requires follows { IfSome pending.old (CanFollow (reach self.old).variables) }
+        requires begun { IfSome pending.old (StandsIn self.old) }
         requires fine { FineThen self.old (λ c. after_pending c pending.old) }
         ensures { Settles self.old (λ c. after_pending c pending.old) pending.new self.new }
     {
@@ -184,6 +185,7 @@ impl<'a, const V: usize, const DEPTH: usize, const CAP: usize> Machine<'a, V, DE
         requires fine { FineThen self.old (λ c. after_pending c pending.old) }
         ensures cycle { result ≡ true → IsSome pending.new × Proceeds self.old (λ c. after_pending c pending.old) pending.new self.new }
         ensures tally { result ≡ false → Proceeds self.old (λ c. after_pending c pending.old) None self.new }
+        ensures same { result ≡ true → IsSomeAnd pending.old (λ w. IfSome pending.new (λ v. IsOf (pending_of w) (pending_of v))) }
     {
         match pending {
             Some(Pending::Transfer(transfer)) => {

@@ -7,7 +7,7 @@ ghost use Rattle.camac_lang.specs.Tree.{done, choose_else, for_, locked, call};
 ghost use Rattle.camac_model.specs.Fine.{most_turns};
 ghost use Rattle.camac_model.specs.Meaning.{effect, block_meaning, for_turns, turns as while_turns};
 ghost use Rattle.camac_model.specs.Value.{value};
-ghost use Rattle.camac_run_machine.specs.MachineState.{context_in, reach, state_of, owner_in, open_in, opens_in, holds, free, FineThen, HasRoomFor, HasRoom, IsFineHere, stands, TakesFirst, TurnsAgain, LastIsOver, wanted_if, GoesOn, Advances, Enters, Awaits};
+ghost use Rattle.camac_run_machine.specs.MachineState.{context_in, reach, state_of, owner_in, open_in, opens_in, holds, free, FineThen, HasRoomFor, HasRoom, IsFineHere, stands, TakesFirst, StandsIn, TurnsAgain, LastIsOver, wanted_if, GoesOn, Advances, Enters, Awaits};
 ghost use Rattle.camac_run_machine.specs.Rest.{releases, owed, left_of};
 ghost use Rattle.camac_run_machine.specs.Within.{Refers, CallFits, PartsRefer, Opens, OwnerFits, outer};
 
@@ -235,9 +235,14 @@ impl<'a, const V: usize, const DEPTH: usize, const CAP: usize> Machine<'a, V, DE
         requires fine { (answers : List Answer) → IsFineHere self.old (stands None self.old answers) }
         ensures goes { GoesOn self.old (wanted_if result pending.new) self.new }
         ensures some { result ≡ true → IsSome pending.new }
+        ensures begun { result ≡ true → IfSome pending.new (StandsIn self.new) }
     {
         match next_statement(self.frames.as_mut_slice()) {
-            Some(first) => self.begin(first, pending),
+            Some(first) => {
+                let waits = self.begin(first, pending);
+                self.begun = Some(first);
+                waits
+            }
             None => {
                 self.close();
                 false

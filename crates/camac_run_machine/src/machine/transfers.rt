@@ -1,6 +1,6 @@
 // Block transfers, cycle by cycle.
 
-ghost use Rattle.std.specs.Prelude.{◌≡◌, ◌*◌, ◌-◌, ◌<◌, ◌≤◌, length, None, Some, IsSome, is_some, option_map, ◌^◌, ◌%◌};
+ghost use Rattle.std.specs.Prelude.{◌≡◌, ◌*◌, ◌-◌, ◌<◌, ◌≤◌, length, None, Some, IsSome, IfSome, is_some, option_map, ◌^◌, ◌%◌};
 ghost use Rattle.camac_branch.specs.Allowed.{width};
 ghost use Rattle.camac_lang.specs.View.{expression_of};
 ghost use Rattle.camac_lang.specs.Tree.{done, address_scan, q_stop, q_repeat};
@@ -197,7 +197,8 @@ impl<'a, const V: usize, const DEPTH: usize, const CAP: usize> Machine<'a, V, DE
         requires room { HasRoom self.old }
         requires tally { tally < (reach self.old).variables }
         requires fine { FineThen self.old (λ c. transferred c (transfer_at course.now function table tally)) }
-        ensures { Proceeds self.old (λ c. transferred c (transfer_at course.now function table.entry tally)) (option_map (cycle_of (transfer_at course.now function table.entry tally)) result) self.new }
+        ensures function { IfSome result (λ k. k.f ≡ function) }
+        ensures goes { Proceeds self.old (λ c. transferred c (transfer_at course.now function table.entry tally)) (option_map (cycle_of (transfer_at course.now function table.entry tally)) result) self.new }
     {
         let plan = self.checked.plan();
         plan.allows_commands();

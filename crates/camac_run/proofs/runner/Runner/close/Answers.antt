@@ -17,6 +17,7 @@ invariant_of-self g c =
       formed = inv.formed;
       fits = inv.fits;
       awaits = inv.awaits;
+      begun = inv.begun;
       idle = inv.idle;
       service = inv.service;
       fine = inv.fine;

@@ -34,6 +34,7 @@ invariant_of-self g c =
       formed = inv.formed;
       fits = inv.fits;
       awaits = inv.awaits;
+      begun = inv.begun;
       idle = inv.idle;
       service = inv.service;
       fine = inv.fine;
@@ -71,7 +72,7 @@ invariant_of-self-in-Some g c =
     let p = place k.script.services i c.in-Some.ensures.known in
     let s = c.serve.ensures p.0 p.1 in
     let new = c.serve.new.self in
-    sound_after r.machine new c.take-unlocks.new.self r.pending c.serve.new.pending r.fed r.events i c.take-unlocks.ensures.after inv s.room s.checked s.service c.in-Some.ensures.known s.awaits s.over
+    sound_after r.machine new c.take-unlocks.new.self r.pending c.serve.new.pending r.fed r.events i c.take-unlocks.ensures.after inv s.room s.checked s.service c.in-Some.ensures.known s.awaits s.begun s.over
     (serve_fine r.machine new i p.0 c.serve.new.pending inv.checked p.1 s)
 
 pub close-event-requires : goal.close-event-requires

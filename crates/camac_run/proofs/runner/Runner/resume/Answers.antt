@@ -11,7 +11,7 @@ use Rattle.camac_run.specs.Runner.{RunnerState, rest, with_event, last_words_in}
 use Rattle.camac_run.specs.Sound.{runner_state}
 use Rattle.camac_run.proofs.Serving.{served_does, served_stops}
 use Rattle.camac_run.proofs.Sizes.{machine_fits}
-use Rattle.camac_run.proofs.Told.{told_along, counted, sound_after, take_fine, settle_fine, below_along}
+use Rattle.camac_run.proofs.Told.{told_along, counted, sound_after, stays_in, take_fine, settle_fine, below_along}
 use Rattle.camac_run.proofs.runner.Runner.resume.Goals as goal
 
 pub take-taken-requires : goal.take-taken-requires
@@ -30,7 +30,7 @@ go_further-requires g c =
         t.room,
         (
           ap (λ (v : ArrayVec ℕ). v.items) t.unlocks ∙ inv.quiet,
-          rw pending (t.can_follow, take_fine c.self.inside.machine c.take-taken.new.self c.in-Some.pending c.args.answer c.in-Ok.item (rw pending at inv.fine) t),
+          rw pending (t.can_follow, (stays_in c.self.inside.machine c.take-taken.new.self c.in-Some.pending t.begun t.checked (rw pending at inv.begun), take_fine c.self.inside.machine c.take-taken.new.self c.in-Some.pending c.args.answer c.in-Ok.item (rw pending at inv.fine) t)),
         ),
       ),
     )
@@ -46,7 +46,7 @@ invariant_of-self g c =
     let t = c.in-Ok.ensures.took in
     let s = rw pending at c.go_further.ensures in
     let fine = take_fine r.machine mid c.in-Some.pending c.args.answer c.in-Ok.item (rw pending at inv.fine) t in
-    sound_after r.machine new c.take-unlocks.new.self r.pending next' r.fed r.events r.machine.service c.take-unlocks.ensures.after inv s.room (s.checked ∙ t.checked) (s.service ∙ t.service) (rw pending at inv.service) s.awaits s.over
+    sound_after r.machine new c.take-unlocks.new.self r.pending next' r.fed r.events r.machine.service c.take-unlocks.ensures.after inv s.room (s.checked ∙ t.checked) (s.service ∙ t.service) (rw pending at inv.service) s.awaits s.begun s.over
     (settle_fine mid new (λ z. follows z (pending_of c.in-Some.pending)) next' fine s)
 
 pub close-event-requires : goal.close-event-requires

@@ -30,6 +30,7 @@ invariant_of-result g c =
       formed = subst (λ (b : Bor CheckedScript). IsTrue (is_well_formed b.now.script)) (sym m.checked) formed;
       fits = subst (λ (b : Bor CheckedScript). fits b.now.script g.row.V g.row.DEPTH g.row.CAP ≡ true) (sym m.checked) c.requires;
       awaits = tt;
+      begun = tt;
       idle = m.idle;
       service = tt;
       fine = tt;

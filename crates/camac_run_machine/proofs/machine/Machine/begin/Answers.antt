@@ -8,7 +8,7 @@ use Rattle.camac_run_machine.specs.declared.machine.Pending.{Pending}
 use Rattle.camac_run_machine.specs.MachineState.{free, reach, wanted_if, Advances}
 use Rattle.camac_run_machine.proofs.Actions.{begun}
 use Rattle.camac_run_machine.proofs.Courses.{proceeds_advance, proceeds_pace}
-use Rattle.camac_run_machine.proofs.Frames.{room_stepped, wants_advance, enter_advances, step_advances}
+use Rattle.camac_run_machine.proofs.Frames.{room_stepped, wants_advance, wants_first, enter_advances, step_advances}
 use Rattle.camac_run_machine.proofs.Loops.{while_begins}
 use Rattle.camac_run_machine.proofs.Fine.{turns_are}
 use Rattle.camac_run_machine.proofs.Trees.{assign_is, register_is, put_is, single_is, crate_is, lam_is, scan_is, q_stop_is, q_repeat_is, choose_is, choose_else_is, lock_is, for_is, while_is, call_is}
@@ -80,6 +80,11 @@ returns-in-Single-clause-advances g c =
     rw (w.is, single_is w.line w.size w.function w.register w.data)
     (wants_advance c.args.self.now (single 0 w.size w.function w.register (move_of w.data)) c.single.new.pending c.requires.room c.single.ensures)
 
+pub returns-in-Single-clause-wants : goal.returns-in-Single-clause-wants
+returns-in-Single-clause-wants g c = λ yes.
+    let w = c.in-Single in
+    rw (w.is, single_is w.line w.size w.function w.register w.data) (wants_first c.args.self.now (single 0 w.size w.function w.register (move_of w.data)) c.single.new.pending c.single.ensures)
+
 pub call_crate-requires : goal.call_crate-requires
 call_crate-requires g c =
     let h = c.args.self.now in
@@ -93,6 +98,11 @@ returns-in-CrateCall-clause-advances g c =
     rw (w.is, crate_is w.line w.call w.crate_no)
     (wants_advance c.args.self.now (crate_call 0 w.call (expression_of w.crate_no)) c.call_crate.new.pending c.requires.room c.call_crate.ensures)
 
+pub returns-in-CrateCall-clause-wants : goal.returns-in-CrateCall-clause-wants
+returns-in-CrateCall-clause-wants g c = λ yes.
+    let w = c.in-CrateCall in
+    rw (w.is, crate_is w.line w.call w.crate_no) (wants_first c.args.self.now (crate_call 0 w.call (expression_of w.crate_no)) c.call_crate.new.pending c.call_crate.ensures)
+
 pub call_lam-requires : goal.call_lam-requires
 call_lam-requires g c =
     let w = c.in-LamCall in
@@ -103,6 +113,11 @@ pub returns-in-LamCall-clause-advances : goal.returns-in-LamCall-clause-advances
 returns-in-LamCall-clause-advances g c =
     let w = c.in-LamCall in
     rw (w.is, lam_is w.line w.call w.lam) (wants_advance c.args.self.now (lam_call 0 w.call w.lam) c.call_lam.new.pending c.requires.room c.call_lam.ensures)
+
+pub returns-in-LamCall-clause-wants : goal.returns-in-LamCall-clause-wants
+returns-in-LamCall-clause-wants g c = λ yes.
+    let w = c.in-LamCall in
+    rw (w.is, lam_is w.line w.call w.lam) (wants_first c.args.self.now (lam_call 0 w.call w.lam) c.call_lam.new.pending c.call_lam.ensures)
 
 -- transfers
 pub scan-requires : goal.scan-requires
@@ -118,6 +133,11 @@ returns-in-Scan-clause-advances g c =
     let w = c.in-Scan in
     rw (w.is, scan_is w.line w.function w.first w.last w.max w.tally, wanted_same c.scan.new.pending c.scan.result c.scan.ensures.some)
     (proceeds_advance c.args.self.now (address_scan 0 w.function w.first w.last (expression_of w.max) w.tally) c.scan.new.pending c.scan.new.self c.scan.ensures.goes)
+
+pub returns-in-Scan-clause-wants : goal.returns-in-Scan-clause-wants
+returns-in-Scan-clause-wants g c = λ yes.
+    let w = c.in-Scan in
+    rw (w.is, scan_is w.line w.function w.first w.last w.max w.tally) c.scan.ensures.goes.wants
 
 pub returns-in-Scan-clause-pace : goal.returns-in-Scan-clause-pace
 returns-in-Scan-clause-pace g c =
@@ -138,6 +158,11 @@ returns-in-QStop-clause-advances g c =
     rw (w.is, q_stop_is w.line w.function w.register w.table w.max w.tally, wanted_same c.q_stop.new.pending c.q_stop.result c.q_stop.ensures.some)
     (proceeds_advance c.args.self.now (q_stop 0 w.function w.register w.table (expression_of w.max) w.tally) c.q_stop.new.pending c.q_stop.new.self c.q_stop.ensures.goes)
 
+pub returns-in-QStop-clause-wants : goal.returns-in-QStop-clause-wants
+returns-in-QStop-clause-wants g c = λ yes.
+    let w = c.in-QStop in
+    rw (w.is, q_stop_is w.line w.function w.register w.table w.max w.tally) c.q_stop.ensures.goes.wants
+
 pub returns-in-QStop-clause-pace : goal.returns-in-QStop-clause-pace
 returns-in-QStop-clause-pace g c =
     let w = c.in-QStop in
@@ -156,6 +181,11 @@ returns-in-QRepeat-clause-advances g c =
     let w = c.in-QRepeat in
     rw (w.is, q_repeat_is w.line w.function w.register w.table w.max w.limit w.tally, wanted_same c.q_repeat.new.pending c.q_repeat.result c.q_repeat.ensures.some)
     (proceeds_advance c.args.self.now (q_repeat 0 w.function w.register w.table (expression_of w.max) (expression_of w.limit) w.tally) c.q_repeat.new.pending c.q_repeat.new.self c.q_repeat.ensures.goes)
+
+pub returns-in-QRepeat-clause-wants : goal.returns-in-QRepeat-clause-wants
+returns-in-QRepeat-clause-wants g c = λ yes.
+    let w = c.in-QRepeat in
+    rw (w.is, q_repeat_is w.line w.function w.register w.table w.max w.limit w.tally) c.q_repeat.ensures.goes.wants
 
 pub returns-in-QRepeat-clause-pace : goal.returns-in-QRepeat-clause-pace
 returns-in-QRepeat-clause-pace g c =
@@ -227,6 +257,12 @@ returns-in-Lock-clause-advances g c =
     let w = c.in-Lock in
     rw (w.is, lock_is w.line w.crate_no w.body, ← c.deref-in-Lock.ensures.value)
     (wants_advance c.args.self.now (locked 0 (expression_of w.crate_no) (statements_of c.deref-in-Lock.result.now)) c.want_lock.new.pending c.requires.room c.want_lock.ensures)
+
+pub returns-in-Lock-clause-wants : goal.returns-in-Lock-clause-wants
+returns-in-Lock-clause-wants g c = λ yes.
+    let w = c.in-Lock in
+    rw (w.is, lock_is w.line w.crate_no w.body, ← c.deref-in-Lock.ensures.value)
+    (wants_first c.args.self.now (locked 0 (expression_of w.crate_no) (statements_of c.deref-in-Lock.result.now)) c.want_lock.new.pending c.want_lock.ensures)
 
 pub begin_for-requires : goal.begin_for-requires
 begin_for-requires g c =

@@ -4,6 +4,7 @@ use Rattle.camac_model.specs.Behaviour.{Action}
 use Rattle.camac_model.specs.Meaning.{Context}
 use Rattle.camac_run_machine.specs.MachineState.{after_pending}
 use Rattle.camac_run_machine.proofs.Courses.{mid_quiet, wants_settles, over_fine, over_settles}
+use Rattle.camac_run_machine.proofs.Standing.{stands_on}
 use Rattle.camac_run_machine.proofs.machine.Machine.go_further.Goals as goal
 
 pub settle-requires : goal.settle-requires
@@ -20,4 +21,5 @@ returns-then-not-follow_transfer g c =
 pub returns-else-not-follow_transfer : goal.returns-else-not-follow_transfer
 returns-else-not-follow_transfer g c =
     let p = c.if-not-follow_transfer.ensures.cycle refl in
-    wants_settles c.args.self.now (λ k. after_pending k c.args.pending.now) c.follow_transfer.new.self c.requires.quiet c.follow_transfer.new.pending p.0 p.1
+    wants_settles c.args.self.now (λ k. after_pending k c.args.pending.now) c.follow_transfer.new.self c.requires.quiet c.follow_transfer.new.pending p.0
+    (stands_on c.args.self.now c.follow_transfer.new.self c.args.pending.now c.follow_transfer.new.pending p.1.same c.requires.begun (c.if-not-follow_transfer.ensures.same refl)) p.1

@@ -1,19 +1,22 @@
 use Rattle.std.proofs.Common.{◌≡◌, ◌≤◌, List, [], ◌∷◌, ◌++◌, refl, rules, ap, sym, subst, ◌∙◌, arith, length, ◌+◌}
-use Rattle.std.specs.Prelude.{None}
+use Rattle.std.specs.Prelude.{Option, Some, None}
+use Rattle.std.specs.Borrow.{Bor}
 use Rattle.camac_branch.specs.Branch.{Answer}
 use Rattle.camac_lang.specs.View.{statement_of, statements_of}
 use Rattle.camac_lang.specs.Tree.{Statement}
+use Rattle.camac_lang.specs.declared.tree.Stmt.{Stmt}
 use Rattle.arrayvec.specs.ArrayVec.{ArrayVec, with_items}
 use Rattle.camac_run_machine.specs.declared.machine.Frame.{Frame}
 use Rattle.camac_run_machine.specs.declared.machine.Machine.{Machine}
-use Rattle.camac_run_machine.specs.MachineState.{state_of, open_in, stands, IsFineHere, HasRoom, LastIsOver, GoesOn}
-use Rattle.camac_run_machine.specs.Rest.{Open}
-use Rattle.camac_run_machine.proofs.Frames.{room_begun, goes_begun, room_popped, goes_popped, fine_along}
+use Rattle.camac_run_machine.specs.MachineState.{state_of, open_in, stands, IsFineHere, HasRoom, LastIsOver, wanted_if, GoesOn}
+use Rattle.camac_run_machine.specs.Rest.{Open, says}
+use Rattle.camac_run_machine.proofs.Frames.{room_begun, goes_begun, room_popped, goes_popped, fine_along, room_at, ready_at, stands_at}
+use Rattle.camac_run_machine.proofs.Standing.{stands_first}
 use Rattle.camac_run_machine.proofs.Lists.{filled, longer}
 use Rattle.camac_run_machine.proofs.machine.Machine.go_on.Goals as goal
 
-pub begin-requires : goal.begin-requires
-begin-requires g c =
+pub begin-waits-requires : goal.begin-waits-requires
+begin-waits-requires g c =
     let h = c.args.self.now in
     let t = c.in-Some.ensures.begun in
     let fs : ArrayVec Frame = with_items h.frames c.next_statement.new.frames in
@@ -51,24 +54,33 @@ returns-in-Some-clause-goes g c =
     let st : Statement = statement_of c.in-Some.first.now in
     let e = ap statements_of t.first_is in
     let mid : Machine g.row.V g.row.DEPTH g.row.CAP = record h { frames = before } in
-    let a = c.begin.ensures.advances in
+    let a = c.begin-waits.ensures.advances in
+    let new = c.begin-waits.new.self in
+    let at : Option (Bor Stmt) = Some c.in-Some.first in
+    let w = wanted_if c.begin-waits.result c.begin-waits.new.pending in
     record {
       before = t.before;
       last = t.last;
       was = was;
       advances = record {
-        room = a.room;
+        room = room_at new at a.room;
         checked = a.checked;
         service = a.service;
-        awaits = a.awaits;
+        awaits = ready_at new at w a.awaits;
         pace =
-            let p = c.begin.ensures.pace in
+            let p = c.begin-waits.ensures.pace in
             let n : length fs.items ≡ length t.before + 1 = ap length items ∙ longer t.before _ in omega (arith, p, n);
         released = a.released;
         unlocks = a.unlocks;
-        goes = λ answers. a.goes answers ∙ goes_begun mid _ fs o st items e refl (state_of h answers);
+        goes = λ answers. ap (says a.released) (stands_at new at w answers) ∙ a.goes answers ∙ goes_begun mid _ fs o st items e refl (state_of h answers);
       };
     }
+
+pub returns-in-Some-clause-begun : goal.returns-in-Some-clause-begun
+returns-in-Some-clause-begun g c = λ yes.
+    let h = c.args.self.now in
+    let fs : ArrayVec Frame = with_items h.frames c.next_statement.new.frames in
+    stands_first (record h { frames = fs }) c.begin-waits.new.self c.in-Some.first c.begin-waits.new.pending c.begin-waits.ensures.advances.checked (c.begin-waits.ensures.wants yes)
 
 pub close-requires : goal.close-requires
 close-requires g c =

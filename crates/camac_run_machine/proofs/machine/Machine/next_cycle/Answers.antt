@@ -13,13 +13,16 @@ command-requires-clause-at g c =
 pub command-requires-clause-data : goal.command-requires-clause-data
 command-requires-clause-data g c = next_data c.args.self.now (transfer_at c.args.course.now c.args.function c.args.table c.args.tally) c.requires.fine
 
-pub returns-in-Some : goal.returns-in-Some
-returns-in-Some g c =
+pub returns-in-Some-clause-function : goal.returns-in-Some-clause-function
+returns-in-Some-clause-function g c = c.in-Some.ensures.moves.1
+
+pub returns-in-Some-clause-goes : goal.returns-in-Some-clause-goes
+returns-in-Some-clause-goes g c =
     let m = c.in-Some.ensures.moves in
     proceeds_on c.args.self.now (transfer_at c.args.course.now c.args.function c.args.table c.args.tally) c.in-Some.command c.requires.fine c.requires.tally c.in-Some.ensures.next_address m.0 m.1 c.requires.room
 
-pub returns-in-None : goal.returns-in-None
-returns-in-None g c =
+pub returns-in-None-clause-goes : goal.returns-in-None-clause-goes
+returns-in-None-clause-goes g c =
     let h = c.args.self.now in
     let x = c.args.tally in
     proceeds_over h (transfer_at c.args.course.now c.args.function c.args.table x) c.set_variable.new.self c.in-None.ensures.next_address c.requires.tally

@@ -112,6 +112,7 @@ returns g c = λ s at.
       checked = c.settle.ensures.checked;
       service = c.settle.ensures.service;
       awaits = c.settle.ensures.awaits;
+      begun = c.settle.ensures.begun;
       over = c.settle.ensures.over;
       goes = λ answers.
           c.settle.ensures.goes answers

@@ -46,6 +46,7 @@ returns-then-go_on g c =
       checked = a.checked ∙ v.checked;
       service = a.service ∙ v.service;
       awaits = a.awaits;
+      begun = c.go_on.ensures.begun c.if-go_on.true;
       over = none_if_some w _ (c.go_on.ensures.some c.if-go_on.true);
       goes = λ answers. goes_further h new e.last before e.was a.released a.unlocks w answers (a.goes answers) ∙ v.goes answers;
     }
@@ -82,4 +83,4 @@ pub returns : goal.returns
 returns g c =
     let h = c.loop-self.self in
     let v = c.loop-self.invariant in
-    rw c.wait_for_none.ensures (record { room = v.room; checked = v.checked; service = v.service; awaits = tt; over = none_of h.frames.items c.loop-self-test.ensures; goes = v.goes })
+    rw c.wait_for_none.ensures (record { room = v.room; checked = v.checked; service = v.service; awaits = tt; begun = tt; over = none_of h.frames.items c.loop-self-test.ensures; goes = v.goes })
