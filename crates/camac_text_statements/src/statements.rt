@@ -1,8 +1,12 @@
 // Blocks and statements.
 
-ghost use Rattle.std.specs.Prelude.{◌≡◌, Some, map, suc};
+ghost use Rattle.std.specs.Prelude.{◌≡◌, Some, false, map, suc};
 ghost use Rattle.camac_lang.specs.View.{statement_of};
-ghost use Rattle.camac_text_cursor.specs.Reading.{kind_of, many};
+ghost use Rattle.camac_text_cursor.specs.Choice.{takes};
+ghost use Rattle.camac_text_cursor.specs.declared.choice.Choice.TheVariants as choice;
+ghost use Rattle.camac_text_cursor.specs.Reading.{kind_of, left_of, line_of, many};
+ghost use Rattle.camac_text_tokens.specs.declared.fault.TextCase.TheVariants.{Unexpected};
+ghost use Rattle.camac_text_tokens.specs.declared.token.Keyword.TheVariants as keyword;
 ghost use Rattle.camac_text_tokens.specs.declared.token.TokenKind.TheVariants as kind;
 ghost use Rattle.camac_text_statements.specs.Statements.{statement_by, statement_with, is_no_end, block_at};
 ghost use Rattle.camac_text_cursor.specs.Parser.{state, Gives};
@@ -12,7 +16,7 @@ use crate::calls::{crate_action, crate_switch, lam_action, lam_switch};
 use crate::nesting::{for_statement, if_statement, lock_statement, while_statement};
 use crate::transfers::{call, q_repeat, q_stop, scan};
 use camac_lang::{CrateCall, LamCall, Stmt, WordSize};
-use camac_text_cursor::Parser;
+use camac_text_cursor::{Choice, Parser};
 use camac_text_tokens::{Keyword, Limit, Sign, TextCase, TextFault, TokenKind};
 
 /// The statements between two braces, where so many braces and brackets may be open at once.
@@ -25,7 +29,7 @@ pub fn block(parser: &mut Parser<'_>, room: u32) -> Result<Vec<Stmt>, TextFault>
         if parser.next_is_sign(Sign::LeftBrace) {
             return Err(parser.fault(TextCase::Limit(Limit::Depth)));
         }
-        return Err(parser.fault(TextCase::Unexpected));
+        return Err(parser.unexpected(Choice::Mark(Sign::LeftBrace)));
     }
     in_braces(parser, room - 1)
 }
@@ -68,13 +72,38 @@ fn statement(parser: &mut Parser<'_>, room: u32) -> Result<Stmt, TextFault>
 {
     let line = parser.line_here();
     match parser.peek() {
-        Some(TokenKind::Name(_)) => assignment(parser, room, line),
+        Some(TokenKind::Name(_)) => {
+            miss_words(parser);
+            assignment(parser, room, line)
+        }
         Some(TokenKind::Keyword(word)) => {
             let word = *word;
             keyword_statement(parser, word, room, line)
         }
-        _ => Err(parser.fault(TextCase::Unexpected)),
+        _ => Err(no_statement(parser)),
     }
+}
+
+/// Remembers that the next token is no word that begins a statement.
+fn miss_words(parser: &Parser<'_>)
+    requires statement { takes choice.Statement (kind_of (state parser.now).rest) ≡ false }
+    requires lock { takes (choice.Word keyword.Lock) (kind_of (state parser.now).rest) ≡ false }
+{
+    parser.miss(Choice::Statement);
+    if !parser.in_procedure() {
+        parser.miss(Choice::Word(Keyword::Lock));
+    }
+}
+
+/// The fault of a token that begins no statement.
+fn no_statement(parser: &Parser<'_>) -> TextFault
+    requires statement { takes choice.Statement (kind_of (state parser.now).rest) ≡ false }
+    requires lock { takes (choice.Word keyword.Lock) (kind_of (state parser.now).rest) ≡ false }
+    requires name { takes choice.Name (kind_of (state parser.now).rest) ≡ false }
+    ensures { result ≡ TextFault.Broken Unexpected (line_of (state parser.now).rest parser.now.end_line) (left_of (state parser.now).rest) }
+{
+    miss_words(parser);
+    parser.unexpected(Choice::Name)
 }
 
 /// The statement that begins with this keyword, which stands next.
@@ -85,6 +114,7 @@ fn keyword_statement(
     room: u32,
     line: u32,
 ) -> Result<Stmt, TextFault>
+    requires { kind_of (state parser.old).rest ≡ Some (kind.Keyword word) }
     ensures { Gives statement_of result parser.new (statement_by room (block_at room) line (Some (kind.Keyword word)) (state parser.old)) }
 {
     match word {
@@ -122,6 +152,6 @@ fn keyword_statement(
         Keyword::Cclm => lam_switch(parser, line),
         Keyword::Cclc => lam_action(parser, LamCall::Clear, line),
         Keyword::Ctlm => lam_action(parser, LamCall::Test, line),
-        _ => Err(parser.fault(TextCase::Unexpected)),
+        _ => Err(no_statement(parser)),
     }
 }
