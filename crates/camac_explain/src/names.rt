@@ -1,6 +1,6 @@
 // The names of a script, for its sentences.
 
-ghost use Rattle.std.specs.Prelude.{◌≡◌, Some, IfOk, map, option_copied};
+ghost use Rattle.std.specs.Prelude.{◌≡◌, IfOk, map, option_copied};
 ghost use Rattle.camac_lang.specs.View.{lam_of, procedure_of, service_of};
 ghost use Rattle.camac_explain.specs.Names.{AreNamesOf, is_at, is_served_at, lam_at, first_lam, first_served, name_at, parameter_in, parameter_of, register_in_service, register_of, served_at, shown, variable_of};
 

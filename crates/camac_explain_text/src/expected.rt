@@ -45,8 +45,8 @@ impl fmt::Display for Expected {
 /// What might stand where these choices are: the groups, and each sign and word that is in none of them.
 pub fn expected_of(alloc: Global, choices: Choices) -> Result<Vec<Expected>, AllocError> {
     // a second `not` may not stand after one
-    let is_condition = choices.has(Choice::Flag) && choices.has_word(Keyword::Not);
-    let is_value = choices.has(Choice::Number) && choices.has_sign(Sign::LeftBracket);
+    let is_condition = choices.has(Choice::Flag) && choices.has(Choice::Word(Keyword::Not));
+    let is_value = choices.has(Choice::Number) && choices.has(Choice::Mark(Sign::LeftBracket));
     let mut found = Vec::new(alloc);
     for (group, is_there) in [
         ("a declaration", choices.has(Choice::Declaration)),
@@ -66,7 +66,7 @@ pub fn expected_of(alloc: Global, choices: Choices) -> Result<Vec<Expected>, All
         let is_of_group = is_operator(sign)
             || is_comparison(sign)
             || (sign == Sign::LeftBracket && is_value);
-        if choices.has_sign(sign) && !is_of_group {
+        if choices.has(Choice::Mark(sign)) && !is_of_group {
             found.push(Expected::Token(sign.spelling()))?;
         }
     }
@@ -74,7 +74,7 @@ pub fn expected_of(alloc: Global, choices: Choices) -> Result<Vec<Expected>, All
         let is_of_group = Choice::Declaration.has_word(word) && choices.has(Choice::Declaration)
             || begins_statement(word)
             || (is_condition && matches!(word, Keyword::Not | Keyword::Q | Keyword::X));
-        if choices.has_word(word) && !is_of_group {
+        if choices.has(Choice::Word(word)) && !is_of_group {
             found.push(Expected::Token(word.spelling()))?;
         }
     }

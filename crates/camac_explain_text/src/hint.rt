@@ -174,7 +174,9 @@ fn near_word(found: &Found<'_>) -> Option<&'static str> {
     if !matches!(found.kind, Some(TokenKind::Name(_))) {
         return None;
     }
-    let fitting = KEYWORDS.iter().filter(|it| found.expected.has_word(**it));
+    let fitting = KEYWORDS
+        .iter()
+        .filter(|it| found.expected.has(Choice::Word(**it)));
     let mut words = fitting.map(|it| it.spelling());
     words.find(|word| is_near(found.word, word.as_bytes()))
 }
@@ -198,16 +200,21 @@ fn meant_by_sign(found: &Found<'_>) -> Option<&'static str> {
         Sign::Equals | Sign::Less => Sign::From,
         Sign::Same => Sign::Equals,
         Sign::More | Sign::Minus => Sign::Into,
-        Sign::UpTo if found.expected.has_word(Keyword::To) => return Some(Keyword::To.spelling()),
+        Sign::UpTo if found.expected.has(Choice::Word(Keyword::To)) => return Some(
+            Keyword::To.spelling(),
+        ),
         _ => return None,
     };
-    found.expected.has_sign(meant).then_some(meant.spelling())
+    found
+        .expected
+        .has(Choice::Mark(meant))
+        .then_some(meant.spelling())
 }
 
 // What stands where the arrow of a cycle is missing: a name that then begins an assignment, or a number.
 fn missing_arrow<'a>(found: &'a Found<'_>) -> Option<Hint<'a>> {
     use TokenKind::{Keyword as Word, Name, Number};
-    let is_set = found.expected.has_sign(Sign::Equals);
+    let is_set = found.expected.has(Choice::Mark(Sign::Equals));
     match (found.before.phrase.as_slice(), &found.kind) {
         (
             [

@@ -98,7 +98,7 @@ fn mistake_at(found: &Found<'_>) -> Option<&'static str> {
             if found.expected.has(Choice::Comparison) => { "A condition compares, as in `v != 0`." }
         (_, Mark(sign))
             if is_comparison(*sign)
-                && found.expected.has_word(Keyword::And)
+                && found.expected.has(Choice::Word(Keyword::And))
                 && is_value(found.last()) => {
             "Comparisons are joined by `and`: `a < v and v < b`."
         }
@@ -123,7 +123,7 @@ fn mistake_after(found: &Found<'_>) -> Option<&'static str> {
             "A name has letters, digits and `_`, and no dash."
         }
         (Name(_), TokenKind::Sign(sign))
-            if is_operator(*sign) && found.expected.has_sign(Sign::Equals) => {
+            if is_operator(*sign) && found.expected.has(Choice::Mark(Sign::Equals)) => {
             "The variable stands again behind the `=`, as in `v = v + 1`."
         }
         (Word(Keyword::Q | Keyword::X), TokenKind::Sign(sign))

@@ -89,31 +89,77 @@ impl Choice {
         }
     }
 
-    // Its place in a set.
+    // Its bits in a set.
     #[inline(always)]
-    fn bit(self) -> u128 {
-        let place = match self {
-            Choice::Word(word) => word as u32,
-            Choice::Mark(sign) => 64u32.wrapping_add(sign as u32),
-            Choice::Name => 96,
-            Choice::Number => 97,
-            Choice::Declaration => 98,
-            Choice::Statement => 99,
-            Choice::Flag => 100,
-            Choice::Switch => 101,
-            Choice::Arrow => 102,
-            Choice::Sum => 103,
-            Choice::Product => 104,
-            Choice::Comparison => 105,
-        };
-        1u128.wrapping_shl(place)
+    fn bits(self) -> u64 {
+        match self {
+            Choice::Word(word) => bit_of_word(word),
+            Choice::Mark(sign) => bit_of_sign(sign),
+            Choice::Name => 1 << 40,
+            Choice::Number => 1 << 41,
+            Choice::Declaration => bit_of_word(Keyword::Table) | bit_of_word(Keyword::Var),
+            Choice::Statement => bit_of_word(Keyword::Put),
+            Choice::Flag => bit_of_word(Keyword::Q),
+            Choice::Switch => bit_of_word(Keyword::On),
+            Choice::Arrow => bit_of_sign(Sign::Into),
+            Choice::Sum => bit_of_sign(Sign::Plus),
+            Choice::Product => bit_of_sign(Sign::Times),
+            Choice::Comparison => bit_of_sign(Sign::Less),
+        }
+    }
+}
+
+// Words that may stand at the same places alone have the same bit.
+#[inline(always)]
+fn bit_of_word(word: Keyword) -> u64 {
+    match word {
+        Keyword::Table => 1 << 0,
+        Keyword::Cdlam | Keyword::Var | Keyword::Proc | Keyword::Service => 1 << 1,
+        Keyword::Within => 1 << 2,
+        Keyword::Cycles => 1 << 3,
+        Keyword::Event => 1 << 4,
+        Keyword::Words => 1 << 5,
+        Keyword::Steps => 1 << 6,
+        Keyword::Max => 1 << 7,
+        Keyword::Limit => 1 << 8,
+        Keyword::Tally => 1 << 9,
+        Keyword::On | Keyword::Off => 1 << 10,
+        Keyword::Else => 1 << 11,
+        Keyword::To => 1 << 12,
+        Keyword::Turns => 1 << 13,
+        Keyword::By => 1 << 14,
+        Keyword::Keep => 1 << 15,
+        Keyword::In => 1 << 16,
+        Keyword::Lock => 1 << 17,
+        Keyword::And => 1 << 18,
+        Keyword::Not => 1 << 19,
+        Keyword::Q | Keyword::X => 1 << 20,
+        _ => 1 << 21,
+    }
+}
+
+// The same of signs.
+#[inline(always)]
+fn bit_of_sign(sign: Sign) -> u64 {
+    match sign {
+        Sign::LeftBrace => 1 << 22,
+        Sign::RightBrace => 1 << 23,
+        Sign::LeftBracket => 1 << 24,
+        Sign::RightBracket => 1 << 25,
+        Sign::Plus | Sign::Minus => 1 << 26,
+        Sign::Times | Sign::Over | Sign::Modulo => 1 << 27,
+        Sign::Equals => 1 << 28,
+        Sign::Comma => 1 << 29,
+        Sign::Into | Sign::From => 1 << 30,
+        Sign::UpTo => 1 << 31,
+        _ => 1 << 32,
     }
 }
 
 /// All that may stand at a place. No clause says more of it than that a fault's token is none of these: tests/expected_test.py compares them
 /// with the parser.
 #[derive(Clone, Copy, Debug, PartialEq, Eq)]
-pub struct Choices(u128);
+pub struct Choices(u64);
 
 impl Choices {
     /// Nothing.
@@ -124,39 +170,11 @@ impl Choices {
     /// These, and one choice more.
     #[inline(always)]
     pub fn with(self, choice: Choice) -> Self {
-        Choices(self.0 | choice.bit())
+        Choices(self.0 | choice.bits())
     }
 
-    /// Whether a choice is one of these.
+    /// Whether all of a choice are among these.
     pub fn has(self, choice: Choice) -> bool {
-        self.0 & choice.bit() != 0
-    }
-
-    /// Whether a word is one of a choice of these.
-    pub fn has_word(self, word: Keyword) -> bool {
-        let groups = [
-            Choice::Word(word),
-            Choice::Declaration,
-            Choice::Statement,
-            Choice::Flag,
-            Choice::Switch,
-        ];
-        groups
-            .iter()
-            .any(|choice| choice.has_word(word) && self.has(*choice))
-    }
-
-    /// Whether a sign is one of a choice of these.
-    pub fn has_sign(self, sign: Sign) -> bool {
-        let groups = [
-            Choice::Mark(sign),
-            Choice::Arrow,
-            Choice::Sum,
-            Choice::Product,
-            Choice::Comparison,
-        ];
-        groups
-            .iter()
-            .any(|choice| choice.has_sign(sign) && self.has(*choice))
+        self.0 & choice.bits() == choice.bits()
     }
 }
