@@ -118,9 +118,8 @@ def difference(seed):
         return False, None
     start = before(text, lines)
     parsed = taken(start)
-    # `lock` stands in services alone, and the group has it
-    in_procedure = re.findall(r"\b(?:proc|service)\b", start)[-1:] == ["proc"]
-    if in_procedure:
+    # the group has `lock`, which stands in services alone
+    if re.findall(r"\b(?:proc|service)\b", start)[-1:] == ["proc"]:
         tokens.discard("lock")
     return True, None if tokens == parsed else (seed, start[-60:], sorted(tokens - parsed), sorted(parsed - tokens))
 

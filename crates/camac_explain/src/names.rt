@@ -155,7 +155,7 @@ fn is_at(lam: &Lam, crate_no: u32, station: u32) -> bool
 
 // A name, or a `?` where there is none.
 fn quoted(name: Option<&Name>) -> Quote<'_>
-    ensures { result.0.now ≡ shown (option_copied name) }
+    ensures { result.0.now ≡ shown (option_copied name.entry) }
 {
     match name {
         Some(name) => Quote(name.as_bytes()),

@@ -174,9 +174,11 @@ fn near_word(found: &Found<'_>) -> Option<&'static str> {
     if !matches!(found.kind, Some(TokenKind::Name(_))) {
         return None;
     }
-    let fitting = KEYWORDS
-        .iter()
-        .filter(|it| found.expected.has(Choice::Word(**it)));
+    let is_lock = found.begins_statement() && !found.before.in_procedure;
+    let fits = |it: &&Keyword| {
+        found.expected.has(Choice::Word(**it)) || (is_lock && **it == Keyword::Lock)
+    };
+    let fitting = KEYWORDS.iter().filter(fits);
     let mut words = fitting.map(|it| it.spelling());
     words.find(|word| is_near(found.word, word.as_bytes()))
 }

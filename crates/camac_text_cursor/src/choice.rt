@@ -15,7 +15,7 @@ pub enum Choice {
     Number,
     /// The words that begin a declaration.
     Declaration,
-    /// The words that begin a statement, but for `lock`, which no procedure has.
+    /// The words that begin a statement, but for `lock`: a procedure has none, by a case of its own.
     Statement,
     /// `q` and `x`.
     Flag,

@@ -176,8 +176,8 @@ impl Parser<'_> {
     pub fn advance(&mut self)
         ensures { state self.new ≡ record (state self.old) { rest = after_first (state self.old).rest } }
     {
-        self.rest.advance();
         self.missed.set(Choices::none());
+        self.rest.advance();
     }
 
     /// Whether this keyword stands next, which may stand there.

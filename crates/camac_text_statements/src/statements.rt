@@ -6,7 +6,6 @@ ghost use Rattle.camac_text_cursor.specs.Choice.{takes};
 ghost use Rattle.camac_text_cursor.specs.declared.choice.Choice.TheVariants as choice;
 ghost use Rattle.camac_text_cursor.specs.Reading.{kind_of, left_of, line_of, many};
 ghost use Rattle.camac_text_tokens.specs.declared.fault.TextCase.TheVariants.{Unexpected};
-ghost use Rattle.camac_text_tokens.specs.declared.token.Keyword.TheVariants as keyword;
 ghost use Rattle.camac_text_tokens.specs.declared.token.TokenKind.TheVariants as kind;
 ghost use Rattle.camac_text_statements.specs.Statements.{statement_by, statement_with, is_no_end, block_at};
 ghost use Rattle.camac_text_cursor.specs.Parser.{state, Gives};
@@ -73,7 +72,7 @@ fn statement(parser: &mut Parser<'_>, room: u32) -> Result<Stmt, TextFault>
     let line = parser.line_here();
     match parser.peek() {
         Some(TokenKind::Name(_)) => {
-            miss_words(parser);
+            parser.miss(Choice::Statement);
             assignment(parser, room, line)
         }
         Some(TokenKind::Keyword(word)) => {
@@ -84,25 +83,13 @@ fn statement(parser: &mut Parser<'_>, room: u32) -> Result<Stmt, TextFault>
     }
 }
 
-/// Remembers that the next token is no word that begins a statement.
-fn miss_words(parser: &Parser<'_>)
-    requires statement { takes choice.Statement (kind_of (state parser.now).rest) ≡ false }
-    requires lock { takes (choice.Word keyword.Lock) (kind_of (state parser.now).rest) ≡ false }
-{
-    parser.miss(Choice::Statement);
-    if !parser.in_procedure() {
-        parser.miss(Choice::Word(Keyword::Lock));
-    }
-}
-
 /// The fault of a token that begins no statement.
 fn no_statement(parser: &Parser<'_>) -> TextFault
     requires statement { takes choice.Statement (kind_of (state parser.now).rest) ≡ false }
-    requires lock { takes (choice.Word keyword.Lock) (kind_of (state parser.now).rest) ≡ false }
     requires name { takes choice.Name (kind_of (state parser.now).rest) ≡ false }
     ensures { result ≡ TextFault.Broken Unexpected (line_of (state parser.now).rest parser.now.end_line) (left_of (state parser.now).rest) }
 {
-    miss_words(parser);
+    parser.miss(Choice::Statement);
     parser.unexpected(Choice::Name)
 }
 
