@@ -159,6 +159,7 @@ impl Parser<'_> {
     }
 
     /// The fault of the next token, which is none of these. What was looked for before may stand in its place, too.
+    #[inline(never)]
     pub fn unexpected(&self, choice: Choice) -> TextFault
         requires { takes choice (kind_of (state self.now).rest) ≡ false }
         ensures { result ≡ TextFault.Broken Unexpected (line_of (state self.now).rest self.now.end_line) (left_of (state self.now).rest) }
