@@ -195,6 +195,7 @@ MISTAKES = [
     ("the second register of a scan", service("cdreg a 1 1 5 0", "cfmad 0 a b max 5 tally t"), "S5", 5, "The name `b` is not declared before as a register."),
     ("a declaration in two blocks", service("if q {", "cdlam more 1 1 6 0", "}"), "S2", 5, "`cdlam` stands outside of services and procedures, and the `{` of line 4 is still open."),
     ("a lock mistyped", service("lok 1 { }"), "S5", 4, "The name `lok` is not declared before as a variable. Perhaps `lock` is meant."),
+    ("a lock mistyped in a procedure", procedure("call get(0)", body="lok 1 { }"), "S5", 6, "The name `lok` is not declared before as a variable."),
     ("a lock outside", "cdlam adc 1 1 5 12\nlock 1 { }\n", "S2", 2, "Found `lock`; here may stand a declaration. A statement stands in the braces of a service or a procedure."),
     ("a table too many", "".join(f"table g{n} = 1\n" for n in range(17)), "S6", 17, "The limit is passed at `table`: a script has at most 16 tables."),
     ("a word of a table too many", "table g = 0" + "\n1" * 1024 + "\n", "S6", 1025, "The limit is passed at `1`: a table has at most 1024 words."),

@@ -4,6 +4,7 @@
 mod advice;
 mod explanation;
 mod finding;
+mod names;
 mod plan;
 mod sentence;
 mod source;

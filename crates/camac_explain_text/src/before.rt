@@ -1,6 +1,6 @@
 // What stands before a place of a script.
 
-use crate::trial::{begins_declaration, begins_statement, is_operator};
+use crate::expected::{begins_declaration, begins_statement};
 use camac_lang::Name;
 use camac_report_text::is_near;
 use camac_text::NameKind;
@@ -17,21 +17,13 @@ pub struct Declared {
     pub parameters: usize,
 }
 
-// An open block: the line of its `{`, and whether an `else` may follow its `}`.
-#[derive(Clone, Copy)]
-struct Block {
-    line: u32,
-    is_then: bool,
-}
-
 /// What stands before a place of a script that is right up to there.
 #[derive(Drop)]
 pub struct Before {
-    // The heading of the body in hand; nothing outside of bodies.
-    heading: Vec<TokenKind>,
     /// The declaration or the statement in hand, as far as it goes.
     pub phrase: Vec<TokenKind>,
-    blocks: Vec<Block>,
+    // The lines of the `{` that are open.
+    blocks: Vec<u32>,
     /// The names that are declared so far, and those of the body in hand.
     pub names: Vec<Declared>,
     // How many of the names are declared before the declaration in hand.
@@ -44,7 +36,6 @@ impl Before {
     /// What stands in a text.
     pub fn new(alloc: Global, text: &[u8]) -> Result<Self, AllocError> {
         let mut before = Before {
-            heading: Vec::new(alloc),
             phrase: Vec::new(alloc),
             blocks: Vec::new(alloc),
             names: Vec::new(alloc),
@@ -92,21 +83,16 @@ impl Before {
         is_variable || self.kind_declared_next().is_some()
     }
 
-    // Whether it ends in the list of what a loop keeps.
-    fn is_keeping(&self) -> bool {
-        let mut words = self.phrase.iter().map(|kind| word_of(Some(kind)));
-        words.any(|word| word == Some(Keyword::Keep))
-    }
-
     /// Whether it ends in brackets, and so in an expression.
     pub fn is_in_brackets(&self) -> bool {
-        self.last_sign(Sign::LeftBracket).is_some()
+        self.count(Sign::LeftBracket) > self.count(Sign::RightBracket)
     }
 
-    // Where a sign stands last in the phrase.
-    fn last_sign(&self, wanted: Sign) -> Option<usize> {
-        let is_wanted = |kind: &TokenKind| matches!(kind, TokenKind::Sign(sign) if *sign == wanted);
-        self.phrase.iter().rposition(is_wanted)
+    // How often a sign stands in the phrase.
+    fn count(&self, wanted: Sign) -> usize {
+        let is_wanted =
+            |kind: &&TokenKind| matches!(kind, TokenKind::Sign(sign) if *sign == wanted);
+        self.phrase.iter().filter(is_wanted).count()
     }
 
     /// Whether it ends in a body.
@@ -116,7 +102,7 @@ impl Before {
 
     /// The line of the last `{` that is open.
     pub fn open_line(&self) -> Option<u32> {
-        self.blocks.last().map(|block| block.line)
+        self.blocks.last().copied()
     }
 
     /// How many parameters the procedure in hand has.
@@ -149,84 +135,17 @@ impl Before {
         seen.find(|it| is_of_kind(it, kind) && is_near(word, it.name.as_bytes()))
     }
 
-    /// A short text after which the parser goes on as after the whole one: the names that are in use, the heading, an `if` for each block, and
-    /// the phrase.
-    pub fn short_text(&self, alloc: Global) -> Result<String, AllocError> {
-        let mut text = String::new(alloc);
-        for it in self.names.iter().take(self.outside) {
-            if is_among(&it.name, &self.heading) || is_among(&it.name, &self.phrase) {
-                add_declaration(&mut text, it)?;
-            }
-        }
-        add_tokens(&mut text, &self.heading)?;
-        for it in self.names.iter().skip(self.outside) {
-            if it.kind == NameKind::Register && is_among(&it.name, &self.phrase) {
-                add_declaration(&mut text, it)?;
-            }
-        }
-        for _inner in self.blocks.iter().skip(1) {
-            text.push_str("if q { ")?;
-        }
-        add_tokens(&mut text, &self.phrase)?;
-        Ok(text)
-    }
-
     fn take(&mut self, kind: &TokenKind, line: u32) -> Result<(), AllocError> {
         match kind {
             TokenKind::Sign(Sign::LeftBrace) => return self.open_block(line),
             TokenKind::Sign(Sign::RightBrace) => return self.close_block(),
             TokenKind::Sign(Sign::Equals) => self.begin_assignment()?,
-            TokenKind::Sign(Sign::RightBracket) => return self.close_bracket(),
-            TokenKind::Sign(Sign::Comma) => self.shorten_kept(),
             TokenKind::Sign(_) | TokenKind::Number(_) => {}
-            TokenKind::Keyword(Keyword::And) => self.shorten_part()?,
             TokenKind::Keyword(word) => self.begin(*word),
             TokenKind::Name(name) => self.declare(name, line)?,
         }
-        self.add(kind.duplicate())
-    }
-
-    // Puts a token at the end of the phrase. What changes nothing of what may follow is left out: all but the last word of a table, operand of
-    // an expression, and two names after `var`.
-    fn add(&mut self, kind: TokenKind) -> Result<(), AllocError> {
-        use TokenKind::{Keyword as Word, Name, Number, Sign as Mark};
-        let left_out = match (self.phrase.as_slice(), &kind) {
-            ([Word(Keyword::Table), .., Number(_)], Number(_)) => 1,
-            ([.., Name(_) | Number(_), Mark(sign)], Name(_) | Number(_)) if is_operator(*sign) => 2,
-            _ => 0,
-        };
-        let kept = self.phrase.len().saturating_sub(left_out);
-        self.phrase.truncate(kept);
-        if self.phrase.len() > 2 && self.first_word() == Some(Keyword::Var) {
-            let _ = self.phrase.remove(1);
-        }
-        self.phrase.push(kind)?;
+        self.phrase.push(kind.duplicate())?;
         Ok(())
-    }
-
-    // What stands in brackets is an operand, as a number is, but for what a procedure takes.
-    fn close_bracket(&mut self) -> Result<(), AllocError> {
-        let open = self.last_sign(Sign::LeftBracket).unwrap_or(0);
-        if open == 2 && matches!(self.first_word(), Some(Keyword::Call | Keyword::Proc)) {
-            return self.add(TokenKind::Sign(Sign::RightBracket));
-        }
-        self.phrase.truncate(open);
-        self.add(TokenKind::Number(0))
-    }
-
-    // Of the variables that a loop keeps the first and the last are enough.
-    fn shorten_kept(&mut self) {
-        if let (true, Some(comma)) = (self.is_keeping(), self.last_sign(Sign::Comma)) {
-            self.phrase.truncate(comma);
-        }
-    }
-
-    // A part of a condition that has ended may as well be the flag `q`.
-    fn shorten_part(&mut self) -> Result<(), AllocError> {
-        let is_and = |kind: &TokenKind| matches!(kind, TokenKind::Keyword(Keyword::And));
-        let before = self.phrase.iter().rposition(is_and).unwrap_or(0);
-        self.phrase.truncate(before.saturating_add(1));
-        self.add(TokenKind::Keyword(Keyword::Q))
     }
 
     // A word that begins a declaration or a statement ends the one before.
@@ -282,33 +201,21 @@ impl Before {
     }
 
     fn open_block(&mut self, line: u32) -> Result<(), AllocError> {
-        let is_else = word_of(self.phrase.last()) == Some(Keyword::Else);
-        let is_then = self.first_word() == Some(Keyword::If) && !is_else;
         if !self.in_body() {
             self.in_procedure = self.first_word() == Some(Keyword::Proc);
-            for kind in &self.phrase {
-                self.heading.push(kind.duplicate())?;
-            }
-            self.heading.push(TokenKind::Sign(Sign::LeftBrace))?;
         }
         self.phrase.clear();
-        self.blocks.push(Block { line, is_then })?;
+        self.blocks.push(line)?;
         Ok(())
     }
 
     fn close_block(&mut self) -> Result<(), AllocError> {
-        let closed = self.blocks.pop();
+        let _ = self.blocks.pop();
         self.phrase.clear();
-        if !self.in_body() {
-            return self.end_body();
+        if self.in_body() {
+            return Ok(());
         }
-        if closed.is_some_and(|block| block.is_then) {
-            self.phrase.push(TokenKind::Keyword(Keyword::If))?;
-            self.phrase.push(TokenKind::Keyword(Keyword::Q))?;
-            self.phrase.push(TokenKind::Sign(Sign::LeftBrace))?;
-            self.phrase.push(TokenKind::Sign(Sign::RightBrace))?;
-        }
-        Ok(())
+        self.end_body()
     }
 
     // What the body declared is declared no more.
@@ -323,7 +230,6 @@ impl Before {
             }
         }
         self.in_procedure = false;
-        self.heading.clear();
         Ok(())
     }
 }
@@ -339,45 +245,4 @@ pub fn word_of(kind: Option<&TokenKind>) -> Option<Keyword> {
 // A parameter serves as a variable.
 fn is_of_kind(declared: &Declared, kind: NameKind) -> bool {
     declared.kind == kind || (kind == NameKind::Variable && declared.kind == NameKind::Parameter)
-}
-
-fn is_among(name: &Name, kinds: &[TokenKind]) -> bool {
-    kinds.iter().any(|kind| match kind {
-        TokenKind::Name(other) => other.as_bytes() == name.as_bytes(),
-        _ => false,
-    })
-}
-
-fn add_declaration(text: &mut String, declared: &Declared) -> Result<(), AllocError> {
-    let name = spelled(declared.name.as_bytes());
-    match declared.kind {
-        NameKind::Lam => write!(text, "cdlam {name} 1 1 1 0 "),
-        NameKind::Register => write!(text, "cdreg {name} 1 1 1 0 "),
-        NameKind::Table => write!(text, "table {name} = 0 "),
-        NameKind::Variable | NameKind::Parameter => write!(text, "var {name} "),
-        NameKind::Procedure => {
-            write!(text, "proc {name}(")?;
-            for number in 0..declared.parameters {
-                let comma = if number > 0 { ", " } else { "" };
-                write!(text, "{comma}parameter_of_the_short_text_{number} in 0..0")?;
-            }
-            write!(text, ") within 0 cycles event 0 words steps 0 {{ }} ")
-        }
-    }
-}
-
-fn add_tokens(text: &mut String, kinds: &[TokenKind]) -> Result<(), AllocError> {
-    for kind in kinds {
-        match kind {
-            TokenKind::Name(name) => write!(text, "{} ", spelled(name.as_bytes()))?,
-            TokenKind::Number(number) => write!(text, "{number} ")?,
-            TokenKind::Keyword(word) => write!(text, "{} ", word.spelling())?,
-            TokenKind::Sign(sign) => write!(text, "{} ", sign.spelling())?,
-        }
-    }
-    Ok(())
-}
-
-fn spelled(name: &[u8]) -> &str {
-    str::from_utf8(name).unwrap_or("")
 }

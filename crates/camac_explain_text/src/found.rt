@@ -2,8 +2,7 @@
 
 use crate::absent::{Absent, absent_sign, absent_word};
 use crate::before::{Before, word_of};
-use crate::trial::Trial;
-use camac_text::{NameKind, TextCase, TextFault, TokenKind, TokensLeft};
+use camac_text::{Choice, Choices, NameKind, TextCase, TextFault, TokenKind, TokensLeft};
 use camac_text_tokens::Keyword;
 use std::alloc::{AllocError, Global};
 
@@ -20,27 +19,30 @@ pub struct Found<'a> {
     pub behind: &'a [u8],
     pub before: Before,
     /// What may stand in its place.
-    pub trial: Trial,
+    pub expected: Choices,
 }
 
 impl<'a> Found<'a> {
     /// The token that begins where so many bytes of a text are left.
-    pub fn new(alloc: Global, text: &'a [u8], left: usize) -> Result<Self, AllocError> {
+    pub fn new(
+        alloc: Global,
+        text: &'a [u8],
+        left: usize,
+        expected: Choices,
+    ) -> Result<Self, AllocError> {
         let (text, rest) = text.split_at(text.len().saturating_sub(left));
         let (word, kind) = token_at(rest);
         // A fault of a token is the first of its text, and needs nothing of what stands before.
         let is_known = kind.is_some() || word.is_empty();
         let read = if is_known { text } else { &text[..0] };
-        let before = Before::new(alloc, read)?;
-        let short = before.short_text(alloc)?;
         Ok(Found {
             word,
             kind,
             text,
             rest,
             behind: &rest[word.len().min(rest.len())..],
-            before,
-            trial: Trial { alloc, text: short },
+            before: Before::new(alloc, read)?,
+            expected,
         })
     }
 
@@ -72,6 +74,11 @@ impl<'a> Found<'a> {
     /// Whether these bytes stand behind it, after blanks.
     pub fn is_before(&self, bytes: &[u8]) -> bool {
         self.behind.trim_ascii_start().starts_with(bytes)
+    }
+
+    /// Whether a statement may begin in its place.
+    pub fn begins_statement(&self) -> bool {
+        self.expected.has(Choice::Statement)
     }
 
     /// Whether an `=` that sets follows it.

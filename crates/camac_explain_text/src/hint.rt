@@ -1,13 +1,12 @@
 // What may be meant where a text is refused.
 
 use crate::absent::Absent;
+use crate::expected::{begins_declaration, begins_statement};
 use crate::found::Found;
 use crate::mistake::{told_of_kind, usual_mistake};
-use crate::trial::{Expected, begins_declaration, begins_statement};
 use camac_report_text::{Quote, is_near};
-use camac_text::{NameKind, TokenKind};
+use camac_text::{Choice, NameKind, TokenKind};
 use camac_text_tokens::{KEYWORDS, Keyword, Sign};
-use std::alloc::AllocError;
 use std::fmt;
 
 /// What may be meant, or what is to be known.
@@ -106,27 +105,23 @@ impl fmt::Display for Call<'_> {
 }
 
 /// What may be meant by a token that may not stand where it is, but for a word that is near, which may.
-pub fn unexpected_hint<'a>(
-    found: &'a Found<'_>,
-    expected: &[Expected],
-    near: Option<&'static str>,
-) -> Option<Hint<'a>> {
-    if let Some(sign) = meant_by_sign(found, expected) {
+pub fn unexpected_hint<'a>(found: &'a Found<'_>) -> Option<Hint<'a>> {
+    if let Some(sign) = meant_by_sign(found) {
         return Some(Hint::Meant(sign));
     }
     if let Some(told) = decimal(found) {
         return Some(Hint::Told(told));
     }
-    if let Some(hint) = missing_arrow(found, expected) {
+    if let Some(hint) = missing_arrow(found) {
         return Some(hint);
     }
-    if let Some(told) = usual_mistake(found, expected) {
+    if let Some(told) = usual_mistake(found) {
         return Some(Hint::Told(told));
     }
-    if let Some(word) = near {
+    if let Some(word) = near_word(found) {
         return Some(Hint::Meant(word));
     }
-    if expected.contains(&Expected::Declaration) || expected.contains(&Expected::Statement) {
+    if found.expected.has(Choice::Declaration) || found.expected.has(Choice::Statement) {
         if let Some(hint) = word_before(found) {
             return Some(hint);
         }
@@ -135,15 +130,11 @@ pub fn unexpected_hint<'a>(
 }
 
 /// What may be meant by a name that is not declared: the near word of the language, which may stand there, else the near name.
-pub fn name_hint<'a>(
-    found: &'a Found<'_>,
-    wanted: NameKind,
-    near: Option<&'static str>,
-) -> Option<Hint<'a>> {
+pub fn name_hint<'a>(found: &'a Found<'_>, wanted: NameKind) -> Option<Hint<'a>> {
     if let Some(told) = decimal(found) {
         return Some(Hint::Told(told));
     }
-    if let Some(word) = near {
+    if let Some(word) = near_word(found) {
         return Some(Hint::Meant(word));
     }
     if let Some(near) = found.before.near(found.word, wanted) {
@@ -178,17 +169,18 @@ pub fn word_before<'a>(found: &'a Found<'_>) -> Option<Hint<'a>> {
     None
 }
 
-/// The first word of the language that is near a name and may stand in its place.
-pub fn near_word(found: &mut Found<'_>) -> Result<Option<&'static str>, AllocError> {
-    if matches!(found.kind, Some(TokenKind::Name(_))) {
-        for keyword in KEYWORDS {
-            let word = keyword.spelling();
-            if is_near(found.word, word.as_bytes()) && found.trial.may_follow(word)? {
-                return Ok(Some(word));
-            }
-        }
+// The first word of the language that is near a name and may stand in its place.
+fn near_word(found: &Found<'_>) -> Option<&'static str> {
+    if !matches!(found.kind, Some(TokenKind::Name(_))) {
+        return None;
     }
-    Ok(None)
+    let is_lock = found.begins_statement() && !found.before.in_procedure;
+    let fits = |it: &&Keyword| {
+        found.expected.has(Choice::Word(**it)) || (is_lock && **it == Keyword::Lock)
+    };
+    let fitting = KEYWORDS.iter().filter(fits);
+    let mut words = fitting.map(|it| it.spelling());
+    words.find(|word| is_near(found.word, word.as_bytes()))
 }
 
 // A word right after a number, as in `0x1F`.
@@ -201,32 +193,30 @@ fn decimal(found: &Found<'_>) -> Option<&'static str> {
 }
 
 // A sign that is taken for another one, or for a word, that may stand there.
-fn meant_by_sign(found: &Found<'_>, expected: &[Expected]) -> Option<&'static str> {
+fn meant_by_sign(found: &Found<'_>) -> Option<&'static str> {
     let Some(TokenKind::Sign(sign)) = &found.kind else {
         return None;
     };
-    if *sign == Sign::Equals && expected.contains(&Expected::Comparison) {
-        return Some(Sign::Same.spelling());
-    }
-    for (taken, meant) in [
-        (Sign::Same, Sign::Equals.spelling()),
-        (Sign::More, Sign::Into.spelling()),
-        (Sign::Less, Sign::From.spelling()),
-        (Sign::Minus, Sign::Into.spelling()),
-        (Sign::Equals, Sign::From.spelling()),
-        (Sign::UpTo, Keyword::To.spelling()),
-    ] {
-        if *sign == taken && expected.contains(&Expected::Token(meant)) {
-            return Some(meant);
-        }
-    }
-    None
+    let meant = match sign {
+        Sign::Equals if found.expected.has(Choice::Comparison) => Sign::Same,
+        Sign::Equals | Sign::Less => Sign::From,
+        Sign::Same => Sign::Equals,
+        Sign::More | Sign::Minus => Sign::Into,
+        Sign::UpTo if found.expected.has(Choice::Word(Keyword::To)) => return Some(
+            Keyword::To.spelling(),
+        ),
+        _ => return None,
+    };
+    found
+        .expected
+        .has(Choice::Mark(meant))
+        .then_some(meant.spelling())
 }
 
 // What stands where the arrow of a cycle is missing: a name that then begins an assignment, or a number.
-fn missing_arrow<'a>(found: &'a Found<'_>, expected: &[Expected]) -> Option<Hint<'a>> {
+fn missing_arrow<'a>(found: &'a Found<'_>) -> Option<Hint<'a>> {
     use TokenKind::{Keyword as Word, Name, Number};
-    let is_set = expected.contains(&Expected::Token(Sign::Equals.spelling()));
+    let is_set = found.expected.has(Choice::Mark(Sign::Equals));
     match (found.before.phrase.as_slice(), &found.kind) {
         (
             [
@@ -244,16 +234,13 @@ fn missing_arrow<'a>(found: &'a Found<'_>, expected: &[Expected]) -> Option<Hint
     }
 }
 
-/// What a procedure or a register is for, in the place of a variable, where a statement may begin or not.
-pub fn kind_hint<'a>(
-    found: &'a Found<'_>,
-    wanted: NameKind,
-    kind: NameKind,
-    begins: bool,
-) -> Option<Hint<'a>> {
+/// What a procedure or a register is for, in the place of a variable.
+pub fn kind_hint<'a>(found: &'a Found<'_>, wanted: NameKind, kind: NameKind) -> Option<Hint<'a>> {
     if wanted == NameKind::Variable {
         match kind {
-            NameKind::Procedure if begins => return Some(Hint::Called(found.word)),
+            NameKind::Procedure if found.begins_statement() => {
+                return Some(Hint::Called(found.word));
+            }
             NameKind::Procedure => return Some(Hint::NoResult(found.word)),
             NameKind::Register => return Some(Hint::Address(found.word)),
             _ => {}
@@ -266,14 +253,12 @@ pub fn kind_hint<'a>(
 // How many arguments the procedure of a call takes, unless they are complete.
 fn arguments<'a>(found: &'a Found<'_>) -> Option<Hint<'a>> {
     let procedure = found.before.called()?;
-    match found.before.phrase.as_slice() {
-        [.., TokenKind::Sign(Sign::RightBracket)] => None,
-        [_, _] => Some(Hint::Brackets(procedure)),
-        _ => {
-            let count = found.before.declared(procedure)?.parameters;
-            Some(Hint::Takes { procedure, count })
-        }
+    if found.before.phrase.len() == 2 {
+        return Some(Hint::Brackets(procedure));
     }
+    let count = found.before.declared(procedure)?.parameters;
+    let takes = Hint::Takes { procedure, count };
+    found.before.is_in_brackets().then_some(takes)
 }
 
 // The `{` that is open where the text ends.

@@ -4,11 +4,11 @@
 
 mod absent;
 mod before;
+mod expected;
 mod found;
 mod hint;
 mod limit;
 mod mistake;
 mod sentence;
-mod trial;
 
 pub use sentence::text_sentence;

@@ -1,10 +1,10 @@
 // Mistakes that are made often.
 
 use crate::before::word_of;
+use crate::expected::{begins_declaration, begins_statement, is_comparison, is_name, is_operator};
 use crate::found::Found;
 use crate::hint::{Hint, word_before};
-use crate::trial::{Expected, begins_declaration, begins_statement, is_comparison, is_operator};
-use camac_text::{NameKind, TokenKind};
+use camac_text::{Choice, NameKind, TokenKind};
 use camac_text_tokens::{Keyword, Sign};
 
 /// What is to be known of a byte that begins no token.
@@ -68,15 +68,15 @@ pub fn outside_of_bodies(found: &Found<'_>) -> Option<&'static str> {
 }
 
 /// What is to be known where a token may not stand.
-pub fn usual_mistake(found: &Found<'_>, expected: &[Expected]) -> Option<&'static str> {
+pub fn usual_mistake(found: &Found<'_>) -> Option<&'static str> {
     outside_of_bodies(found)
-        .or_else(|| mistake_at(found, expected))
-        .or_else(|| mistake_after(found, expected))
-        .or_else(|| mistake_in(found, expected))
+        .or_else(|| mistake_at(found))
+        .or_else(|| mistake_after(found))
+        .or_else(|| mistake_in(found))
 }
 
 // What is wrong with a token in a declaration or a statement of this kind.
-fn mistake_at(found: &Found<'_>, expected: &[Expected]) -> Option<&'static str> {
+fn mistake_at(found: &Found<'_>) -> Option<&'static str> {
     use TokenKind::{Keyword as Word, Sign as Mark};
     let first = found.before.first_word()?;
     Some(match (first, found.kind.as_ref()?) {
@@ -85,8 +85,7 @@ fn mistake_at(found: &Found<'_>, expected: &[Expected]) -> Option<&'static str> 
             "A variable begins as 0: a service sets it, as in `v = 3`.",
         (Keyword::Table, Mark(Sign::Comma)) => "Words stand without commas, as in `table t = 1 2`.",
         (Keyword::Put, Mark(Sign::Comma)) => "A `put` has one value: write `put` before each.",
-        (Keyword::Cfsa | Keyword::Cssa, Mark(Sign::Comma))
-            if expected.contains(&Expected::Statement) => {
+        (Keyword::Cfsa | Keyword::Cssa, Mark(Sign::Comma)) if found.begins_statement() => {
             "A read sets one variable, and the flags `q` and `x` by themselves."
         }
         (Keyword::For, _) if found.before.phrase.len() == 2 => {
@@ -96,12 +95,10 @@ fn mistake_at(found: &Found<'_>, expected: &[Expected]) -> Option<&'static str> 
             "A range is tested by two comparisons: `v >= A and v <= B`."
         }
         (Keyword::If | Keyword::While, Mark(Sign::LeftBrace))
-            if expected.contains(&Expected::Comparison) => {
-            "A condition compares, as in `v != 0`."
-        }
+            if found.expected.has(Choice::Comparison) => { "A condition compares, as in `v != 0`." }
         (_, Mark(sign))
             if is_comparison(*sign)
-                && expected.contains(&Expected::Token("and"))
+                && found.expected.has(Choice::Word(Keyword::And))
                 && is_value(found.last()) => {
             "Comparisons are joined by `and`: `a < v and v < b`."
         }
@@ -118,17 +115,15 @@ fn is_value(kind: Option<&TokenKind>) -> bool {
 }
 
 // What is wrong with a token after the one before.
-fn mistake_after(found: &Found<'_>, expected: &[Expected]) -> Option<&'static str> {
+fn mistake_after(found: &Found<'_>) -> Option<&'static str> {
     use TokenKind::{Keyword as Word, Name};
-    let is_value = expected.contains(&Expected::Expression)
-        || expected.contains(&Expected::Condition)
-        || expected.contains(&Expected::Number);
+    let is_value = found.expected.has(Choice::Number);
     Some(match (found.last()?, found.kind.as_ref()?) {
         (Name(_), TokenKind::Sign(Sign::Minus)) if found.adjoins_word() => {
             "A name has letters, digits and `_`, and no dash."
         }
         (Name(_), TokenKind::Sign(sign))
-            if is_operator(*sign) && expected.contains(&Expected::Token("=")) => {
+            if is_operator(*sign) && found.expected.has(Choice::Mark(Sign::Equals)) => {
             "The variable stands again behind the `=`, as in `v = v + 1`."
         }
         (Word(Keyword::Q | Keyword::X), TokenKind::Sign(sign))
@@ -155,19 +150,18 @@ fn mistake_after(found: &Found<'_>, expected: &[Expected]) -> Option<&'static st
 }
 
 // What is wrong with a token in a declaration or a statement.
-fn mistake_in(found: &Found<'_>, expected: &[Expected]) -> Option<&'static str> {
+fn mistake_in(found: &Found<'_>) -> Option<&'static str> {
     let kind = found.kind.as_ref()?;
-    let is_value = expected.contains(&Expected::Expression) || expected.contains(&Expected::Number);
     Some(match found.before.first_word()? {
         Keyword::If | Keyword::While if is_of_condition(kind) && found.before.is_in_brackets() => {
             "Brackets enclose expressions, and no conditions."
         }
         Keyword::Ctlm | Keyword::Ctci | Keyword::Ctcd | Keyword::Ctgl
             if matches!(kind, TokenKind::Sign(Sign::Into)) => { "The answer is the flag `q`." }
-        Keyword::Cdlam | Keyword::Cdreg if is_value => {
+        Keyword::Cdlam | Keyword::Cdreg if found.expected.has(Choice::Number) => {
             "An address is the branch, which is 1, then crate, station and sub-address."
         }
-        _ if expected.contains(&Expected::Name) => match found.needed() {
+        _ if is_name(found.expected) => match found.needed() {
             NameKind::Register => "A register is set to an address before, by `cdreg`.",
             NameKind::Lam => "Here stands the name of a LAM, which `cdlam` declares.",
             _ => return None,

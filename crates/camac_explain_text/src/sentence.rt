@@ -1,27 +1,28 @@
 // The sentence on a text's fault.
 
+use crate::expected::expected_of;
 use crate::found::Found;
-use crate::hint::{Hint, kind_hint, name_hint, near_word, unexpected_hint, word_before};
+use crate::hint::{Hint, kind_hint, name_hint, unexpected_hint, word_before};
 use crate::limit::limit_told;
 use crate::mistake::{outside_of_bodies, own_sentence, told_of_byte};
-use crate::trial::expected_after;
 use camac_report_text::{Quote, before_item};
-use camac_text::{NameKind, TextCase, TextFault, parse};
+use camac_text::{Choices, NameKind, TextCase, TextFault, parse_expecting};
 use std::alloc::{AllocError, Global};
 
 const PLAN_FIRST: &str = "This begins like a plan: PLAN comes first, then SCRIPT.";
 
 /// What the first rule that a text breaks knew, and what may be meant. None where the text is a script.
 pub fn text_sentence(alloc: Global, text: &[u8]) -> Result<Option<String>, AllocError> {
-    match parse(alloc, text) {
+    let mut expected = Choices::none();
+    match parse_expecting(alloc, text, &mut expected) {
         Ok(_script) => Ok(None),
         Err(TextFault::OutOfMemory) => Err(AllocError),
         Err(TextFault::Broken { .. }) if begins_like_a_plan(text) => Ok(Some(String::from_str(
             alloc, PLAN_FIRST,
         )?)),
         Err(TextFault::Broken { case, left, .. }) => {
-            let mut found = Found::new(alloc, text, left)?;
-            Ok(Some(case_told(alloc, &mut found, case)?))
+            let found = Found::new(alloc, text, left, expected)?;
+            Ok(Some(case_told(alloc, &found, case)?))
         }
     }
 }
@@ -37,7 +38,7 @@ fn begins_like_a_plan(text: &[u8]) -> bool {
     false
 }
 
-fn case_told(alloc: Global, found: &mut Found<'_>, case: TextCase) -> Result<String, AllocError> {
+fn case_told(alloc: Global, found: &Found<'_>, case: TextCase) -> Result<String, AllocError> {
     let word = Quote(found.word);
     match case {
         TextCase::Byte => byte_told(alloc, found),
@@ -116,12 +117,11 @@ fn character(text: &[u8]) -> Option<&[u8]> {
     Some(bytes)
 }
 
-fn unexpected(alloc: Global, found: &mut Found<'_>) -> Result<String, AllocError> {
+fn unexpected(alloc: Global, found: &Found<'_>) -> Result<String, AllocError> {
     if let Some(own) = own_sentence(found) {
         return format!(in alloc; "{own}");
     }
-    let expected = expected_after(&mut found.trial)?;
-    let near = near_word(found)?;
+    let expected = expected_of(alloc, found.expected)?;
     let mut sentence = if found.word.is_empty() {
         String::from_str(alloc, "Found the end of the script")?
     } else {
@@ -133,7 +133,7 @@ fn unexpected(alloc: Global, found: &mut Found<'_>) -> Result<String, AllocError
         write!(sentence, "{before}{alternative}")?;
     }
     sentence.push_str(".")?;
-    with_hint(alloc, sentence, unexpected_hint(found, &expected, near))
+    with_hint(alloc, sentence, unexpected_hint(found))
 }
 
 fn arguments_told(alloc: Global, found: &Found<'_>, wanted: usize) -> Result<String, AllocError> {
@@ -168,7 +168,7 @@ fn taken(alloc: Global, found: &Found<'_>, by: NameKind) -> Result<String, Alloc
 
 fn undeclared(
     alloc: Global,
-    found: &mut Found<'_>,
+    found: &Found<'_>,
     wanted: NameKind,
     what: camac_text::Found,
 ) -> Result<String, AllocError> {
@@ -182,8 +182,7 @@ fn undeclared(
             let sentence = format!(in alloc;
                 "The name {name} is declared on line {line} as a {is}, and here may stand a {needed}."
             )?;
-            let begins = found.trial.may_follow("put")?;
-            with_hint(alloc, sentence, kind_hint(found, wanted, kind, begins))
+            with_hint(alloc, sentence, kind_hint(found, wanted, kind))
         }
         camac_text::Found::Itself => {
             format!(in alloc; "The procedure {name} can be called after its end alone.")
@@ -194,26 +193,24 @@ fn undeclared(
     }
 }
 
-fn not_there(alloc: Global, found: &mut Found<'_>, wanted: NameKind) -> Result<String, AllocError> {
+fn not_there(alloc: Global, found: &Found<'_>, wanted: NameKind) -> Result<String, AllocError> {
     if let (NameKind::Variable, Some(absent)) = (wanted, found.absent_word()) {
-        let begins = found.trial.may_follow("put")?;
-        if is_of_another_language(found, begins) {
+        if is_of_another_language(found) {
             return format!(in alloc; "{}", Hint::Absent(absent));
         }
     }
     let name = Quote(found.word);
     let needed = noun(wanted);
     let sentence = format!(in alloc; "The name {name} is not declared before as a {needed}.")?;
-    let near = near_word(found)?;
-    with_hint(alloc, sentence, name_hint(found, wanted, near))
+    with_hint(alloc, sentence, name_hint(found, wanted))
 }
 
 // Whether a word stands as in another language, and is no name of a variable that is not declared: it begins a statement that is no
 // assignment, or is called, or is a truth value.
-fn is_of_another_language(found: &Found<'_>, begins: bool) -> bool {
+fn is_of_another_language(found: &Found<'_>) -> bool {
     let is_truth = found.word.eq_ignore_ascii_case(b"true")
         || found.word.eq_ignore_ascii_case(b"false");
-    is_truth || found.is_before(b"(") || (begins && !found.is_assigned())
+    is_truth || found.is_before(b"(") || (found.begins_statement() && !found.is_assigned())
 }
 
 // What a name of a kind is called.

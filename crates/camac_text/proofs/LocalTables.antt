@@ -5,9 +5,9 @@ use Rattle.camac_text_tokens.specs.declared.fault.Limit.TheVariants as limit
 use Rattle.camac_text_tokens.specs.declared.fault.TextCase.TheVariants as told
 use Rattle.camac_text_tokens.specs.declared.token.Sign.TheVariants as sign
 use Rattle.camac_text_cursor.specs.Reading.{State, ◌>>=◌, ◌>>◌, give, change, advance, check, while_next}
-use Rattle.camac_text_cursor.specs.Readers.{expect_sign, number_here, new_name}
+use Rattle.camac_text_cursor.specs.Readers.{is_number, expect_sign, number_here, new_name}
 use Rattle.camac_text_cursor.specs.Declaring.{with_table}
-use Rattle.camac_text.specs.Tables.{word_after, one_more_word, is_number, table_words, table_declaration}
+use Rattle.camac_text.specs.Tables.{word_after, one_more_word, table_words, table_declaration}
 use Rattle.camac_text_cursor.proofs.Places.{IsLocal, local_then, local_ask, local_change, local_give, local_advance, local_check, local_while}
 use Rattle.camac_text_cursor.proofs.Local.{local_take, local_expect_sign, local_number, number_at, local_new_name}
 use Rattle.camac_text.proofs.TablesRead.{words_progress}

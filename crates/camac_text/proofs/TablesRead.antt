@@ -9,9 +9,9 @@ use Rattle.camac_text_tokens.specs.declared.token.Sign.TheVariants as sign
 use Rattle.camac_text_tokens.specs.declared.token.TokenKind.{TokenKind}
 use Rattle.camac_text_tokens.specs.declared.token.TokenKind.TheVariants as kind
 use Rattle.camac_text_cursor.specs.Reading.{State, ◌>>◌, give, advance, check, kind_of, after_first, while_next}
-use Rattle.camac_text_cursor.specs.Readers.{expect_sign, number_here, new_name}
+use Rattle.camac_text_cursor.specs.Readers.{is_number, expect_sign, number_here, new_name}
 use Rattle.camac_text_cursor.specs.Declaring.{with_table}
-use Rattle.camac_text.specs.Tables.{word_after, one_more_word, is_number, table_words, table_declaration}
+use Rattle.camac_text.specs.Tables.{word_after, one_more_word, table_words, table_declaration}
 use Rattle.camac_text_cursor.proofs.Steps.{then_ok, ok_is, Progresses, while_keeps}
 use Rattle.camac_text_cursor.proofs.Moves.{AllFit, Moves, TakesOne, kind_fit, after_less, stays, moved, then_moves, one_moves, one_less, check_ok, number_ok, expect_sign_ok, new_name_ok}
 use Rattle.camac_text_cursor.proofs.Registers.{below_le, each_push}

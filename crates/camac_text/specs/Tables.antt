@@ -1,12 +1,10 @@
 -- What is read at each place of a table.
-use Rattle.std.specs.Prelude.{ℕ, Bool, true, false, List, [], ◌∷◌, ◌++◌, length, Option, Some, nat_lt}
+use Rattle.std.specs.Prelude.{ℕ, List, [], ◌∷◌, ◌++◌, length, nat_lt}
 use Rattle.camac_text_tokens.specs.declared.token.Sign.TheVariants as sign
-use Rattle.camac_text_tokens.specs.declared.token.TokenKind.{TokenKind}
-use Rattle.camac_text_tokens.specs.declared.token.TokenKind.TheVariants as kind
 use Rattle.camac_text_tokens.specs.declared.fault.Limit.TheVariants as limit
 use Rattle.camac_text_tokens.specs.declared.fault.TextCase.TheVariants as told
 use Rattle.camac_text_cursor.specs.Reading.{Reader, ◌>>=◌, ◌>>◌, give, ask, change, advance, check, while_next}
-use Rattle.camac_text_cursor.specs.Readers.{expect_sign, number_here, new_name}
+use Rattle.camac_text_cursor.specs.Readers.{is_number, expect_sign, number_here, new_name}
 use Rattle.camac_text_cursor.specs.Declaring.{with_table}
 
 -- a word after so many words
@@ -20,10 +18,6 @@ word_after count = do
 
 abbrev pub one_more_word : List ℕ → Reader (List ℕ)
 one_more_word words = word_after (length words) >>= λ w. give (words ++ w ∷ [])
-
-abbrev pub is_number : Option TokenKind → Bool
-is_number (Some (kind.Number n)) = true
-is_number _ = false
 
 unfoldable pub table_words : Reader (List ℕ)
 table_words = do

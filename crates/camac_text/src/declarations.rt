@@ -9,7 +9,7 @@ ghost use Rattle.camac_text_cursor.specs.Parser.{state, Gives};
 use crate::procedures::procedure_declaration;
 use crate::tables::table_declaration;
 use camac_lang::{Lam, limits};
-use camac_text_cursor::Parser;
+use camac_text_cursor::{Choice, Parser};
 use camac_text_statements::block;
 use camac_text_tokens::{Keyword, Limit, TextCase, TextFault, TokenKind};
 
@@ -41,7 +41,7 @@ fn declaration(parser: &mut Parser<'_>) -> Result<(), TextFault>
         Some(TokenKind::Keyword(Keyword::Var)) => variable_declaration(parser, line),
         Some(TokenKind::Keyword(Keyword::Proc)) => procedure_declaration(parser, line),
         Some(TokenKind::Keyword(Keyword::Service)) => service_declaration(parser, line),
-        _ => Err(parser.fault(TextCase::Unexpected)),
+        _ => Err(parser.unexpected(Choice::Declaration)),
     }
 }
 

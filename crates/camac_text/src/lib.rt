@@ -6,8 +6,9 @@ mod procedures;
 mod reading;
 mod tables;
 
+pub use camac_text_cursor::{Choice, Choices};
 pub use camac_text_tokens::{
     Found, Keyword, Limit, NameKind, Sign, TextCase, TextFault, TextRule, Token, TokenKind,
     TokensLeft, tokens,
 };
-pub use reading::parse;
+pub use reading::{parse, parse_expecting};

@@ -6,7 +6,7 @@ ghost use Rattle.camac_text.specs.Parser.{script_of};
 
 use crate::declarations::declarations;
 use camac_lang::Script;
-use camac_text_cursor::Parser;
+use camac_text_cursor::{Choices, Parser};
 use camac_text_tokens::{TextFault, TokensLeft};
 use std::alloc::Global;
 
@@ -24,16 +24,24 @@ pub fn parse(alloc: Global, text: &[u8]) -> Result<Script, TextFault>
     // A fault of the tokens, or one at a token that no tokens after it change.
     ensures placed { FaultIs result (HasFault text.now) }
 {
-    read(alloc, text)
+    let mut expected = Choices::none();
+    parse_expecting(alloc, text, &mut expected)
 }
 
-// What `parse` does. Where a fault stands follows from the tree of the text, so `parse` adds it without the body.
+/// The same as `parse`, and all that may stand in the place of the token that a fault of the grammar shows: at S2 the tokens that are not refused
+/// there by S2. A fault of a token leaves `expected` as it is.
 #[tactic(auto, unfolding(crate::specs::Parser::script_of, crate::specs::Parser::tree_of_tokens))]
-fn read(alloc: Global, text: &[u8]) -> Result<Script, TextFault>
+pub fn parse_expecting(
+    alloc: Global,
+    text: &[u8],
+    expected: &mut Choices,
+) -> Result<Script, TextFault>
     ensures { Answers result (script_of text.now) }
 {
     let (tokens, end) = TokensLeft::with_end(text)?;
     let mut parser = Parser::new(alloc, tokens, end);
-    declarations(&mut parser)?;
+    let read = declarations(&mut parser);
+    *expected = parser.missed();
+    read?;
     Ok(parser.into_script())
 }

@@ -1,13 +1,12 @@
 // Tables.
 
 ghost use Rattle.std.specs.Prelude.{◌≡◌};
-ghost use Rattle.camac_text_cursor.specs.Reading.{kind_of};
 ghost use Rattle.camac_text_cursor.specs.Parser.{state, Gives};
-ghost use Rattle.camac_text.specs.Tables.{is_number, word_after, table_words, table_declaration};
+ghost use Rattle.camac_text.specs.Tables.{word_after, table_words, table_declaration};
 
 use camac_lang::{Table, limits};
 use camac_text_cursor::Parser;
-use camac_text_tokens::{Limit, Sign, TextCase, TextFault, TokenKind};
+use camac_text_tokens::{Limit, Sign, TextCase, TextFault};
 use camac_word::Word24;
 
 /// `table`
@@ -33,17 +32,11 @@ fn table_words(parser: &mut Parser<'_>) -> Result<Vec<Word24>, TextFault>
     let first = word_after(parser, 0)?;
     let mut words = Vec::new(parser.alloc());
     words.push(first)?;
-    while next_is_number(parser) {
+    while parser.next_is_number() {
         let word = word_after(parser, words.len())?;
         words.push(word)?;
     }
     Ok(words)
-}
-
-fn next_is_number(parser: &Parser<'_>) -> bool
-    ensures { result ≡ is_number (kind_of (state parser.now).rest) }
-{
-    matches!(parser.peek(), Some(TokenKind::Number(_)))
 }
 
 /// A word after so many words.

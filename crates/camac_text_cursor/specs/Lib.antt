@@ -1,6 +1,7 @@
 pub mod Names
 pub mod Reading
 pub mod Readers
+pub mod Choice
 pub mod Declaring
 pub mod Parser
 pub mod Places

@@ -33,6 +33,10 @@ abbrev pub is_name : Option TokenKind → Bool
 is_name (Some (kind.Name v)) = true
 is_name _ = false
 
+abbrev pub is_number : Option TokenKind → Bool
+is_number (Some (kind.Number n)) = true
+is_number _ = false
+
 unfoldable pub expect : Keyword → Reader (Unit {0})
 expect w = peek >>= λ k. if is_keyword w k then advance else fail told.Unexpected
 

@@ -1,15 +1,19 @@
 // The parser's state, and its steps over single tokens.
 
-ghost use Rattle.std.specs.Prelude.{◌≡◌, [], option_copied};
+ghost use Rattle.std.specs.Prelude.{◌≡◌, [], false, option_copied};
 ghost use Rattle.camac_text_tokens.specs.Fault.{Fails};
 ghost use Rattle.camac_text_cursor.specs.Reading.{line_of, left_of, kind_of, after_first};
-ghost use Rattle.camac_text_cursor.specs.Readers.{begin, is_keyword, is_sign, is_name, expect, expect_sign, name_here, number_here, any_number, branch_number, function_number, sub_address_number};
+ghost use Rattle.camac_text_cursor.specs.Readers.{begin, is_keyword, is_sign, is_name, is_number, expect, expect_sign, name_here, number_here, any_number, branch_number, function_number, sub_address_number};
+ghost use Rattle.camac_text_cursor.specs.Choice.{takes};
 ghost use Rattle.camac_text_cursor.specs.Parser.{state, unread, Gives};
+ghost use Rattle.camac_text_tokens.specs.declared.fault.TextCase.TheVariants.{Unexpected};
 
+use crate::choice::{Choice, Choices};
 use camac_lang::{Callable, Item, Lam, Name, Node, Procedure, Service, Table, limits};
 use camac_text_tokens::{Keyword, Limit, Sign, TextCase, TextFault, TokenKind, TokensLeft};
 use camac_word::{Function, SubAddress};
 use std::alloc::Global;
+use std::cell::Cell;
 use std::mem::replace;
 
 /// What is left of the tokens, and what is declared so far.
@@ -41,6 +45,8 @@ pub struct Parser<'a> {
     statements: u32,
     // Room for the nodes of the next expression.
     nodes: Vec<Node>,
+    // What was looked for at the next token and is not there.
+    missed: Cell<Choices>,
 }
 
 impl<'a> Parser<'a> {
@@ -66,6 +72,7 @@ impl<'a> Parser<'a> {
             registers: Vec::new(alloc),
             statements: 0,
             nodes: Vec::new(alloc),
+            missed: Cell::new(Choices::none()),
         }
     }
 
@@ -143,25 +150,64 @@ impl Parser<'_> {
         }
     }
 
+    /// Remembers that the next token is none of these, any of which may stand in its place.
+    #[inline(always)]
+    pub fn miss(&self, choice: Choice)
+        requires { takes choice (kind_of (state self.now).rest) ≡ false }
+    {
+        self.missed.set(self.missed.get().with(choice));
+    }
+
+    /// The fault of the next token, which is none of these. What was looked for before may stand in its place, too.
+    #[inline(never)]
+    pub fn unexpected(&self, choice: Choice) -> TextFault
+        requires { takes choice (kind_of (state self.now).rest) ≡ false }
+        ensures { result ≡ TextFault.Broken Unexpected (line_of (state self.now).rest self.now.end_line) (left_of (state self.now).rest) }
+    {
+        self.miss(choice);
+        self.fault(TextCase::Unexpected)
+    }
+
+    /// What was looked for at the next token and is not there: at a fault all that may stand in its place.
+    pub fn missed(&self) -> Choices {
+        self.missed.get()
+    }
+
     /// Takes the next token, if there is one.
     pub fn advance(&mut self)
         ensures { state self.new ≡ record (state self.old) { rest = after_first (state self.old).rest } }
     {
+        self.missed.set(Choices::none());
         self.rest.advance();
     }
 
-    /// Whether this keyword stands next.
+    /// Whether this keyword stands next, which may stand there.
     pub fn next_is(&self, keyword: Keyword) -> bool
         ensures { result ≡ is_keyword keyword (kind_of (state self.now).rest) }
     {
-        match self.peek() {
+        let is_next = match self.peek() {
             Some(TokenKind::Keyword(next)) => *next == keyword,
             _ => false,
+        };
+        if !is_next {
+            self.miss(Choice::Word(keyword));
         }
+        is_next
     }
 
-    /// Whether this sign stands next.
+    /// Whether this sign stands next, which may stand there.
     pub fn next_is_sign(&self, sign: Sign) -> bool
+        ensures { result ≡ is_sign sign (kind_of (state self.now).rest) }
+    {
+        let is_next = self.shows_sign(sign);
+        if !is_next {
+            self.miss(Choice::Mark(sign));
+        }
+        is_next
+    }
+
+    /// Whether this sign stands next, if it may stand there or not.
+    pub fn shows_sign(&self, sign: Sign) -> bool
         ensures { result ≡ is_sign sign (kind_of (state self.now).rest) }
     {
         match self.peek() {
@@ -170,11 +216,26 @@ impl Parser<'_> {
         }
     }
 
-    /// Whether a name stands next.
+    /// Whether a name stands next, which may stand there.
     pub fn next_is_name(&self) -> bool
         ensures { result ≡ is_name (kind_of (state self.now).rest) }
     {
-        matches!(self.peek(), Some(TokenKind::Name(_)))
+        let is_next = matches!(self.peek(), Some(TokenKind::Name(_)));
+        if !is_next {
+            self.miss(Choice::Name);
+        }
+        is_next
+    }
+
+    /// Whether a number stands next, which may stand there.
+    pub fn next_is_number(&self) -> bool
+        ensures { result ≡ is_number (kind_of (state self.now).rest) }
+    {
+        let is_next = matches!(self.peek(), Some(TokenKind::Number(_)));
+        if !is_next {
+            self.miss(Choice::Number);
+        }
+        is_next
     }
 
     /// Takes this keyword, else answers S2 at what stands there.
@@ -183,7 +244,7 @@ impl Parser<'_> {
         ensures { Gives (λ _. tt) result self.new (expect keyword (state self.old)) }
     {
         if !self.next_is(keyword) {
-            return Err(self.fault(TextCase::Unexpected));
+            return Err(self.unexpected(Choice::Word(keyword)));
         }
         self.advance();
         Ok(())
@@ -195,7 +256,7 @@ impl Parser<'_> {
         ensures { Gives (λ _. tt) result self.new (expect_sign sign (state self.old)) }
     {
         if !self.next_is_sign(sign) {
-            return Err(self.fault(TextCase::Unexpected));
+            return Err(self.unexpected(Choice::Mark(sign)));
         }
         self.advance();
         Ok(())
@@ -208,7 +269,7 @@ impl Parser<'_> {
     {
         match self.peek() {
             Some(TokenKind::Name(name)) => Ok(name.duplicate()),
-            _ => Err(self.fault(TextCase::Unexpected)),
+            _ => Err(self.unexpected(Choice::Name)),
         }
     }
 
@@ -219,7 +280,7 @@ impl Parser<'_> {
     {
         match self.peek() {
             Some(TokenKind::Number(number)) => Ok(*number),
-            _ => Err(self.fault(TextCase::Unexpected)),
+            _ => Err(self.unexpected(Choice::Number)),
         }
     }
 

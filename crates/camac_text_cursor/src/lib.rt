@@ -2,10 +2,12 @@
 // A crate of its own, so that a change of what the grammar reads does not prove anew what is declared so far.
 #![tactic(auto)]
 
+mod choice;
 mod counting;
 mod cursor;
 mod declaring;
 mod names;
 mod naming;
 
+pub use choice::{Choice, Choices};
 pub use cursor::Parser;

@@ -8,6 +8,7 @@ ghost use Rattle.camac_text_cursor.specs.Reading.{line_of, left_of};
 ghost use Rattle.camac_text_cursor.specs.Readers.{new_name, added, new_variable, new_parameter, register_at, set_name, declared_as, found_as, found_here, used_register, used_variable, used_lam, used_table, variable_here, procedure_here, called};
 ghost use Rattle.camac_text_cursor.specs.Parser.{state, Gives};
 
+use crate::choice::Choice;
 use crate::cursor::Parser;
 use crate::names::{is_new, lam_place, place_of, procedure_place, table_place};
 use camac_lang::{Name, limits};
@@ -28,7 +29,7 @@ impl Parser<'_> {
     {
         let here: &Self = self;
         let Some(TokenKind::Name(name)) = here.peek() else {
-            return Err(here.fault(TextCase::Unexpected));
+            return Err(here.unexpected(Choice::Name));
         };
         if !here.is_free(name) {
             let by = here.declared_as(name);
@@ -96,7 +97,7 @@ impl Parser<'_> {
     {
         let here: &Self = self;
         let Some(TokenKind::Name(name)) = here.peek() else {
-            return Err(here.fault(TextCase::Unexpected));
+            return Err(here.unexpected(Choice::Name));
         };
         if !here.is_free(name) {
             let by = here.declared_as(name);
@@ -172,7 +173,7 @@ impl Parser<'_> {
     {
         let here: &Self = self;
         let Some(TokenKind::Name(name)) = here.peek() else {
-            return Err(here.fault(TextCase::Unexpected));
+            return Err(here.unexpected(Choice::Name));
         };
         match place_of(&here.registers, name) {
             Some(place) => {
@@ -190,7 +191,7 @@ impl Parser<'_> {
     {
         let here: &Self = self;
         let Some(TokenKind::Name(name)) = here.peek() else {
-            return Err(here.fault(TextCase::Unexpected));
+            return Err(here.unexpected(Choice::Name));
         };
         match place_of(&here.variables, name) {
             Some(place) => {
@@ -208,7 +209,7 @@ impl Parser<'_> {
     {
         let here: &Self = self;
         let Some(TokenKind::Name(name)) = here.peek() else {
-            return Err(here.fault(TextCase::Unexpected));
+            return Err(here.unexpected(Choice::Name));
         };
         match lam_place(&here.lams, name) {
             Some(place) => {
@@ -226,7 +227,7 @@ impl Parser<'_> {
     {
         let here: &Self = self;
         let Some(TokenKind::Name(name)) = here.peek() else {
-            return Err(here.fault(TextCase::Unexpected));
+            return Err(here.unexpected(Choice::Name));
         };
         match place_of(&here.variables, name) {
             Some(place) => Ok(place),
@@ -241,7 +242,7 @@ impl Parser<'_> {
     {
         let here: &Self = self;
         let Some(TokenKind::Name(name)) = here.peek() else {
-            return Err(here.fault(TextCase::Unexpected));
+            return Err(here.unexpected(Choice::Name));
         };
         match table_place(&here.tables, name) {
             Some(place) => {
@@ -259,7 +260,7 @@ impl Parser<'_> {
     {
         let here: &Self = self;
         let Some(TokenKind::Name(name)) = here.peek() else {
-            return Err(here.fault(TextCase::Unexpected));
+            return Err(here.unexpected(Choice::Name));
         };
         match procedure_place(&here.procedures, name) {
             Some(place) => Ok(place),

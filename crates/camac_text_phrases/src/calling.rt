@@ -10,7 +10,7 @@ ghost use Rattle.camac_text_phrases.specs.Arguments.{begins_value, shows_more, c
 
 use crate::expressions::expression;
 use camac_lang::Expr;
-use camac_text_cursor::Parser;
+use camac_text_cursor::{Choice, Parser};
 use camac_text_tokens::{Limit, Sign, TextCase, TextFault, TokenKind};
 
 /// So many arguments in their brackets, where so many brackets may be open at once: S2 at the token where another number of
@@ -23,7 +23,7 @@ pub fn arguments(parser: &mut Parser<'_>, room: u32, count: usize) -> Result<Vec
         if parser.next_is_sign(Sign::LeftBracket) {
             return Err(parser.fault(TextCase::Limit(Limit::Depth)));
         }
-        return Err(parser.fault(TextCase::Unexpected));
+        return Err(parser.unexpected(Choice::Mark(Sign::LeftBracket)));
     }
     in_brackets(parser, room - 1, count)
 }
@@ -70,7 +70,7 @@ fn argument(
 fn first_argument(parser: &mut Parser<'_>, room: u32, count: usize) -> Result<Expr, TextFault>
     ensures { Gives expression_of result parser.new (argument_after count room [] (state parser.old)) }
 {
-    if parser.next_is_sign(Sign::RightBracket) {
+    if parser.shows_sign(Sign::RightBracket) {
         return Err(parser.fault(TextCase::ArgumentCount { wanted: count }));
     }
     expression(parser, room)
@@ -85,10 +85,10 @@ fn comma(parser: &mut Parser<'_>, count: usize) -> Result<(), TextFault>
         parser.advance();
         return Ok(());
     }
-    if parser.next_is_sign(Sign::RightBracket) {
+    if parser.shows_sign(Sign::RightBracket) {
         return Err(parser.fault(TextCase::ArgumentCount { wanted: count }));
     }
-    Err(parser.fault(TextCase::Unexpected))
+    Err(parser.unexpected(Choice::Mark(Sign::Comma)))
 }
 
 /// The `)` after so many arguments, where `,` or a value shows one too many.
@@ -103,7 +103,7 @@ fn closing_bracket(parser: &mut Parser<'_>, count: usize) -> Result<(), TextFaul
     if shows_more(parser, count) {
         return Err(parser.fault(TextCase::ArgumentCount { wanted: count }));
     }
-    Err(parser.fault(TextCase::Unexpected))
+    Err(parser.unexpected(Choice::Mark(Sign::RightBracket)))
 }
 
 /// Whether what stands next shows one argument too many after so many.
@@ -111,7 +111,7 @@ fn shows_more(parser: &Parser<'_>, count: usize) -> bool
     ensures { result ≡ shows_more count (kind_of (state parser.now).rest) }
 {
     if count > 0 {
-        return parser.next_is_sign(Sign::Comma);
+        return parser.shows_sign(Sign::Comma);
     }
     begins_value(parser)
 }

@@ -8,7 +8,7 @@ ghost use Rattle.camac_text_cursor.specs.Parser.{state, Gives};
 use crate::expressions::expression;
 use camac_lang::{Cond, Part, Test, limits};
 use camac_range::Cmp;
-use camac_text_cursor::Parser;
+use camac_text_cursor::{Choice, Parser};
 use camac_text_tokens::{Keyword, Limit, Sign, TextCase, TextFault, TokenKind};
 
 /// A condition, where so many brackets may be open at once.
@@ -56,7 +56,13 @@ fn part_limit(parser: &mut Parser<'_>, count: usize) -> Result<(), TextFault>
         Some(TokenKind::Sign(Sign::LeftBracket)) => Err(parser.fault(TextCase::Limit(
             Limit::Parts,
         ))),
-        _ => Err(parser.fault(TextCase::Unexpected)),
+        _ => {
+            parser.miss(Choice::Word(Keyword::Not));
+            parser.miss(Choice::Flag);
+            parser.miss(Choice::Number);
+            parser.miss(Choice::Name);
+            Err(parser.unexpected(Choice::Mark(Sign::LeftBracket)))
+        }
     }
 }
 
@@ -71,6 +77,7 @@ fn part(parser: &mut Parser<'_>, room: u32) -> Result<Part, TextFault>
             Ok(Part::Not(test))
         }
         _ => {
+            parser.miss(Choice::Word(Keyword::Not));
             let test = test(parser, room)?;
             Ok(Part::Plain(test))
         }
@@ -90,7 +97,10 @@ fn test(parser: &mut Parser<'_>, room: u32) -> Result<Test, TextFault>
             parser.advance();
             Ok(Test::X)
         }
-        _ => compared(parser, room),
+        _ => {
+            parser.miss(Choice::Flag);
+            compared(parser, room)
+        }
     }
 }
 
@@ -115,7 +125,7 @@ fn comparison_sign(parser: &mut Parser<'_>) -> Result<Cmp, TextFault>
         Some(TokenKind::Sign(Sign::AtLeast)) => Cmp::AtLeast,
         Some(TokenKind::Sign(Sign::Same)) => Cmp::Same,
         Some(TokenKind::Sign(Sign::Differs)) => Cmp::Differs,
-        _ => return Err(parser.fault(TextCase::Unexpected)),
+        _ => return Err(parser.unexpected(Choice::Comparison)),
     };
     parser.advance();
     Ok(how)

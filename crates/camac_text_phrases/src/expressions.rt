@@ -9,7 +9,7 @@ ghost use Rattle.camac_text_cursor.specs.Parser.{state, Gives};
 ghost use Rattle.camac_text_phrases.specs.Views.{Continues, Leaf, Puts};
 
 use camac_lang::{Divisor, Expr, Node, limits};
-use camac_text_cursor::Parser;
+use camac_text_cursor::{Choice, Parser};
 use camac_text_tokens::{Limit, Sign, TextCase, TextFault, TokenKind};
 use std::alloc::AllocError;
 
@@ -44,7 +44,11 @@ fn leaf(parser: &mut Parser<'_>) -> Result<Option<Node>, TextFault>
             let place = parser.used_variable()?;
             Ok(Some(Node::of_variable(place)?))
         }
-        _ => Ok(None),
+        _ => {
+            parser.miss(Choice::Number);
+            parser.miss(Choice::Name);
+            Ok(None)
+        }
     }
 }
 
@@ -106,10 +110,13 @@ fn sums(
 fn is_sum_sign(parser: &Parser<'_>) -> bool
     ensures { result ≡ is_sum_sign (kind_of (state parser.now).rest) }
 {
-    matches!(
-        parser.peek(),
-        Some(TokenKind::Sign(Sign::Plus)) | Some(TokenKind::Sign(Sign::Minus))
-    )
+    match parser.peek() {
+        Some(TokenKind::Sign(Sign::Plus)) | Some(TokenKind::Sign(Sign::Minus)) => true,
+        _ => {
+            parser.miss(Choice::Sum);
+            false
+        }
+    }
 }
 
 /// A sum with one term more, where the nodes end with those of the sum before it.
@@ -124,7 +131,7 @@ fn sum_turn(
 ) -> Result<u32, TextFault>
     ensures { (left : Expression) → Continues left nodes.old.items nodes.new.items result parser.new (sum_turn (bracketed room) (counted left so_far) (state parser.old)) }
 {
-    let is_difference = parser.next_is_sign(Sign::Minus);
+    let is_difference = parser.shows_sign(Sign::Minus);
     let so_far = operator(parser, so_far)?;
     let left = nodes.len();
     let operators = product(parser, room, so_far, nodes)?;
@@ -187,12 +194,15 @@ fn products(
 fn is_product_sign(parser: &Parser<'_>) -> bool
     ensures { result ≡ is_product_sign (kind_of (state parser.now).rest) }
 {
-    matches!(
-        parser.peek(),
+    match parser.peek() {
         Some(TokenKind::Sign(Sign::Times))
-            | Some(TokenKind::Sign(Sign::Over))
-            | Some(TokenKind::Sign(Sign::Modulo))
-    )
+        | Some(TokenKind::Sign(Sign::Over))
+        | Some(TokenKind::Sign(Sign::Modulo)) => true,
+        _ => {
+            parser.miss(Choice::Product);
+            false
+        }
+    }
 }
 
 /// A product with one factor or divisor more, where the nodes end with those of the product before it.
@@ -280,7 +290,7 @@ fn bracket(
 {
     match parser.peek() {
         Some(TokenKind::Sign(Sign::LeftBracket)) => bracketed(parser, room, so_far, nodes),
-        _ => Err(parser.fault(TextCase::Unexpected)),
+        _ => Err(parser.unexpected(Choice::Mark(Sign::LeftBracket))),
     }
 }
 

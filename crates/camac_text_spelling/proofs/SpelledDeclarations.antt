@@ -9,11 +9,11 @@ use Rattle.camac_text_tokens.specs.declared.token.Token.{Token}
 use Rattle.camac_text_tokens.specs.declared.token.TokenKind.{TokenKind}
 use Rattle.camac_text_tokens.specs.declared.token.TokenKind.TheVariants as kind
 use Rattle.camac_text_cursor.specs.Reading.{State, give, change, kind_of, line_of, after_first, while_next, advance, Reader, ◌>>◌}
-use Rattle.camac_text_cursor.specs.Readers.{new_name, new_variable, is_name, expect, any_number, branch_number, sub_address_number, used_lam, expect_sign, number_here}
+use Rattle.camac_text_cursor.specs.Readers.{is_number, new_name, new_variable, is_name, expect, any_number, branch_number, sub_address_number, used_lam, expect_sign, number_here}
 use Rattle.camac_text_cursor.specs.Declaring.{with_lam as lam_added, with_variables_of, with_service as service_added, with_table as table_added, tree_so_far}
 use Rattle.camac_text_statements.specs.Statements.{block_at}
 use Rattle.camac_text.specs.Declarations.{lam_declaration, one_more_variable, variable_declaration, service_declaration, declaration_by, declaration_at, is_token, declarations_at}
-use Rattle.camac_text.specs.Tables.{word_after, one_more_word, is_number, table_words, table_declaration}
+use Rattle.camac_text.specs.Tables.{word_after, one_more_word, table_words, table_declaration}
 use Rattle.camac_text.specs.Parser.{start}
 use Rattle.camac_text_cursor.proofs.Steps.{then_ok, ok_is, err_no_ok, while_keeps}
 use Rattle.camac_text_cursor.proofs.Moves.{check_ok, any_number_ok, sub_address_ok, new_name_ok, number_ok}

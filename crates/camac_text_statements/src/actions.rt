@@ -6,7 +6,7 @@ ghost use Rattle.camac_text_statements.specs.Statements.{assignment, register_se
 ghost use Rattle.camac_text_cursor.specs.Parser.{state, Gives};
 
 use camac_lang::{Move, Stmt, WordSize};
-use camac_text_cursor::Parser;
+use camac_text_cursor::{Choice, Parser};
 use camac_text_phrases::expression;
 use camac_text_tokens::{Sign, TextFault, TokenKind};
 
@@ -82,7 +82,10 @@ fn data_move(parser: &mut Parser<'_>, room: u32) -> Result<Move, TextFault>
             let value = expression(parser, room)?;
             Ok(Move::From(value))
         }
-        _ => Ok(Move::NoData),
+        _ => {
+            parser.miss(Choice::Arrow);
+            Ok(Move::NoData)
+        }
     }
 }
 

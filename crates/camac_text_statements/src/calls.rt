@@ -6,9 +6,9 @@ ghost use Rattle.camac_text_statements.specs.Statements.{switch, crate_action, c
 ghost use Rattle.camac_text_cursor.specs.Parser.{state, Gives};
 
 use camac_lang::{CrateCall, LamCall, Stmt};
-use camac_text_cursor::Parser;
+use camac_text_cursor::{Choice, Parser};
 use camac_text_phrases::expression;
-use camac_text_tokens::{Keyword, TextCase, TextFault, TokenKind};
+use camac_text_tokens::{Keyword, TextFault, TokenKind};
 
 #[tactic(auto, unfolding(crate::specs::Statements::crate_action))]
 pub fn crate_action(
@@ -86,6 +86,6 @@ fn switch(parser: &mut Parser<'_>) -> Result<bool, TextFault>
             parser.advance();
             Ok(false)
         }
-        _ => Err(parser.fault(TextCase::Unexpected)),
+        _ => Err(parser.unexpected(Choice::Switch)),
     }
 }

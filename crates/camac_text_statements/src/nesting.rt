@@ -7,7 +7,7 @@ ghost use Rattle.camac_text_cursor.specs.Parser.{state, Gives};
 
 use crate::statements::block;
 use camac_lang::Stmt;
-use camac_text_cursor::Parser;
+use camac_text_cursor::{Choice, Parser};
 use camac_text_phrases::{Own, condition, expression, keeps};
 use camac_text_tokens::{Keyword, Sign, TextCase, TextFault, TokenKind};
 
@@ -31,7 +31,10 @@ pub fn if_statement(parser: &mut Parser<'_>, room: u32, line: u32) -> Result<Stm
                 otherwise,
             })
         }
-        _ => Ok(Stmt::If { line, test, then }),
+        _ => {
+            parser.miss(Choice::Word(Keyword::Else));
+            Ok(Stmt::If { line, test, then })
+        }
     }
 }
 

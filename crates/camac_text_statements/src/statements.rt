@@ -1,8 +1,11 @@
 // Blocks and statements.
 
-ghost use Rattle.std.specs.Prelude.{◌≡◌, Some, map, suc};
+ghost use Rattle.std.specs.Prelude.{◌≡◌, Some, false, map, suc};
 ghost use Rattle.camac_lang.specs.View.{statement_of};
-ghost use Rattle.camac_text_cursor.specs.Reading.{kind_of, many};
+ghost use Rattle.camac_text_cursor.specs.Choice.{takes};
+ghost use Rattle.camac_text_cursor.specs.declared.choice.Choice.TheVariants as choice;
+ghost use Rattle.camac_text_cursor.specs.Reading.{kind_of, left_of, line_of, many};
+ghost use Rattle.camac_text_tokens.specs.declared.fault.TextCase.TheVariants.{Unexpected};
 ghost use Rattle.camac_text_tokens.specs.declared.token.TokenKind.TheVariants as kind;
 ghost use Rattle.camac_text_statements.specs.Statements.{statement_by, statement_with, is_no_end, block_at};
 ghost use Rattle.camac_text_cursor.specs.Parser.{state, Gives};
@@ -12,7 +15,7 @@ use crate::calls::{crate_action, crate_switch, lam_action, lam_switch};
 use crate::nesting::{for_statement, if_statement, lock_statement, while_statement};
 use crate::transfers::{call, q_repeat, q_stop, scan};
 use camac_lang::{CrateCall, LamCall, Stmt, WordSize};
-use camac_text_cursor::Parser;
+use camac_text_cursor::{Choice, Parser};
 use camac_text_tokens::{Keyword, Limit, Sign, TextCase, TextFault, TokenKind};
 
 /// The statements between two braces, where so many braces and brackets may be open at once.
@@ -25,7 +28,7 @@ pub fn block(parser: &mut Parser<'_>, room: u32) -> Result<Vec<Stmt>, TextFault>
         if parser.next_is_sign(Sign::LeftBrace) {
             return Err(parser.fault(TextCase::Limit(Limit::Depth)));
         }
-        return Err(parser.fault(TextCase::Unexpected));
+        return Err(parser.unexpected(Choice::Mark(Sign::LeftBrace)));
     }
     in_braces(parser, room - 1)
 }
@@ -68,13 +71,26 @@ fn statement(parser: &mut Parser<'_>, room: u32) -> Result<Stmt, TextFault>
 {
     let line = parser.line_here();
     match parser.peek() {
-        Some(TokenKind::Name(_)) => assignment(parser, room, line),
+        Some(TokenKind::Name(_)) => {
+            parser.miss(Choice::Statement);
+            assignment(parser, room, line)
+        }
         Some(TokenKind::Keyword(word)) => {
             let word = *word;
             keyword_statement(parser, word, room, line)
         }
-        _ => Err(parser.fault(TextCase::Unexpected)),
+        _ => Err(no_statement(parser)),
     }
+}
+
+/// The fault of a token that begins no statement.
+fn no_statement(parser: &Parser<'_>) -> TextFault
+    requires statement { takes choice.Statement (kind_of (state parser.now).rest) ≡ false }
+    requires name { takes choice.Name (kind_of (state parser.now).rest) ≡ false }
+    ensures { result ≡ TextFault.Broken Unexpected (line_of (state parser.now).rest parser.now.end_line) (left_of (state parser.now).rest) }
+{
+    parser.miss(Choice::Statement);
+    parser.unexpected(Choice::Name)
 }
 
 /// The statement that begins with this keyword, which stands next.
@@ -85,6 +101,7 @@ fn keyword_statement(
     room: u32,
     line: u32,
 ) -> Result<Stmt, TextFault>
+    requires { kind_of (state parser.old).rest ≡ Some (kind.Keyword word) }
     ensures { Gives statement_of result parser.new (statement_by room (block_at room) line (Some (kind.Keyword word)) (state parser.old)) }
 {
     match word {
@@ -122,6 +139,6 @@ fn keyword_statement(
         Keyword::Cclm => lam_switch(parser, line),
         Keyword::Cclc => lam_action(parser, LamCall::Clear, line),
         Keyword::Ctlm => lam_action(parser, LamCall::Test, line),
-        _ => Err(parser.fault(TextCase::Unexpected)),
+        _ => Err(no_statement(parser)),
     }
 }

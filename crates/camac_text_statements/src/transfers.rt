@@ -6,7 +6,7 @@ ghost use Rattle.camac_text_cursor.specs.Parser.{state, Gives};
 ghost use Rattle.camac_text_statements.specs.Transfers.{last_bound, table_at, scan_statement, q_stop_statement, q_repeat_statement, call_statement};
 
 use camac_lang::{Expr, Stmt};
-use camac_text_cursor::Parser;
+use camac_text_cursor::{Choice, Parser};
 use camac_text_phrases::{arguments, expression};
 use camac_text_tokens::{Keyword, TextFault, TokenKind};
 
@@ -84,7 +84,10 @@ fn table(parser: &mut Parser<'_>) -> Result<Option<usize>, TextFault>
             let place = parser.used_table()?;
             Ok(Some(place))
         }
-        _ => Ok(None),
+        _ => {
+            parser.miss(Choice::Word(Keyword::Table));
+            Ok(None)
+        }
     }
 }
 

@@ -6,7 +6,8 @@ use Rattle.camac_text_cursor.specs.Reading.{State, then_read, give}
 use Rattle.camac_text_cursor.specs.Parser.{state}
 use Rattle.camac_text_cursor.proofs.Moves.{one_less}
 use Rattle.camac_text_cursor.proofs.Loops.{goes, fails, ends, then_fails}
-use Rattle.camac_text.specs.Tables.{is_number, word_after, one_more_word, table_words}
+use Rattle.camac_text_cursor.specs.Readers.{is_number}
+use Rattle.camac_text.specs.Tables.{word_after, one_more_word, table_words}
 use Rattle.camac_text.proofs.TablesRead.{word_ok, words_progress}
 use Rattle.camac_text.proofs.tables.table_words.Goals as goal
 

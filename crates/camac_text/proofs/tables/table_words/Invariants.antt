@@ -1,7 +1,8 @@
 use Rattle.std.proofs.Common.{◌≡◌, length}
 use Rattle.camac_text_cursor.specs.Reading.{while_next}
 use Rattle.camac_text_cursor.specs.Parser.{state}
-use Rattle.camac_text.specs.Tables.{is_number, one_more_word, table_words}
+use Rattle.camac_text_cursor.specs.Readers.{is_number}
+use Rattle.camac_text.specs.Tables.{one_more_word, table_words}
 use Rattle.camac_text.proofs.tables.table_words.Given as goal
 
 abbrev pub invariant-loop-parser : goal.invariant-loop-parser

@@ -3,7 +3,7 @@ use Rattle.camac_text.specs.Declarations.{declarations_at}
 use Rattle.camac_text_cursor.specs.Parser.{state}
 use Rattle.camac_text.specs.Parser.{start}
 use Rattle.camac_text.proofs.WellFormed.{read_well_formed}
-use Rattle.camac_text.proofs.reading.read.Goals as goal
+use Rattle.camac_text.proofs.reading.parse_expecting.Goals as goal
 
 pub into_script-requires : goal.into_script-requires
 into_script-requires c =

@@ -1,0 +1,101 @@
+-- The tokens of which the grammar takes any one at a place.
+use Rattle.std.specs.Prelude.{Bool, true, false, Option, Some}
+use Rattle.camac_text_tokens.specs.declared.token.Keyword.{Keyword}
+use Rattle.camac_text_tokens.specs.declared.token.Keyword.TheVariants as word
+use Rattle.camac_text_tokens.specs.declared.token.Sign.{Sign}
+use Rattle.camac_text_tokens.specs.declared.token.Sign.TheVariants as sign
+use Rattle.camac_text_tokens.specs.declared.token.TokenKind.{TokenKind}
+use Rattle.camac_text_tokens.specs.declared.token.TokenKind.TheVariants as kind
+use Rattle.camac_text_cursor.specs.Readers.{is_keyword, is_sign, is_name, is_number}
+use Rattle.camac_text_cursor.specs.declared.choice.Choice.{Choice}
+use Rattle.camac_text_cursor.specs.declared.choice.Choice.TheVariants as choice
+
+abbrev pub is_word_that : (Keyword → Bool) → Option TokenKind → Bool
+is_word_that test (Some (kind.Keyword w)) = test w
+is_word_that test _ = false
+
+abbrev pub is_sign_that : (Sign → Bool) → Option TokenKind → Bool
+is_sign_that test (Some (kind.Sign s)) = test s
+is_sign_that test _ = false
+
+abbrev pub begins_declaration : Keyword → Bool
+begins_declaration word.Table = true
+begins_declaration word.Cdlam = true
+begins_declaration word.Var = true
+begins_declaration word.Proc = true
+begins_declaration word.Service = true
+begins_declaration _ = false
+
+-- in a procedure, too
+abbrev pub begins_statement : Keyword → Bool
+begins_statement word.Cdreg = true
+begins_statement word.Cfsa = true
+begins_statement word.Cssa = true
+begins_statement word.Cfmad = true
+begins_statement word.Cfubc = true
+begins_statement word.Cfubr = true
+begins_statement word.Put = true
+begins_statement word.Cccz = true
+begins_statement word.Cccc = true
+begins_statement word.Ctci = true
+begins_statement word.Ctcd = true
+begins_statement word.Ctgl = true
+begins_statement word.Ccci = true
+begins_statement word.Cccd = true
+begins_statement word.Cclm = true
+begins_statement word.Cclc = true
+begins_statement word.Ctlm = true
+begins_statement word.If = true
+begins_statement word.For = true
+begins_statement word.While = true
+begins_statement word.Call = true
+begins_statement _ = false
+
+abbrev pub is_flag : Keyword → Bool
+is_flag word.Q = true
+is_flag word.X = true
+is_flag _ = false
+
+abbrev pub is_switch : Keyword → Bool
+is_switch word.On = true
+is_switch word.Off = true
+is_switch _ = false
+
+abbrev pub is_arrow : Sign → Bool
+is_arrow sign.Into = true
+is_arrow sign.From = true
+is_arrow _ = false
+
+abbrev pub is_of_sum : Sign → Bool
+is_of_sum sign.Plus = true
+is_of_sum sign.Minus = true
+is_of_sum _ = false
+
+abbrev pub is_of_product : Sign → Bool
+is_of_product sign.Times = true
+is_of_product sign.Over = true
+is_of_product sign.Modulo = true
+is_of_product _ = false
+
+abbrev pub compares : Sign → Bool
+compares sign.Less = true
+compares sign.AtMost = true
+compares sign.More = true
+compares sign.AtLeast = true
+compares sign.Same = true
+compares sign.Differs = true
+compares _ = false
+
+abbrev pub takes : Choice → Option TokenKind → Bool
+takes (choice.Word w) at = is_keyword w at
+takes (choice.Mark s) at = is_sign s at
+takes choice.Name at = is_name at
+takes choice.Number at = is_number at
+takes choice.Declaration at = is_word_that begins_declaration at
+takes choice.Statement at = is_word_that begins_statement at
+takes choice.Flag at = is_word_that is_flag at
+takes choice.Switch at = is_word_that is_switch at
+takes choice.Arrow at = is_sign_that is_arrow at
+takes choice.Sum at = is_sign_that is_of_sum at
+takes choice.Product at = is_sign_that is_of_product at
+takes choice.Comparison at = is_sign_that compares at
