@@ -9,17 +9,17 @@ end
 complete -c camac -n __fish_use_subcommand -f
 complete -c camac -n __fish_use_subcommand -a plan -d 'Lists what a plan says'
 complete -c camac -n __fish_use_subcommand -a check -d 'Accepts a script with its bounds, or refuses it with a rule and a line'
-complete -c camac -n __fish_use_subcommand -a explain -d 'Says of a refused plan or script where, why and how to mend it'
+complete -c camac -n __fish_use_subcommand -a explain -d 'Says where and why a plan or script is refused, and how to fix it'
 complete -c camac -n __fish_use_subcommand -a bounds -d 'Prints the headings of a script with the least numbers that are accepted'
-complete -c camac -n __fish_use_subcommand -a costs -d 'Prints what each statement has of the bounds of an accepted script'
+complete -c camac -n __fish_use_subcommand -a costs -d 'Prints the share of each statement in the bounds of an accepted script'
 complete -c camac -n __fish_use_subcommand -a response -d 'Prints the most cycles from each look-at-me to the end of its service'
 complete -c camac -n __fish_use_subcommand -a run -d 'Plays an accepted script against a list of answers, and writes its events'
 complete -c camac -n __fish_use_subcommand -a drive -d 'Runs an accepted script live: asks for each operation, and reads its answer'
 complete -c camac -n __fish_use_subcommand -a events -d 'Lists an event file'
 complete -c camac -n __fish_use_subcommand -a help -d 'Print this message or the help of the given subcommand(s)'
 complete -c camac -n '__fish_seen_subcommand_from plan' -l commands -d 'Lists the commands of each type, too'
-complete -c camac -n '__fish_seen_subcommand_from response' -l every -d 'Its look-at-mes come at least so many cycles apart' -x
-complete -c camac -n '__fish_seen_subcommand_from response' -l within -d 'Asks whether it has ended so many cycles after its look-at-me' -x
+complete -c camac -n '__fish_seen_subcommand_from response' -l every -d 'Its look-at-mes come at least this many cycles apart' -x
+complete -c camac -n '__fish_seen_subcommand_from response' -l within -d 'Asks whether it has ended this many cycles after its look-at-me' -x
 complete -c camac -s h -l help -d 'Print help'
 complete -c camac -n __fish_use_subcommand -s V -l version -d 'Print version'
 

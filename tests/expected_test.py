@@ -87,7 +87,7 @@ def changed(chance):
 
 def told(lines):
     """The tokens that an explanation says may stand, and whether one is the beginning of a statement; None where it is of another fault."""
-    found = re.match(r"Found (?:`[^`]*`|the end of the script); here may stand (.*?)\.(?: |$)", lines[3])
+    found = re.match(r"Found (?:`[^`]*`|the end of the script); expected (.*?)\.(?: |$)", lines[3])
     if not found or not lines[0].startswith("refused S2 "):
         return None
     items = re.split(r", | or (?=`|an? )", found[1])

@@ -29,7 +29,7 @@ told why mend = record { why = why; mend = mend }
 abbrev pub plan_told : PlanRule → Told
 plan_told plan.NotToml =
     told (codes "a plan is a text in TOML, and here it breaks the grammar of TOML.")
-    (codes "correct it at the place that is named; texts stand in double quotes, each key has one value, and a comment begins with `#`.")
+    (codes "correct it at the place given: write texts in double quotes, give each key one value, and begin a comment with `#`.")
 plan_told plan.UnknownKey =
     told (codes "each table of a plan has its own keys, and one that camac does not know may be mistyped.")
     (codes "write one of the keys that docs/PLANS.md lists for this table, or remove it.")
@@ -49,10 +49,10 @@ plan_told plan.UnknownType =
     told (codes "the type of a station says which commands its module knows, and no type has this name.")
     (codes "add a type of this name, or correct the name; upper and lower case differ.")
 plan_told plan.DeclaredTwice =
-    told (codes "a type has its name alone, and each command of a type has one width.")
+    told (codes "no two types share a name, and each command of a type has one width.")
     (codes "remove one of the two, or end the range of sub-addresses before the other begins.")
 plan_told plan.BitTwice =
-    told (codes "a bit of the graded-L pattern tells which station calls, so it belongs to one station.")
+    told (codes "a bit of the graded-L pattern says which station calls, so it belongs to one station.")
     (codes "give one of the stations another bit, as it is wired.")
 plan_told plan.TooDeep =
     told (codes "a plan opens at most 16 arrays, inline tables, dots of keys and keys of a heading in each other, which bounds the stack that it takes; docs/PLANS.md needs 4.")
@@ -69,7 +69,7 @@ text_told text.NumberTooLarge =
     told (codes "a function is at most 31, a sub-address at most 15, a word at most 16777215, and any number at most 4294967295.")
     (codes "write a number in this range.")
 text_told text.DeclaredTwice =
-    told (codes "a name stands for one thing alone, and a loop keeps neither a variable twice nor its own.")
+    told (codes "a name has one meaning, and a loop keeps no variable twice and not its own.")
     (codes "choose another name for one of the two, or remove the second.")
 text_told text.NotDeclared =
     told (codes "a name is declared before it is used; upper and lower case differ; a procedure sees no variable of the script.")
@@ -78,7 +78,7 @@ text_told text.LimitPassed =
     told (codes "the language has limits, so that each script is judged and run in a bounded memory.")
     (codes "make it shorter or fewer; docs/LANGUAGE.md lists the limits.")
 text_told text.BranchNotOne =
-    told (codes "the first number of an address is the branch, and there is branch 1 alone.")
+    told (codes "the first number of an address is the branch, and there is only branch 1.")
     (codes "write 1, then the crate, the station and the sub-address.")
 
 abbrev pub link_told : LinkRule → Told
@@ -86,7 +86,7 @@ link_told link.LamNotInstalled =
     told (codes "a LAM comes from a module, and the plan has none at this station.")
     (codes "correct the crate or the station of the `cdlam`, or add the station to the plan.")
 link_told link.StationWithoutBit =
-    told (codes "a service runs when its station's bit stands in the graded-L pattern, and the plan gives this station no bit.")
+    told (codes "a service runs when its station's bit is set in the graded-L pattern, and the plan gives this station no bit.")
     (codes "add `gl` to the station in the plan, or serve the LAM of another station.")
 link_told link.StationServedTwice =
     told (codes "a station has one bit of the graded-L pattern, and a bit calls one service.")
@@ -97,9 +97,9 @@ link_told link.EventAboveBuffer =
 
 -- E3: by what the function does
 abbrev pub class_mend : FunctionClass → List ℕ
-class_mend Read = codes "with a function that reads write `-> v` after the register of `cfsa` or `cssa`, and name no `table` in `cfubc` or `cfubr`."
-class_mend Write = codes "with a function that writes write `<- e` after the register of `cfsa` or `cssa`, and name a `table` in `cfubc` or `cfubr`; `cfmad` reads alone."
-class_mend Control = codes "with a function that moves no data write `cfsa` or `cssa` without an arrow."
+class_mend Read = codes "with a function that reads, write `-> v` after the register of `cfsa` or `cssa`, and name no `table` in `cfubc` or `cfubr`."
+class_mend Write = codes "with a function that writes, write `<- e` after the register of `cfsa` or `cssa`, and name a `table` in `cfubc` or `cfubr`; `cfmad` only reads."
+class_mend Control = codes "with a function that moves no data, write `cfsa` or `cssa` without an arrow."
 
 abbrev pub direction_mend : Case → List ℕ
 direction_mend (Direction f class moves) = class_mend class
@@ -155,7 +155,7 @@ width_mend case =
 abbrev pub word_mend : Case → List ℕ
 word_mend case =
     if is_any case then codes "a loop forgets what its body writes: write `keep v in 0..16777215` after its head, or bound the value by `% 16777216` or `if`. `camac-check --keeps` finds what a loop has to keep."
-    else codes "bound the value by `% 16777216` or `if`, let a loop `keep` it in a range, or put it as two words."
+    else codes "bound the value by `% 16777216`, or by an `if` on a variable that has it; let a loop `keep` it in a range, or put it as two words."
 
 -- E10: a larger number after `turns`, where that is allowed
 abbrev pub turns_mend : Case → List ℕ
@@ -188,7 +188,7 @@ larger_cycles case =
 abbrev pub cycles_mend : Case → List ℕ
 cycles_mend case =
     if is_within greatest case then larger_cycles case
-    else codes "make fewer cycles, or fewer turns: no number after `within` is so large."
+    else codes "make fewer cycles, or fewer turns: no number after `within` can be that large."
 
 abbrev pub steps_mend : Case → List ℕ
 steps_mend case =
@@ -203,7 +203,7 @@ check_told check.CommandNotDeclared case =
     told (codes "a module is sent only what the plan declares for its type, at every sub-address that the register may hold.")
     (codes "correct the function, or the address in the `cdreg` or `cdlam`; or add the command to the type in the plan; or bound a computed number by `if` or `%`.")
 check_told check.WrongDirection case =
-    told (codes "F0 to F7 read, F16 to F23 write, and the others move no data; `cfmad` reads, and a block transfer writes where it names a table.")
+    told (codes "F0 to F7 read, F16 to F23 write, and the others move no data; `cfmad` reads, and a block transfer writes if it names a table.")
     (direction_mend case)
 check_told check.ValueOutOfRange case =
     told (codes "no result may be below 0 or above 4294967295, for all values that the variables may have here.")
@@ -212,7 +212,7 @@ check_told check.ValueTooWide case =
     told (codes "a write sends all bits of its value, so the value has to fit the register's width in the plan, and for `cssa` 16 bits.")
     (width_mend case)
 check_told check.RegisterUnset case =
-    told (codes "on some way to this line no `cdreg` has set the register; at the beginning of a loop's turn, those that its body sets count as unset.")
+    told (codes "on some path to this line no `cdreg` has set the register; at the start of each turn of a loop, registers that its body sets count as unset.")
     (codes "set it in the same block before this line, as in `cdreg r 1 c n a`.")
 check_told check.MeasureBroken case =
     told (codes "the variable after `by` shows that the loop ends: its body lowers it once, by a number from 1, and nothing else in it writes it.")
@@ -222,7 +222,7 @@ check_told check.KeepFailsAtEntry case =
     (codes "set the variable before the loop, or widen its range after `keep`. `camac-check --keeps` finds what a loop has to keep.")
 check_told check.KeepFailsAfterTurn case =
     told (codes "a kept variable is in its range again after each turn, for all values that it may have.")
-    (codes "a sum grows in each turn, so a wider range is refused again: add only where an `if` leaves room, as in `if k <= 49140 - 4095 { k = k + v }`. A value that is set anew wants a bound or a wider range. `camac-check --keeps` finds what a loop has to keep.")
+    (codes "a sum grows in each turn, so a wider range is refused again: add only where an `if` leaves room, as in `if k <= 49140 - 4095 { k = k + v }`. A value that is set again needs a bound or a wider range. `camac-check --keeps` finds what a loop has to keep.")
 check_told check.TooManyTurns case =
     told (codes "a loop makes at most 65535 turns, and a `while` at most those after `turns`.")
     (turns_mend case)
@@ -239,7 +239,7 @@ check_told check.CountAboveTable case =
     told (codes "a block write sends a word of its table for each that it counts.")
     (codes "write a smaller `max`, or a longer table.")
 check_told check.CrateUnfit case =
-    told (codes "a crate call or a `lock` is for one crate of the plan, which is known before the run, and no crate is locked twice.")
+    told (codes "a crate call or a `lock` is for one crate of the plan, known before the run, and no crate is locked twice.")
     (codes "write the number of a crate of the plan, or remove the inner `lock`.")
 check_told check.WordTooWide case =
     told (codes "a word of an event has 24 bits.")
@@ -248,7 +248,7 @@ check_told check.LoopVariableAssigned case =
     told (codes "a `for` counts its variable itself, so nothing in its body may write it.")
     (codes "use another variable in the body.")
 check_told check.TooManySteps case =
-    told (codes "each statement, each turn of a loop and each cycle of a transfer is a step; a service may take 4294967295.")
+    told (codes "each statement, each turn of a loop and each cycle of a transfer is a step; a service may take at most 4294967295.")
     (steps_mend case)
 check_told check.ArgumentOutOfRange case =
     told (codes "a procedure's body is checked once, for the ranges in its heading, so each argument has to be in the range of its parameter.")

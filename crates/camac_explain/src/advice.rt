@@ -32,7 +32,7 @@ pub fn plan_advice(rule: PlanRule) -> Advice
     let (why, mend) = match rule {
         PlanRule::NotToml => (
             "a plan is a text in TOML, and here it breaks the grammar of TOML.",
-            "correct it at the place that is named; texts stand in double quotes, each key has one value, and a comment begins with `#`.",
+            "correct it at the place given: write texts in double quotes, give each key one value, and begin a comment with `#`.",
         ),
         PlanRule::UnknownKey => (
             "each table of a plan has its own keys, and one that camac does not know may be mistyped.",
@@ -59,11 +59,11 @@ pub fn plan_advice(rule: PlanRule) -> Advice
             "add a type of this name, or correct the name; upper and lower case differ.",
         ),
         PlanRule::DeclaredTwice => (
-            "a type has its name alone, and each command of a type has one width.",
+            "no two types share a name, and each command of a type has one width.",
             "remove one of the two, or end the range of sub-addresses before the other begins.",
         ),
         PlanRule::BitTwice => (
-            "a bit of the graded-L pattern tells which station calls, so it belongs to one station.",
+            "a bit of the graded-L pattern says which station calls, so it belongs to one station.",
             "give one of the stations another bit, as it is wired.",
         ),
         PlanRule::TooDeep => (
@@ -93,7 +93,7 @@ pub fn text_advice(rule: TextRule) -> Advice
             "write a number in this range.",
         ),
         TextRule::DeclaredTwice => (
-            "a name stands for one thing alone, and a loop keeps neither a variable twice nor its own.",
+            "a name has one meaning, and a loop keeps no variable twice and not its own.",
             "choose another name for one of the two, or remove the second.",
         ),
         TextRule::NotDeclared => (
@@ -105,7 +105,7 @@ pub fn text_advice(rule: TextRule) -> Advice
             "make it shorter or fewer; docs/LANGUAGE.md lists the limits.",
         ),
         TextRule::BranchNotOne => (
-            "the first number of an address is the branch, and there is branch 1 alone.",
+            "the first number of an address is the branch, and there is only branch 1.",
             "write 1, then the crate, the station and the sub-address.",
         ),
     };
@@ -123,7 +123,7 @@ pub fn link_advice(rule: LinkRule) -> Advice
             "correct the crate or the station of the `cdlam`, or add the station to the plan.",
         ),
         LinkRule::StationWithoutBit => (
-            "a service runs when its station's bit stands in the graded-L pattern, and the plan gives this station no bit.",
+            "a service runs when its station's bit is set in the graded-L pattern, and the plan gives this station no bit.",
             "add `gl` to the station in the plan, or serve the LAM of another station.",
         ),
         LinkRule::StationServedTwice => (
@@ -153,7 +153,7 @@ pub fn check_advice(rule: CheckRule, case: Case) -> Advice
             "correct the function, or the address in the `cdreg` or `cdlam`; or add the command to the type in the plan; or bound a computed number by `if` or `%`.",
         ),
         CheckRule::WrongDirection => (
-            "F0 to F7 read, F16 to F23 write, and the others move no data; `cfmad` reads, and a block transfer writes where it names a table.",
+            "F0 to F7 read, F16 to F23 write, and the others move no data; `cfmad` reads, and a block transfer writes if it names a table.",
             direction_mend(case),
         ),
         CheckRule::ValueOutOfRange => (
@@ -165,7 +165,7 @@ pub fn check_advice(rule: CheckRule, case: Case) -> Advice
             width_mend(case),
         ),
         CheckRule::RegisterUnset => (
-            "on some way to this line no `cdreg` has set the register; at the beginning of a loop's turn, those that its body sets count as unset.",
+            "on some path to this line no `cdreg` has set the register; at the start of each turn of a loop, registers that its body sets count as unset.",
             "set it in the same block before this line, as in `cdreg r 1 c n a`.",
         ),
         CheckRule::MeasureBroken => (
@@ -178,7 +178,7 @@ pub fn check_advice(rule: CheckRule, case: Case) -> Advice
         ),
         CheckRule::KeepFailsAfterTurn => (
             "a kept variable is in its range again after each turn, for all values that it may have.",
-            "a sum grows in each turn, so a wider range is refused again: add only where an `if` leaves room, as in `if k <= 49140 - 4095 { k = k + v }`. A value that is set anew wants a bound or a wider range. `camac-check --keeps` finds what a loop has to keep.",
+            "a sum grows in each turn, so a wider range is refused again: add only where an `if` leaves room, as in `if k <= 49140 - 4095 { k = k + v }`. A value that is set again needs a bound or a wider range. `camac-check --keeps` finds what a loop has to keep.",
         ),
         CheckRule::TooManyTurns => (
             "a loop makes at most 65535 turns, and a `while` at most those after `turns`.",
@@ -201,7 +201,7 @@ pub fn check_advice(rule: CheckRule, case: Case) -> Advice
             "write a smaller `max`, or a longer table.",
         ),
         CheckRule::CrateUnfit => (
-            "a crate call or a `lock` is for one crate of the plan, which is known before the run, and no crate is locked twice.",
+            "a crate call or a `lock` is for one crate of the plan, known before the run, and no crate is locked twice.",
             "write the number of a crate of the plan, or remove the inner `lock`.",
         ),
         CheckRule::WordTooWide => ("a word of an event has 24 bits.", word_mend(case)),
@@ -210,7 +210,7 @@ pub fn check_advice(rule: CheckRule, case: Case) -> Advice
             "use another variable in the body.",
         ),
         CheckRule::TooManySteps => (
-            "each statement, each turn of a loop and each cycle of a transfer is a step; a service may take 4294967295.",
+            "each statement, each turn of a loop and each cycle of a transfer is a step; a service may take at most 4294967295.",
             steps_mend(case),
         ),
         CheckRule::ArgumentOutOfRange => (
@@ -230,13 +230,13 @@ fn direction_mend(case: Case) -> &'static str
             class: FunctionClass::Read,
             ..
         } =>
-            "with a function that reads write `-> v` after the register of `cfsa` or `cssa`, and name no `table` in `cfubc` or `cfubr`.",
+            "with a function that reads, write `-> v` after the register of `cfsa` or `cssa`, and name no `table` in `cfubc` or `cfubr`.",
         Case::Direction {
             class: FunctionClass::Write,
             ..
         } =>
-            "with a function that writes write `<- e` after the register of `cfsa` or `cssa`, and name a `table` in `cfubc` or `cfubr`; `cfmad` reads alone.",
-        _ => "with a function that moves no data write `cfsa` or `cssa` without an arrow.",
+            "with a function that writes, write `<- e` after the register of `cfsa` or `cssa`, and name a `table` in `cfubc` or `cfubr`; `cfmad` only reads.",
+        _ => "with a function that moves no data, write `cfsa` or `cssa` without an arrow.",
     }
 }
 
@@ -323,7 +323,7 @@ fn word_mend(case: Case) -> &'static str
     if is_any(case) {
         "a loop forgets what its body writes: write `keep v in 0..16777215` after its head, or bound the value by `% 16777216` or `if`. `camac-check --keeps` finds what a loop has to keep."
     } else {
-        "bound the value by `% 16777216` or `if`, let a loop `keep` it in a range, or put it as two words."
+        "bound the value by `% 16777216`, or by an `if` on a variable that has it; let a loop `keep` it in a range, or put it as two words."
     }
 }
 
@@ -368,7 +368,7 @@ fn cycles_mend(case: Case) -> &'static str
     ensures { result.now ≡ cycles_mend case }
 {
     if !is_within(u32::MAX, case) {
-        "make fewer cycles, or fewer turns: no number after `within` is so large."
+        "make fewer cycles, or fewer turns: no number after `within` can be that large."
     } else if is_of_procedure(case) {
         "write a larger number after `within`, as `camac bounds` prints it, or make fewer cycles."
     } else {

@@ -46,7 +46,7 @@ fn place_sentence(alloc: Global, before: &[u8], message: &str) -> Result<String,
 }
 
 const DOUBLE_BRACKETS: &str =
-    "Crates, stations and types stand in double brackets: `[[crate]]`, `[[crate.station]]`, `[[type]]`.";
+    "Write crates, stations and types in double brackets: `[[crate]]`, `[[crate.station]]`, `[[type]]`.";
 
 // What is to be known of a text that is no TOML.
 fn hint_of_text(text: &[u8], before: &[u8], rest: &[u8]) -> Option<&'static str> {
@@ -124,7 +124,7 @@ fn told(
     match case {
         PlanCase::Missing { kind: wanted, .. } => {
             let needed = Needed(wanted);
-            format!(in alloc; "the key is missing, and {needed} has to stand here.")
+            format!(in alloc; "the key is missing; expected {needed}.")
         }
         PlanCase::Kind {
             key,
@@ -136,7 +136,7 @@ fn told(
             low,
             high,
             ..
-        } => { format!(in alloc; "the value is {found}, and {low} to {high} may stand here.") }
+        } => { format!(in alloc; "the value is {found}; expected {low} to {high}.") }
         PlanCase::Name { .. } => format!(in alloc;
             "the value is {shown}, and a name has 1 to 32 letters, digits, `_` or `-`."
         ),
@@ -152,7 +152,7 @@ fn told(
                 own: if is_known_by { None } else { Some(top) },
                 table: first,
             };
-            format!(in alloc; "the value is {shown}, which stands before already, at {first}.")
+            format!(in alloc; "the value is {shown}, which is already used at {first}.")
         }
         PlanCase::Command { f, a, first, .. } => {
             let first = match first {
@@ -163,7 +163,7 @@ fn told(
                 place: first,
                 of: "command",
             };
-            format!(in alloc; "F{f} at A{a} stands before already, at the {command}.")
+            format!(in alloc; "F{f} at A{a} is declared already, at the {command}.")
         }
         _ => format!(in alloc; "the value is {shown}."),
     }
@@ -184,15 +184,13 @@ fn kind_told(
                 let kind = entry.type_str();
                 let nth = Nth { place, of: "entry" };
                 return format!(in alloc;
-                    "the {nth} is of the kind {kind}, and a table has to stand here, as `{{ f = 0, a = 0 }}`."
+                    "the {nth} is of the kind {kind}; expected a table, such as `{{ f = 0, a = 0 }}`."
                 );
             }
         }
     }
     let needed = Needed(wanted);
-    let sentence = format!(in alloc;
-        "the value is of the kind {kind}, and {needed} has to stand here."
-    )?;
+    let sentence = format!(in alloc; "the value is of the kind {kind}; expected {needed}.")?;
     match key {
         PlanKey::A => format!(in alloc; "{sentence} A range is written as `a = 0, to = 11`."),
         PlanKey::Crates | PlanKey::Stations | PlanKey::Types => {
@@ -267,7 +265,7 @@ fn unknown_sentence(
 fn hint(alloc: Global, key: &str, table: PlanTable) -> Result<String, AllocError> {
     let mut known = keys_of(table).iter().map(|it| it.text());
     if let Some(near) = known.find(|it| is_near(key.as_bytes(), it.as_bytes())) {
-        return format!(in alloc; " Perhaps `{near}` is meant.");
+        return format!(in alloc; " Did you mean `{near}`?");
     }
     let (type_place, crate_place, place) = (0, 0, 0);
     let homes = [

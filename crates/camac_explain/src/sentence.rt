@@ -96,13 +96,13 @@ pub fn check_sentence(
             left,
             right,
         } => format!(in alloc;
-            "On the left of `{}` may stand {}, on the right {}.",
+            "The left of `{}` may be {}, the right {}.",
             sign_of(operator),
             Span(left),
             Span(right)
         ),
         Case::Width { greatest, bits } => {
-            format!(in alloc; "The value may be {greatest}, and has to fit in {bits} bits.")
+            format!(in alloc; "The value may be {greatest}, but has to fit in {bits} bits.")
         }
         Case::Unset { body, register } => {
             let register = names.register(body, register);
@@ -158,7 +158,7 @@ pub fn check_sentence(
             format!(in alloc; "The word may be {greatest}, and 24 bits hold at most 16777215.")
         }
         Case::Counted { body, variable } => format!(in alloc;
-            "The variable {} is counted by a `for` around this.",
+            "A `for` around this line counts the variable {}.",
             names.variable(body, variable)
         ),
         Case::Argument {

@@ -78,7 +78,7 @@ pub const ABSENT: [(&str, &str); 41] = [
         "`#` before a comment, and `/` to divide: it rounds down",
     ),
     ("/* */ rem", "`#` before each line of a comment"),
-    ("\" ' “ ” ‘ ’", "text in a comment alone, after `#`"),
+    ("\" ' “ ” ‘ ’", "text only in a comment, after `#`"),
     ("[ ]", "several variables, or a `table` for a block write"),
     (
         ".",

@@ -44,15 +44,15 @@ impl fmt::Display for Hint<'_> {
     fn fmt<W: fmt::Write>(&self, f: &mut fmt::Formatter<W>) -> fmt::Result {
         match self {
             Hint::Told(told) => write!(f, "{told}"),
-            Hint::Meant(word) => write!(f, "Perhaps `{word}` is meant."),
-            Hint::MeantName(name) => write!(f, "Perhaps {} is meant.", Quote(name)),
+            Hint::Meant(word) => write!(f, "Did you mean `{word}`?"),
+            Hint::MeantName(name) => write!(f, "Did you mean {}?", Quote(name)),
             Hint::MeantBefore { word, meant } => {
-                write!(f, "Perhaps {} is to be `{meant}`.", Quote(word))
+                write!(f, "Did you mean `{meant}` instead of {}?", Quote(word))
             }
             Hint::Open { line } => write!(f, "The `{{` of line {line} is still open."),
             Hint::Inside { word, line } => write!(
                 f,
-                "`{word}` stands outside of services and procedures, and the `{{` of line {line} is still open."
+                "`{word}` belongs outside of services and procedures, and the `{{` of line {line} is still open."
             ),
             Hint::Takes { procedure, count } => {
                 let noun = if *count == 1 { "argument" } else { "arguments" };
@@ -62,11 +62,11 @@ impl fmt::Display for Hint<'_> {
                     Quote(procedure)
                 )
             }
-            Hint::Brackets(name) => { write!(f, "Arguments stand in brackets: {}.", Call(name)) }
+            Hint::Brackets(name) => { write!(f, "Write arguments in brackets: {}.", Call(name)) }
             Hint::Called(name) => write!(f, "A procedure is called by {}.", Call(name)),
             Hint::NoResult(name) => write!(
                 f,
-                "A procedure has no result, and is called by {}.",
+                "A procedure has no result: call it by {}.",
                 Call(name)
             ),
             Hint::Address(name) => write!(
@@ -188,7 +188,7 @@ fn decimal(found: &Found<'_>) -> Option<&'static str> {
     let is_word = matches!(found.kind, Some(TokenKind::Name(_) | TokenKind::Keyword(_)));
     let is_after_number = matches!(found.last(), Some(TokenKind::Number(_)));
     (is_word && is_after_number && found.adjoins_word()).then_some(
-        "A number is written in decimal digits alone.",
+        "Write numbers in decimal digits.",
     )
 }
 

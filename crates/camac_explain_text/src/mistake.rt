@@ -21,8 +21,8 @@ pub fn told_of_kind(wanted: NameKind, found: NameKind) -> Option<&'static str> {
         (NameKind::Variable, NameKind::Table) => Some(
             "A table cannot be read: it is for block writes.",
         ),
-        (NameKind::Register, _) => Some("A register is set to an address before, by `cdreg`."),
-        (NameKind::Lam, _) => Some("Here stands the name of a LAM, which `cdlam` declares."),
+        (NameKind::Register, _) => Some("Set a register to an address first, by `cdreg`."),
+        (NameKind::Lam, _) => Some("Write the name of a LAM here, which `cdlam` declares."),
         _ => None,
     }
 }
@@ -49,7 +49,7 @@ pub fn own_sentence<'a>(found: &'a Found<'_>) -> Option<Hint<'a>> {
     match keyword {
         _ if !found.is_assigned() || begins_statement(keyword) => None,
         Keyword::Q | Keyword::X => Some(Hint::Told(
-            "A flag is set by each cycle, and by nothing else.",
+            "Each cycle sets the flags, and nothing else does.",
         )),
         _ => Some(Hint::OfLanguage(word)),
     }
@@ -63,7 +63,7 @@ pub fn outside_of_bodies(found: &Found<'_>) -> Option<&'static str> {
         _ => false,
     };
     (is_statement && !found.before.in_body()).then_some(
-        "A statement stands in the braces of a service or a procedure.",
+        "A statement belongs in the braces of a service or a procedure.",
     )
 }
 
@@ -80,10 +80,10 @@ fn mistake_at(found: &Found<'_>) -> Option<&'static str> {
     use TokenKind::{Keyword as Word, Sign as Mark};
     let first = found.before.first_word()?;
     Some(match (first, found.kind.as_ref()?) {
-        (Keyword::Var, Mark(Sign::Comma)) => "Names stand without commas, as in `var v k`.",
+        (Keyword::Var, Mark(Sign::Comma)) => "Write names without commas, as in `var v k`.",
         (Keyword::Var, Mark(Sign::Equals)) =>
             "A variable begins as 0: a service sets it, as in `v = 3`.",
-        (Keyword::Table, Mark(Sign::Comma)) => "Words stand without commas, as in `table t = 1 2`.",
+        (Keyword::Table, Mark(Sign::Comma)) => "Write words without commas, as in `table t = 1 2`.",
         (Keyword::Put, Mark(Sign::Comma)) => "A `put` has one value: write `put` before each.",
         (Keyword::Cfsa | Keyword::Cssa, Mark(Sign::Comma)) if found.begins_statement() => {
             "A read sets one variable, and the flags `q` and `x` by themselves."
@@ -124,15 +124,15 @@ fn mistake_after(found: &Found<'_>) -> Option<&'static str> {
         }
         (Name(_), TokenKind::Sign(sign))
             if is_operator(*sign) && found.expected.has(Choice::Mark(Sign::Equals)) => {
-            "The variable stands again behind the `=`, as in `v = v + 1`."
+            "Repeat the variable after the `=`, as in `v = v + 1`."
         }
         (Word(Keyword::Q | Keyword::X), TokenKind::Sign(sign))
             if is_comparison(*sign) || *sign == Sign::Equals => {
-            "A flag stands alone: `q`, or `not q`."
+            "Write a flag alone: `q`, or `not q`."
         }
-        (Word(Keyword::Not), Word(Keyword::Not)) => "After `not` stands a comparison, `q` or `x`.",
+        (Word(Keyword::Not), Word(Keyword::Not)) => "After `not`, write a comparison, `q` or `x`.",
         (Word(Keyword::Else), Word(Keyword::If)) => {
-            "The block of `else` stands in braces, and an `if` may stand in it."
+            "Write the block of `else` in braces; an `if` may be in it."
         }
         (Word(_), TokenKind::Sign(Sign::LeftBracket)) => {
             "What follows is written without brackets and commas."
@@ -140,7 +140,7 @@ fn mistake_after(found: &Found<'_>) -> Option<&'static str> {
         (TokenKind::Sign(Sign::Into), _) => {
             "A read sets a variable after `->`; a write has `<-` and a value."
         }
-        (TokenKind::Sign(Sign::Over | Sign::Modulo), _) => "A divisor is a number from 1 on.",
+        (TokenKind::Sign(Sign::Over | Sign::Modulo), _) => "A divisor is a number of at least 1.",
         (_, TokenKind::Sign(Sign::Minus)) if is_value => "There are no numbers below 0.",
         (_, Word(Keyword::Q | Keyword::X)) if is_value && !found.before.is_in_brackets() => {
             "A flag is no number: write `v = 0  if q { v = 1 }`."
@@ -154,7 +154,7 @@ fn mistake_in(found: &Found<'_>) -> Option<&'static str> {
     let kind = found.kind.as_ref()?;
     Some(match found.before.first_word()? {
         Keyword::If | Keyword::While if is_of_condition(kind) && found.before.is_in_brackets() => {
-            "Brackets enclose expressions, and no conditions."
+            "Brackets are for expressions, not for conditions."
         }
         Keyword::Ctlm | Keyword::Ctci | Keyword::Ctcd | Keyword::Ctgl
             if matches!(kind, TokenKind::Sign(Sign::Into)) => { "The answer is the flag `q`." }
@@ -162,8 +162,8 @@ fn mistake_in(found: &Found<'_>) -> Option<&'static str> {
             "An address is the branch, which is 1, then crate, station and sub-address."
         }
         _ if is_name(found.expected) => match found.needed() {
-            NameKind::Register => "A register is set to an address before, by `cdreg`.",
-            NameKind::Lam => "Here stands the name of a LAM, which `cdlam` declares.",
+            NameKind::Register => "Set a register to an address first, by `cdreg`.",
+            NameKind::Lam => "Write the name of a LAM here, which `cdlam` declares.",
             _ => return None,
         },
         _ => return None,

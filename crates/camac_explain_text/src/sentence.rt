@@ -44,7 +44,7 @@ fn case_told(alloc: Global, found: &Found<'_>, case: TextCase) -> Result<String,
         TextCase::Byte => byte_told(alloc, found),
         TextCase::Unexpected => unexpected(alloc, found),
         TextCase::ZeroDivisor => {
-            format!(in alloc; "Found {word}. A divisor is a number from 1 on.")
+            format!(in alloc; "Found {word}. A divisor is a number of at least 1.")
         }
         TextCase::LockInProcedure => {
             format!(in alloc; "A procedure has no `lock`: put the `call` into one.")
@@ -54,14 +54,12 @@ fn case_told(alloc: Global, found: &Found<'_>, case: TextCase) -> Result<String,
             format!(in alloc; "The number {word} is above 4294967295, the greatest of all.")
         }
         TextCase::Number { most } => {
-            format!(in alloc;
-                "The number {word} is above {most}, the greatest that may stand here."
-            )
+            format!(in alloc; "The number {word} is above {most}, the greatest allowed here.")
         }
         TextCase::Taken { by } => taken(alloc, found, by),
         TextCase::KeptTwice => format!(in alloc; "The variable {word} is kept twice."),
         TextCase::CounterKept => {
-            format!(in alloc; "The variable {word} is counted by the `for`, and needs no `keep`.")
+            format!(in alloc; "The `for` counts the variable {word}, which needs no `keep`.")
         }
         TextCase::MeasureKept => {
             format!(in alloc; "The variable {word} is the measure after `by`, and needs no `keep`.")
@@ -72,7 +70,7 @@ fn case_told(alloc: Global, found: &Found<'_>, case: TextCase) -> Result<String,
         } => undeclared(alloc, found, wanted, what),
         TextCase::Limit(limit) => limit_told(alloc, found.word, limit),
         TextCase::Branch => {
-            format!(in alloc; "The branch is {word} here, and there is branch 1 alone.")
+            format!(in alloc; "The branch is {word} here, and there is only branch 1.")
         }
     }
 }
@@ -127,7 +125,7 @@ fn unexpected(alloc: Global, found: &Found<'_>) -> Result<String, AllocError> {
     } else {
         format!(in alloc; "Found {}", Quote(found.word))?
     };
-    sentence.push_str("; here may stand ")?;
+    sentence.push_str("; expected ")?;
     for (place, alternative) in expected.iter().enumerate() {
         let before = before_item(place, expected.len(), " or ");
         write!(sentence, "{before}{alternative}")?;
@@ -180,15 +178,15 @@ fn undeclared(
             let is = noun(kind);
             let line = found.before.declared(found.word).map_or(0, |it| it.line);
             let sentence = format!(in alloc;
-                "The name {name} is declared on line {line} as a {is}, and here may stand a {needed}."
+                "The name {name} is declared on line {line} as a {is}; expected a {needed}."
             )?;
             with_hint(alloc, sentence, kind_hint(found, wanted, kind))
         }
         camac_text::Found::Itself => {
-            format!(in alloc; "The procedure {name} can be called after its end alone.")
+            format!(in alloc; "The procedure {name} can be called only after its end.")
         }
         camac_text::Found::Hidden => {
-            format!(in alloc; "The variable {name} of the script is not seen in a procedure.")
+            format!(in alloc; "A procedure does not see the variable {name} of the script.")
         }
     }
 }
@@ -201,7 +199,7 @@ fn not_there(alloc: Global, found: &Found<'_>, wanted: NameKind) -> Result<Strin
     }
     let name = Quote(found.word);
     let needed = noun(wanted);
-    let sentence = format!(in alloc; "The name {name} is not declared before as a {needed}.")?;
+    let sentence = format!(in alloc; "The name {name} is not declared above as a {needed}.")?;
     with_hint(alloc, sentence, name_hint(found, wanted))
 }
 

@@ -10,13 +10,14 @@ pub const PLAN_COMMAND: &str = "Lists what a plan says";
 pub const CHECK_COMMAND: &str =
     "Accepts a script with its bounds, or refuses it with a rule and a line";
 
-pub const EXPLAIN_COMMAND: &str = "Says of a refused plan or script where, why and how to mend it";
+pub const EXPLAIN_COMMAND: &str =
+    "Says where and why a plan or script is refused, and how to fix it";
 
 pub const BOUNDS_COMMAND: &str =
     "Prints the headings of a script with the least numbers that are accepted";
 
 pub const COSTS_COMMAND: &str =
-    "Prints what each statement has of the bounds of an accepted script";
+    "Prints the share of each statement in the bounds of an accepted script";
 
 pub const RESPONSE_COMMAND: &str =
     "Prints the most cycles from each look-at-me to the end of its service";
@@ -35,9 +36,9 @@ pub const COMMANDS: &str = "Lists the commands of each type, too";
 
 pub const SCRIPT: &str = "A script: a file, or @in, standard input";
 
-pub const EVERY: &str = "Its look-at-mes come at least so many cycles apart";
+pub const EVERY: &str = "Its look-at-mes come at least this many cycles apart";
 
-pub const WITHIN: &str = "Asks whether it has ended so many cycles after its look-at-me";
+pub const WITHIN: &str = "Asks whether it has ended this many cycles after its look-at-me";
 
 pub const PLAN_OF_DRIVE: &str = "A plan: a TOML file, or @sample, the built-in plan";
 
@@ -46,7 +47,7 @@ pub const SCRIPT_OF_DRIVE: &str = "A script: a file";
 pub const ANSWERS: &str =
     "Answers, a line for each operation (see below): a file, or @in, standard input";
 
-pub const EVENTS: &str = "The event file to write: created anew once plan and script are accepted";
+pub const EVENTS: &str = "The event file to write: replaced once plan and script are accepted";
 
 pub const EVENTS_OF_DRIVE: &str =
     "The event file to write: free or empty, opened once plan and script are accepted";
@@ -69,12 +70,12 @@ Examples:
   camac drive plan.toml readout.script run.events
   camac events run.events
 
-'camac help run' tells the form of answers.";
+'camac help run' shows the form of answers.";
 
 pub const AFTER_PLAN: &str =
     "Prints the buffer, the module types, the crates and their stations, or the first fault.
 With --commands each type's commands follow it: function, sub-addresses, and the
-width in bits where data move, or 'probe'.
+width in bits if data move, or 'probe'.
 
 Examples:
   camac plan plan.toml
@@ -84,7 +85,7 @@ Examples:
 
 pub const AFTER_CHECK: &str =
     "Prints 'accepted' and the bounds of each service (status 0), or 'refused' with
-the rule and the line (status 1). @in stands for one of the two at most.
+the rule and the line (status 1). At most one of the two can be @in.
 
 Examples:
   camac check plan.toml readout.script
@@ -93,8 +94,8 @@ Examples:
 pub const AFTER_EXPLAIN: &str =
     "Prints what check prints; without a script what plan prints. After a refusal it
 goes on with the line of the script or the place in the plan, what is wrong
-there, why the rule is there, and how to mend it. Status as check. @in stands for
-one of the two at most.
+there, why the rule is there, and how to fix it. Status as check. At most one of
+the two can be @in.
 
 Examples:
   camac explain plan.toml
@@ -103,9 +104,9 @@ Examples:
 
 pub const AFTER_BOUNDS: &str =
     "Prints the heading of each procedure and service with the numbers that its body
-needs (status 0), or 'refused' with the rule and the line (status 1). The
-numbers in the script's own headings are not looked at. @in stands for one of
-the two at most.
+needs (status 0), or 'refused' with the rule and the line (status 1). It
+ignores the numbers in the script's own headings. At most one of the two can be
+@in.
 
 Examples:
   camac bounds plan.toml readout.script
@@ -115,7 +116,7 @@ pub const AFTER_COSTS: &str =
     "Prints a line for each procedure and service with its bounds, and one for each
 of its statements: how often it can be made, what one time can cost, and its
 share of the bounds (status 0); or 'refused' with the rule and the line (status
-1). @in stands for one of the two at most.
+1). At most one of the two can be @in.
 
 Examples:
   camac costs plan.toml readout.script
@@ -126,15 +127,14 @@ pub const AFTER_RESPONSE: &str =
 rule and the line (status 1):
   service NAME gl G cycles C every T start S end E longest L
   C  the most dataway cycles that the service takes
-  T  the rate that --every tells; 'once' without one: then the line holds where
+  T  the rate given by --every; 'once' without one: then the line holds if
      each such service up to its bit is called at most once while look-at-mes up
      to this bit are answered without a pause
   S  the most cycles from its look-at-me until it begins
   E  the most cycles from its look-at-me until it has ended
-  L  within so many cycles all look-at-mes up to its bit are answered
-A dash stands where there is no such number. With --within the line has 'end E of
-W', and the status is 1 where E is above W, or a dash. @in stands for one of the
-two files at most.
+  L  within this many cycles all look-at-mes up to its bit are answered
+A dash: there is no such number. With --within the line has 'end E of W', and the
+status is 1 if E is above W, or a dash. At most one of the two files can be @in.
 
 Examples:
   camac response plan.toml readout.script
@@ -147,12 +147,12 @@ pub const AFTER_RUN: &str = "Each answer is a line of 19 bytes, 'x q word wait g
   word  the word that a read gives, six hexadecimal digits
   wait  cycles of auxiliary controllers before ours, one hexadecimal digit
   gl    the graded-L pattern of the crates, six hexadecimal digits
-A demand uses gl alone, a lock wait alone. A cycle of a module uses all but gl;
-one of a crate's controller uses wait, and gl where it reads or tests that.
+A demand uses only gl, a lock only wait. A cycle of a module uses all but gl; one
+of a crate's controller uses wait, and gl if it reads or tests that.
 
 The run is simulated: nothing is sent to any hardware. Status 0 at the end of
-the answers; 1 where the script or an answer is refused, or a wait is not
-permitted. @in stands for one of the three inputs at most.
+the answers; 1 if the script or an answer is refused, or a wait is not
+permitted. At most one of the three inputs can be @in.
 
 Examples:
   camac run plan.toml readout.script answers.txt run.events
@@ -167,7 +167,7 @@ pub const AFTER_DRIVE: &str =
   lock C                   lock auxiliary controllers out of the crate
   unlock C                 let them in again: no answer is read for it
 Answers are lines as for 'camac run'. At the end of the input, at a wait that is
-not permitted and at a bad answer the last line tells how the run ended. A run
+not permitted and at a bad answer the last line says how the run ended. A run
 that stops inside a lock writes no unlock: the driver releases what it holds.
 
 Examples:

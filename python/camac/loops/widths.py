@@ -11,7 +11,7 @@ from camac.texts import plan_text
 WORD = 24
 # `explain` tells of it which numbers a read may give.
 READ = "proc p(v in 0..0) within 0 cycles event 0 words steps 0 {{ cdreg r 1 {} {} {} cfsa {} r -> v v = v - 4294967295 }}"
-MAY_STAND = re.compile(r"^On the left of `-` may stand 0 to (\d+), ", re.M)
+MAY_STAND = re.compile(r"^The left of `-` may be 0 to (\d+), ", re.M)
 Key = Tuple[int, int, int, int, int, int, int]
 
 

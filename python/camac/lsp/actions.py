@@ -11,8 +11,8 @@ from camac.scripts import parse_bounds
 from camac.tokens import NAMES, tokens_of
 from camac.warn import Code, Warned
 
-NEAR = re.compile(r"Perhaps `([^`]+)` is meant\.")
-TO_BE = re.compile(r"Perhaps `([^`]+)` is to be `([^`]+)`\.")
+NEAR = re.compile(r"Did you mean `([^`]+)`\?")
+TO_BE = re.compile(r"Did you mean `([^`]+)` instead of `([^`]+)`\?")
 TURNS = re.compile(r"The loop may take (\d+) turns, and (\d+) are allowed")
 ANNOTATED = re.compile(r"The number after `turns` is \d+, and no loop may take more than (\d+) turns")
 HEADING = re.compile(r"may (?:take|keep) (\d+) (dataway cycles|event words|steps), its heading allows (\d+)")
@@ -47,9 +47,9 @@ def fixes(judged: Judged, lines: range, warned: Sequence[Warned]) -> Iterator[Fi
 def _of_refusal(judged: Judged, it: Refusal) -> Iterator[Fix]:
     near, to_be = NEAR.search(it.sentence), TO_BE.search(it.sentence)
     if to_be:
-        wrong = [one for one in NAMES.finditer(judged.text.data[: it.start].decode("latin-1")) if one[1] == to_be[1]]
+        wrong = [one for one in NAMES.finditer(judged.text.data[: it.start].decode("latin-1")) if one[1] == to_be[2]]
         if wrong:
-            yield Fix(f"Write `{to_be[2]}` in place of `{to_be[1]}`", (Edit(*wrong[-1].span(), to_be[2]),), it.code)
+            yield Fix(f"Write `{to_be[1]}` in place of `{to_be[2]}`", (Edit(*wrong[-1].span(), to_be[1]),), it.code)
     elif near:
         yield Fix(f"Write `{near[1]}`", (Edit(it.start, it.end, near[1]),), it.code)
     number = _number(judged, it)

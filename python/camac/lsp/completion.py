@@ -16,8 +16,8 @@ VARIABLE, FUNCTION, KEYWORD, CONSTANT, EVENT, REFERENCE, VALUE, OPERATOR = 6, 3,
 ITEM_OF = {
     Kind.LAM: EVENT, Kind.TABLE: CONSTANT, Kind.VARIABLE: VARIABLE, Kind.PARAMETER: VARIABLE, Kind.REGISTER: REFERENCE, Kind.PROCEDURE: FUNCTION,
 }
-MAY_STAND = re.compile(r"^Found the end of the script; here may stand (.*?)\.(?: |$)", re.M)
-NOT_DECLARED = re.compile(r"is not declared before as an? (LAM|table|variable|register|procedure)\b")
+MAY_STAND = re.compile(r"^Found the end of the script; expected (.*?)\.(?: |$)", re.M)
+NOT_DECLARED = re.compile(r"is not declared above as an? (LAM|table|variable|register|procedure)\b")
 # A name that no script has, as long as a name may be.
 NO_NAME = "no_name_that_anybody_would_choose"[:32]
 TYPED = re.compile(rb"[A-Za-z0-9_]*$")
