@@ -1,11 +1,11 @@
 #!/usr/bin/env python3
-"""Wrong bodies that no clause refuses, or that a clause refuses too: a test of the built program has to fail on each. They are built into one
+"""Mutants that no clause refuses, or that a clause refuses too: a test of the built program has to fail on each. They are built into one
 program, unproved. Each changes what another test looks at, so that a failure says which of them it is of.
 
 usage: tests/refuted_test.py [-v] [TEST ..]     from any folder; takes about two minutes
 
-A wrong body is a file tests/refuted/NAME.edit: a line 'file: crates/NAME/src/FILE' and pairs of lines 'old: TEXT' and 'new: TEXT', as in
-the files that ./wrong_bodies reads. Then 'test: FILE.CLASS.TEST', the test that has to fail, and 'says: TEXT', a text of that failure.
+A mutant is a file tests/refuted/NAME.edit: a line 'file: crates/NAME/src/FILE' and pairs of lines 'old: TEXT' and 'new: TEXT', as in
+the files that tools/mutants reads. Then 'test: FILE.CLASS.TEST', the test that has to fail, and 'says: TEXT', a text of that failure.
 """
 import importlib.machinery
 import importlib.util

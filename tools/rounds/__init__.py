@@ -1,1 +1,1 @@
-"""How ./wrong_bodies tries wrong bodies: from the text of a crate (source) to all rounds side by side (trials)."""
+"""How tools/mutants tries mutants: from the text of a crate (source) to all rounds side by side (trials)."""

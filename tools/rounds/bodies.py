@@ -1,4 +1,4 @@
-"""Wrong bodies, and which of them share a round."""
+"""Mutants, and which of them share a round."""
 
 import difflib
 import os
@@ -9,7 +9,7 @@ from rounds.source import functions_in, module_of
 
 
 class Body:
-    """A wrong body: what it makes of the crate's files, and which functions it changes."""
+    """A mutant: what it makes of the crate's files, and which functions it changes."""
 
     def __init__(self, crate, file):
         self.crate, self.file = crate, file
@@ -28,7 +28,7 @@ class Body:
             if line.startswith("file: "):
                 path = line.removeprefix("file: ").strip()
                 if not path.startswith("src/"):
-                    raise ValueError("a wrong body is one of src/: a changed definition or proof shows nothing")
+                    raise ValueError("a mutant is one of src/: a changed definition or proof shows nothing")
             elif line.startswith("old: "):
                 old = line.removeprefix("old: ")
             elif line.startswith("new:"):
@@ -67,7 +67,7 @@ class Body:
 
 def bodies_of(crate, with_must_fail):
     found = []
-    for folder in ["wrong-bodies", *["must-fail"] * with_must_fail]:
+    for folder in ["mutants", *["must-fail"] * with_must_fail]:
         folder = f"{crate.folder}/{folder}"
         if os.path.isdir(folder):
             found += [Body(crate, f"{folder}/{it}") for it in sorted(os.listdir(folder)) if it.endswith(".edit")]

@@ -144,7 +144,7 @@ class Round:
             write(f"{room}/proofs/{folder}/Proof.antt", HOLE.format(crate=self.crate.name, module=module, name=name))
 
     def run(self):
-        with tempfile.TemporaryDirectory(prefix="wrong-bodies-") as room, Proofs(self.crate) as kept:
+        with tempfile.TemporaryDirectory(prefix="mutants-") as room, Proofs(self.crate) as kept:
             for part in PARTS:
                 if os.path.isdir(f"{self.crate.folder}/{part}"):
                     shutil.copytree(f"{self.crate.folder}/{part}", f"{room}/{part}")

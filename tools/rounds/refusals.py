@@ -20,7 +20,7 @@ class Refusals:
 
     def __init__(self):
         cache = os.environ.get("XDG_CACHE_HOME") or os.path.expanduser("~/.cache")
-        self.folder, self.toolchain = f"{cache}/camac/wrong-bodies", toolchain()
+        self.folder, self.toolchain = f"{cache}/camac/mutants", toolchain()
         with contextlib.suppress(OSError):
             os.makedirs(self.folder, exist_ok=True)
             self.forget()
@@ -69,5 +69,5 @@ def toolchain():
     doc()
     version = subprocess.run(["rt", "version"], capture_output=True, text=True, check=True).stdout
     here = os.path.dirname(os.path.realpath(__file__))
-    files = [os.path.realpath(shutil.which("rattle")), f"{here}/../../wrong_bodies", *sorted(glob.glob(f"{glob.escape(here)}/*.py"))]
+    files = [os.path.realpath(shutil.which("rattle")), f"{here}/../mutants", *sorted(glob.glob(f"{glob.escape(here)}/*.py"))]
     return repr([version, *[hashlib.sha256(read_bytes(it)).hexdigest() for it in files]])

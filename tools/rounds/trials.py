@@ -48,7 +48,7 @@ class Report:
 
 
 class Trial:
-    """The wrong bodies of a crate that have no verdict yet, each with the sum of all that decides its verdict."""
+    """The mutants of a crate that have no verdict yet, each with the sum of all that decides its verdict."""
 
     def __init__(self, crate, sums, refusals):
         self.crate, self.sums, self.refusals, self.left, self.apart = crate, sums, refusals, [*sums], set()
@@ -126,7 +126,7 @@ class Beside:
             if proved:
                 self.proved.add(proved[1])
             if ended and ended[1] != "0":
-                raise Stop("rt ci failed, so the wrong bodies show nothing")
+                raise Stop("rt ci failed, so the mutants show nothing")
             self.is_ended = self.is_ended or bool(ended)
 
     def has_below(self, crate):

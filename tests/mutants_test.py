@@ -1,5 +1,5 @@
 #!/usr/bin/env python3
-"""Tests of ./wrong_bodies, on a repository of one small crate that is made for them."""
+"""Tests of tools/mutants, on a repository of one small crate that is made for them."""
 import os
 import shutil
 import subprocess
@@ -88,7 +88,7 @@ class Tool(unittest.TestCase):
 
     @classmethod
     def setUpClass(cls):
-        cls.room = tempfile.TemporaryDirectory(prefix="wrong-bodies-test-")
+        cls.room = tempfile.TemporaryDirectory(prefix="mutants-test-")
         cls.addClassCleanup(cls.room.cleanup)
         cls.make()
 
@@ -97,24 +97,24 @@ class Tool(unittest.TestCase):
         crate = f"{cls.room.name}/crates/sample"
         write(f"{cls.room.name}/crates.txt", "sample: # one crate\nabove: sample\n")
         write(f"{cls.room.name}/crates/above/src/lib.rt", ABOVE)
-        write(f"{cls.room.name}/crates/above/wrong-bodies/same_is_all.edit", "file: src/lib.rt\nold:     half(n)\nnew:     n\n")
+        write(f"{cls.room.name}/crates/above/mutants/same_is_all.edit", "file: src/lib.rt\nold:     half(n)\nnew:     n\n")
         write(f"{crate}/src/lib.rt", SOURCE)
         write(f"{crate}/proofs/sum/Answers.antt", ANSWERS)
         for name, pairs in BODIES.items():
             lines = ["file: src/lib.rt"]
             for old, new in pairs:
                 lines += [f"old: {old.rstrip()}", f"new: {new.rstrip()}"]
-            write(f"{crate}/wrong-bodies/{name}.edit", "\n".join(lines) + "\n")
+            write(f"{crate}/mutants/{name}.edit", "\n".join(lines) + "\n")
         # An 'old:' is one line, so the body of 'weak' is made to stand once.
         text = SOURCE.replace("    n\n", "    n + 0\n")
         write(f"{crate}/src/lib.rt", text)
-        write(f"{crate}/wrong-bodies/weak_is_half.edit", "file: src/lib.rt\nold: n + 0\nnew: n / 2\n")
+        write(f"{crate}/mutants/weak_is_half.edit", "file: src/lib.rt\nold: n + 0\nnew: n / 2\n")
 
     @classmethod
     def start_tool(cls, *words):
         environment = {**os.environ, "CAMAC_TOP": cls.room.name, "XDG_CACHE_HOME": f"{cls.room.name}/cache"}
         # (with one prover at a time all bodies that can share a round do)
-        command = [sys.executable, f"{TOP}/wrong_bodies", "--jobs", "1", *words]
+        command = [sys.executable, f"{TOP}/tools/mutants", "--jobs", "1", *words]
         return subprocess.Popen(command, env=environment, stdout=subprocess.PIPE, stderr=subprocess.PIPE, text=True)
 
     @classmethod
@@ -280,7 +280,7 @@ class Cycle(Tool):
             ("further_ends_at_2", "n < 1 { 0 }", "n < 1 { 2 }"),
             ("at_last_halves", "down(n - 1)", "down(n / 2)"),
         ):
-            write(f"{crate}/wrong-bodies/{name}.edit", f"file: src/lib.rt\nold: {old}\nnew: {new}\n")
+            write(f"{crate}/mutants/{name}.edit", f"file: src/lib.rt\nold: {old}\nnew: {new}\n")
 
     def test_each_body_is_judged_by_the_goals_of_its_function(self):
         ran = self.run_tool()
@@ -373,7 +373,7 @@ class HiddenCall(Parts):
             ("high_renamed", ("let n = ", "let m = "), ("Ok(n)", "Ok(m)")),
         ):
             lines = [f"old: {old}\nnew: {new}\n" for old, new in pairs]
-            write(f"{crate}/wrong-bodies/{name}.edit", "".join(["file: src/lib.rt\n", *lines]))
+            write(f"{crate}/mutants/{name}.edit", "".join(["file: src/lib.rt\n", *lines]))
 
     def test_a_body_that_is_not_wrong_waits_and_is_not_refused(self):
         crate = repository.crates()["sample"]
@@ -473,7 +473,7 @@ class Chain(Parts):
         source = CHAIN.rpartition("fn beside")[0].replace("u32 {", f"{contract}{{").replace("fn high", "pub fn high")
         write(f"{cls.room.name}/crates.txt", "sample:\n")
         write(f"{crate}/src/lib.rt", f"#![tactic(auto)]\n\nghost use Rattle.std.specs.Prelude.{{◌≡◌}};\n\n{source}")
-        write(f"{crate}/wrong-bodies/high_is_half.edit", "file: src/lib.rt\nold: { middle(n) }\nnew: { middle(n) / 2 }\n")
+        write(f"{crate}/mutants/high_is_half.edit", "file: src/lib.rt\nold: { middle(n) }\nnew: { middle(n) / 2 }\n")
 
     def test_what_a_callee_calls_is_not_looked_at(self):
         tried = Round(repository.crates()["sample"], [self.body("high_is_half")])
@@ -528,7 +528,7 @@ class Kept(Parts):
         return self.refusals().sums(crate, [body])[body]
 
     def files(self):
-        return [it.path for it in os.scandir(f"{self.cache}/camac/wrong-bodies")]
+        return [it.path for it in os.scandir(f"{self.cache}/camac/mutants")]
 
     def test_a_refusal_is_read_as_it_was_written(self):
         total = self.total()
@@ -552,7 +552,7 @@ class Kept(Parts):
         self.expect_other_sums("crates/sample/src/lib.rt", [half, third, above])
         self.expect_other_sums("crates/sample/proofs/sum/Answers.antt", [half, third, above])
         self.expect_other_sums("crates/above/src/lib.rt", [above], [half, third])
-        self.expect_other_sums("crates/sample/wrong-bodies/half_is_a_third.edit", [third], [half, above])
+        self.expect_other_sums("crates/sample/mutants/half_is_a_third.edit", [third], [half, above])
 
     def test_a_new_file_and_another_use(self):
         total = self.total("above", "same_is_all")
