@@ -3,4 +3,3 @@ pub mod Finding
 pub mod Source
 pub mod Explanation
 pub mod Sentence
-pub mod Names

@@ -1,19 +1,17 @@
 // The lines of an explanation.
 
-ghost use Rattle.std.specs.Prelude.{◌≡◌, ◌++◌, [], Some, IfOk, OnOk, is_some};
+ghost use Rattle.std.specs.Prelude.{◌≡◌, ◌++◌, [], Some, IfOk, OnOk};
 ghost use Rattle.camac_explain.specs.Advice.{plan_told, told};
 ghost use Rattle.camac_explain.specs.Explanation.{IsExplanation, IsTold, advice_text, line_of, sentence_line, told_of};
 ghost use Rattle.camac_explain.specs.Finding.{refusal_of};
-ghost use Rattle.camac_explain.specs.Sentence.{is_told};
 ghost use Rattle.camac_explain.specs.Source.{source_of};
 ghost use Rattle.camac_report_text.specs.Codes.{plan_code};
 ghost use Rattle.camac_report_text.specs.Refusal.{code_of};
 
 use crate::advice::{Advice, check_advice, link_advice, plan_advice, text_advice};
 use crate::finding::Finding;
-use crate::names::Names;
 use crate::plan::plan_sentence;
-use crate::sentence::{check_sentence, link_sentence};
+use crate::sentence::{Names, check_sentence, link_sentence};
 use crate::source::{push_shown, push_source};
 use camac_plan::{PlanCase, PlanRule};
 use camac_report_text::Refusal;
@@ -61,9 +59,7 @@ fn sentence(
     text: &[u8],
     finding: Finding,
     of_text: Option<String>,
-) -> Result<Option<String>, AllocError>
-    ensures { IfOk result (λ told. is_some told ≡ is_told text.now finding (is_some of_text)) }
-{
+) -> Result<Option<String>, AllocError> {
     match finding {
         Finding::Plan(_) => Ok(None),
         Finding::Text { .. } => Ok(of_text),

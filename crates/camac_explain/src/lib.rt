@@ -4,7 +4,6 @@
 mod advice;
 mod explanation;
 mod finding;
-mod names;
 mod plan;
 mod sentence;
 mod source;

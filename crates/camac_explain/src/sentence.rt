@@ -1,12 +1,14 @@
-// The sentences on the rules of linking and of the checker.
+// The sentences on the rules of linking and of the checker, and the names in them.
 
 ghost use Rattle.std.specs.Prelude.{◌≡◌, not, is_some, IfOk};
-ghost use Rattle.camac_explain.specs.Sentence.{is_malformed, is_link_malformed};
+ghost use Rattle.camac_explain.specs.Sentence.{AreNamesOf, is_malformed, is_link_malformed};
 
-use crate::names::Names;
 use camac_check_rules::{Body, Case, CheckRule, Numbers, Operator};
 use camac_func::FunctionClass;
+use camac_lang::{Lam, Name, Script};
 use camac_names::{LinkCase, LinkRule};
+use camac_report_text::Quote;
+use camac_text::{TextFault, parse};
 use std::alloc::{AllocError, Global};
 use std::fmt;
 
@@ -229,4 +231,76 @@ fn budget_sentence(
         Body::Service(_) => "service",
     };
     format!(in alloc; "The {who} may {costs} {needed} {what}, its heading allows {allowed}.")
+}
+
+/// The names that a script declares.
+#[derive(Drop)]
+pub struct Names {
+    script: Script,
+}
+
+impl Names {
+    /// The names of a text; None where it is no script.
+    pub fn new(alloc: Global, text: &[u8]) -> Result<Option<Names>, AllocError>
+        ensures { IfOk result (AreNamesOf text.now) }
+    {
+        match parse(alloc, text) {
+            Ok(script) => Ok(Some(Names { script })),
+            Err(TextFault::OutOfMemory) => Err(AllocError),
+            Err(TextFault::Broken { .. }) => Ok(None),
+        }
+    }
+
+    /// The variable or parameter of this number in a body.
+    pub fn variable(&self, body: Body, number: usize) -> Quote<'_> {
+        match body {
+            Body::Procedure(procedure) => self.parameter(procedure, number),
+            Body::Service(_) => quoted(self.script.variables().get(number)),
+        }
+    }
+
+    /// The parameter of this number of a procedure.
+    pub fn parameter(&self, procedure: usize, number: usize) -> Quote<'_> {
+        let procedure = self.script.procedures().get(procedure);
+        let parameter = procedure.and_then(|it| it.parameters.get(number));
+        quoted(parameter.map(|it| &it.name))
+    }
+
+    /// The register of this number in a body.
+    pub fn register(&self, body: Body, number: usize) -> Quote<'_> {
+        let registers = match body {
+            Body::Procedure(place) => self.script.procedures().get(place).map(|it| &it.registers),
+            Body::Service(lam) => {
+                let mut services = self.script.services().iter();
+                services.find(|it| it.lam == lam).map(|it| &it.registers)
+            }
+        };
+        quoted(registers.and_then(|it| it.get(number)))
+    }
+
+    /// The first LAM at a station.
+    pub fn lam_at(&self, crate_no: u32, station: u32) -> Quote<'_> {
+        let mut lams = self.script.lams().iter();
+        let lam = lams.find(|it| is_at(it, crate_no, station));
+        quoted(lam.map(|it| &it.name))
+    }
+
+    /// The LAM of the first service at a station.
+    pub fn served_at(&self, crate_no: u32, station: u32) -> Quote<'_> {
+        let lams = self.script.lams();
+        let mut served = self.script.services().iter().map(|it| lams.get(it.lam));
+        let lam = served.find(|it| it.is_some_and(|lam| is_at(lam, crate_no, station)));
+        quoted(lam.flatten().map(|it| &it.name))
+    }
+}
+
+fn is_at(lam: &Lam, crate_no: u32, station: u32) -> bool {
+    lam.crate_no == crate_no && lam.station == station
+}
+
+fn quoted(name: Option<&Name>) -> Quote<'_> {
+    match name {
+        Some(name) => Quote(name.as_bytes()),
+        None => Quote(b"?"),
+    }
 }
