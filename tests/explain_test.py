@@ -239,11 +239,11 @@ PLANS = [
 
 # A case whose mend is one of several, the script, the mend's begin, the script with the mend.
 MENDS = [
-    ("a read without an arrow", service("cdreg r 1 1 5 0", "cfsa 0 r"), "with a function that reads ", service("cdreg r 1 1 5 0", "cfsa 0 r -> v")),
-    ("a read with a table", service("cdreg r 1 1 5 0", "cfubc 0 r table g max 1 tally t", more=" table g = 1"), "with a function that reads ", service("cdreg r 1 1 5 0", "cfubc 0 r max 1 tally t")),
-    ("a write with the other arrow", service("cdreg r 1 1 6 0", "cfsa 16 r -> v"), "with a function that writes ", service("cdreg r 1 1 6 0", "cfsa 16 r <- v")),
-    ("a write without a table", service("cdreg r 1 1 6 0", "cfubc 16 r max 1 tally t"), "with a function that writes ", service("cdreg r 1 1 6 0", "cfubc 16 r table g max 1 tally t", more=" table g = 1")),
-    ("a test with an arrow", service("cdreg r 1 1 6 0", "cfsa 27 r -> v"), "with a function that moves no data ", service("cdreg r 1 1 6 0", "cfsa 27 r")),
+    ("a read without an arrow", service("cdreg r 1 1 5 0", "cfsa 0 r"), "with a function that reads, ", service("cdreg r 1 1 5 0", "cfsa 0 r -> v")),
+    ("a read with a table", service("cdreg r 1 1 5 0", "cfubc 0 r table g max 1 tally t", more=" table g = 1"), "with a function that reads, ", service("cdreg r 1 1 5 0", "cfubc 0 r max 1 tally t")),
+    ("a write with the other arrow", service("cdreg r 1 1 6 0", "cfsa 16 r -> v"), "with a function that writes, ", service("cdreg r 1 1 6 0", "cfsa 16 r <- v")),
+    ("a write without a table", service("cdreg r 1 1 6 0", "cfubc 16 r max 1 tally t"), "with a function that writes, ", service("cdreg r 1 1 6 0", "cfubc 16 r table g max 1 tally t", more=" table g = 1")),
+    ("a test with an arrow", service("cdreg r 1 1 6 0", "cfsa 27 r -> v"), "with a function that moves no data, ", service("cdreg r 1 1 6 0", "cfsa 27 r")),
     ("a known number less", service("cdreg r 1 1 5 0", "cfsa 0 r -> v", "put v - 3"), "test the variables by `if` ", service("cdreg r 1 1 5 0", "cfsa 0 r -> v", "if v >= 3 { put v - 3 }")),
     ("a sum", service("cdreg r 1 1 5 0", "cfsa 0 r -> v", "k = v * 4294967295"), "test the variables by `if` ", service("cdreg r 1 1 5 0", "cfsa 0 r -> v", "k = v % 2 * 4294967295")),
     ("two variables", service("cdreg r 1 1 5 0", "cfsa 0 r -> v", "cfsa 0 r -> k", "if v >= k { put v - k }"), "ranges know no relation ", service("cdreg r 1 1 5 0", "cfsa 0 r -> v", "cfsa 0 r -> k", "i = v + 4095 - k", "if i >= 4095 { put i - 4095 }")),
@@ -257,7 +257,7 @@ MENDS = [
     ("a count in a loop", service("for i = 1 to 3 { k = k + i }"), "a loop forgets what its body writes: let it `keep` the variable in a range, or bound the variable ", service("for i = 1 to 3 keep k in 0..99 { if k < 97 { k = k + i } }")),
     ("a value too wide", service("cdreg a 1 1 5 0", "cdreg r 1 1 6 0", "cfsa 0 a -> v", "cfsa 16 r <- v"), "bound the value by `%` or `if`, write ", service("cdreg a 1 1 5 0", "cdreg r 1 1 6 0", "cfsa 0 a -> v", "cfsa 16 r <- v % 256")),
     ("a value that a loop forgets", service("cdreg r 1 1 6 0", "for i = 1 to 3 { cfsa 16 r <- k", "k = i }"), "a loop forgets what its body writes: let it `keep` the variable in a range, or bound the value ", service("cdreg r 1 1 6 0", "for i = 1 to 3 keep k in 0..3 { cfsa 16 r <- k", "k = i }")),
-    ("a word too wide", service("v = 16777216", "put v"), "bound the value by `% 16777216` or `if`, let ", service("v = 16777216", "put v % 16777216")),
+    ("a word too wide", service("v = 16777216", "put v"), "bound the value by `% 16777216`, or by an `if` ", service("v = 16777216", "put v % 16777216")),
     ("a word that a loop forgets", service("for i = 1 to 3 { put k", "k = i }"), "a loop forgets what its body writes: write `keep v in 0..16777215` ", service("for i = 1 to 3 keep k in 0..16777215 { put k", "k = i }")),
     ("a few cycles of a procedure", procedure("call get(0)", numbers="within 2 cycles event 1 words steps 3"), "write a larger number after `within`, as `camac bounds` prints it, or make fewer cycles.", procedure("call get(0)")),
     ("a few cycles", service("cclc adc", heading="within 2 cycles event 0 words"), "write a larger number after `within`", service("cclc adc", heading="within 3 cycles event 0 words")),

@@ -155,7 +155,7 @@ class Help(Case):
         self.assertIn("'x q word wait gl'", text)
         self.assertIn("one hexadecimal digit", text)
         self.assertIn("six hexadecimal digits", text)
-        self.assertIn("created anew once plan and script are accepted", text)
+        self.assertIn("replaced once plan and script are accepted", text)
         self.assertIn("nothing is sent to any hardware", text)
 
     def test_the_program(self):
