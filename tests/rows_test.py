@@ -17,7 +17,7 @@ import unittest
 TOP = pathlib.Path(__file__).resolve().parent.parent
 PROGRAM = os.path.abspath(os.environ.get("CAMAC_PROGRAM") or TOP / "crates/camac/out/camac")
 INPUTS = ("PLAN", "SCRIPT", "ANSWERS")
-PLAYED = re.compile(r"(plan|plan --commands|check|explain|bounds|costs|response(?: --(?:every|within) \w+=\d+)*|run|drive) ([01])")
+PLAYED = re.compile(r"(plan|plan --commands|check|explain(?: --at \d+:\d+)?|bounds|costs|response(?: --(?:every|within) \w+=\d+)*|run|drive) ([01])")
 # What needs no script.
 OF_A_PLAN = ("plan", "plan --commands", "explain")
 EVENT = re.compile(r"gl (\d+) cycles (\d+) missed (\d+) words((?: [0-9a-f]{6})*)")
