@@ -25,7 +25,7 @@ use Rattle.camac_check_rules.specs.Refusal.{go_on, ◌>>=◌, ◌>>◌, required
 use Rattle.camac_check_rules.specs.Statements.{accept_statement, accept_block}
 use Rattle.camac_check_rules.specs.Transfers.{block_region}
 use Rattle.camac_check_rules.specs.Writes.{fall_of}
-use Rattle.camac_costs.specs.Statements.{line_of}
+use Rattle.camac_check_rows.specs.Statements.{line_of}
 use Rattle.camac_laws.specs.Places.{Place, place, HasPlace, BlockHasPlace}
 use Rattle.camac_laws.specs.Refused.{named, body_of, start_of, heading_line, heading_of, found_in, accept_section, number_of, HeadingsAreShown, IsAccepted, IsRefusedInside, IsRefusedByHeading, ComesTo, RefusedAtPlaces}
 use Rattle.camac_laws.proofs.Refused.{go_err, required_err, reached_err, reached_is}

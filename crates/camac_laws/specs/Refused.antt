@@ -19,7 +19,7 @@ use Rattle.camac_check_rules.specs.Procedures.{at_entry}
 use Rattle.camac_check_rules.specs.Refusal.{if_reached}
 use Rattle.camac_check_rules.specs.Statements.{accept_statement, accept_block}
 use Rattle.camac_costs.specs.Bodies.{sections_of}
-use Rattle.camac_costs.specs.Statements.{line_of}
+use Rattle.camac_check_rows.specs.Statements.{line_of}
 use Rattle.camac_laws.specs.Places.{Place, HasPlace, BlockHasPlace}
 
 -- ---- a procedure or service
