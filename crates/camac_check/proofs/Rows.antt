@@ -1,18 +1,23 @@
 -- The rows of each statement, from what the steps of its rule found.
-use Rattle.std.proofs.Common.{◌≡◌, ℕ, ◌+◌, List, [], ◌∷◌, ◌++◌, map, Option, Some, None, Ok, false, refl, sym, ap, ap₂, ◌∙◌}
+use Rattle.std.proofs.Common.{◌≡◌, ℕ, ◌+◌, List, [], ◌∷◌, ◌++◌, map, Option, Some, None, Result, Ok, false, refl, sym, ap, ap₂, ◌∙◌}
 use Rattle.std.specs.Prelude.{IsTrue, is_some, option_map, unwrap_or}
 use Rattle.camac_lang.specs.Tree.{Expression, Condition, Keep, Statement, assign, set_register, single, address_scan, q_stop, q_repeat, put, crate_call, lam_call, choose, choose_else, for_, while_, locked, call, Block, next}
 use Rattle.camac_range.specs.Interval.{only}
 use Rattle.camac_branch.specs.Plan.{crate_waits}
 use Rattle.camac_model.specs.Fine.{Bounds}
 use Rattle.camac_check_rules.specs.Refusal.{go_on, if_reached}
+use Rattle.camac_check_rules.specs.Fault.{Fault}
+use Rattle.camac_check_rules.specs.declared.case.Body.{Body}
+use Rattle.camac_check_simple.specs.declared.context.Context as code
+use Rattle.camac_check_simple.specs.Gives.{by_code}
 use Rattle.camac_check_rules.specs.Known.{Facts, Known}
 use Rattle.camac_check_rules.specs.Joined.{join}
 use Rattle.camac_check_rules.specs.Conditions.{Branches, branches, split}
-use Rattle.camac_check_rules.specs.Costs.{costs, no_costs, choice_costs, lock_costs, Verdict, verdict, unreached}
+use Rattle.camac_check_rules.specs.Costs.{costs, no_costs, choice_costs, lock_costs, loop_costs, Verdict, verdict, unreached}
 use Rattle.camac_check_rules.specs.Cycles.{Context, Around, with_locked}
 use Rattle.camac_check_rules.specs.Calls.{lock_rule}
-use Rattle.camac_check_rules.specs.Loops.{Limits, with_fixed, for_limits, for_head, turns_between, while_head, turn_bound}
+use Rattle.camac_check_rules.specs.Loops.{Limits, with_fixed, for_limits, for_head, for_after, turns_between, while_head, turn_bound}
+use Rattle.camac_check.specs.Ends.{loop_end}
 use Rattle.camac_check_rules.specs.Statements.{accept_statement, accept_block}
 use Rattle.camac_check_rules.specs.Capped.{capped}
 use Rattle.camac_check_rows.specs.declared.row.Kind.{Kind}
@@ -23,8 +28,8 @@ use Rattle.camac_check_rows.specs.declared.row.Row.{Row}
 use Rattle.camac_check_rows.specs.declared.inside.Weight.{Weight}
 use Rattle.camac_check_rows.specs.Statements.{is_simple, line_of, kind_of, detail_of, first_row}
 use Rattle.camac_check_rows.specs.Weights.{once, turning, first_arm, second_arm, inside_row}
-use Rattle.camac_check_rows.specs.Kept.{count, headed, arms_headed, with_rows}
-use Rattle.camac_check_rows.proofs.Kept.{head_last}
+use Rattle.camac_check_rows.specs.Kept.{blank, count, headed_last, with_rows}
+use Rattle.camac_check_rows.proofs.Kept.{head_found}
 use Rattle.camac_check_rows.specs.Rows.{found, Turning, turning_from, loop_detail, loop_share, lock_share, lock_detail, lock_inside, lock_head, statement_verdict, block_verdict, simple_row, else_row, times_at, inside, statement_rows, block_rows}
 
 -- what was found is the verdict
@@ -148,9 +153,9 @@ pub rows_next : (c : Context) (around : Around) (s : Statement) (rest : Block) (
 rows_next c around s rest k v e = ap (λ w. statement_rows c around s k ++ block_rows c around rest w.after) (verdict_is c around s k v e)
 
 -- the rows of a block were headed by the row of their statement
-pub headed_are : (k m n : Option (List Row)) (xs all : List Row) (from to : ℕ) (own : Row) (w : Weight)
-    → from ≡ count k → m ≡ with_rows k xs → to ≡ count m → n ≡ option_map (headed from to own w) m → all ≡ own ∷ map (inside_row capped w) xs → n ≡ with_rows k all
-headed_are k m n xs all from to own w ef em et en is = head_last k m n xs from to own w ef em et en ∙ ap (with_rows k) (sym is)
+pub headed_are : (k a m n : Option (List Row)) (xs all : List Row) (i : ℕ) (own : Row) (w : Weight)
+    → i ≡ count k → a ≡ with_rows k (blank ∷ []) → m ≡ with_rows a xs → n ≡ option_map (headed_last i own w) m → all ≡ own ∷ map (inside_row capped w) xs → n ≡ with_rows k all
+headed_are k a m n xs all i own w ei ea em en is = head_found k a m n xs i own w ei ea em en ∙ ap (with_rows k) (sym is)
 
 -- nothing is kept
 pub off : (k : Option (List Row)) (xs : List Row) → is_some k ≡ false → k ≡ with_rows k xs
@@ -163,3 +168,38 @@ pub own_row_is : (line : ℕ) (word : Kind) (each share a b : Bounds) (told : De
     → first_row line word 1 each share told ∷ map (inside_row capped w) xs ≡ row ∷ map (inside_row capped v) xs
 own_row_is line word each share a b told row xs v w er ea eb ew =
     ap₂ (λ r u. r ∷ map (inside_row capped u) xs) (sym (er ∙ ap₂ (λ x y. first_row line word 1 x y told) ea eb)) (sym ew)
+
+-- a `for` by what its turn and its end give, where costs are those of the code
+pub for_is : (context : code.Context) (around : Around) (line x : ℕ) (e1 e2 : Expression) (keeps : List Keep) (body : Block) (k : Facts) (l : Limits) (turn v : Verdict)
+    → for_limits around line x e1 e2 keeps k ≡ Ok l → if_reached unreached (for_head x l keeps body k) (accept_block (by_code context) (with_fixed x around) body) ≡ Ok turn
+    → loop_end around.body line keeps (for_after x l keeps body k) (turns_between l) turn ≡ Ok v → accept_statement (by_code context) around (for_ line x e1 e2 keeps body) k ≡ Ok v
+unfolding go_on if_reached
+for_is context around line x e1 e2 keeps body k l turn v is one last =
+    ap (λ q. go_on q (λ m. go_on (if_reached unreached (for_head x m keeps body k) (accept_block (by_code context) (with_fixed x around) body)) (λ t. loop_end around.body line keeps (for_after x m keeps body k) (turns_between m) t))) is
+    ∙ ap (λ q. go_on q (λ t. loop_end around.body line keeps (for_after x l keeps body k) (turns_between l) t)) one
+    ∙ last
+
+-- so is a `while`
+pub while_is : (context : code.Context) (around : Around) (line : ℕ) (test : Condition) (most m : ℕ) (keeps : List Keep) (body : Block) (k top : Facts) (arms : Branches) (turn v : Verdict)
+    → while_head around.body line most m keeps body k ≡ Ok top → split line test top ≡ Ok arms → if_reached unreached arms.holds (accept_block (by_code context) around body) ≡ Ok turn
+    → loop_end around.body line keeps arms.fails (turn_bound arms.holds most) turn ≡ Ok v → accept_statement (by_code context) around (while_ line test most m keeps body) k ≡ Ok v
+unfolding go_on if_reached
+while_is context around line test most m keeps body k top arms turn v is split_is one last =
+    ap (λ q. go_on q (λ h. go_on (split line test h) (λ w. go_on (if_reached unreached w.holds (accept_block (by_code context) around body)) (λ t. loop_end around.body line keeps w.fails (turn_bound w.holds most) t)))) is
+    ∙ ap (λ q. go_on q (λ w. go_on (if_reached unreached w.holds (accept_block (by_code context) around body)) (λ t. loop_end around.body line keeps w.fails (turn_bound w.holds most) t))) split_is
+    ∙ ap (λ q. go_on q (λ t. loop_end around.body line keeps arms.fails (turn_bound arms.holds most) t)) one
+    ∙ last
+
+-- the end of a loop, as code finds its parts
+pub end_is : (a b : Body) (line : ℕ) (keeps : List Keep) (p q : Known) (m n : ℕ) (turn : Verdict) (r : Result Verdict Fault)
+    → a ≡ b → p ≡ q → m ≡ n → loop_end a line keeps p m turn ≡ r → loop_end b line keeps q n turn ≡ r
+end_is a b line keeps p q m n turn r ea ep em h =
+    sym (ap (λ x. loop_end x line keeps p m turn) ea ∙ ap (λ x. loop_end b line keeps x m turn) ep ∙ ap (λ x. loop_end b line keeps q x turn) em) ∙ h
+
+-- the row of a loop, in its parts
+pub loop_row_is : (line : ℕ) (word : Kind) (each : Bounds) (m n : ℕ) (row : Row) (xs : List Row) (w : Weight)
+    → row ≡ first_row line word 1 each (costs 0 0 (m + 1)) (detail.Turns m) → m ≡ n → w ≡ turning m
+    → first_row line word 1 each (costs 0 0 (n + 1)) (detail.Turns n) ∷ map (inside_row capped (turning n)) xs ≡ row ∷ map (inside_row capped w) xs
+loop_row_is line word each m n row xs w er em ew =
+    ap (λ i. first_row line word 1 each (costs 0 0 (i + 1)) (detail.Turns i) ∷ map (inside_row capped (turning i)) xs) (sym em)
+    ∙ ap₂ (λ r u. r ∷ map (inside_row capped u) xs) (sym er) (sym ew)

@@ -82,7 +82,7 @@ fn accept_next(
 
 // Checks a statement that can be reached.
 #[cycle(statements)]
-#[tactic(auto, using(crate::proofs::Rows::choice_rows, camac_check_rows::proofs::Kept::arms_found, camac_check_rows::proofs::Kept::grows), unfolding(camac_check_rules::specs::Refusal::go_on, camac_check_rules::specs::Refusal::if_reached))]
+#[tactic(auto, using(crate::proofs::Rows::choice_rows, camac_check_rows::proofs::Kept::arms_found, camac_check_rows::proofs::Kept::are_places), unfolding(camac_check_rules::specs::Refusal::go_on, camac_check_rules::specs::Refusal::if_reached))]
 fn accept_reached(
     alloc: Global,
     context: &Context,
@@ -94,10 +94,10 @@ fn accept_reached(
     ensures found { Gives verdict_of result (accept_statement (by_code context.now) around.now (statement_of statement.now) known) }
     ensures rows { OnOk result (rows.new ≡ with_rows rows.old (statement_rows (by_code context.now) around.now (statement_of statement.now) (Some known))) }
 {
-    let place = Place { context, around };
+    let here = Place { context, around };
     match statement {
         Stmt::If { line, test, then } => {
-            accept_if(alloc, &place, *line, &test.parts, then, known, rows)
+            accept_if(alloc, &here, *line, &test.parts, then, known, rows)
         }
         Stmt::IfElse {
             line,
@@ -105,13 +105,13 @@ fn accept_reached(
             then,
             otherwise,
         } => {
-            let from = rows.count();
+            let place = rows.open()?;
             let ways = split(alloc, *line, &test.parts, known)?;
             let times = times_at(&ways.fails);
             let first = accept_block(alloc, context, around, then, ways.holds, rows)?;
-            let middle = rows.count();
+            let other = rows.open()?;
             let second = accept_block(alloc, context, around, otherwise, ways.fails, rows)?;
-            rows.head_arms(from, middle, *line, times, first.costs, second.costs)?;
+            rows.head_arms(place, other, *line, times, first.costs, second.costs);
             Ok(Findings {
                 known: join(alloc, first.known, second.known)?,
                 costs: first.costs.or(second.costs),
@@ -121,7 +121,7 @@ fn accept_reached(
             line,
             crate_no,
             body,
-        } => accept_lock(alloc, &place, *line, crate_no, body, known, rows),
+        } => accept_lock(alloc, &here, *line, crate_no, body, known, rows),
         Stmt::For {
             line,
             variable,
@@ -137,7 +137,7 @@ fn accept_reached(
                 to,
                 keeps,
             };
-            accept_for(alloc, &place, &counted, body, known, rows)
+            accept_for(alloc, &here, &counted, body, known, rows)
         }
         Stmt::While {
             line,
@@ -154,7 +154,7 @@ fn accept_reached(
                 measure: *measure,
                 keeps,
             };
-            accept_while(alloc, &place, &limited, body, known, rows)
+            accept_while(alloc, &here, &limited, body, known, rows)
         }
         Stmt::Assign { .. }
         | Stmt::SetRegister { .. }
@@ -165,7 +165,7 @@ fn accept_reached(
         | Stmt::Put { .. }
         | Stmt::CrateCall { .. }
         | Stmt::LamCall { .. }
-        | Stmt::Call { .. } => accept_simple(alloc, &place, statement, known, rows),
+        | Stmt::Call { .. } => accept_simple(alloc, &here, statement, known, rows),
     }
 }
 
@@ -303,7 +303,7 @@ fn by_its_rule(
 // Checks an `if`. It stands apart, as those below do, so that no other statement makes room for its variables.
 #[inline(never)]
 #[cycle(statements)]
-#[tactic(auto, using(crate::proofs::Rows::if_rows, crate::proofs::Rows::headed_are, camac_check_rows::proofs::Kept::grows), unfolding(camac_check_rules::specs::Refusal::go_on, camac_check_rules::specs::Refusal::if_reached))]
+#[tactic(auto, using(crate::proofs::Rows::if_rows, crate::proofs::Rows::headed_are, camac_check_rows::proofs::Kept::is_place), unfolding(camac_check_rules::specs::Refusal::go_on, camac_check_rules::specs::Refusal::if_reached))]
 fn accept_if(
     alloc: Global,
     place: &Place,
@@ -316,12 +316,12 @@ fn accept_if(
     ensures found { Gives verdict_of result (accept_statement (by_code place.now.context.now) place.now.around.now (choose line (map part_of test.now) (statements_of then.now)) known) }
     ensures rows { OnOk result (rows.new ≡ with_rows rows.old (statement_rows (by_code place.now.context.now) place.now.around.now (choose line (map part_of test.now) (statements_of then.now)) (Some known))) }
 {
-    let from = rows.count();
+    let at = rows.open()?;
     let ways = split(alloc, line, test, known)?;
     let first = accept_block(alloc, place.context, place.around, then, ways.holds, rows)?;
     let costs = first.costs.or(Costs::new(0, 0, 0));
     let own = own_row(line, Kind::If, 1, costs, Costs::new(0, 0, 1), Detail::Nothing);
-    rows.head(from, rows.count(), own, once())?;
+    rows.head(at, own, once());
     Ok(Findings {
         known: join(alloc, first.known, ways.fails)?,
         costs,
@@ -331,7 +331,7 @@ fn accept_if(
 // Checks a `lock`.
 #[inline(never)]
 #[cycle(statements)]
-#[tactic(auto, using(crate::proofs::Rows::lock_rows, crate::proofs::Rows::headed_are, camac_check_rows::proofs::Kept::grows), unfolding(camac_check_rules::specs::Refusal::go_on, camac_check_rules::specs::Refusal::if_reached))]
+#[tactic(auto, using(crate::proofs::Rows::lock_rows, crate::proofs::Rows::headed_are, camac_check_rows::proofs::Kept::is_place), unfolding(camac_check_rules::specs::Refusal::go_on, camac_check_rules::specs::Refusal::if_reached))]
 fn accept_lock(
     alloc: Global,
     place: &Place,
@@ -346,13 +346,13 @@ fn accept_lock(
 {
     let c = lock_crate(place, line, crate_no, &known)?;
     let inside = place.around.with_locked(alloc, c)?;
-    let from = rows.count();
+    let at = rows.open()?;
     let inner = accept_block(alloc, place.context, &inside, body, Some(known), rows)?;
     let waits = waits_of(place.context.plan, c);
     let costs = inner.costs.in_lock(waits);
     let share = Costs::new(u64::from(waits), 0, 2);
     let own = own_row(line, Kind::Lock, 1, costs, share, Detail::Crates(Range::only(c)));
-    rows.head(from, rows.count(), own, once())?;
+    rows.head(at, own, once());
     Ok(Findings {
         known: inner.known,
         costs,
@@ -372,7 +372,7 @@ struct Limited<'a> {
 // Checks a `while`.
 #[inline(never)]
 #[cycle(statements)]
-#[tactic(auto, using(crate::proofs::Rows::while_rows, crate::proofs::Rows::headed_are, camac_check_rows::proofs::Kept::grows), unfolding(camac_check_rules::specs::Refusal::go_on, camac_check_rules::specs::Refusal::if_reached))]
+#[tactic(auto, using(crate::proofs::Rows::while_rows, crate::proofs::Rows::headed_are, camac_check_rows::proofs::Kept::is_place), unfolding(camac_check_rules::specs::Refusal::go_on, camac_check_rules::specs::Refusal::if_reached))]
 fn accept_while(
     alloc: Global,
     place: &Place,
@@ -395,12 +395,12 @@ fn accept_while(
     let top = while_head(around.body(), line, turns, measure, keeps, body, known)?;
     let ways = split(alloc, line, test, top)?;
     let most = turn_bound(&ways.holds, turns);
-    let start = rows.count();
+    let at = rows.open()?;
     let turn = accept_block(alloc, place.context, around, body, ways.holds, rows)?;
     let most = u64::from(most);
     let found = end_loop(around.body(), line, keeps, ways.fails, most, turn)?;
     let own = loop_row(line, Kind::While, found.costs, most);
-    rows.head(start, rows.count(), own, turning(most))?;
+    rows.head(at, own, turning(most));
     Ok(found)
 }
 
@@ -417,7 +417,7 @@ struct Counted<'a> {
 // Checks a `for`.
 #[inline(never)]
 #[cycle(statements)]
-#[tactic(auto, using(crate::proofs::Rows::for_rows, crate::proofs::Rows::headed_are, camac_check_rows::proofs::Kept::grows), unfolding(camac_check_rules::specs::Refusal::go_on, camac_check_rules::specs::Refusal::if_reached))]
+#[tactic(auto, using(crate::proofs::Rows::for_rows, crate::proofs::Rows::headed_are, camac_check_rows::proofs::Kept::is_place), unfolding(camac_check_rules::specs::Refusal::go_on, camac_check_rules::specs::Refusal::if_reached))]
 fn accept_for(
     alloc: Global,
     place: &Place,
@@ -441,12 +441,12 @@ fn accept_for(
     let limits = for_limits(around, line, variable, from, to, keeps, &known)?;
     let inside = around.with_fixed(alloc, variable)?;
     let facts = limits.facts(alloc, variable, keeps, body, known)?;
-    let start = rows.count();
+    let at = rows.open()?;
     let turn = accept_block(alloc, place.context, &inside, body, facts.head, rows)?;
     let turns = limits.turns();
     let found = end_loop(around.body(), line, keeps, Some(facts.after), turns, turn)?;
     let own = loop_row(line, Kind::For, found.costs, turns);
-    rows.head(start, rows.count(), own, turning(turns))?;
+    rows.head(at, own, turning(turns));
     Ok(found)
 }
 

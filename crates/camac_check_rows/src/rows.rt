@@ -1,11 +1,11 @@
 // Where a walk puts the rows of the statements: in a list, or nowhere.
 
-ghost use Rattle.std.specs.Prelude.{◌≡◌, ◌≤◌, ◌∷◌, [], IfOk, OnOk, None, Some, is_some, length, map, option_map, unwrap_or};
+ghost use Rattle.std.specs.Prelude.{◌≡◌, ◌≤◌, ◌<◌, ◌∷◌, [], IfOk, OnOk, None, Some, is_some, length, map, option_map, unwrap_or};
 ghost use Rattle.camac_lang.specs.View.{statement_of};
 ghost use Rattle.camac_check_rules.specs.Capped.{capped};
 ghost use Rattle.camac_check_rules.specs.Cycles.{Around as Surroundings};
 ghost use Rattle.camac_check_simple.specs.Gives.{by_code};
-ghost use Rattle.camac_check_rows.specs.Kept.{arms_headed, count, headed, with_rows};
+ghost use Rattle.camac_check_rows.specs.Kept.{ArePlaces, IsPlace, blank, count, headed, headed_arms, headed_last, with_rows};
 ghost use Rattle.camac_check_rows.specs.Rows.{statement_rows};
 ghost use Rattle.camac_check_rows.specs.Weights.{inside_row};
 
@@ -88,49 +88,55 @@ impl Rows {
         }
     }
 
-    /// Puts the row of a statement before those of its block, which are the ones between these numbers.
-    pub fn head(
-        &mut self,
-        from: usize,
-        to: usize,
-        row: Row,
-        weight: Weight,
-    ) -> Result<(), AllocError>
-        requires order { from ≤ to }
-        requires there { to ≤ count self.old }
-        ensures { OnOk result (self.new ≡ option_map (headed from to row weight) self.old) }
+    /// Keeps the next place for the row of a statement whose block comes first, and tells it.
+    pub fn open(&mut self) -> Result<usize, AllocError>
+        ensures place { IfOk result (λ i. i ≡ count self.old) }
+        ensures kept { OnOk result (self.new ≡ with_rows self.old (blank ∷ [])) }
+    {
+        let place = self.count();
+        let nothing = Costs::new(0, 0, 0);
+        self.put(own_row(0, Kind::If, 0, nothing, nothing, Detail::Nothing))?;
+        Ok(place)
+    }
+
+    /// Puts the row of a statement into its place. All rows after it are of its block.
+    pub fn head(&mut self, place: usize, row: Row, weight: Weight)
+        requires { IsPlace place self.old }
+        ensures { self.new ≡ option_map (headed_last place row weight) self.old }
     {
         match &mut self.kept {
-            Some(rows) => head(rows, from, to, row, weight),
-            None => Ok(()),
+            Some(rows) => {
+                let to = rows.len();
+                head(rows, place, to, row, weight);
+            }
+            None => {}
         }
     }
 
-    /// Puts the row of a choice before those of its first arm, and that of its `else`, which is made so many times, before those of its
-    /// second, which are the last.
+    /// Puts the rows of a choice and of its `else`, which is made so many times, into their places. Between them stand the rows of the
+    /// first arm, and after both those of the second.
     pub fn head_arms(
         &mut self,
-        from: usize,
-        middle: usize,
+        place: usize,
+        other: usize,
         line: u32,
         times: u64,
         first: Costs,
         second: Costs,
-    ) -> Result<(), AllocError>
-        requires order { from ≤ middle }
-        requires there { middle ≤ count self.old }
-        ensures { OnOk result (self.new ≡ option_map (arms_headed from middle line times first second) self.old) }
+    )
+        requires { ArePlaces place other self.old }
+        ensures { self.new ≡ option_map (headed_arms place other line times first second) self.old }
     {
         match &mut self.kept {
             Some(rows) => {
-                let other = else_row(line, times, second);
                 let to = rows.len();
-                head(rows, middle, to, other, second_arm(first, second))?;
+                let row = else_row(line, times, second);
+                head(rows, other, to, row, second_arm(first, second));
                 let share = Costs::new(0, 0, 1);
                 let own = own_row(line, Kind::If, 1, first.or(second), share, Detail::Nothing);
-                head(rows, from, middle, own, first_arm(first, second))
+                head(rows, place, other, own, first_arm(first, second));
             }
-            None => Ok(()),
+            None => {}
         }
     }
 
@@ -150,18 +156,12 @@ impl Rows {
     }
 }
 
-fn head(
-    rows: &mut Vec<Row>,
-    from: usize,
-    to: usize,
-    row: Row,
-    weight: Weight,
-) -> Result<(), AllocError>
-    requires order { from ≤ to }
+// Puts the row of a statement into its place, and counts the rows after it, up to this number, as those of its block.
+fn head(rows: &mut Vec<Row>, place: usize, to: usize, row: Row, weight: Weight)
+    requires order { place < to }
     requires there { to ≤ length rows.old.items }
-    ensures { OnOk result (rows.new.items ≡ headed from to row weight rows.old.items) }
+    ensures { rows.new.items ≡ headed place to row weight rows.old.items }
 {
-    weigh(&mut rows[from..to], weight);
-    rows.insert(from, row)?;
-    Ok(())
+    rows[place] = row;
+    weigh(&mut rows[place + 1..to], weight);
 }
