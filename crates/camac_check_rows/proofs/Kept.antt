@@ -1,5 +1,5 @@
 -- What a walk keeps of the rows.
-use Rattle.std.proofs.Common.{◌≡◌, ℕ, ◌+◌, ◌-◌, ◌≤◌, ◌<◌, List, [], ◌∷◌, ◌++◌, map, take, drop, length, Option, Some, None, refl, sym, ap, ap₂, ◌∙◌, subst, append_assoc, append-nil, arith}
+use Rattle.std.proofs.Common.{◌≡◌, ℕ, ◌+◌, ◌-◌, ◌≤◌, ◌<◌, List, [], ◌∷◌, ◌++◌, map, take, drop, length, Option, Some, None, refl, sym, ap, ap₂, ◌∙◌, subst, append_assoc, append-nil, add-one, set, drop-drop, drop-set-lt, take-suc-set, arith}
 use Rattle.std.specs.Prelude.{option_map}
 use Rattle.std.proofs.lemmas.List.{length-append, length-drop, length-map, length-take-le}
 use Rattle.std.proofs.Math.Seq.{take-append_seam, drop-append_seam, drop-append-add}
@@ -111,3 +111,19 @@ headed_length place to own w rows a b =
     let inner : to - (place + 1) ≤ length (drop (place + 1) rows) = omega (arith, a, b, length-drop (place + 1) rows) in
     omega (arith, a, b, length-append (take place rows) (own ∷ map f part ++ drop to rows), length-append (map f part) (drop to rows), length-map part f,
     length-take-le (to - (place + 1)) (drop (place + 1) rows) inner, length-take-le place rows within, length-drop to rows)
+
+-- a row that was put into its place, and the part after it that was counted
+pub headed_is : (rows : List Row) (place to : ℕ) (own : Row) (w : Weight) → place < to → to ≤ length rows
+    → take (place + 1) (set rows place own) ++ (map (inside_row capped w) (take (to - (place + 1)) (drop (place + 1) (set rows place own))) ++ drop (to - (place + 1)) (drop (place + 1) (set rows place own)))
+    ≡ headed place to own w rows
+headed_is rows place to own w a b =
+    let f = inside_row capped w in
+    let there : place < length rows = omega (arith, a, b) in
+    let later : place < place + 1 = omega arith in
+    let kept : drop (place + 1) (set rows place own) ≡ drop (place + 1) rows = drop-set-lt (place + 1) rows place own later in
+    let first : take (place + 1) (set rows place own) ≡ take place rows ++ (own ∷ []) = ap (λ n. take n (set rows place own)) (add-one place) ∙ take-suc-set rows place own there in
+    let size : (place + 1) + (to - (place + 1)) ≡ to = omega (arith, a) in
+    let rest : drop (to - (place + 1)) (drop (place + 1) rows) ≡ drop to rows = drop-drop (to - (place + 1)) (place + 1) rows ∙ ap (λ n. drop n rows) size in
+    ap₂ (λ x y. x ++ (map f (take (to - (place + 1)) y) ++ drop (to - (place + 1)) y)) first kept
+    ∙ ap (λ r. (take place rows ++ (own ∷ [])) ++ (map f (take (to - (place + 1)) (drop (place + 1) rows)) ++ r)) rest
+    ∙ append_assoc (take place rows) (own ∷ []) (map f (take (to - (place + 1)) (drop (place + 1) rows)) ++ drop to rows)
