@@ -9,9 +9,9 @@ use Rattle.camac_text_tokens.specs.declared.token.Sign.TheVariants as mark
 use Rattle.camac_text_tokens.specs.declared.token.Token.{Token}
 use Rattle.camac_text_tokens.specs.declared.token.TokenKind.TheVariants as kind
 use Rattle.camac_text_cursor.specs.Reading.{State, ◌>>◌, give, check, advance, kind_of, after_first, while_next}
-use Rattle.camac_text_cursor.specs.Readers.{expect_sign, number_here, new_name}
+use Rattle.camac_text_cursor.specs.Readers.{expect_sign, number_here, new_name, is_number}
 use Rattle.camac_text_cursor.specs.Declaring.{with_table}
-use Rattle.camac_text.specs.Tables.{word_after, one_more_word, is_number, table_words, table_declaration}
+use Rattle.camac_text.specs.Tables.{word_after, one_more_word, table_words, table_declaration}
 use Rattle.camac_text.specs.Declarations.{declaration_at}
 use Rattle.camac_text_cursor.proofs.Steps.{while_off}
 use Rattle.camac_text_cursor.proofs.Registers.{first_of_both, second_of_both}

@@ -15,7 +15,7 @@ use Rattle.camac_text_cursor.specs.Reading.{State, kind_of, while_next}
 use Rattle.camac_text_cursor.specs.Readers.{is_name as next_is_name}
 use Rattle.camac_text_cursor.specs.Declaring.{tree_so_far}
 use Rattle.camac_text.specs.Declarations.{declaration_at, is_token, declarations_at}
-use Rattle.camac_text.specs.Tables.{is_number as next_is_number}
+use Rattle.camac_text_cursor.specs.Readers.{is_number as next_is_number}
 use Rattle.camac_text.specs.Parser.{start, tree_in, tree_of_tokens, tree_after, script_of}
 use Rattle.camac_text_cursor.proofs.Registers.{first_of_both, second_of_both}
 use Rattle.camac_text.proofs.Declares.{declarations_progress}

@@ -17,7 +17,7 @@ use Rattle.camac_text_cursor.specs.Names.{place_of}
 use Rattle.camac_text_cursor.specs.Reading.{State, kind_of}
 use Rattle.camac_text_cursor.specs.Readers.{is_name as next_is_name}
 use Rattle.camac_text.specs.Declarations.{is_token}
-use Rattle.camac_text.specs.Tables.{is_number as next_is_number}
+use Rattle.camac_text_cursor.specs.Readers.{is_number as next_is_number}
 use Rattle.camac_text.proofs.ParametersRead.{names_of}
 use Rattle.camac_text_cursor.proofs.Searches.{position_from-map}
 use Rattle.camac_text_spelling.specs.Pieces.{Piece, first_piece, text_at, Names, Prefix}

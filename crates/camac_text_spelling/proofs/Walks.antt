@@ -15,7 +15,7 @@ use Rattle.camac_text_cursor.specs.Reading.{State, kind_of}
 use Rattle.camac_text_cursor.specs.Readers.{is_name as next_is_name}
 use Rattle.camac_text_cursor.specs.Declaring.{with_lam as lam_added, with_variables_of, with_table as table_added}
 use Rattle.camac_text.specs.Declarations.{declaration_at}
-use Rattle.camac_text.specs.Tables.{is_number as next_is_number}
+use Rattle.camac_text_cursor.specs.Readers.{is_number as next_is_number}
 use Rattle.camac_text_cursor.proofs.Registers.{first_of_both, second_of_both, both}
 use Rattle.camac_text.proofs.Listed.{each_append, new_same, prefix_or_after}
 use Rattle.camac_text_spelling.specs.Pieces.{Prefix}
