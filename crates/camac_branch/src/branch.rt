@@ -41,6 +41,16 @@ impl Branch {
             locks: [LockState::Free; 7],
         }
     }
+
+    /// The same crates once more.
+    pub fn copy(&self) -> Branch
+        ensures { result ≡ self.now }
+    {
+        Branch {
+            states: self.states,
+            locks: self.locks,
+        }
+    }
 }
 
 /// Makes a cycle with this answer (own): the reply of the crate's controller to its commands, else that of the module, which is the

@@ -1,7 +1,7 @@
 -- The rows of each statement, from what the steps of its rule found.
 use Rattle.std.proofs.Common.{◌≡◌, ℕ, ◌+◌, List, [], ◌∷◌, ◌++◌, map, Some, None, Ok, refl, sym, ap, ap₂, ◌∙◌, append_assoc}
 use Rattle.std.specs.Prelude.{IsTrue, unwrap_or}
-use Rattle.camac_lang.specs.Tree.{Expression, Condition, Keep, Statement, assign, set_register, single, address_scan, q_stop, q_repeat, put, crate_call, lam_call, choose, choose_else, for_, while_, locked, call, Block, next}
+use Rattle.camac_lang.specs.Tree.{Expression, Condition, Keep, Statement, assign, set_register, single, address_scan, q_stop, q_repeat, put, crate_call, lam_call, choose, choose_else, for_, while_, locked, call, Block, next, line_of}
 use Rattle.camac_range.specs.Interval.{only}
 use Rattle.camac_branch.specs.Plan.{crate_waits}
 use Rattle.camac_model.specs.Fine.{Bounds}
@@ -19,7 +19,7 @@ use Rattle.camac_costs.specs.declared.row.Detail.{Detail}
 use Rattle.camac_costs.specs.declared.row.Detail.TheVariants as detail
 use Rattle.camac_costs.specs.declared.row.Row.{Row}
 use Rattle.camac_costs.specs.declared.inside.Weight.{Weight}
-use Rattle.camac_costs.specs.Statements.{is_simple, line_of, kind_of, detail_of, first_row}
+use Rattle.camac_costs.specs.Statements.{is_simple, kind_of, detail_of, first_row}
 use Rattle.camac_costs.specs.Weights.{once, turning, first_arm, second_arm, inside_row}
 use Rattle.camac_costs.specs.Rows.{found, Turning, turning_from, loop_detail, loop_share, lock_share, lock_detail, lock_inside, lock_head, statement_verdict, block_verdict, simple_row, else_row, times_at, inside, statement_rows, block_rows}
 

@@ -1,7 +1,7 @@
 -- What each statement has of the bound of its body: rows over what the checker's rules find. No rule is stated here.
 use Rattle.std.specs.Prelude.{ℕ, ◌+◌, List, [], ◌∷◌, ◌++◌, map, Option, Some, None, Result, Ok, Err, unwrap_or}
 use Rattle.camac_range.specs.Interval.{only}
-use Rattle.camac_lang.specs.Tree.{Expression, Condition, Keep, Statement, choose, choose_else, for_, while_, locked, Block, done, next}
+use Rattle.camac_lang.specs.Tree.{Expression, Condition, Keep, Statement, choose, choose_else, for_, while_, locked, Block, done, next, line_of}
 use Rattle.camac_branch.specs.Plan.{crate_waits}
 use Rattle.camac_model.specs.Fine.{Bounds}
 use Rattle.camac_check_rules.specs.Fault.{Fault}
@@ -18,7 +18,7 @@ use Rattle.camac_costs.specs.declared.row.Detail.{Detail}
 use Rattle.camac_costs.specs.declared.row.Detail.TheVariants as detail
 use Rattle.camac_costs.specs.declared.row.Row.{Row}
 use Rattle.camac_costs.specs.declared.inside.Weight.{Weight}
-use Rattle.camac_costs.specs.Statements.{line_of, kind_of, detail_of, first_row}
+use Rattle.camac_costs.specs.Statements.{kind_of, detail_of, first_row}
 use Rattle.camac_costs.specs.Weights.{once, turning, first_arm, second_arm, inside_row}
 
 -- what is found where it is reached and not refused

@@ -1,11 +1,12 @@
 // What the text of a statement tells of its row.
 
 ghost use Rattle.std.specs.Prelude.{◌≡◌, IfOk};
+ghost use Rattle.camac_lang.specs.Tree.{line_of};
 ghost use Rattle.camac_lang.specs.View.{expression_of, statement_of};
 ghost use Rattle.camac_check_rules.specs.Calls.{lam_region};
 ghost use Rattle.camac_check_simple.specs.Gives.{by_code};
 ghost use Rattle.camac_check_rules.specs.Costs.{no_costs};
-ghost use Rattle.camac_costs.specs.Statements.{at_region, between, crate_detail, crate_kind, detail_of, first_row, kind_of, known_region, lam_kind, line_of, single_kind};
+ghost use Rattle.camac_costs.specs.Statements.{at_region, between, crate_detail, crate_kind, detail_of, first_row, kind_of, known_region, lam_kind, single_kind};
 
 use crate::row::{Detail, Kind, Row};
 use camac_check::{CheckFault, Context};
@@ -19,7 +20,7 @@ pub fn first_row(statement: &Stmt, times: u64, each: Costs, share: Costs, detail
     ensures { result ≡ first_row (line_of (statement_of statement.now)) (kind_of (statement_of statement.now)) times each share detail }
 {
     Row {
-        line: line_of(statement),
+        line: statement.line(),
         depth: 1,
         kind: kind_of(statement),
         times,
@@ -34,35 +35,13 @@ pub fn else_row(statement: &Stmt, times: u64, each: Costs) -> Row
     ensures { result ≡ first_row (line_of (statement_of statement.now)) Kind.Else times each no_costs Detail.Nothing }
 {
     Row {
-        line: line_of(statement),
+        line: statement.line(),
         depth: 1,
         kind: Kind::Else,
         times,
         each,
         share: Costs::new(0, 0, 0),
         detail: Detail::Nothing,
-    }
-}
-
-fn line_of(statement: &Stmt) -> u32
-    ensures { result ≡ line_of (statement_of statement.now) }
-{
-    match statement {
-        Stmt::Assign { line, .. }
-        | Stmt::SetRegister { line, .. }
-        | Stmt::Single { line, .. }
-        | Stmt::Scan { line, .. }
-        | Stmt::QStop { line, .. }
-        | Stmt::QRepeat { line, .. }
-        | Stmt::Put { line, .. }
-        | Stmt::CrateCall { line, .. }
-        | Stmt::LamCall { line, .. }
-        | Stmt::If { line, .. }
-        | Stmt::IfElse { line, .. }
-        | Stmt::For { line, .. }
-        | Stmt::While { line, .. }
-        | Stmt::Lock { line, .. }
-        | Stmt::Call { line, .. } => *line,
     }
 }
 

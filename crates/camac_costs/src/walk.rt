@@ -1,6 +1,7 @@
 // The walk over a body: the judgement of each statement, once, and its rows.
 
 ghost use Rattle.std.specs.Prelude.{◌≡◌, ◌<◌, ◌+◌, ◌-◌, ◌^◌, ◌∷◌, [], Some, IfOk, IsTrue, map};
+ghost use Rattle.camac_lang.specs.Tree.{line_of};
 ghost use Rattle.camac_lang.specs.Kinds.{is_choice, is_lock, is_for, is_while};
 ghost use Rattle.camac_lang.specs.View.{statement_of, statements_of};
 ghost use Rattle.camac_check_rules.specs.Capped.{capped};
@@ -9,7 +10,7 @@ ghost use Rattle.camac_check_rules.specs.Refusal.{if_reached};
 ghost use Rattle.camac_check_rules.specs.Statements.{accept_statement, accept_block};
 ghost use Rattle.camac_check_simple.specs.Gives.{Gives, by_code};
 ghost use Rattle.camac_costs.specs.Rows.{block_rows, statement_rows, times_at};
-ghost use Rattle.camac_costs.specs.Statements.{first_row, is_simple, kind_of, line_of};
+ghost use Rattle.camac_costs.specs.Statements.{first_row, is_simple, kind_of};
 ghost use Rattle.camac_costs.specs.Weights.{inside_row, turning};
 ghost use Rattle.camac_costs.specs.Walked.{verdict_walked};
 

@@ -86,6 +86,24 @@ mutual
     done : Block
     next : Statement → Block → Block
 
+-- of its first token
+abbrev pub line_of : Statement → ℕ
+line_of (assign line x e) = line
+line_of (set_register line r c n a) = line
+line_of (single line size f r move) = line
+line_of (address_scan line f r1 r2 max x) = line
+line_of (q_stop line f r t max x) = line
+line_of (q_repeat line f r t max limit x) = line
+line_of (put line e) = line
+line_of (crate_call line which e) = line
+line_of (lam_call line which l) = line
+line_of (choose line test a) = line
+line_of (choose_else line test a b) = line
+line_of (for_ line x e1 e2 keeps body) = line
+line_of (while_ line test most m keeps body) = line
+line_of (locked line e body) = line
+line_of (call line p es) = line
+
 pub record Table : Type 0 where
   pub line : ℕ
   pub name : Text

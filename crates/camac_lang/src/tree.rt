@@ -2,6 +2,8 @@
 // A variable, register, table, LAM or procedure is its number: see `script.rt`.
 
 ghost use Rattle.std.specs.Prelude.{◌≡◌, ◌≤◌, ◌↔◌, IfSome, IsSome};
+ghost use Rattle.camac_lang.specs.Tree.{line_of};
+ghost use Rattle.camac_lang.specs.View.{statement_of};
 
 use crate::expression::Expr;
 use crate::word::{CrateCall, LamCall, WordSize};
@@ -207,4 +209,29 @@ pub enum Stmt {
         procedure: usize,
         arguments: Vec<Expr>,
     },
+}
+
+impl Stmt {
+    /// The line of its first token.
+    pub fn line(&self) -> u32
+        ensures { result ≡ line_of (statement_of self.now) }
+    {
+        match self {
+            Stmt::Assign { line, .. }
+            | Stmt::SetRegister { line, .. }
+            | Stmt::Single { line, .. }
+            | Stmt::Scan { line, .. }
+            | Stmt::QStop { line, .. }
+            | Stmt::QRepeat { line, .. }
+            | Stmt::Put { line, .. }
+            | Stmt::CrateCall { line, .. }
+            | Stmt::LamCall { line, .. }
+            | Stmt::If { line, .. }
+            | Stmt::IfElse { line, .. }
+            | Stmt::For { line, .. }
+            | Stmt::While { line, .. }
+            | Stmt::Lock { line, .. }
+            | Stmt::Call { line, .. } => *line,
+        }
+    }
 }

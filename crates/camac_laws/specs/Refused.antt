@@ -1,7 +1,7 @@
 -- Where a script is refused: at a statement of the body of a procedure or service, or by the numbers of its heading.
 use Rattle.std.specs.Prelude.{◌≡◌, ◌⊎◌, ℕ, ◌<◌, ◌≤◌, List, [], ◌∷◌, Option, Some, None, Result, Ok, Err}
 use Rattle.camac_range.specs.Number.{greatest}
-use Rattle.camac_lang.specs.Tree.{Block, Script}
+use Rattle.camac_lang.specs.Tree.{Block, Script, line_of}
 use Rattle.camac_branch.specs.Plan.{Layout}
 use Rattle.camac_model.specs.Fine.{Bounds, annotated}
 use Rattle.camac_check_rules.specs.declared.case.Body.{Body}
@@ -19,7 +19,6 @@ use Rattle.camac_check_rules.specs.Procedures.{at_entry}
 use Rattle.camac_check_rules.specs.Refusal.{if_reached}
 use Rattle.camac_check_rules.specs.Statements.{accept_statement, accept_block}
 use Rattle.camac_costs.specs.Bodies.{sections_of}
-use Rattle.camac_costs.specs.Statements.{line_of}
 use Rattle.camac_laws.specs.Places.{Place, HasPlace, BlockHasPlace}
 
 -- ---- a procedure or service

@@ -4,7 +4,7 @@ use Rattle.std.specs.Prelude.{slice_get, option_map, IfSome, IfNone, OnSome, IsT
 use Rattle.std.specs.Borrow.{Bor}
 use Rattle.std.proofs.lemmas.Bool.{false≢true}
 use Rattle.camac_lang.specs.Scope.{is_well_formed}
-use Rattle.camac_lang.specs.Tree.{Service}
+use Rattle.camac_lang.specs.Tree.{Service, line_of}
 use Rattle.camac_lang.specs.View.{statement_of}
 use Rattle.camac_lang.specs.declared.tree.Stmt.{Stmt}
 use Rattle.camac_branch.specs.Crates.{branch_of}
@@ -25,7 +25,7 @@ use Rattle.camac_run_machine.specs.declared.machine.Pending.TheVariants as pendi
 use Rattle.camac_run_machine.specs.declared.machine.Pending.TheVariants.{Cycle, Read, Lock}
 use Rattle.camac_run_machine.specs.MachineState.{bounds_at, bounds_of, opens_in, locked_among, context_in, state_of, left_in, stands, pending_of, FineThen, IsFineHere, HasRoom, IsPending, IsOperationOf, StandsIn, Takes, Settles, Serves, Left, bit_at, event_here}
 use Rattle.camac_run_machine.specs.Rest.{follows, rest_in, says, served}
-use Rattle.camac_run.specs.Place.{line_of, IsPlace}
+use Rattle.camac_run.specs.Place.{IsPlace}
 use Rattle.camac_run.specs.declared.place.Place.{Place}
 use Rattle.camac_run.specs.Runner.{RunnerState, rest, last_words_in, with_event}
 use Rattle.camac_run.specs.Sound.{runner_state, IsSound}

@@ -12,7 +12,7 @@ ghost use Rattle.camac_run.specs.Operation.{IsWaiting, Wants, operation};
 ghost use Rattle.camac_run.specs.Place.{IsPlace};
 ghost use Rattle.camac_run.specs.Requested.{IsSafeRequest, held_in};
 
-use crate::place::{Place, line_of};
+use crate::place::Place;
 use crate::progress::{Progress, Wanted};
 use crate::service::service_for;
 use arrayvec::ArrayVec;
@@ -232,7 +232,7 @@ impl<'a, const V: usize, const DEPTH: usize, const CAP: usize> Runner<'a, V, DEP
         match self.machine.begun {
             Some(begun) => Place {
                 service: self.machine.service,
-                line: line_of(begun),
+                line: begun.line(),
             },
             None => unreachable!(),
         }

@@ -1,5 +1,6 @@
 use Rattle.std.proofs.Common.{[], ◌∷◌, map, ◌≡◌, ◌<◌, ◌≤◌, ◌+◌, ◌++◌, length, drop, refl, sym, ap, ◌∙◌, subst, append_assoc, append-nil, arith}
 use Rattle.std.proofs.lemmas.List.{drop_all}
+use Rattle.camac_lang.specs.Tree.{line_of}
 use Rattle.camac_lang.specs.View.{condition_of, part_of, statement_of, statements_of}
 use Rattle.camac_model.specs.Fine.{Bounds}
 use Rattle.camac_check_rules.specs.Capped.{capped}
@@ -13,7 +14,7 @@ use Rattle.camac_costs.specs.Rows.{block_rows}
 use Rattle.camac_costs.specs.Walked.{verdict_walked}
 use Rattle.camac_costs.proofs.Found.{choice_found, rows_next}
 use Rattle.camac_costs.proofs.Trees.{choose_else_is}
-use Rattle.camac_costs.specs.Statements.{first_row, kind_of, line_of}
+use Rattle.camac_costs.specs.Statements.{first_row, kind_of}
 use Rattle.camac_costs.specs.declared.row.Detail.TheVariants as detail
 use Rattle.camac_costs.proofs.walk.+walk.Goals as goal
 
