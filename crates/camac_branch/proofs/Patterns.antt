@@ -1,14 +1,12 @@
 -- The bits of a crate's stations in the graded-L pattern.
-use Rattle.std.proofs.Common.{◌≡◌, ◌↔◌, ℕ, ◌-◌, ◌^◌, ◌<◌, ◌≤◌, List, [], ◌∷◌, Option, Some, None, option_and_then, bit_or, zero, suc, refl, ap, arith, ◌⊎◌, inl, inr}
+use Rattle.std.proofs.Common.{◌≡◌, ◌↔◌, ℕ, ◌-◌, ◌^◌, ◌≤◌, List, [], ◌∷◌, Option, Some, None, option_and_then, bit_or, zero, suc, refl, ap, arith, ◌⊎◌, inl, inr}
 use Rattle.std.specs.Int.{bit_at}
 use Rattle.std.proofs.lemmas.Bool.{cases_eq}
-use Rattle.std.proofs.lemmas.Nat.{or_lt, pow_pos}
-use Rattle.std.proofs.Math.Pow.{pow-lt}
 use Rattle.std.proofs.lemmas.Nat.Bits.{bit_at_or, bit_at-zero, bit_at-lt, bit_at-pow_same, bit_at-pow_other}
 use Rattle.camac_module.proofs.Bits.{bit_cases}
 use Rattle.camac_branch.specs.declared.plan.Crate.{Crate}
 use Rattle.camac_branch.specs.declared.plan.Installed.{Installed}
-use Rattle.camac_branch.specs.Plan.{Layout, IsPlan, numbered, crate_at, bit_value, bit_of, bits_of, bits_of_crate, crate_bits, HasBitsOfStations}
+use Rattle.camac_branch.specs.Plan.{Layout, IsPlan, numbered, crate_at, bit_value, bit_of, bits_of, bits_of_crate, HasBitsOfStations}
 use Rattle.camac_branch.proofs.Numbered.{none_is_some}
 
 pub not_one : (k : ℕ) → bit_at 0 k ≡ 1 → ⊥
@@ -90,27 +88,3 @@ bits_of_stations (Some k) b from all = (λ h. station_of k.stations b from all h
 
 pub has_bits_of_stations : (plan : Layout) → IsPlan plan → HasBitsOfStations plan
 has_bits_of_stations plan is c b from = bits_of_stations (crate_at plan c) b from (λ n k h. is.bits_in_range c n k h)
-
--- the bits are those of a word
-value-lt : (o : Option ℕ) → ((k : ℕ) → o ≡ Some k → (1 ≤ k) × (k ≤ 24)) → bit_value o < 2 ^ 24
-value-lt None known = pow_pos 24
-value-lt (Some k) known = let range = known k refl in let few : k - 1 < 24 = omega (arith, range.0, range.1) in pow-lt few
-
-first-lt : (s : Option Installed) (rest : List (Option Installed)) → FromOne (s ∷ rest) → bit_of s < 2 ^ 24
-unfolding FromOne bit_in
-first-lt None rest all = pow_pos 24
-first-lt (Some s) rest all = value-lt s.gl (λ k e. all 1 k e)
-
-bits_of-lt : (stations : List (Option Installed)) → FromOne stations → bits_of stations < 2 ^ 24
-bits_of-lt [] all = pow_pos 24
-bits_of-lt (s ∷ rest) all = or_lt 24 (bit_of s) (bits_of rest) (first-lt s rest all) (bits_of-lt rest (rest_from_one s rest all))
-
-crate-lt : (o : Option Crate)
-    → ((n k : ℕ) → option_and_then (λ s. s.gl) (option_and_then (λ j. numbered j.stations n) o) ≡ Some k → (1 ≤ k) × (k ≤ 24))
-    → bits_of_crate o < 2 ^ 24
-unfolding FromOne bit_in
-crate-lt None all = pow_pos 24
-crate-lt (Some k) all = bits_of-lt k.stations all
-
-pub crate_bits-lt : (plan : Layout) → IsPlan plan → (c : ℕ) → crate_bits plan c < 2 ^ 24
-crate_bits-lt plan is c = crate-lt (crate_at plan c) (λ n k h. is.bits_in_range c n k h)

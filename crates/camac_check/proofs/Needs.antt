@@ -1,5 +1,5 @@
 -- What a body needs, by costs that are cut at 64 bits.
-use Rattle.std.proofs.Common.{◌≡◌, ℕ, ◌-◌, ◌^◌, Result, Ok, Err, refl, sym, ap, ◌∙◌, ⊎_elim, lit<, arith}
+use Rattle.std.proofs.Common.{◌≡◌, ℕ, ◌-◌, ◌^◌, Result, Ok, Err, sym, ap, ◌∙◌, ⊎_elim, lit<, arith}
 use Rattle.std.specs.Prelude.{min, nat_le, if◌then◌else◌}
 use Rattle.std.proofs.lemmas.Bool.{lt-leb, cases_lt}
 use Rattle.camac_lang.specs.Tree.{Service}
@@ -16,14 +16,11 @@ use Rattle.camac_check_rules.specs.declared.case.Body.TheVariants as body
 use Rattle.camac_check_rules.specs.Cycles.{Around, alone_in}
 use Rattle.camac_check_rules.specs.Statements.{accept_block}
 use Rattle.camac_check_rules.specs.Accept.{at_start, within}
-use Rattle.camac_check_known.specs.declared.fault.CheckFault.{CheckFault}
-use Rattle.camac_check_known.specs.declared.fault.CheckFault.TheVariants.{OutOfMemory, Broken}
 use Rattle.camac_check_simple.specs.declared.context.Context as code
 use Rattle.camac_check.specs.declared.fault.LeastFault.{LeastFault}
 use Rattle.camac_check.specs.declared.fault.LeastFault.TheVariants as least
-use Rattle.camac_check.specs.Faults.{of_check}
-use Rattle.camac_check_simple.specs.Gives.{Fails, by_code, by_rules}
-use Rattle.camac_check.specs.Least.{Finds, and_then, checked, event_fits, most, service_needs}
+use Rattle.camac_check_simple.specs.Gives.{by_code, by_rules}
+use Rattle.camac_check.specs.Least.{and_then, checked, event_fits, most, service_needs}
 use Rattle.camac_check.proofs.Capped.{cut, cut_all, block_cut, within_cut}
 
 event_cut : (plan : Layout) (n line : ℕ) → event_fits plan (min n (2 ^ 64 - 1)) line ≡ event_fits plan n line
@@ -57,16 +54,3 @@ needs_cut context v =
     let around : Around = alone_in (body.Service v.lam) in
     finish_needs (body.Service v.lam) context.plan.now v.line (accept_block (by_code context) around v.body at_start) (accept_block (by_rules context) around v.body at_start)
     (block_cut (by_rules context) around v.body at_start)
-
--- a fault of the checker, and what it allows, seen as what is needed
-pub finds_fault : {X A B : Type 0} (view : X → B) (e : CheckFault) (f : LeastFault) (r : Result A Fault) (next : A → Result B LeastFault) → f ≡ of_check e → Fails e r → Finds view (Err f) (and_then (checked r) next)
-unfolding and_then
-finds_fault view OutOfMemory f r next is h = rw is tt
-finds_fault view (Broken rule line case) f r next is h = rw (is, h) refl
-
-pub finds_step : {A B : Type 0} (r : Result A LeastFault) (x : A) (next : A → Result B LeastFault) → r ≡ Ok x → and_then r next ≡ next x
-unfolding and_then
-finds_step r x next e = ap (λ q. and_then q next) e
-
-pub checked_is : {A : Type 0} (r : Result A Fault) (x : A) → r ≡ Ok x → checked r ≡ Ok x
-checked_is r x e = ap (λ q. checked q) e

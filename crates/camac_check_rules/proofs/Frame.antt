@@ -53,9 +53,6 @@ pub record Same (w g : ℕ → Bool) (s t : State) : Type 0 where
 pub same_self : (w g : ℕ → Bool) (s : State) → Same w g s s
 same_self w g s = record { variables = λ y e. refl; registers = λ r e. refl }
 
-pub same_then : (w g : ℕ → Bool) (s t u : State) → Same w g s t → Same w g t u → Same w g s u
-same_then w g s t u h k = record { variables = λ y e. k.variables y e ∙ h.variables y e; registers = λ r e. k.registers r e ∙ h.registers r e }
-
 -- nothing is said of pieces and stops
 abbrev pub step : Unit {0} → Piece → Unit {0}
 step x p = tt

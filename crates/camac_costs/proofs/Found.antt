@@ -30,10 +30,6 @@ verdict_is c around s k v e = ap (λ q. found unreached q) e
 pub block_is : (c : Context) (around : Around) (b : Block) (k : Known) (v : Verdict) → if_reached unreached k (accept_block c around b) ≡ Ok v → block_verdict c around b k ≡ v
 block_is c around b k v e = ap (λ q. found unreached q) e
 
--- the row of a statement that costs so much
-own_is : (s : Statement) (a b share : Bounds) (told : Detail) (rest : List Row) → a ≡ b → first_row (line_of s) (kind_of s) 1 a share told ∷ rest ≡ first_row (line_of s) (kind_of s) 1 b share told ∷ rest
-own_is s a b share told rest e = ap (λ x. first_row (line_of s) (kind_of s) 1 x share told ∷ rest) e
-
 pub simple_is : (c : Context) (around : Around) (s : Statement) (k : Facts) (v : Verdict) → if_reached unreached (Some k) (accept_statement c around s) ≡ Ok v
     → simple_row c around s (Some k) ≡ first_row (line_of s) (kind_of s) 1 v.costs v.costs (detail_of c s (Some k))
 simple_is c around s k v e = ap (λ w. first_row (line_of s) (kind_of s) 1 w.costs w.costs (detail_of c s (Some k))) (verdict_is c around s (Some k) v e)

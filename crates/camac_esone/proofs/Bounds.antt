@@ -4,7 +4,7 @@ use Rattle.std.specs.Prelude.{min, nat_lt, nat_eq, nat_le, ◌&&◌}
 use Rattle.std.proofs.lemmas.Bool.{and_parts, or_cases, ltb-true, leb-true, eqb-true, cond_both}
 use Rattle.std.proofs.lemmas.List.{append-nil, length-append}
 use Rattle.camac_branch.specs.Address.{Address}
-use Rattle.camac_esone.specs.Transfers.{NextAddress, tally, next_station, successor, address_after, is_by, q_stop_next, q_repeat_next, scan_next}
+use Rattle.camac_esone.specs.Transfers.{NextAddress, tally, next_station, successor, address_after, is_by, q_stop_next, scan_next}
 use Rattle.camac_esone.specs.Lists.{Cycle, replies}
 use Rattle.camac_esone.specs.Laws.{IsDriven}
 use Rattle.camac_esone.specs.Bounds.{place, addresses, QStopIsBounded, QRepeatIsBounded, ScanIsBounded, ScanIsWithinAddresses}
@@ -45,12 +45,6 @@ q_stop_bounded at max cycles h =
     let words = tally_most (replies cycles) in
     let same = length-replies cycles in
     record { count = omega arith; tally = omega arith }
-
-pub repeat_left_falls : (at : Address) (max limit : ℕ) → FallsAlways (q_repeat_next at max limit) (λ qs. limit - length qs)
-repeat_left_falls at max limit qs q to e =
-    let g = (repeat.wanted_goes_on at to max limit qs e).0 in
-    let parts = length-append qs (q ∷ []) in
-    omega (arith, g.room)
 
 pub q_repeat_bounded : QRepeatIsBounded
 q_repeat_bounded = repeat.up_to

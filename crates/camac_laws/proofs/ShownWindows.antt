@@ -23,7 +23,7 @@ use Rattle.camac_check_rules.specs.Windows.{Window, window_of, stations_of, sub_
 use Rattle.camac_check_rules.specs.Transfers.{is_one_crate, has_sub_addresses, past_sub_addresses, undeclared_by, scan_rule}
 use Rattle.camac_check_rules.proofs.Walks.{all_in_at}
 use Rattle.camac_laws.specs.ShownAddresses.{IsFirst, HasAddresses}
-use Rattle.camac_laws.specs.ShownWindows.{IsBefore, IsUpTo, IsInWindow, MissingOverShown, MissingOverAreShown, IsFirstUndeclared, IsPast, UndeclaredOverShown, UndeclaredOverAreShown}
+use Rattle.camac_laws.specs.ShownWindows.{IsUpTo, IsInWindow, MissingOverShown, MissingOverAreShown, IsFirstUndeclared, IsPast, UndeclaredOverShown, UndeclaredOverAreShown}
 use Rattle.camac_laws.proofs.Refused.{go_err}
 use Rattle.camac_laws.proofs.ShownAddresses.{first_is, rest_fails, station_same}
 use Rattle.camac_laws.proofs.ShownExpressions.{expressions_are_shown}
@@ -157,9 +157,6 @@ missing_over_at plan w last e = go (nat_lt w.crate_no crate_end && in_plan plan 
         )
 
 -- ---- commands
-
-comes_before : (m b n a : ℕ) → IsBefore m b n a → m ≤ n
-comes_before m b n a i = ⊎_elim (λ lt. omega arith) (λ p. let e = p.0 in omega arith) i
 
 module _ (plan : Layout) (f : ℕ) (w : Window) (last : w.last_sub_address ≤ 15) (there : is_installed plan w ≡ true) (none : is_declared plan f w ≡ false) where
   abbrev n : ℕ

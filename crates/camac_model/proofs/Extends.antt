@@ -87,14 +87,6 @@ module _ (open' : Stop → Bool) (bs : List Answer) where
       go false = refl
   keep_longer (Some ws) w r s = refl
 
-  keep_answers : (g : Option (List ℕ)) (w : ℕ) (r : Reply) (s : State) → (keep_word g w r s).answers ≡ s.answers
-  keep_answers None w r s = go r.q
-    where
-      go : (b : Bool) → (if b then with_word (kept w r) s else s).answers ≡ s.answers
-      go true = refl
-      go false = refl
-  keep_answers (Some ws) w r s = refl
-
   module _ (closed : open' short ≡ false → bs ≡ []) (plan : Layout) (f : ℕ) (g : Option (List ℕ)) (next_address : NextAddress) (finish finish' : List Bool → Action) (h : (qs : List Bool) (t : State) → Goes (finish qs t) (finish' qs (longer bs t))) where
     -- where no answer is left, against the answers that were added
     at_last : (cs : List Answer) → (open' short ≡ false → cs ≡ []) → (qs : List Bool) (s : State) → Goes (transfer plan f g next_address finish qs [] s) (transfer plan f g next_address finish' qs cs (longer bs s))

@@ -5,12 +5,11 @@ use Rattle.std.proofs.lemmas.Bool.{and_parts, leb-true, ltb-true, eqb-true, eqb-
 use Rattle.camac_range.specs.declared.comparison.Cmp.{Cmp}
 use Rattle.camac_range.specs.declared.comparison.Cmp.TheVariants.{Less, AtMost, More, AtLeast, Same, Differs}
 use Rattle.camac_range.specs.Compare.{compared}
-use Rattle.camac_range.specs.Number.{greatest, sum_of, difference_of, product_of, quotient_of, rest_of}
+use Rattle.camac_range.specs.Number.{greatest, sum_of, quotient_of, rest_of}
 use Rattle.camac_range.specs.Interval.{Interval, interval, only, IsWithin, is_inside, meet, hull}
-use Rattle.camac_range.specs.Operators.{add, sub, mul, div, rem}
+use Rattle.camac_range.specs.Operators.{add, sub, div, rem}
 use Rattle.camac_range.specs.Narrow.{below, above, without, narrow}
 use Rattle.camac_range.specs.Laws.{HasNumber, IsLeft, IsInBoth, Operator, IsValueWithin, ContainsValues, IsExact, ContainsRests, SumsAreExact, DifferencesAreExact, MeetIsWhatIsInBoth, OppositeIsNot, TurnedIsSwapped}
-use Rattle.camac_range.proofs.Products.{products_exact}
 use Rattle.camac_range.proofs.Quotients.{quotients_exact, rests_contained}
 
 pub sums_exact : SumsAreExact
@@ -37,14 +36,6 @@ contains_values operator r s i o e h = (subst (IsExact operator r s) e h).contai
 pub sum_within : (r s i : Interval) (v w : ℕ) → add r s ≡ Some i → IsWithin r v → IsWithin s w → IsValueWithin i (sum_of v w)
 sum_within r s i v w e hv hw =
     contains_values sum_of r s i (add r s) e (sums_exact r s (has_number r v hv) (has_number s w hw)) v w hv hw
-
-pub difference_within : (r s i : Interval) (v w : ℕ) → sub r s ≡ Some i → IsWithin r v → IsWithin s w → IsValueWithin i (difference_of v w)
-difference_within r s i v w e hv hw =
-    contains_values difference_of r s i (sub r s) e (differences_exact r s (has_number r v hv) (has_number s w hw)) v w hv hw
-
-pub product_within : (r s i : Interval) (v w : ℕ) → mul r s ≡ Some i → IsWithin r v → IsWithin s w → IsValueWithin i (product_of v w)
-product_within r s i v w e hv hw =
-    contains_values product_of r s i (mul r s) e (products_exact r s (has_number r v hv) (has_number s w hw)) v w hv hw
 
 itself : (d : ℕ) → IsWithin (only d) d
 itself d = record { low = omega arith; high = omega arith }

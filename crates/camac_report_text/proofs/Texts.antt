@@ -1,7 +1,6 @@
 -- Texts one after another.
 use Rattle.std.proofs.Common.{◌≡◌, ℕ, ◌+◌, ◌-◌, ◌<◌, ◌≤◌, List, [], ◌∷◌, ◌++◌, length, get_or, drop, refl, Option, ap, sym, ◌∙◌, zero, suc, append_assoc, append-nil, add-one, subst, arith}
-use Rattle.std.specs.Prelude.{Some, Result, Ok, Err, slice_get}
-use Rattle.std.proofs.lemmas.Option.{slice_get_within, get_or_from_slice_get}
+use Rattle.std.specs.Prelude.{Result, Ok, Err}
 use Rattle.std.specs.Result.{IsErr}
 use Rattle.std.specs.List.{between, flat_map, range_with_len}
 use Rattle.std.proofs.lemmas.List.{take-append-drop, drop-drop}
@@ -80,11 +79,6 @@ pub laid_next : (f : ℕ → List ℕ) (xs : List ℕ) (i x : ℕ) (old line new
 laid_next f xs i x old line new lt is text laid =
     ap (λ (l : List ℕ). old ++ l) (flat_map-next f xs i x line lt is text) ∙ sym (append_assoc old line (flat_map f (drop (i + 1) xs)))
     ∙ ap (λ (l : List ℕ). l ++ flat_map f (drop (i + 1) xs)) (sym laid)
-
--- the same of an element that was found
-pub laid_found : (f : ℕ → List ℕ) (xs : List ℕ) (i x : ℕ) (old line new : List ℕ) → slice_get xs i ≡ Some x → line ≡ f x → new ≡ old ++ line
-    → old ++ flat_map f (drop i xs) ≡ new ++ flat_map f (drop (i + 1) xs)
-laid_found f xs i x old line new at text laid = laid_next f xs i x old line new (slice_get_within xs i x at) (sym (get_or_from_slice_get xs i x x at)) text laid
 
 flat_map-none : (f : ℕ → List ℕ) (xs : List ℕ) (i : ℕ) → length xs ≤ i → flat_map f (drop i xs) ≡ []
 flat_map-none f [] zero le = refl

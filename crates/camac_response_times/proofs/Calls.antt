@@ -45,10 +45,6 @@ module _ (ts : List Source) (s : Source) where
     pub apart_fits : every < 2 ^ 32
     pub rest : whole ≡ greatest_wait ts s (calls + 1 - n) n left start
 
-  pub found_none : (rounds : ℕ) → settle (stretch_wants ts s.bit) rounds 0 ≡ None → response_in ts s rounds ≡ None
-  found_none rounds e =
-      ap (λ o. elim o [ None ↦ None | Some z ↦ greatest_wait ts s (calls_within s.every z.cycles) 1 z.rounds 0 ]) e
-
   pub found_some : (rounds : ℕ) (z : Settled) → settle (stretch_wants ts s.bit) rounds 0 ≡ Some z → response_in ts s rounds ≡ greatest_wait ts s (calls_within s.every z.cycles) 1 z.rounds 0
   found_some rounds z e =
       ap (λ o. elim o [ None ↦ None | Some z ↦ greatest_wait ts s (calls_within s.every z.cycles) 1 z.rounds 0 ]) e

@@ -19,10 +19,6 @@ share_of_calls cycles t e pos =
     let second = mul-le (cycles * 2 ^ 32 / t * t) (e / t + 1) (cycles * 2 ^ 32) (e / t + 1) down (omega arith) in
     grind (arith, first, second)
 
--- the same of a service beside those of a load
-pub with_share : (load share e here rest : ℕ) → share * (e + 1) ≤ 2 ^ 32 * here → TakesAll (load + share) e rest → TakesAll load e (here + rest)
-with_share load share e here rest h all = grind (arith, h, all)
-
 pub all_taken : (load share e here rest : ℕ) → 2 ^ 32 ≤ load + share → share * (e + 1) ≤ 2 ^ 32 * here → TakesAll load e (here + rest)
 all_taken load share e here rest full h =
     let more = mul-le (2 ^ 32) (e + 1) (load + share) (e + 1) full (omega arith) in

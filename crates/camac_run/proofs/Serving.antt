@@ -70,10 +70,6 @@ module _ (c : Context) (vs : List Service) (bit : ℕ) where
   served_says [] b = refl
   served_says (k ∷ ks) b = served_does (lock_released k) (says ks b) ∙ ap (does (lock_released k)) (served_says ks b)
 
-  pub served_ends : (s : State) → served c vs bit (ends s) ≡ does (event_left (event_of bit s)) (onward c vs s.branch s.answers)
-  unfolding served
-  served_ends s = refl
-
 pub onward_over : (c : Context) (vs : List Service) (b : Branch) → onward c vs b [] ≡ ends tt
 unfolding onward
 onward_over c vs b = refl

@@ -21,10 +21,6 @@ rest_push c [] o s = sym (then_ends (left_of c o s))
 rest_push c (d ∷ os) o s =
     ap (λ r. then_do r (left_of c d)) (rest_push c os o s) ∙ then_assoc (left_of c o s) (rest_in c os) (left_of c d)
 
-pub rest_empty : (c : Context) (s : State) → rest_in c [] s ≡ ends s
-unfolding rest_in
-rest_empty c s = refl
-
 module _ (v : ℕ) (s : Script) where
   -- what is seen outside of a block more
   pub outside_push : (c : Scope) (os : List Open) (o : Open) → outside c (os ++ o ∷ []) ≡ outside (outer c o.owner) os

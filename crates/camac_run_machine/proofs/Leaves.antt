@@ -35,12 +35,6 @@ module _ {V D C : ℕ} (h : Machine V D C) where
   last : (o : Owner) → HasRoomFor h (os ++ over o ∷ []) → LastFits V h.checked.now.script h.scope D os (over o)
   last o r = opens_pop V h.checked.now.script h.scope D os (over o) r.blocks
 
-  -- there is room for the block that is left
-  pub depth_left : (o : Open) → HasRoomFor h (os ++ o ∷ []) → length h.frames.items < D
-  depth_left o r =
-      let lt = (opens_pop V h.checked.now.script h.scope D os o r.blocks).depth in
-      let n = length-map h.frames.items (open_in h) in omega (arith, lt, n)
-
   pub plain_leaves : HasRoomFor h (os ++ over nothing ∷ []) → Advances h (λ c. owed c nothing) None h
   unfolding owed
   plain_leaves r = record {

@@ -1,7 +1,7 @@
 -- What an answer does to a machine that wants it.
-use Rattle.std.proofs.Common.{◌≡◌, ℕ, ◌+◌, ◌^◌, ◌%◌, ◌<◌, ◌≤◌, List, [], ◌∷◌, Bool, true, false, Option, Some, None, Result, Ok, Err, refl, sym, ap, subst, ◌∙◌, arith}
+use Rattle.std.proofs.Common.{◌≡◌, ℕ, ◌+◌, ◌^◌, ◌%◌, ◌<◌, ◌≤◌, List, [], ◌∷◌, Bool, true, false, Option, Some, None, refl, sym, ap, subst, ◌∙◌, arith}
 use Rattle.std.proofs.lemmas.Bool.{false≢true}
-use Rattle.std.specs.Prelude.{IsSome, IfOk, IfErr, unwrap_or, if◌then◌else◌}
+use Rattle.std.specs.Prelude.{IsSome, unwrap_or, if◌then◌else◌}
 use Rattle.camac_lang.specs.View.{statements_of}
 use Rattle.camac_func.specs.declared.data.DataMove.{DataMove}
 use Rattle.camac_branch.specs.Address.{Address}
@@ -38,14 +38,6 @@ same_done d k r w e1 e2 e3 = rw (← e1, ← e2, ← e3) refl
 pub same_made : {V D C : ℕ} (h : Machine V D C) (b : Crates) (d e : CycleDone) (n m : ℕ) → e ≡ d → n ≡ e.wait → m ≡ missed_with e.reply.x h.missed
     → ◌≡◌ {A = Machine V D C} (record h { branch = b; q = e.reply.q; x = e.reply.x; cost = h.cost + (1 + n); missed = m }) (record h { branch = b; q = d.reply.q; x = d.reply.x; cost = h.cost + (1 + d.wait); missed = missed_with d.reply.x h.missed })
 same_made h b d e n m s p q = rw (p, q, s) refl
-
-pub ok_mapped : {A B : Type 0} (r : Result A B) (P Q : A → Type 0) → IfOk r P → ((a : A) → P a → Q a) → IfOk r Q
-ok_mapped (Ok a) P Q h f = f a h
-ok_mapped (Err b) P Q h f = tt
-
-pub err_mapped : {A B : Type 0} (r : Result A B) (P Q : B → Type 0) → IfErr r P → ((b : B) → P b → Q b) → IfErr r Q
-err_mapped (Ok a) P Q h f = tt
-err_mapped (Err b) P Q h f = f b h
 
 few_missed : (x : Bool) (m c n : ℕ) → m ≤ 65535 → m ≤ c → (missed_with x m ≤ 65535) × (missed_with x m ≤ c + (1 + n))
 few_missed true m c n h k = (h, omega arith)

@@ -17,7 +17,7 @@ use Rattle.camac_text_tokens.specs.declared.token.TokenKind.TheVariants as kind
 use Rattle.camac_text_cursor.specs.Names.{place_of, lam_place, table_place, procedure_place}
 use Rattle.camac_text_cursor.specs.Reading.{State, Reader, ◌>>=◌, ◌>>◌, give, ask, change, advance, fail, check, kind_of}
 use Rattle.camac_text_cursor.specs.Readers.{begin, is_keyword, is_sign, expect, expect_sign, name_of, name_here, number_of, number_here, any_number, branch_number, function_number, sub_address_number, declared_as, new_name, with_variable, added, new_variable, new_parameter, other_registers, with_register, register_at, set_name, found_here, undeclared, used_at, used, used_register, used_variable, used_lam, used_table, known_at, known, variable_here, procedure_here, callable_by, called}
-use Rattle.camac_text_cursor.proofs.Moves.{number_ok, name_ok, new_name_ok}
+use Rattle.camac_text_cursor.proofs.Moves.{number_ok, name_ok}
 use Rattle.camac_text_cursor.proofs.Places.{with_rest, IsLocal, local_then, local_peek, local_ask, local_change, local_give, local_fail, local_advance, local_if, local_check}
 
 -- ---- single tokens
@@ -55,9 +55,6 @@ number_at s n u took = let h = number_ok s (n, u) took in subst (λ (w : State).
 
 pub name_at : (s : State) (x : Text) (u : State) → name_here s ≡ Ok (x, u) → kind_of u.rest ≡ Some (kind.Name x)
 name_at s x u took = let h = name_ok s (x, u) took in subst (λ (w : State). kind_of w.rest ≡ Some (kind.Name x)) (sym h.1) h.0
-
-pub new_name_at : (s : State) (x : Text) (u : State) → new_name s ≡ Ok (x, u) → kind_of u.rest ≡ Some (kind.Name x)
-new_name_at s x u took = let h = new_name_ok s (x, u) took in subst (λ (w : State). kind_of w.rest ≡ Some (kind.Name x)) (sym h.left) h.next
 
 -- ---- numbers
 

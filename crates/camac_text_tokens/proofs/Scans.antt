@@ -90,9 +90,6 @@ run_of_eight p (a ∷ b ∷ c ∷ []) eight e f = absurd (omega arith)
 
 -- ---- numbers
 
-digit_step : ℕ → ℕ → ℕ
-digit_step n d = 10 * n + (d - 48)
-
 grows : (a : ℕ) (ys : List ℕ) → a ≤ fold (λ n d. 10 * n + (d - 48)) a ys
 grows a [] = omega arith
 grows a (y ∷ ys) = let more : 10 * a + (y - 48) ≤ fold (λ n d. 10 * n + (d - 48)) (10 * a + (y - 48)) ys = grows (10 * a + (y - 48)) ys in omega arith

@@ -182,10 +182,6 @@ pub record Starts (k : Option TokenKind) (bytes rest : List ℕ) : Type 0 where
   pub start : start_at (bytes ++ rest) ≡ start_for k (length bytes)
   pub some : 0 < length bytes
 
-word_some : (first each : ℕ → Bool) (bytes rest : List ℕ) → IsRun first each bytes rest → (b : ℕ) × (bs : List ℕ) × (bytes ≡ b ∷ bs)
-word_some first each [] rest w = absurd (let none : false ≡ true = w.start in cc)
-word_some first each (b ∷ bs) rest w = (b, bs, refl)
-
 long_enough : (n : ℕ) → n ≤ 32 → ltb 32 n ≡ false
 long_enough n h = le-ltb 32 n h
 

@@ -1,18 +1,16 @@
 -- The exit status of what was done.
-use Rattle.std.proofs.Common.{◌≡◌, ℕ, List, Bor, Option, refl, inl, inr, subst, sym}
+use Rattle.std.proofs.Common.{◌≡◌, ℕ, List, Bor, subst, sym}
 use Rattle.std.specs.Prelude.{Result, Ok, Err}
 use Rattle.std.specs.Global.{Vec}
-use Rattle.clap.specs.declared.error.kind.ErrorKind.{ErrorKind}
 use Rattle.clap.specs.declared.error.kind.ErrorKind.TheVariants as kind
-use Rattle.camac_response_times.specs.declared.setting.Misuse.{Misuse}
 use Rattle.camac_tool_check.specs.declared.fault.ToolFault.{ToolFault}
-use Rattle.camac_tool_check.specs.declared.fault.ToolFault.TheVariants.{Memory, Read}
+use Rattle.camac_tool_check.specs.declared.fault.ToolFault.TheVariants.{Memory}
 use Rattle.camac_tool_check.specs.declared.outcome.Outcome.{Outcome}
 use Rattle.camac_tool_check.specs.declared.response.Responded.{Responded}
 use Rattle.camac_tool_check.specs.declared.response.Responded.TheVariants.{Told}
 use Rattle.camac_tool_words.specs.declared.words.Job.{Job}
 use Rattle.camac_tool_words.specs.declared.words.Job.TheVariants as job
-use Rattle.camac_tool.specs.Status.{EndsAs, EndsJob, EndsResponse, EndsUsage}
+use Rattle.camac_tool.specs.Status.{EndsAs, EndsJob, EndsResponse}
 
 -- an answer of an engine is one of `response`, too
 by_engine : (j : Job) (r : Result Outcome ToolFault) (s : ℕ) → EndsAs r s → EndsJob j s
@@ -38,6 +36,3 @@ response_job j plan script every within r s is e = subst (λ k. EndsJob k s) (sy
 -- of memory and of what cannot be read the status is 3, whichever call failed last
 pub memory_ends : (s : ℕ) → EndsAs (Err Memory) s → s ≡ 3
 memory_ends s e = e.1
-
-pub read_ends : (s : ℕ) → EndsAs (Err Read) s → s ≡ 3
-read_ends s e = e.1
