@@ -29,6 +29,7 @@ size_t camac_raw_services(void *run);
 uint32_t camac_raw_service_name(void *run, uint32_t number, uint8_t *text, size_t room, size_t *size);
 uint32_t camac_raw_service_numbers(void *run, uint32_t number, uint8_t *bytes, size_t room, size_t *size);
 uint32_t camac_raw_where(void *run, uint8_t *bytes, size_t room, size_t *size);
+uint32_t camac_raw_abandon(void *run, uint8_t *bytes, size_t room, size_t *size);
 uint32_t camac_raw_rewind(void *run);
 void camac_raw_file_header(uint8_t *bytes, size_t room, size_t *size);
 void camac_raw_close(void *run);
@@ -243,6 +244,16 @@ int camac_where(const camac_session *s, uint32_t *service, uint32_t *line) {
     if (service) *service = place[0];
     if (line) *line = place[1];
     return code;
+}
+
+int camac_abandon(camac_session *s, uint32_t *unlocked, size_t room, size_t *count) {
+    uint32_t nowhere[1];
+    size_t unasked;
+    count = told(count, &unasked);
+    if (!is_session(s) || IS_NULL(unlocked, room)) return CAMAC_MISUSE;
+    if (!unlocked) unlocked = nowhere;
+    if (room > CAMAC_CRATES) room = CAMAC_CRATES;
+    return (int)camac_raw_abandon(run_of(s), (uint8_t *)unlocked, room * sizeof *unlocked, count);
 }
 
 int camac_rewind(camac_session *s) { return is_session(s) ? (int)camac_raw_rewind(run_of(s)) : CAMAC_MISUSE; }

@@ -241,6 +241,16 @@ public:
         return all;
     }
 
+    // Leaves the service in progress, without an event. Tells the crates whose lockout is to be released, in this order.
+    std::vector<std::uint32_t> abandon() {
+        std::vector<std::uint32_t> crates(CAMAC_CRATES);
+        std::size_t count = 0;
+        const int code = camac_abandon(&its, crates.data(), crates.size(), &count);
+        if (code != CAMAC_OK) fail(code);
+        crates.resize(count);
+        return crates;
+    }
+
     // Begins the run anew.
     void rewind() {
         const int code = camac_rewind(&its);

@@ -114,6 +114,7 @@ _OF_SESSIONS: Dict[str, List[Any]] = {
     "answers_left": [_SESSION],
     "services": [_SESSION],
     "service": [_SESSION, c_uint32, POINTER(ServiceStruct)],
+    "abandon": [_SESSION, POINTER(c_uint32), c_size_t, POINTER(c_size_t)],
     "rewind": [_SESSION],
     "close": [_SESSION],
 }

@@ -1,8 +1,11 @@
 /* consumer.c: what a data acquisition program makes of a run: the listing and the event file of `camac run`. The run is begun again before it is
- * played. Where it stands, each time something is wanted, is a line of the script that can want it.
+ * played. Now and then a service is abandoned: what was written since its demand is taken back, and the rest is that of a run without it. Where it
+ * stands, each time something is wanted, is a line of the script that can want it.
  *
  *     consumer FOLDER COUNT     of FOLDER/K.plan and FOLDER/K.script, K below COUNT, it makes K.answers at random, K.listing and K.events */
+#define _POSIX_C_SOURCE 200809L
 #include "common.h"
+#include <unistd.h>
 
 #define ANSWERS 150
 
@@ -63,12 +66,29 @@ static void stands(const camac_session *s, const camac_want *want, const text *s
         fail("the service %u stands on line %u", (unsigned)service, (unsigned)line);
 }
 
+/* Leaves the service in progress: what was held is told, and nothing is held then. */
+static void abandon(camac_session *s, camac_want *want) {
+    uint32_t held[CAMAC_CRATES], told[CAMAC_CRATES];
+    const size_t count = camac_held(s, held, CAMAC_CRATES);
+    size_t its = 9;
+    EXPECT(CAMAC_OK, camac_abandon(s, told, CAMAC_CRATES, &its));
+    if (its != count || memcmp(held, told, count * sizeof *held) || camac_held(s, NULL, 0)) fail("other crates are to be released");
+    EXPECT(CAMAC_OK, camac_wants(s, want));
+    if (want->kind != CAMAC_DEMAND) fail("no demand is wanted");
+}
+
+static void take_back(FILE *file, long at) {
+    if (fflush(file) || ftruncate(fileno(file), at) || fseek(file, at, SEEK_SET)) fail("a file cannot be written");
+}
+
 /* Plays up to an overrun, or to the end of the answers. */
 static void play(camac_session *s, const char *folder, long k, const text *script) {
     FILE *answers = to_file(folder, k, "answers"), *listing = to_file(folder, k, "listing"), *events = to_file(folder, k, "events");
     camac_want want = CAMAC_WANT;
     camac_progress did = CAMAC_PROGRESS;
     char header[8];
+    FILE *const files[3] = {answers, listing, events};
+    long at[3] = {0, 0, 0};
     uint32_t seed = (uint32_t)k, count = 0, service = 0;
     const uint32_t most = chance(&seed, ANSWERS), before = camac_answers_left(s);
     int code = camac_wants(s, &want);
@@ -76,6 +96,7 @@ static void play(camac_session *s, const char *folder, long k, const text *scrip
     for (uint32_t i = 0; i < most && code == CAMAC_OK; i++) {
         camac_answer answer = any_answer(&seed);
         stands(s, &want, script, service);
+        for (int n = 0; n < 3 && want.kind == CAMAC_DEMAND; n++) at[n] = ftell(files[n]);
         if (want.kind == CAMAC_DEMAND) answer.gl = any_pattern(s, &seed);
         fprintf(answers, "%d %d %06x %x %06x\n", answer.x, answer.q, (unsigned)answer.word, answer.wait, (unsigned)answer.gl);
         code = camac_step(s, &answer, &did, &want);
@@ -84,6 +105,9 @@ static void play(camac_session *s, const char *folder, long k, const text *scrip
         if (code == CAMAC_OK && camac_answers_left(s) != before - i - 1) fail("%u answers are left", (unsigned)camac_answers_left(s));
         if (did.event) count = did.event;
         if (did.kind == CAMAC_DEMAND) service = did.service;
+        if (code != CAMAC_OK || want.kind == CAMAC_DEMAND || chance(&seed, 20)) continue;
+        abandon(s, &want);
+        for (int n = 0; n < 3; n++) take_back(files[n], at[n]);
     }
     if (code == CAMAC_OVERRUN) fprintf(listing, "overrun %d wait %d events %u\n", did.c, did.wait, (unsigned)count);
     else fprintf(listing, "%s events %u\n", want.kind == CAMAC_DEMAND ? "ended" : "short", (unsigned)count);

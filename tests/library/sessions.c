@@ -42,6 +42,7 @@ static void none(void) {
     EXPECT(CAMAC_MISUSE, camac_where(&s, &service, &line));
     EXPECT(CAMAC_MISUSE, camac_where(NULL, NULL, NULL));
     if (service || line) fail("a none stands somewhere");
+    EXPECT(CAMAC_MISUSE, camac_abandon(&s, NULL, 0, &size));
     EXPECT(CAMAC_MISUSE, camac_rewind(&s));
     EXPECT(CAMAC_MISUSE, camac_rewind(NULL));
     if (camac_services(&s) || camac_answers_left(&s) || camac_held(&s, NULL, 0) || camac_held(NULL, NULL, 1)) fail("a none has something");
@@ -57,6 +58,7 @@ static void handed_in(camac_session *s) {
     size_t size = 9;
     EXPECT(CAMAC_MISUSE, camac_item(s, NULL, 1, &size));
     EXPECT(CAMAC_MISUSE, camac_record(s, NULL, 1, &size));
+    EXPECT(CAMAC_MISUSE, camac_abandon(s, NULL, 1, &size));
     if (size) fail("misuse has a size");
     want.size--;
     EXPECT(CAMAC_MISUSE, camac_step(s, &no_answer, &did, &want));

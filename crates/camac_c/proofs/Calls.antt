@@ -2,6 +2,8 @@
 use Rattle.std.proofs.Common.{◌≡◌, ℕ, List, [], length, refl, ap, ◌∙◌, subst, arith}
 use Rattle.std.specs.Prelude.{Option, Some, None, min, reverse}
 use Rattle.camac_run.specs.Runner.{last_words_in}
+use Rattle.camac_branch.specs.declared.answer.Overrun.{Overrun}
+use Rattle.camac_c.specs.Abandoned.{LeavesUnless}
 use Rattle.camac_c.specs.Filled.{filled, filled_words, over, over_words}
 use Rattle.camac_c.specs.Last.{last_lines, last_record}
 use Rattle.camac_c.specs.Place.{numbers_of_place}
@@ -32,6 +34,10 @@ numbered_none : (its : Option (List ℕ)) (told : Told) (ws : List ℕ) → Tell
 numbered_none None told ws h = h.0
 numbered_none (Some its) told ws h = h.0 ∙ filled_words_none its
 
+abandoned_none : (o : Option Overrun) (s after : Session) (ws : List ℕ) (told : Told) → LeavesUnless o s after [] ws told → ws ≡ []
+abandoned_none None s after ws told h = h.written ∙ filled_words_none h.unlocks
+abandoned_none (Some o) s after ws told h = h.1
+
 written : (v after : Option Session) (a : Ask) (none told : Told) (ws : List ℕ) → Talks v a none after [] ws told → ws ≡ []
 written None after a none told ws h = h.1
 written (Some s) None a none told ws h = absurd h
@@ -47,6 +53,7 @@ written (Some s) (Some after) ask.Left none told ws h = h.0
 written (Some s) (Some after) ask.Services none told ws h = h.0
 written (Some s) (Some after) (ask.Name k) none told ws h = listed_none (name_at s.checked.now.script k) told ws h.1
 written (Some s) (Some after) (ask.Numbers k) none told ws h = numbered_none (numbers_at s.checked.now k) told ws h.1
+written (Some s) (Some after) ask.Abandon none told ws h = abandoned_none s.runner.overrun s after ws told h
 written (Some s) (Some after) ask.Rewind none told ws h = h.0
 
 asked : (v after : Option Session) (a : Ask) (told : Told) (ws : List ℕ) → Talks v a (only_code 2) after [] ws told → Talks v a (only_code 2) after [] [] told

@@ -1,3 +1,4 @@
+pub mod Abandoned
 pub mod Filled
 pub mod Held
 pub mod Last

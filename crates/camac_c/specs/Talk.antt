@@ -11,6 +11,7 @@ use Rattle.camac_run.specs.Runner.{RunnerState, rest, last_words_in, Progresses}
 use Rattle.camac_run.specs.declared.place.Place.{Place}
 use Rattle.camac_run.specs.declared.progress.Progress.{Progress}
 use Rattle.camac_run.specs.declared.progress.Wanted.{Wanted}
+use Rattle.camac_c.specs.Abandoned.{LeavesUnless}
 use Rattle.camac_c.specs.Filled.{filled, filled_words}
 use Rattle.camac_c.specs.Held.{held_then}
 use Rattle.camac_c.specs.Last.{last_lines, last_record}
@@ -114,6 +115,7 @@ Steps s ask.Left after old new told = (new ≡ old) × (after ≡ s) × (told �
 Steps s ask.Services after old new told = (new ≡ old) × (after ≡ s) × (told ≡ counted (length s.checked.now.script.services))
 Steps s (ask.Name k) after old new told = (after ≡ s) × TellsIf Lists (name_at s.checked.now.script k) old new told
 Steps s (ask.Numbers k) after old new told = (after ≡ s) × TellsIf TellsWords (numbers_at s.checked.now k) old new told
+Steps s ask.Abandon after old new told = LeavesUnless s.runner.overrun s after old new told
 Steps s ask.Rewind after old new told = (new ≡ old) × StartsOn s.checked.now after × (told ≡ only_code 0)
 
 abbrev pub Talks : Option Session → Ask → Told → Option Session → (old new : List ℕ) → Told → Type 0

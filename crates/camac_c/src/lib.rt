@@ -9,6 +9,7 @@ ghost use Rattle.camac_c.specs.Open.{Opens};
 ghost use Rattle.camac_c.specs.Talk.{AnswersBytes, AnswersCode, AnswersCount, AnswersNext, AnswersStep, AnswersText, AnswersWants};
 ghost use Rattle.camac_c.specs.declared.plain.Ask.TheVariants as ask;
 
+mod abandon;
 mod filling;
 mod handle;
 mod held;

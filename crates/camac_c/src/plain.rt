@@ -78,6 +78,8 @@ pub enum Ask {
     Name(u32),
     /// Its numbers.
     Numbers(u32),
+    /// To leave the service in progress.
+    Abandon,
     /// To begin anew.
     Rewind,
 }

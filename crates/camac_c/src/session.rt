@@ -2,6 +2,7 @@
 
 ghost use Rattle.std.specs.Prelude.{◌≡◌, ◌↔◌, length, IfOk, IfSome, IsSome};
 ghost use Rattle.camac_run.specs.Runner.{last_words_in};
+ghost use Rattle.camac_c.specs.Abandoned.{LeavesUnless};
 ghost use Rattle.camac_c.specs.Filled.{filled_words};
 ghost use Rattle.camac_c.specs.Last.{last_lines, last_record};
 ghost use Rattle.camac_c.specs.Plain.{only_code};
@@ -9,6 +10,7 @@ ghost use Rattle.camac_c.specs.Service.{name_at, numbers_at};
 ghost use Rattle.camac_c.specs.Talk.{Lists, StartsOn, Steps, TellsNext, TellsIf, TellsPlace, TellsStep, TellsWant, TellsWords, answers_left};
 ghost use Rattle.camac_c.specs.Told.{InRange, answer_in, counted, crates_in, did, event_in, flag_in, item_in, movement_in, service_in, want_in, word_in, written_in};
 
+use crate::abandon::write_crates;
 use crate::filling::give;
 use crate::held::{Held, keep_held, write_held};
 use crate::last::{give_lines, give_record};
@@ -84,6 +86,7 @@ pub fn step<'a>(
         Ask::Services => counted(session.checked.services()),
         Ask::Name(number) => name(&session, number, bytes),
         Ask::Numbers(number) => numbers(&session, number, bytes),
+        Ask::Abandon => abandon(&mut session, bytes),
         Ask::Rewind => rewind(&mut session),
     };
     (Loose::of(session), told)
@@ -264,6 +267,18 @@ fn numbers(session: &Session, number: u32, bytes: &mut [u8]) -> Told
         None => only_code(RANGE),
         Some(numbers) => counted(write_numbers(&numbers, bytes)),
     }
+}
+
+// Leaves the service in progress.
+fn abandon(session: &mut Session, bytes: &mut [u8]) -> Told
+    ensures { LeavesUnless session.old.runner.overrun session.old session.new bytes.old bytes.new result }
+{
+    if session.runner.wants().is_none() {
+        return only_code(OVERRUN);
+    }
+    let unlocks = session.runner.abandon();
+    session.held = Held::new();
+    counted(write_crates(unlocks.as_slice(), bytes))
 }
 
 // Begins anew.

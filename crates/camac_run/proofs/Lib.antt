@@ -10,3 +10,4 @@ pub mod Told
 pub mod Sizes
 pub mod Operation
 pub mod Holds
+pub mod Abandoned

@@ -8,6 +8,7 @@ use Rattle.camac_branch.specs.Crates.{is_permitted}
 use Rattle.camac_branch.specs.Plan.{Layout, crate_waits}
 use Rattle.camac_branch.specs.Allowed.{width}
 use Rattle.camac_branch.specs.declared.answer.Command.{Command}
+use Rattle.camac_branch.specs.Crates.{Crates}
 use Rattle.camac_branch.specs.declared.answer.Overrun.{Overrun}
 use Rattle.camac_crate.specs.Lock.{permitted}
 use Rattle.camac_esone.specs.Transfers.{tally}
@@ -94,13 +95,13 @@ module _ {V D C : ℕ} (h : Machine V D C) (a : Answer) (answers : List Answer) 
       begins_then (operation w) a (stands (Some w) h (a ∷ answers)) _
       (begins_then (operation w) a (awaited (context_in h.checked.now) (pending_of w) (state_of h (a ∷ answers))) (left_in h) (first_begins w p))
 
-  module _ (fed n : ℕ) (has : Bool) (o : Option Overrun) where
+  module _ (fed n : ℕ) (has : Bool) (o : Option Overrun) (d : Crates) where
     -- an answer that is wanted is used for what is wanted
-    pub wanted_begins : (pending : Option Pending) (w : Pending) → pending ≡ Some w → IfSome pending (IsPending h) → Begins (operation w) a (rest (runner_state h pending fed n has o) (a ∷ answers))
+    pub wanted_begins : (pending : Option Pending) (w : Pending) → pending ≡ Some w → IfSome pending (IsPending h) → Begins (operation w) a (rest (runner_state h pending fed n has o d) (a ∷ answers))
     wanted_begins pending w e p = let q : IsPending h w = rw e at p in rw e (rest_begins w q)
 
     -- and where no service is in progress, for a graded-L operation
-    pub idle_begins : (pending : Option Pending) → pending ≡ None → Begins wanted.Demand a (rest (runner_state h pending fed n has o) (a ∷ answers))
+    pub idle_begins : (pending : Option Pending) → pending ≡ None → Begins wanted.Demand a (rest (runner_state h pending fed n has o d) (a ∷ answers))
     unfolding onward
     idle_begins pending e = rw e refl
 
@@ -127,38 +128,38 @@ begun_safe plan held k o (stops wrong s) h f free = absurd h
 begun_safe plan held k o (stops more s) h f free = absurd h
 
 -- a lock that is wanted is of a free crate
-free_lock : {V D C : ℕ} (h : Machine V D C) (w : Pending) (pending : Option Pending) (fed n : ℕ) (has : Bool) (o : Option Overrun) → IsPending h w → (c : ℕ) → operation w ≡ wanted.Lock c
-    → held_in (runner_state h pending fed n has o) c ≡ false
-free_lock h (Cycle k) pending fed n has o p c e = absurd (cc)
-free_lock h (Read k x bits) pending fed n has o p c e = absurd (cc)
-free_lock h (Lock m body) pending fed n has o p c e = let same : m ≡ c = cc in subst (λ j. held_in (runner_state h pending fed n has o) j ≡ false) same p.1.0
-free_lock h (Transfer w) pending fed n has o p c e = absurd (cc)
+free_lock : {V D C : ℕ} (h : Machine V D C) (w : Pending) (pending : Option Pending) (fed n : ℕ) (has : Bool) (o : Option Overrun) (d : Crates) → IsPending h w → (c : ℕ) → operation w ≡ wanted.Lock c
+    → held_in (runner_state h pending fed n has o d) c ≡ false
+free_lock h (Cycle k) pending fed n has o d p c e = absurd (cc)
+free_lock h (Read k x bits) pending fed n has o d p c e = absurd (cc)
+free_lock h (Lock m body) pending fed n has o d p c e = let same : m ≡ c = cc in subst (λ j. held_in (runner_state h pending fed n has o d) j ≡ false) same p.1.0
+free_lock h (Transfer w) pending fed n has o d p c e = absurd (cc)
 
-pub can_send : {V D C : ℕ} (h : Machine V D C) (w : Pending) (pending : Option Pending) (fed n : ℕ) (has : Bool) (o : Option Overrun) → pending ≡ Some w → IfSome pending (IsPending h)
-    → IfSome pending (λ v. (answers : List Answer) → IsFineHere h (stands (Some v) h answers)) → IsSafeRequest h.checked.now.plan (held_in (runner_state h pending fed n has o)) (operation w)
-can_send h w pending fed n has o e p fine =
+pub can_send : {V D C : ℕ} (h : Machine V D C) (w : Pending) (pending : Option Pending) (fed n : ℕ) (has : Bool) (o : Option Overrun) (d : Crates) → pending ≡ Some w → IfSome pending (IsPending h)
+    → IfSome pending (λ v. (answers : List Answer) → IsFineHere h (stands (Some v) h answers)) → IsSafeRequest h.checked.now.plan (held_in (runner_state h pending fed n has o d)) (operation w)
+can_send h w pending fed n has o d e p fine =
     let q : IsPending h w = rw e at p in
     let f : (answers : List Answer) → IsFineHere h (stands (Some w) h answers) = rw e at fine in
-    begun_safe h.checked.now.plan (held_in (runner_state h pending fed n has o)) (bounds_of h) (operation w) (stands (Some w) h (quiet_answer ∷ []))
+    begun_safe h.checked.now.plan (held_in (runner_state h pending fed n has o d)) (bounds_of h) (operation w) (stands (Some w) h (quiet_answer ∷ []))
     (begins_then (operation w) quiet_answer (awaited (context_in h.checked.now) (pending_of w) (state_of h (quiet_answer ∷ []))) (left_in h) (first_begins h quiet_answer [] w q))
-    (f (quiet_answer ∷ [])) (free_lock h w pending fed n has o q)
+    (f (quiet_answer ∷ [])) (free_lock h w pending fed n has o d q)
 
 -- a runner whose waits were all permitted wants an answer
-module _ {V D C : ℕ} (h : Machine V D C) (fed n : ℕ) (has : Bool) (o : Option Overrun) (first : o ≡ None) where
-  pub wants_some : (pending : Option Pending) (w : Pending) → pending ≡ Some w → IfSome pending (IsPending h) → Wants (runner_state h pending fed n has o) (Some (operation w))
+module _ {V D C : ℕ} (h : Machine V D C) (fed n : ℕ) (has : Bool) (o : Option Overrun) (d : Crates) (first : o ≡ None) where
+  pub wants_some : (pending : Option Pending) (w : Pending) → pending ≡ Some w → IfSome pending (IsPending h) → Wants (runner_state h pending fed n has o d) (Some (operation w))
   wants_some pending w e p = (
     first,
-    subst (λ (b : Behaviour (Unit {0})). Waits b) (sym (rest_short h pending w fed n has o e p)) tt,
-    λ a answers. wanted_begins h a answers fed n has o pending w e p,
+    subst (λ (b : Behaviour (Unit {0})). Waits b) (sym (rest_short h pending w fed n has o d e p)) tt,
+    λ a answers. wanted_begins h a answers fed n has o d pending w e p,
   )
 
-  pub wants_none : (pending : Option Pending) → pending ≡ None → Wants (runner_state h pending fed n has o) (Some wanted.Demand)
+  pub wants_none : (pending : Option Pending) → pending ≡ None → Wants (runner_state h pending fed n has o d) (Some wanted.Demand)
   wants_none pending e = (
     first,
-    subst (λ (b : Behaviour (Unit {0})). Waits b) (sym (rest_over h pending fed n has o e)) tt,
-    λ a answers. idle_begins h a answers fed n has o pending e,
+    subst (λ (b : Behaviour (Unit {0})). Waits b) (sym (rest_over h pending fed n has o d e)) tt,
+    λ a answers. idle_begins h a answers fed n has o d pending e,
   )
 
-  pub is_waiting : (pending : Option Pending) → IfSome pending (IsPending h) → IsWaiting (runner_state h pending fed n has o)
+  pub is_waiting : (pending : Option Pending) → IfSome pending (IsPending h) → IsWaiting (runner_state h pending fed n has o d)
   is_waiting None p = (wanted.Demand, wants_none None refl)
   is_waiting (Some w) p = (operation w, wants_some (Some w) w refl p)

@@ -7,7 +7,7 @@ use Rattle.camac_lang.specs.Scope.{is_well_formed}
 use Rattle.camac_lang.specs.Tree.{Service, line_of}
 use Rattle.camac_lang.specs.View.{statement_of}
 use Rattle.camac_lang.specs.declared.tree.Stmt.{Stmt}
-use Rattle.camac_branch.specs.Crates.{branch_of}
+use Rattle.camac_branch.specs.Crates.{Crates, branch_of}
 use Rattle.camac_branch.specs.Branch.{Answer}
 use Rattle.arrayvec.specs.ArrayVec.{ArrayVec}
 use Rattle.camac_branch.specs.declared.answer.Overrun.{Overrun}
@@ -38,26 +38,26 @@ use Rattle.camac_run_machine.proofs.Takes.{waits_first}
 
 module _ {V D C : ℕ} where
   -- the event of a service that is over is told and counted, and nothing else changes
-  module _ (new : Machine V D C) (next' : Option Pending) (event : Option Left) (fed n : ℕ) (has : Bool) (o : Option Overrun) (s : RunnerState) where
+  module _ (new : Machine V D C) (next' : Option Pending) (event : Option Left) (fed n : ℕ) (has : Bool) (o : Option Overrun) (d : Crates) (s : RunnerState) where
     abbrev pub IsCounted : Type 0
-    IsCounted = IfNone (option_map pending_of next') ((event ≡ Some (event_here new (n + 1))) × (s ≡ record (runner_state new next' fed n has o) { events = n + 1; has_event = true }))
+    IsCounted = IfNone (option_map pending_of next') ((event ≡ Some (event_here new (n + 1))) × (s ≡ record (runner_state new next' fed n has o d) { events = n + 1; has_event = true }))
 
     abbrev pub IsAsBefore : Type 0
-    IsAsBefore = OnSome (option_map pending_of next') ((event ≡ None) × (s ≡ record (runner_state new next' fed n has o) { has_event = false }))
+    IsAsBefore = OnSome (option_map pending_of next') ((event ≡ None) × (s ≡ record (runner_state new next' fed n has o d) { has_event = false }))
 
   -- where nothing is wanted the event is told, and else what is left is that of the machine
-  pub told : (new : Machine V D C) (next' : Option Pending) (event : Option Left) (fed n : ℕ) (has : Bool) (o : Option Overrun) (s : RunnerState) (answers : List Answer)
-      → IfNone next' (new.frames.items ≡ []) → IsCounted new next' event fed n has o s → IsAsBefore new next' event fed n has o s
+  pub told : (new : Machine V D C) (next' : Option Pending) (event : Option Left) (fed n : ℕ) (has : Bool) (o : Option Overrun) (d : Crates) (s : RunnerState) (answers : List Answer)
+      → IfNone next' (new.frames.items ≡ []) → IsCounted new next' event fed n has o d s → IsAsBefore new next' event fed n has o d s
       → served (context_in new.checked.now) new.checked.now.script.services (bit_at new.checked.now new.service) (stands next' new answers) ≡ with_event event (last_words_in s) (rest s answers)
   unfolding served rest_in
-  told new None event fed n has o s answers f a b = rw (f, a.0, a.1) refl
-  told new (Some w) event fed n has o s answers f a b = rw (b.0, b.1) refl
+  told new None event fed n has o d s answers f a b = rw (f, a.0, a.1) refl
+  told new (Some w) event fed n has o d s answers f a b = rw (b.0, b.1) refl
 
-  pub counted : (new : Machine V D C) (next' : Option Pending) (event : Option Left) (fed n : ℕ) (has : Bool) (o : Option Overrun) (s : RunnerState)
-      → new.missed ≤ new.cost → IsCounted new next' event fed n has o s → IsAsBefore new next' event fed n has o s
-      → IfNone event (s.events ≡ n) × IfSome event (λ e. (e.0 ≡ n + 1) × (s.events ≡ e.0) × (e.2.missed ≤ e.2.cycles)) × IfNone event (last_words_in s ≡ []) × (s.fed ≡ fed) × (s.overrun ≡ o) × (s.checked ≡ new.checked.now)
-  counted new None event fed n has o s few a b = rw (a.0, a.1) (tt, (refl, refl, few), tt, refl, refl, refl)
-  counted new (Some w) event fed n has o s few a b = rw (b.0, b.1) (refl, tt, refl, refl, refl, refl)
+  pub counted : (new : Machine V D C) (next' : Option Pending) (event : Option Left) (fed n : ℕ) (has : Bool) (o : Option Overrun) (d : Crates) (s : RunnerState)
+      → new.missed ≤ new.cost → IsCounted new next' event fed n has o d s → IsAsBefore new next' event fed n has o d s
+      → IfNone event (s.events ≡ n) × IfSome event (λ e. (e.0 ≡ n + 1) × (s.events ≡ e.0) × (e.2.missed ≤ e.2.cycles)) × IfNone event (last_words_in s ≡ []) × (s.fed ≡ fed) × (s.overrun ≡ o) × (s.checked ≡ new.checked.now) × IfSome s.pending (λ w. s.at_demand ≡ d)
+  counted new None event fed n has o d s few a b = rw (a.0, a.1) (tt, (refl, refl, few), tt, refl, refl, refl, tt)
+  counted new (Some w) event fed n has o d s few a b = rw (b.0, b.1) (refl, tt, refl, refl, refl, refl, refl)
 
   -- a machine whose releases are told
   pub room_told : (h : Machine V D C) (none : ArrayVec ℕ) → none.items ≡ [] → HasRoom h → HasRoom (record h { unlocks = none })
@@ -79,10 +79,10 @@ module _ {V D C : ℕ} where
         unlocks = omega (arith, few, n);
       }
 
-  pub sound_after : (old new : Machine V D C) (none : ArrayVec ℕ) (before next' : Option Pending) (fed count i : ℕ) → none.items ≡ [] → IsSound old before fed count
+  pub sound_after : (old new : Machine V D C) (none : ArrayVec ℕ) (before next' : Option Pending) (fed count i : ℕ) (d e' : Crates) → none.items ≡ [] → IsSound old before fed count d → IfSome next' (λ w. (c : ℕ) → (branch_of e' c).locked ≡ false)
       → HasRoom new → new.checked ≡ old.checked → new.service ≡ i → i < length old.checked.now.script.services → IfSome next' (IsPending new) → IfSome next' (StandsIn new) → IfNone next' (new.frames.items ≡ [])
-      → ((answers : List Answer) → IsFineHere new (stands next' new answers)) → IsSound (record new { unlocks = none }) next' (fed + 1) count
-  sound_after old new none before next' fed count i quiet s room e service below is_next begun over fine = record {
+      → ((answers : List Answer) → IsFineHere new (stands next' new answers)) → IsSound (record new { unlocks = none }) next' (fed + 1) count e'
+  sound_after old new none before next' fed count i d e' quiet s free room e service below is_next begun over fine = record {
     room = room_told new none quiet room;
     quiet = quiet;
     checked = subst (λ (b : Bor CheckedScript). IsChecked b.now) (sym e) s.checked;
@@ -93,6 +93,7 @@ module _ {V D C : ℕ} where
     idle = over;
     service = there next';
     fine = is_fine next' fine;
+    free = free;
     events = let few = s.events in omega (arith, few);
   }
     where
@@ -117,24 +118,24 @@ module _ {V D C : ℕ} where
       is_fine None f = tt
       is_fine (Some w) f = f
 
-  along_told : (new : Machine V D C) (ck : Bor CheckedScript) (i bit : ℕ) (next' : Option Pending) (event : Option Left) (fed n : ℕ) (has : Bool) (o : Option Overrun) (s : RunnerState) (answers : List Answer)
+  along_told : (new : Machine V D C) (ck : Bor CheckedScript) (i bit : ℕ) (next' : Option Pending) (event : Option Left) (fed n : ℕ) (has : Bool) (o : Option Overrun) (d : Crates) (s : RunnerState) (answers : List Answer)
       → new.checked ≡ ck → new.service ≡ i → bit_at ck.now i ≡ bit
-      → IfNone next' (new.frames.items ≡ []) → IsCounted new next' event fed n has o s → IsAsBefore new next' event fed n has o s
+      → IfNone next' (new.frames.items ≡ []) → IsCounted new next' event fed n has o d s → IsAsBefore new next' event fed n has o d s
       → served (context_in ck.now) ck.now.script.services bit (stands next' new answers) ≡ with_event event (last_words_in s) (rest s answers)
-  along_told new ck i bit next' event fed n has o s answers e1 e2 e3 f a b =
+  along_told new ck i bit next' event fed n has o d s answers e1 e2 e3 f a b =
       ap (λ k. served (context_in ck.now) ck.now.script.services k (stands next' new answers)) (sym e3)
       ∙ ap (λ j. served (context_in ck.now) ck.now.script.services (bit_at ck.now j) (stands next' new answers)) (sym e2)
       ∙ ap (λ (z : Bor CheckedScript). served (context_in z.now) z.now.script.services (bit_at z.now new.service) (stands next' new answers)) (sym e1)
-      ∙ told new next' event fed n has o s answers f a b
+      ∙ told new next' event fed n has o d s answers f a b
 
   -- the same along what an answer leaves as it was
-  pub told_along : (new : Machine V D C) (ck : Bor CheckedScript) (i bit : ℕ) (next' : Option Pending) (event : Option Left) (fed n : ℕ) (has : Bool) (o : Option Overrun) (s : RunnerState) (answers : List Answer)
+  pub told_along : (new : Machine V D C) (ck : Bor CheckedScript) (i bit : ℕ) (next' : Option Pending) (event : Option Left) (fed n : ℕ) (has : Bool) (o : Option Overrun) (d : Crates) (s : RunnerState) (answers : List Answer)
       → new.checked ≡ ck → new.service ≡ i → bit_at ck.now i ≡ bit
-      → IfNone next' (new.frames.items ≡ []) → IsCounted new next' event fed n has o s → IsAsBefore new next' event fed n has o s
+      → IfNone next' (new.frames.items ≡ []) → IsCounted new next' event fed n has o d s → IsAsBefore new next' event fed n has o d s
       → (us : List ℕ) → served (context_in ck.now) ck.now.script.services bit (says us (stands next' new answers)) ≡ says us (with_event event (last_words_in s) (rest s answers))
-  told_along new ck i bit next' event fed n has o s answers e1 e2 e3 f a b us =
+  told_along new ck i bit next' event fed n has o d s answers e1 e2 e3 f a b us =
       served_says (context_in ck.now) ck.now.script.services bit us (stands next' new answers)
-      ∙ ap (says us) (along_told new ck i bit next' event fed n has o s answers e1 e2 e3 f a b)
+      ∙ ap (says us) (along_told new ck i bit next' event fed n has o d s answers e1 e2 e3 f a b)
 
   fine_told : (new : Machine V D C) (b : Behaviour State) → IsFineHere new (says new.unlocks.items b) → IsFineHere new b
   fine_told new b f = fine_says new.checked.now.plan (bounds_of new) new.unlocks.items b f
@@ -171,21 +172,30 @@ module _ {V D C : ℕ} where
   begun_some h None some s f = absurd (false≢true some)
   begun_some h (Some w) some s f = let t = rw f at s in t
 
-  pub is_place : (h : Machine V D C) (pending : Option Pending) (b : Bor Stmt) (fed n : ℕ) (has : Bool) (o : Option Overrun) (place : Place) → IsSome (option_map pending_of pending) → h.begun ≡ Some b → IfSome pending (StandsIn h) → place.service ≡ h.service → place.line ≡ line_of (statement_of b.now)
-      → IsPlace (runner_state h pending fed n has o) place
-  is_place h None b fed n has o place some f s p q = absurd (false≢true some)
-  is_place h (Some w) b fed n has o place some f s p q = let t = rw f at s in record { service = p; line = rw f (q, t) }
+  pub is_place : (h : Machine V D C) (pending : Option Pending) (b : Bor Stmt) (fed n : ℕ) (has : Bool) (o : Option Overrun) (d : Crates) (place : Place) → IsSome (option_map pending_of pending) → h.begun ≡ Some b → IfSome pending (StandsIn h) → place.service ≡ h.service → place.line ≡ line_of (statement_of b.now)
+      → IsPlace (runner_state h pending fed n has o d) place
+  is_place h None b fed n has o d place some f s p q = absurd (false≢true some)
+  is_place h (Some w) b fed n has o d place some f s p q = let t = rw f at s in record { service = p; line = rw f (q, t) }
 
   -- with no answer, a run is short in the service in progress, or over
-  pub rest_short : (h : Machine V D C) (pending : Option Pending) (w : Pending) (fed n : ℕ) (has : Bool) (o : Option Overrun) → pending ≡ Some w → IfSome pending (IsPending h) → rest (runner_state h pending fed n has o) [] ≡ stops short (state_of h [])
-  rest_short h pending w fed n has o e p =
+  pub rest_short : (h : Machine V D C) (pending : Option Pending) (w : Pending) (fed n : ℕ) (has : Bool) (o : Option Overrun) (d : Crates) → pending ≡ Some w → IfSome pending (IsPending h) → rest (runner_state h pending fed n has o d) [] ≡ stops short (state_of h [])
+  rest_short h pending w fed n has o d e p =
       let q : IsPending h w = rw e at p in
       let c = context_in h.checked.now in
       rw e (ap (λ b. served c h.checked.now.script.services (bit_at h.checked.now h.service) (then_do b (rest_in c (opens_in h)))) (waits_first h w q)
       ∙ served_stops c h.checked.now.script.services (bit_at h.checked.now h.service) short (state_of h []))
 
-  pub rest_over : (h : Machine V D C) (pending : Option Pending) (fed n : ℕ) (has : Bool) (o : Option Overrun) → pending ≡ None → rest (runner_state h pending fed n has o) [] ≡ ends tt
-  rest_over h pending fed n has o e = rw e (onward_over (context_in h.checked.now) h.checked.now.script.services (branch_of h.branch))
+  pub rest_over : (h : Machine V D C) (pending : Option Pending) (fed n : ℕ) (has : Bool) (o : Option Overrun) (d : Crates) → pending ≡ None → rest (runner_state h pending fed n has o d) [] ≡ ends tt
+  rest_over h pending fed n has o d e = rw e (onward_over (context_in h.checked.now) h.checked.now.script.services (branch_of h.branch))
+
+-- what is so is so where something is wanted
+pub each_some : {A : Type 0} (o : Option A) (P : Type 0) → P → IfSome o (λ w. P)
+each_some None P p = tt
+each_some (Some w) P p = p
+
+pub along_some : {A B : Type 0} (o : Option A) (x y z : B) → y ≡ z → IfSome o (λ w. x ≡ y) → IfSome o (λ w. x ≡ z)
+along_some None x y z e f = tt
+along_some (Some w) x y z e f = f ∙ e
 
 pub below_along : {V D C : ℕ} (new : Machine V D C) (ck : Bor CheckedScript) (i : ℕ) → new.checked ≡ ck → new.service ≡ i → i < length ck.now.script.services → new.service < length new.checked.now.script.services
 below_along new ck i e1 e2 h =

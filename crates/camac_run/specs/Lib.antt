@@ -8,3 +8,4 @@ pub mod Sound
 pub mod Ends
 pub mod Operation
 pub mod Holds
+pub mod Abandoned

@@ -41,6 +41,8 @@ pub record RunnerState : Type 0 where
   pub has_event : Bool
   -- the wait that was not permitted
   pub overrun : Option Overrun
+  -- the crates as they were at the demand that called the service in progress
+  pub at_demand : Crates
 
 abbrev pub state_in : RunnerState → List Answer → State
 state_in h answers = record {
@@ -80,6 +82,11 @@ with_event None words b = b
 with_event (Some e) words b =
     does (event_left (record { bit = e.1; cycles = e.2.cycles; missed = e.2.missed; words = words })) b
 
+-- the crates at the demand that calls a service: now, or before the service in progress
+abbrev pub demanded_at : Option Operation → RunnerState → Crates
+demanded_at None h = h.crates
+demanded_at (Some w) h = h.at_demand
+
 -- the answer was used for this item, and then these locks were released
 pub record GoesOn (old : RunnerState) (answer : Answer) (item : Item) (unlocks : List ℕ) (event : Option Left) (new : RunnerState) : Type 0 where
   pub first : old.overrun ≡ None
@@ -92,6 +99,7 @@ pub record GoesOn (old : RunnerState) (answer : Answer) (item : Item) (unlocks :
   pub none : IfNone event (last_words_in new ≡ [])
   pub overrun : new.overrun ≡ None
   pub checked : new.checked ≡ old.checked
+  pub at_demand : IfSome new.pending (λ w. new.at_demand ≡ demanded_at old.pending old)
 
 -- the answer's wait is not permitted, or an earlier one was not; nothing else changes
 pub record Stops (old : RunnerState) (answer : Answer) (o : Overrun) (new : RunnerState) : Type 0 where

@@ -1,10 +1,11 @@
 -- What is true of every runner.
-use Rattle.std.specs.Prelude.{◌≡◌, ℕ, ◌<◌, ◌≤◌, List, [], length, Bool, true, Option, Some, IfSome, IfNone, IsTrue, option_map}
+use Rattle.std.specs.Prelude.{◌≡◌, ℕ, ◌<◌, ◌≤◌, List, [], length, Bool, true, false, Option, Some, IfSome, IfNone, IsTrue, option_map}
 use Rattle.std.specs.Borrow.{Bor}
 use Rattle.camac_lang.specs.Scope.{is_well_formed}
 use Rattle.camac_lang.specs.View.{statement_of}
 use Rattle.camac_lang.specs.declared.tree.Stmt.{Stmt}
 use Rattle.camac_branch.specs.Branch.{Answer}
+use Rattle.camac_branch.specs.Crates.{Crates, branch_of}
 use Rattle.camac_branch.specs.declared.answer.Overrun.{Overrun}
 use Rattle.camac_check_result.specs.Checked.{IsChecked}
 use Rattle.camac_lang.specs.Fits.{fits}
@@ -15,8 +16,8 @@ use Rattle.camac_run_machine.specs.Store.{held_at}
 use Rattle.camac_run.specs.Runner.{RunnerState}
 
 module _ {V D C : ℕ} where
-  abbrev pub runner_state : Machine V D C → Option Pending → ℕ → ℕ → Bool → Option Overrun → RunnerState
-  runner_state h pending fed events has_event overrun = record {
+  abbrev pub runner_state : Machine V D C → Option Pending → ℕ → ℕ → Bool → Option Overrun → Crates → RunnerState
+  runner_state h pending fed events has_event overrun at_demand = record {
     checked = h.checked.now;
     service = h.service;
     blocks = opens_in h;
@@ -35,9 +36,10 @@ module _ {V D C : ℕ} where
     events = events;
     has_event = has_event;
     overrun = overrun;
+    at_demand = at_demand;
   }
 
-  pub record IsSound (h : Machine V D C) (pending : Option Pending) (fed count : ℕ) : Type 0 where
+  pub record IsSound (h : Machine V D C) (pending : Option Pending) (fed count : ℕ) (at_demand : Crates) : Type 0 where
     pub room : HasRoom h
     pub quiet : h.unlocks.items ≡ []
     pub checked : IsChecked h.checked.now
@@ -48,4 +50,5 @@ module _ {V D C : ℕ} where
     pub idle : IfNone pending (h.frames.items ≡ [])
     pub service : IfSome pending (λ w. h.service < length h.checked.now.script.services)
     pub fine : IfSome pending (λ w. (answers : List Answer) → IsFineHere h (stands (Some w) h answers))
+    pub free : IfSome pending (λ w. (c : ℕ) → (branch_of at_demand c).locked ≡ false)
     pub events : count ≤ fed

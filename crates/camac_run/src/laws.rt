@@ -1,5 +1,6 @@
 // Laws of every checked script: the headline, and what a runner holds and wants.
 
+ghost use Rattle.camac_run.specs.Abandoned.{AbandoningHolds};
 ghost use Rattle.camac_run.specs.Holds.{AllIsTold, GoingOnHolds, WantsAreWanted};
 ghost use Rattle.camac_run.specs.Headline.{RunsAlways, RunsByHeadline, LeavesFewEvents};
 ghost use Rattle.camac_run.specs.Requested.{RequestsAreSafe};
@@ -33,4 +34,9 @@ pub fn runner_holds_the_rest()
     ensures goes_on { GoingOnHolds }
     ensures told { AllIsTold }
     ensures wanted { WantsAreWanted }
+{}
+
+/// What is left after a service was abandoned is what the run had left at the demand that called it.
+pub fn abandoning_holds()
+    ensures { AbandoningHolds }
 {}

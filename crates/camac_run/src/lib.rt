@@ -12,7 +12,7 @@ mod service;
 
 pub use camac_run_machine::Item;
 pub use items::Items;
-pub use laws::{requests_are_safe, runner_holds_the_rest, runs_by_headline};
+pub use laws::{abandoning_holds, requests_are_safe, runner_holds_the_rest, runs_by_headline};
 pub use log::{Log, run};
 pub use place::Place;
 pub use progress::{End, Progress, Wanted};

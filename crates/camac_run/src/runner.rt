@@ -7,6 +7,7 @@ ghost use Rattle.camac_lang.specs.Fits.{fits};
 ghost use Rattle.camac_model.specs.Behaviour.{stops, short, ends};
 ghost use Rattle.camac_model.specs.Run.{the_run};
 ghost use Rattle.camac_run.specs.Runner.{state_in, rest, last_words_in, event_in, Progresses, steps_of, words_of};
+ghost use Rattle.camac_run.specs.Abandoned.{Abandons};
 ghost use Rattle.camac_run.specs.Holds.{HoldsAfter};
 ghost use Rattle.camac_run.specs.Operation.{IsWaiting, Wants, operation};
 ghost use Rattle.camac_run.specs.Place.{IsPlace};
@@ -16,12 +17,12 @@ use crate::place::Place;
 use crate::progress::{Progress, Wanted};
 use crate::service::service_for;
 use arrayvec::ArrayVec;
-use camac_branch::{Answer, Overrun, demand};
+use camac_branch::{Answer, Branch, Overrun, demand};
 use camac_check_result::Checked;
 use camac_event::Usage;
 use camac_lang::limits;
 use camac_run_machine::{Item, Machine, Pending};
-use camac_word::{GlBit, Word24};
+use camac_word::{CrateNo, GlBit, Word24};
 use std::marker::Model;
 
 /// A run of a script over the answers so far, with room for `V` variables, `V` registers, `DEPTH` open blocks and `CAP` words of an
@@ -37,6 +38,8 @@ pub struct Runner<'a, const V: usize, const DEPTH: usize, const CAP: usize> {
     has_event: bool,
     // the wait that was not permitted
     overrun: Option<Overrun>,
+    // the crates as they were at the demand that called the service in progress
+    at_demand: Branch,
 }
 
 /// A runner with room for every script that is checked: the program's.
@@ -58,9 +61,9 @@ impl<'a, const V: usize, const DEPTH: usize, const CAP: usize> Model for Runner<
 
     ghost coded = { Prim.hlevel (codes, checked_coded, want_coded, open_coded, statement_coded) };
 
-    ghost view = { λ r. runner_state r.machine r.pending r.fed r.events r.has_event r.overrun };
+    ghost view = { λ r. runner_state r.machine r.pending r.fed r.events r.has_event r.overrun r.at_demand };
 
-    ghost invariant = { λ r. IsSound r.machine r.pending r.fed r.events };
+    ghost invariant = { λ r. IsSound r.machine r.pending r.fed r.events r.at_demand };
 }
 
 impl<'a, const V: usize, const DEPTH: usize, const CAP: usize> Runner<'a, V, DEPTH, CAP> {
@@ -84,6 +87,7 @@ impl<'a, const V: usize, const DEPTH: usize, const CAP: usize> Runner<'a, V, DEP
             events: 0,
             has_event: false,
             overrun: None,
+            at_demand: Branch::start(),
         }
     }
 
@@ -124,6 +128,7 @@ impl<'a, const V: usize, const DEPTH: usize, const CAP: usize> Runner<'a, V, DEP
                 }
             }
             Some(called) => {
+                self.at_demand = self.machine.branch.copy();
                 self.machine.serve(called.number, &mut self.pending);
                 let unlocks = self.machine.unlocks.take();
                 let event = self.close();
@@ -186,6 +191,26 @@ impl<'a, const V: usize, const DEPTH: usize, const CAP: usize> Runner<'a, V, DEP
             Some(_) => {
                 self.has_event = false;
                 None
+            }
+        }
+    }
+
+    /// Leaves the service in progress, as after a fault of the crates. It leaves no event, and the run goes on at the demand that called it: with the
+    /// crates and the number of events of then, and without the answers that it has used. Returns the crates whose lockout it held, in the
+    /// order in which they are to be released. Where no service is in progress, and after a wait that was not permitted, nothing changes.
+    pub fn abandon(&mut self) -> ArrayVec<CrateNo, 7>
+        ensures { Abandons self.old result.items self.new }
+    {
+        if self.overrun.is_some() {
+            return ArrayVec::new();
+        }
+        match self.pending {
+            None => ArrayVec::new(),
+            Some(_) => {
+                self.machine.abandon(self.at_demand.copy());
+                self.pending = None;
+                self.has_event = false;
+                self.machine.unlocks.take()
             }
         }
     }

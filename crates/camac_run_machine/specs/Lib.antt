@@ -3,3 +3,4 @@ pub mod Course
 pub mod Rest
 pub mod Within
 pub mod MachineState
+pub mod Locks

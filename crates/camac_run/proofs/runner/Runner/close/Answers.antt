@@ -21,6 +21,7 @@ invariant_of-self g c =
       idle = inv.idle;
       service = inv.service;
       fine = inv.fine;
+      free = inv.free;
       events = omega (arith, few);
     }
 

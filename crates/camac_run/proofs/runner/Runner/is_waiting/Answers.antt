@@ -6,4 +6,4 @@ pub returns : goal.returns
 returns g c =
     let r = c.self.inside in
     let first : r.overrun ≡ None = ap (λ h. h.overrun) c.self.view_is ∙ c.requires in
-    rw (← c.self.view_is) (is_waiting r.machine r.fed r.events r.has_event r.overrun first r.pending c.self.invariant.awaits)
+    rw (← c.self.view_is) (is_waiting r.machine r.fed r.events r.has_event r.overrun r.at_demand first r.pending c.self.invariant.awaits)

@@ -8,5 +8,5 @@ returns-in-Some g c =
     rw (← c.self.view_is) (record {
       now = rw c.in-Some.is tt;
       again = rw c.in-Some.is refl;
-      same = ap (λ o. runner_state r.machine r.pending r.fed r.events r.has_event o) c.in-Some.is;
+      same = ap (λ o. runner_state r.machine r.pending r.fed r.events r.has_event o r.at_demand) c.in-Some.is;
     })

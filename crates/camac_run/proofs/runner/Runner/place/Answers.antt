@@ -8,7 +8,7 @@ pub returns : goal.returns
 returns g c =
     let r = c.self.inside in
     rw (← c.self.view_is)
-    (is_place r.machine r.pending c.in-Some.begun r.fed r.events r.has_event r.overrun _ (subst (λ (h : RunnerState). IsSome h.pending) (sym c.self.view_is) c.requires) c.in-Some.is c.self.invariant.begun refl c.line.ensures)
+    (is_place r.machine r.pending c.in-Some.begun r.fed r.events r.has_event r.overrun r.at_demand _ (subst (λ (h : RunnerState). IsSome h.pending) (sym c.self.view_is) c.requires) c.in-Some.is c.self.invariant.begun refl c.line.ensures)
 
 pub unreachable-requires : goal.unreachable-requires
 unreachable-requires g c =

@@ -11,7 +11,7 @@ use Rattle.camac_run.specs.Runner.{RunnerState, rest, with_event, last_words_in}
 use Rattle.camac_run.specs.Sound.{runner_state}
 use Rattle.camac_run.proofs.Serving.{served_does, served_stops}
 use Rattle.camac_run.proofs.Sizes.{machine_fits}
-use Rattle.camac_run.proofs.Told.{told_along, counted, sound_after, stays_in, take_fine, settle_fine, below_along}
+use Rattle.camac_run.proofs.Told.{told_along, counted, sound_after, stays_in, take_fine, settle_fine, below_along, each_some}
 use Rattle.camac_run.proofs.runner.Runner.resume.Goals as goal
 
 pub take-taken-requires : goal.take-taken-requires
@@ -46,7 +46,7 @@ invariant_of-self g c =
     let t = c.in-Ok.ensures.took in
     let s = rw pending at c.go_further.ensures in
     let fine = take_fine r.machine mid c.in-Some.pending c.args.answer c.in-Ok.item (rw pending at inv.fine) t in
-    sound_after r.machine new c.take-unlocks.new.self r.pending next' r.fed r.events r.machine.service c.take-unlocks.ensures.after inv s.room (s.checked ∙ t.checked) (s.service ∙ t.service) (rw pending at inv.service) s.awaits s.begun s.over
+    sound_after r.machine new c.take-unlocks.new.self r.pending next' r.fed r.events r.machine.service r.at_demand r.at_demand c.take-unlocks.ensures.after inv (each_some next' _ (rw pending at inv.free)) s.room (s.checked ∙ t.checked) (s.service ∙ t.service) (rw pending at inv.service) s.awaits s.begun s.over
     (settle_fine mid new (λ z. follows z (pending_of c.in-Some.pending)) next' fine s)
 
 pub close-event-requires : goal.close-event-requires
@@ -77,7 +77,7 @@ returns-in-Ok g c =
     let first : r.overrun ≡ None = ap (λ h. h.overrun) c.self.view_is ∙ c.requires.first in
     let t = c.in-Ok.ensures.took in
     let s = rw pending at c.go_further.ensures in
-    let all = counted new next' event (r.fed + 1) r.events r.has_event r.overrun after s.room.missed c.close-event.ensures.ended c.close-event.ensures.goes_on in
+    let all = counted new next' event (r.fed + 1) r.events r.has_event r.overrun r.at_demand after s.room.missed c.close-event.ensures.ended c.close-event.ensures.goes_on in
     rw (← c.self.view_is) (record {
       first = first;
       goes = λ answers. rw pending
@@ -85,7 +85,7 @@ returns-in-Ok g c =
           ∙ served_does ctx vs bit (piece_of d) (then_do (follows (context_in mid.checked.now) (pending_of c.in-Some.pending) (state_of mid answers)) (left_in mid))
           ∙ ap (does (piece_of d))
           (ap (served ctx vs bit) (sym (s.goes answers))
-          ∙ told_along new r.machine.checked r.machine.service bit next' event (r.fed + 1) r.events r.has_event r.overrun after answers (s.checked ∙ t.checked) (s.service ∙ t.service) refl s.over c.close-event.ensures.ended c.close-event.ensures.goes_on new.unlocks.items
+          ∙ told_along new r.machine.checked r.machine.service bit next' event (r.fed + 1) r.events r.has_event r.overrun r.at_demand after answers (s.checked ∙ t.checked) (s.service ∙ t.service) refl s.over c.close-event.ensures.ended c.close-event.ensures.goes_on new.unlocks.items
           ∙ ap (λ us. says us (with_event event (last_words_in after) (rest after answers))) (ap (λ (v : ArrayVec ℕ). v.items) (sym c.take-unlocks.ensures.value))));
       fed = all.3;
       same = all.0;
@@ -93,6 +93,7 @@ returns-in-Ok g c =
       none = all.2;
       overrun = all.4 ∙ first;
       checked = all.5 ∙ ap (λ (z : Bor CheckedScript). z.now) (s.checked ∙ t.checked);
+      at_demand = rw pending all.6;
     })
 
 pub returns-in-Err : goal.returns-in-Err
@@ -107,5 +108,5 @@ returns-in-Err g c =
           ∙ served_stops (context_in k) k.script.services (bit_at k r.machine.service) _ _));
       again = rw first tt;
       same =
-          ap (λ (m : Machine g.row.V g.row.DEPTH g.row.CAP). runner_state m r.pending r.fed r.events r.has_event (Some c.in-Err.overrun)) c.in-Err.ensures.same;
+          ap (λ (m : Machine g.row.V g.row.DEPTH g.row.CAP). runner_state m r.pending r.fed r.events r.has_event (Some c.in-Err.overrun) r.at_demand) c.in-Err.ensures.same;
     })

@@ -34,6 +34,7 @@ invariant_of-result g c =
       idle = m.idle;
       service = tt;
       fine = tt;
+      free = tt;
       events = omega arith;
     }
 

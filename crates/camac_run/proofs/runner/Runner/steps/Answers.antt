@@ -6,7 +6,7 @@ use Rattle.camac_run.proofs.runner.Runner.steps.Goals as goal
 pub returns-in-Some-clause-steps : goal.returns-in-Some-clause-steps
 returns-in-Some-clause-steps g c =
     let r = c.self.inside in
-    rw (← c.self.view_is) (sym (ap steps_of (rest_short r.machine r.pending c.in-Some.field-0 r.fed r.events r.has_event r.overrun c.in-Some.is c.self.invariant.awaits)))
+    rw (← c.self.view_is) (sym (ap steps_of (rest_short r.machine r.pending c.in-Some.field-0 r.fed r.events r.has_event r.overrun r.at_demand c.in-Some.is c.self.invariant.awaits)))
 
 pub returns-in-Some-clause-within : goal.returns-in-Some-clause-within
 returns-in-Some-clause-within g c =
@@ -16,7 +16,7 @@ returns-in-Some-clause-within g c =
 pub returns-in-None-clause-steps : goal.returns-in-None-clause-steps
 returns-in-None-clause-steps g c =
     let r = c.self.inside in
-    rw (← c.self.view_is) (sym (ap steps_of (rest_over r.machine r.pending r.fed r.events r.has_event r.overrun c.in-None.is)))
+    rw (← c.self.view_is) (sym (ap steps_of (rest_over r.machine r.pending r.fed r.events r.has_event r.overrun r.at_demand c.in-None.is)))
 
 pub returns-in-None-clause-within : goal.returns-in-None-clause-within
 returns-in-None-clause-within g c = omega arith

@@ -11,17 +11,17 @@ returns-in-Some-clause-wants g c =
     let r = c.self.inside in
     let first : r.overrun ≡ None = not_some r.overrun (sym c.is_some.ensures ∙ c.if-is_some.false) in
     rw (c.operation.ensures, ← c.self.view_is)
-    (wants_some r.machine r.fed r.events r.has_event r.overrun first r.pending c.in-Some.pending c.in-Some.is c.self.invariant.awaits)
+    (wants_some r.machine r.fed r.events r.has_event r.overrun r.at_demand first r.pending c.in-Some.pending c.in-Some.is c.self.invariant.awaits)
 
 pub returns-in-Some-clause-safe : goal.returns-in-Some-clause-safe
 returns-in-Some-clause-safe g c =
     let r = c.self.inside in
     subst (λ (x : RunnerState). IsSafeRequest x.checked.plan (held_in x) c.operation.result) c.self.view_is
-    (subst (λ (o : Wanted). IsSafeRequest r.machine.checked.now.plan (held_in (runner_state r.machine r.pending r.fed r.events r.has_event r.overrun)) o) (sym c.operation.ensures)
-    (can_send r.machine c.in-Some.pending r.pending r.fed r.events r.has_event r.overrun c.in-Some.is c.self.invariant.awaits c.self.invariant.fine))
+    (subst (λ (o : Wanted). IsSafeRequest r.machine.checked.now.plan (held_in (runner_state r.machine r.pending r.fed r.events r.has_event r.overrun r.at_demand)) o) (sym c.operation.ensures)
+    (can_send r.machine c.in-Some.pending r.pending r.fed r.events r.has_event r.overrun r.at_demand c.in-Some.is c.self.invariant.awaits c.self.invariant.fine))
 
 pub returns-in-None-clause-wants : goal.returns-in-None-clause-wants
 returns-in-None-clause-wants g c =
     let r = c.self.inside in
     let first : r.overrun ≡ None = not_some r.overrun (sym c.is_some.ensures ∙ c.if-is_some.false) in
-    rw (← c.self.view_is) (wants_none r.machine r.fed r.events r.has_event r.overrun first r.pending c.in-None.is)
+    rw (← c.self.view_is) (wants_none r.machine r.fed r.events r.has_event r.overrun r.at_demand first r.pending c.in-None.is)

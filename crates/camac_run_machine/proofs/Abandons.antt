@@ -1,0 +1,69 @@
+-- A service that is left before its end.
+use Rattle.std.proofs.Common.{◌≡◌, ℕ, zero, suc, ◌+◌, ◌≤◌, List, [], ◌∷◌, ◌++◌, length, map, false, refl, sym, ap, subst, ◌∙◌, append_assoc, arith}
+use Rattle.std.proofs.lemmas.List.{append-nil, map-append}
+use Rattle.arrayvec.specs.ArrayVec.{ArrayVec}
+use Rattle.camac_lang.specs.Tree.{done}
+use Rattle.camac_branch.specs.Branch.{Branch, with_lock}
+use Rattle.camac_branch.specs.Crates.{Crates, branch_of}
+use Rattle.camac_run_machine.specs.declared.machine.Frame.{Frame}
+use Rattle.camac_run_machine.specs.declared.machine.Machine.{Machine}
+use Rattle.camac_run_machine.specs.Locks.{lock_of, locks_in}
+use Rattle.camac_run_machine.specs.MachineState.{open_in, opens_in, opens_of, AreHeld, locked_among, HasRoomFor, HasRoom}
+use Rattle.camac_run_machine.specs.Rest.{releases, Open}
+use Rattle.camac_run_machine.specs.Within.{OpenFit}
+use Rattle.camac_run_machine.proofs.Blocks.{opens_pop, opens_push}
+use Rattle.camac_run_machine.proofs.Frames.{room_stepped, room_with}
+use Rattle.camac_run_machine.proofs.Leaves.{room_after, after}
+use Rattle.camac_run_machine.proofs.Locks.{held_same, none_locked}
+
+locks_push : (os : List Open) (o : Open) → locks_in (os ++ o ∷ []) ≡ lock_of o.owner ++ locks_in os
+locks_push [] o = sym (append-nil (lock_of o.owner))
+locks_push (p ∷ os) o = ap (λ (ks : List ℕ). ks ++ lock_of p.owner) (locks_push os o) ∙ append_assoc (lock_of o.owner) (locks_in os) (lock_of p.owner)
+
+among_none : (b : Branch) (n : ℕ) → ((c : ℕ) → (b c).locked ≡ false) → locked_among b n ≡ 0
+among_none b zero free = refl
+among_none b (suc n) free = rw (free (suc n), among_none b n free) refl
+
+module _ {V D C : ℕ} (h : Machine V D C) where
+  -- what is left of a block does not matter
+  pub room_over : (os : List Open) (o : Open) → HasRoomFor h (os ++ o ∷ []) → HasRoomFor h (os ++ record { block = done; owner = o.owner } ∷ [])
+  room_over os o r =
+      let last = opens_pop V h.checked.now.script h.scope D os o r.blocks in
+      let over : Open = record { block = done; owner = o.owner } in
+      room_with h h.frames (os ++ o ∷ []) (os ++ over ∷ [])
+      (opens_push V h.checked.now.script h.scope D os over last.others (last.block.0, tt) last.owner)
+      (held_same (branch_of h.branch) os o over (λ c. refl) r.locks) r
+
+  -- its lock is released
+  pub room_released : (k : ℕ) → HasRoomFor h (opens_in h ++ record { block = done; owner = releases k } ∷ []) → (b : Crates) (us : ArrayVec ℕ) → branch_of b ≡ with_lock k false (branch_of h.branch) → us.items ≡ h.unlocks.items ++ k ∷ [] → HasRoom (record h { branch = b; unlocks = us })
+  room_released k r b us freed told = room_stepped (after h k r b us freed told) h.steps (room_after h k r b us freed told)
+
+  -- the locks that are told, and those that are still to be
+  pub told_on : (f : Frame) (fs : List Frame) → h.frames.items ≡ fs ++ f ∷ [] → (new : Machine V D C) → opens_in new ≡ map (open_in h) fs → new.unlocks.items ≡ h.unlocks.items ++ lock_of (open_in h f).owner → new.unlocks.items ++ locks_in (opens_in new) ≡ h.unlocks.items ++ locks_in (opens_in h)
+  told_on f fs popped new left told =
+      let os : List Open = map (open_in h) fs in
+      ap (λ (ks : List ℕ). ks ++ locks_in (opens_in new)) told
+      ∙ ap (λ (qs : List Open). (h.unlocks.items ++ lock_of (open_in h f).owner) ++ locks_in qs) left
+      ∙ append_assoc h.unlocks.items (lock_of (open_in h f).owner) (locks_in os)
+      ∙ ap (λ (ks : List ℕ). h.unlocks.items ++ ks) (sym (locks_push os (open_in h f)))
+      ∙ ap (λ (qs : List Open). h.unlocks.items ++ locks_in qs) (sym (ap (map (open_in h)) popped ∙ map-append (open_in h) fs (f ∷ [])))
+
+  -- no block is open, and no crate is locked
+  pub room_idle : (b : Crates) → h.frames.items ≡ [] → ((c : ℕ) → (branch_of b c).locked ≡ false) → HasRoom h → HasRoom (record h { branch = b })
+  room_idle b idle free r =
+      let few = r.unlocks in
+      let none = among_none (branch_of b) 7 free in
+      record {
+        variables = r.variables;
+        registers = r.registers;
+        fits = r.fits;
+        scope = r.scope;
+        blocks = r.blocks;
+        words = r.words;
+        steps = r.steps;
+        cycles = r.cycles;
+        few_missed = r.few_missed;
+        missed = r.missed;
+        locks = subst (λ (fs : List Frame). AreHeld (branch_of b) (opens_of h.variables h.registers fs)) (sym idle) (none_locked (branch_of b) free);
+        unlocks = omega (arith, few, none);
+      }
