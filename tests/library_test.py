@@ -120,33 +120,6 @@ service reg within 50 cycles event 0 words {
   ccci 1 on
 }
 """
-# it puts 1 where inhibit is on, sets it, and disables the demand output
-CHANGES = """cdlam adc 1 1 5 12
-var v
-service adc within 30 cycles event 1 words {
-  ctci 1
-  if q { put 1 } else { put 0 }
-  ccci 1 on
-  cccd 1 off
-  cdreg a 1 1 5 0
-  cfsa 0 a -> v
-}
-"""
-TWO_CRATES = SHORT_PLAN.replace("width = 12 }", "width = 12 }, { f = 10, a = 12 }") + '''waits = 2
-[[crate]]
-number = 2
-station = [ { n = 5, type = "ADC", gl = 4 } ]
-'''
-NESTED = """cdlam adc 1 1 5 12
-service adc within 90 cycles event 0 words {
-  lock 1 {
-    lock 2 {
-      cclc adc
-      cclc adc
-    }
-  }
-}
-"""
 DEMAND, CYCLE = Answer(gl=4), Answer(1, 1, 0x123)
 
 
@@ -630,32 +603,6 @@ class Python(Case):
                 self.assertEqual(found, [(service, line) for line in lines])
                 session.next(Answer(gl=gl))
                 self.assertEqual((session.next(Answer(wait=15)).kind, session.where()), (library.STOPPED, found[0]))
-
-
-    def test_a_service_is_abandoned(self):
-        """The run goes on at the demand: no event, the crates as they were there, and numbers that count on."""
-        its = [Answer(gl=4), *[CYCLE] * 3]
-        with library.Session(self.sample(), CHANGES) as session:
-            self.assertEqual(session.abandon(), ())
-            for count in range(1, 5):
-                for it in its[:count]:
-                    session.next(it)
-                self.assertEqual((session.abandon(), session.where(), session.words(), session.wants().kind), ((), None, (), library.DEMAND))
-            left = session.answers_left()
-            told = [(did.service, did.event) for did in map(session.next, (*its, CYCLE))]
-            # inhibit was off as at the demand, and the demand output on
-            self.assertEqual((told, session.words(), session.answers_left()), ([(1, 0), *[(0, 0)] * 3, (0, 1)], (0,), left - 5))
-            session.abandon()
-            self.assertEqual((session.words(), session.next(Answer(gl=4)).service), ((0,), 0))
-        with library.Session(TWO_CRATES, NESTED) as session:
-            for count, wanted in ((1, ()), (2, (1,)), (3, (2, 1)), (4, (2, 1))):
-                for it in (DEMAND, *[Answer(1, 1)] * 3)[:count]:
-                    session.next(it)
-                self.assertEqual((session.held(), session.abandon(), session.held()), (wanted, wanted, ()))
-            session.next(DEMAND)
-            self.assertEqual(session.next(Answer(wait=15)).kind, library.STOPPED)
-            with self.assertRaises(UsageFault):
-                session.abandon()
 
 
 class Package(Case):

@@ -231,10 +231,11 @@ uint32_t camac_answers_left(const camac_session *s);
 size_t camac_services(const camac_session *s);
 CAMAC_CALL camac_service(const camac_session *s, uint32_t number, camac_service_info *info);
 
-/* Leaves the service in progress, as after a fault of the crates. It leaves no event, and the run goes on at the demand that called it: inhibit
- * and demand output of the crates are for the run what they were there, events count on, and the answers that were used stay so. The bounds of the
- * service count until there. Writes the crates whose lockout is to be released, in this order, as many as there is room for, and their number into
- * *count: at most CAMAC_CRATES, 0 where no service is in progress, where nothing changes. CAMAC_OVERRUN: the run is over, and nothing changes. */
+/* Leaves the service in progress, as after a fault of the crates, without an event. The run goes on at a demand, and takes inhibit and demand output
+ * of each crate to be as at the demand that called the service: what the service has changed of them is yours to set back. The next event has the
+ * next number, and answers that were used stay so. Writes the crates whose lockout is to be released, in this order, as many as there is room for.
+ * *count is their number, at most CAMAC_CRATES. It is 0 between services, and then nothing changes. CAMAC_OVERRUN: the run is over, and nothing
+ * changes. */
 CAMAC_CALL camac_abandon(camac_session *s, uint32_t *unlocked, size_t room, size_t *count);
 
 /* Begins the run anew, as camac_open begins it, without judging the script: crates and variables are as at the first demand, events count from

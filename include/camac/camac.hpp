@@ -241,7 +241,7 @@ public:
         return all;
     }
 
-    // Leaves the service in progress, without an event. Tells the crates whose lockout is to be released, in this order.
+    // Leaves the service in progress, without an event. The result are the crates whose lockout is to be released, in this order.
     std::vector<std::uint32_t> abandon() {
         std::vector<std::uint32_t> crates(CAMAC_CRATES);
         std::size_t count = 0;

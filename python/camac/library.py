@@ -321,8 +321,9 @@ class Session:
         return ServiceInfo(its.name.decode(), *(getattr(its, name) for name in ServiceInfo._fields[1:]))
 
     def abandon(self) -> Tuple[int, ...]:
-        """Leaves the service in progress, as after a fault of the crates: it leaves no event, and the run goes on at the demand that called it.
-        Returns the crates whose lockout is to be released, in this order. Raises UsageFault where the run is over, by an overrun."""
+        """Leaves the service in progress, as after a fault of the crates, without an event. The run goes on at a demand, with the crates as they were
+        at the one that called the service. Returns the crates whose lockout is to be released, in this order. Raises UsageFault if the run is over,
+        by an overrun."""
         code = self._calls.camac_abandon(self._at, self._words, EVENT_WORDS, self._to_size)
         if code == OVERRUN:
             raise UsageFault("the run is over", 2)

@@ -66,13 +66,13 @@ static void stands(const camac_session *s, const camac_want *want, const text *s
         fail("the service %u stands on line %u", (unsigned)service, (unsigned)line);
 }
 
-/* Leaves the service in progress: what was held is told, and nothing is held then. */
-static void abandon(camac_session *s, camac_want *want) {
-    uint32_t held[CAMAC_CRATES], told[CAMAC_CRATES];
-    const size_t count = camac_held(s, held, CAMAC_CRATES);
+/* Leaves the service in progress: what was held is given, as far as there is room, and nothing is held then. */
+static void abandon(camac_session *s, camac_want *want, uint32_t room) {
+    uint32_t held[CAMAC_CRATES] = {0}, told[CAMAC_CRATES] = {0};
+    const size_t count = camac_held(s, held, room);
     size_t its = 9;
-    EXPECT(CAMAC_OK, camac_abandon(s, told, CAMAC_CRATES, &its));
-    if (its != count || memcmp(held, told, count * sizeof *held) || camac_held(s, NULL, 0)) fail("other crates are to be released");
+    EXPECT(CAMAC_OK, camac_abandon(s, told, room, &its));
+    if (its != count || memcmp(held, told, sizeof held) || camac_held(s, NULL, 0)) fail("other crates are to be released");
     EXPECT(CAMAC_OK, camac_wants(s, want));
     if (want->kind != CAMAC_DEMAND) fail("no demand is wanted");
 }
@@ -106,7 +106,7 @@ static void play(camac_session *s, const char *folder, long k, const text *scrip
         if (did.event) count = did.event;
         if (did.kind == CAMAC_DEMAND) service = did.service;
         if (code != CAMAC_OK || want.kind == CAMAC_DEMAND || chance(&seed, 20)) continue;
-        abandon(s, &want);
+        abandon(s, &want, chance(&seed, CAMAC_CRATES + 1));
         for (int n = 0; n < 3; n++) take_back(files[n], at[n]);
     }
     if (code == CAMAC_OVERRUN) fprintf(listing, "overrun %d wait %d events %u\n", did.c, did.wait, (unsigned)count);

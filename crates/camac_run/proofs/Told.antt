@@ -118,6 +118,24 @@ module _ {V D C : ℕ} where
       is_fine None f = tt
       is_fine (Some w) f = f
 
+  -- the same where the service was left
+  pub sound_idle : (old new : Machine V D C) (none : ArrayVec ℕ) (before : Option Pending) (fed count : ℕ) (d : Crates) → none.items ≡ [] → IsSound old before fed count d
+      → HasRoom new → new.checked ≡ old.checked → new.frames.items ≡ [] → IsSound (record new { unlocks = none }) None fed count d
+  sound_idle old new none before fed count d quiet s room e idle = record {
+    room = room_told new none quiet room;
+    quiet = quiet;
+    checked = subst (λ (b : Bor CheckedScript). IsChecked b.now) (sym e) s.checked;
+    formed = subst (λ (b : Bor CheckedScript). IsTrue (is_well_formed b.now.script)) (sym e) s.formed;
+    fits = subst (λ (b : Bor CheckedScript). fits b.now.script V D C ≡ true) (sym e) s.fits;
+    awaits = tt;
+    begun = tt;
+    idle = idle;
+    service = tt;
+    fine = tt;
+    free = tt;
+    events = s.events;
+  }
+
   along_told : (new : Machine V D C) (ck : Bor CheckedScript) (i bit : ℕ) (next' : Option Pending) (event : Option Left) (fed n : ℕ) (has : Bool) (o : Option Overrun) (d : Crates) (s : RunnerState) (answers : List Answer)
       → new.checked ≡ ck → new.service ≡ i → bit_at ck.now i ≡ bit
       → IfNone next' (new.frames.items ≡ []) → IsCounted new next' event fed n has o d s → IsAsBefore new next' event fed n has o d s
