@@ -28,13 +28,13 @@ service adc within 30 cycles event 1 words {
   cfsa 0 a -> v
 }
 """
-TWO_CRATES = """waits = 2
-[[type]]
+TWO_CRATES = """[[type]]
 name = "ADC"
 commands = [ { f = 0, a = 0, width = 12 }, { f = 10, a = 12 } ]
 [[crate]]
 number = 1
 station = [ { n = 5, type = "ADC", gl = 3 } ]
+waits = 2
 [[crate]]
 number = 2
 station = [ { n = 5, type = "ADC", gl = 4 } ]

@@ -8,7 +8,7 @@ use Rattle.camac_lang.specs.Tree.{Script}
 use Rattle.camac_model.specs.Behaviour.{Piece}
 use Rattle.camac_run.specs.Holds.{HoldsAfter}
 use Rattle.camac_run.specs.Runner.{RunnerState, rest, last_words_in}
-use Rattle.camac_run_machine.specs.Locks.{locks_in}
+use Rattle.camac_run.specs.Locks.{locks_in}
 use Rattle.camac_run_machine.specs.MachineState.{context_in}
 use Rattle.camac_run_machine.specs.Rest.{Operation, onward}
 

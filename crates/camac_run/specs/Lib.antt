@@ -8,4 +8,5 @@ pub mod Sound
 pub mod Ends
 pub mod Operation
 pub mod Holds
+pub mod Locks
 pub mod Abandoned

@@ -4,6 +4,7 @@
 
 mod items;
 mod laws;
+mod leaving;
 mod log;
 mod place;
 mod progress;

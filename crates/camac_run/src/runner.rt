@@ -13,6 +13,7 @@ ghost use Rattle.camac_run.specs.Operation.{IsWaiting, Wants, operation};
 ghost use Rattle.camac_run.specs.Place.{IsPlace};
 ghost use Rattle.camac_run.specs.Requested.{IsSafeRequest, held_in};
 
+use crate::leaving::leave_service;
 use crate::place::Place;
 use crate::progress::{Progress, Wanted};
 use crate::service::service_for;
@@ -207,7 +208,7 @@ impl<'a, const V: usize, const DEPTH: usize, const CAP: usize> Runner<'a, V, DEP
         match self.pending {
             None => ArrayVec::new(),
             Some(_) => {
-                self.machine.abandon(self.at_demand.copy());
+                leave_service(&mut self.machine, self.at_demand.copy());
                 self.pending = None;
                 self.has_event = false;
                 self.machine.unlocks.take()

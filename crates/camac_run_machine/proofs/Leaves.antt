@@ -75,10 +75,10 @@ module _ {V D C : ℕ} (h : Machine V D C) where
         (keeps_rest h.checked.now.plan (bounds_of h) h.checked.now.script _ (after_release k (state_of h [])) (fine []).1).steps
 
     module _ (b : Crates) (us : ArrayVec ℕ) (freed : branch_of b ≡ with_lock k false (branch_of h.branch)) (released : us.items ≡ h.unlocks.items ++ k ∷ []) where
-      abbrev pub after : Machine V D C
+      abbrev after : Machine V D C
       after = record h { branch = b; steps = h.steps + 1; unlocks = us }
 
-      pub room_after : HasRoom after
+      room_after : HasRoom after
       room_after =
           let few = room.unlocks in
           let one = one_fewer in
@@ -121,7 +121,7 @@ module _ {V D C : ℕ} (h : Machine V D C) where
 
   -- the caller of a procedure goes on
   module _ (p : Scope) (vs : List ℕ) (rs : List (Option Address)) where
-    pub room_returned : HasRoomFor h (os ++ over (returns p vs rs) ∷ []) → HasRoom (record h { scope = p })
+    room_returned : HasRoomFor h (os ++ over (returns p vs rs) ∷ []) → HasRoom (record h { scope = p })
     room_returned r = record {
       variables = r.variables;
       registers = r.registers;

@@ -24,4 +24,3 @@ pub mod Lists
 pub mod Turns
 pub mod Starts
 pub mod Standing
-pub mod Abandons

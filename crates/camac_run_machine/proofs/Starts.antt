@@ -51,7 +51,7 @@ module _ {V D C : ℕ} (h : Machine V D C) (i : ℕ) (sc : Scope) (fs : ArrayVec
   }
 
   -- no block is open before it
-  pub idle_free : h.frames.items ≡ [] → HasRoom h → (c : ℕ) → (branch_of h.branch c).locked ≡ false
+  idle_free : h.frames.items ≡ [] → HasRoom h → (c : ℕ) → (branch_of h.branch c).locked ≡ false
   idle_free idle r = none_held (branch_of h.branch) (subst (λ (gs : List Frame). AreHeld (branch_of h.branch) (map (open_in h) gs)) idle r.locks)
 
   pub room_begun : (f : Frame) → fs.items ≡ f ∷ [] → f.owner ≡ Plain → h.frames.items ≡ [] → HasRoom h → ScopeFits V h.checked.now.script sc → Opens (reach_of h.checked.now.script sc) D (statements_of f.rest.now) → Small C (bounds_at h.checked.now i) → length ws ≡ V → length qs ≡ V → HasRoom begun

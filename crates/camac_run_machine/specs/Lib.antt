@@ -3,4 +3,3 @@ pub mod Course
 pub mod Rest
 pub mod Within
 pub mod MachineState
-pub mod Locks

@@ -16,7 +16,6 @@ ghost use Rattle.camac_lang.specs.Fits.{fits};
 ghost use Rattle.camac_run_machine.specs.Store.{registers_in, held_at};
 ghost use Rattle.camac_run_machine.specs.Within.{Refers, PartsRefer, StatementFits};
 
-mod abandon;
 mod actions;
 mod answers;
 mod blocks;

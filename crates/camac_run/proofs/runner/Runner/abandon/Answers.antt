@@ -10,8 +10,8 @@ use Rattle.camac_run.proofs.Sizes.{machine_fits}
 use Rattle.camac_run.proofs.Told.{sound_idle}
 use Rattle.camac_run.proofs.runner.Runner.abandon.Goals as goal
 
-pub abandon-requires : goal.abandon-requires
-abandon-requires g c =
+pub leave_service-requires : goal.leave_service-requires
+leave_service-requires g c =
     let inv = c.self.invariant in
     let free = rw c.in-Some.is at inv.free in
     (machine_fits _ c.requires-raw.1.1.1.0, (inv.room, (inv.quiet, λ n. subst (λ (b : Crates). (branch_of b n).locked ≡ false) (sym c.copy.ensures) (free n))))
@@ -19,14 +19,14 @@ abandon-requires g c =
 pub invariant_of-self : goal.invariant_of-self
 invariant_of-self g c =
     let r = c.self.inside in
-    let m = c.abandon.ensures in
-    sound_idle r.machine c.abandon.new.self c.take.new.self r.pending r.fed r.events r.at_demand c.take.ensures.after c.self.invariant m.room m.checked m.idle
+    let m = c.leave_service.ensures in
+    sound_idle r.machine c.leave_service.new.machine c.take.new.self r.pending r.fed r.events r.at_demand c.take.ensures.after c.self.invariant m.room m.checked m.idle
 
 pub returns-in-Some : goal.returns-in-Some
 returns-in-Some g c =
     let r = c.self.inside in
-    let m = c.abandon.ensures in
-    let new = c.abandon.new.self in
+    let m = c.leave_service.ensures in
+    let new = c.leave_service.new.machine in
     let k = r.machine.checked.now in
     let first : r.overrun ≡ None = not_some r.overrun (sym c.is_some.ensures ∙ c.if-is_some.false) in
     let branch : new.branch ≡ r.at_demand = m.branch ∙ c.copy.ensures in

@@ -12,7 +12,7 @@ use Rattle.camac_run_machine.specs.MachineState.{context_in, pending_of, bit_at}
 use Rattle.camac_run_machine.specs.Rest.{onward, served, says}
 use Rattle.camac_run.specs.Runner.{RunnerState, rest, with_event, last_words_in}
 use Rattle.camac_run_machine.proofs.Lists.{place}
-use Rattle.camac_run_machine.proofs.Starts.{idle_free}
+use Rattle.camac_run.proofs.Leaving.{idle_free}
 use Rattle.camac_run.proofs.Serving.{onward_passes, onward_serves}
 use Rattle.camac_run.proofs.Sizes.{machine_fits}
 use Rattle.camac_run.proofs.Told.{told_along, counted, sound_after, serve_fine, none_wanted, below_along, each_some, along_some}
