@@ -1,3 +1,4 @@
+pub mod Abandoned
 pub mod Answered
 pub mod Calls
 pub mod Found

@@ -270,6 +270,7 @@ fn numbers(session: &Session, number: u32, bytes: &mut [u8]) -> Told
 }
 
 // Leaves the service in progress.
+#[tactic(auto, using(crate::proofs::Abandoned::stays_over, crate::proofs::Abandoned::leaves_first))]
 fn abandon(session: &mut Session, bytes: &mut [u8]) -> Told
     ensures { LeavesUnless session.old.runner.overrun session.old session.new bytes.old bytes.new result }
 {

@@ -10,5 +10,5 @@ pub mod Told
 pub mod Sizes
 pub mod Operation
 pub mod Holds
-pub mod Leaving
+pub mod Early
 pub mod Abandoned

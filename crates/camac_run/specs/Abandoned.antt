@@ -20,7 +20,7 @@ pub record Leaves (old : RunnerState) (unlocks : List ℕ) (new : RunnerState) :
       → rest new answers ≡ onward (context_in old.checked) old.checked.script.services (branch_of old.at_demand) answers
   pub idle : new.pending ≡ None
   pub crates : new.crates ≡ old.at_demand
-  pub unlocks : unlocks ≡ locks_in old.blocks
+  pub released : unlocks ≡ locks_in old.blocks
   pub quiet : last_words_in new ≡ []
   pub fed : new.fed ≡ old.fed
   pub events : new.events ≡ old.events

@@ -1,10 +1,11 @@
-use Rattle.std.proofs.Common.{◌≡◌, ℕ, List, [], Some, None, refl, sym, subst, ap, ◌∙◌}
+use Rattle.std.proofs.Common.{◌≡◌, ℕ, List, [], Some, None, false, refl, sym, subst, ap, ◌∙◌}
 use Rattle.std.specs.Borrow.{Bor}
 use Rattle.arrayvec.specs.ArrayVec.{ArrayVec}
 use Rattle.camac_branch.specs.Crates.{Crates, branch_of}
 use Rattle.camac_check_result.specs.Checked.{CheckedScript}
 use Rattle.camac_run_machine.specs.MachineState.{context_in}
 use Rattle.camac_run_machine.specs.Rest.{onward}
+use Rattle.camac_run.proofs.Abandoned.{stays_over, stays_idle}
 use Rattle.camac_run.proofs.Operation.{not_some}
 use Rattle.camac_run.proofs.Sizes.{machine_fits}
 use Rattle.camac_run.proofs.Told.{sound_idle}
@@ -35,10 +36,21 @@ returns-in-Some g c =
           ∙ ap (λ (b : Crates). onward (context_in k) k.script.services (branch_of b) answers) branch;
       idle = refl;
       crates = branch;
-      unlocks = ap (λ (v : ArrayVec ℕ). v.items) c.take.ensures.value ∙ m.released;
+      released = ap (λ (v : ArrayVec ℕ). v.items) c.take.ensures.value ∙ m.released;
       quiet = refl;
       fed = refl;
       events = refl;
-      overrun = first;
+      overrun = refl;
       checked = ap (λ (b : Bor CheckedScript). b.now) m.checked;
     })
+
+pub returns-then-is_some : goal.returns-then-is_some
+returns-then-is_some g c =
+    let r = c.self.inside in
+    rw (← c.self.view_is) (stays_over r.overrun _ _ _ (sym c.is_some.ensures ∙ c.if-is_some.true) c.new.ensures)
+
+pub returns-in-None : goal.returns-in-None
+returns-in-None g c =
+    let r = c.self.inside in
+    let first : r.overrun ≡ None = not_some r.overrun (sym c.is_some.ensures ∙ c.if-is_some.false) in
+    rw (← c.self.view_is, c.in-None.is) (stays_idle r.overrun _ _ first c.new-in-None.ensures)

@@ -1,4 +1,4 @@
-use Rattle.std.proofs.Common.{◌≡◌, ℕ, ◌+◌, ◌<◌, Some, refl, sym, subst, ap, ◌∙◌, arith}
+use Rattle.std.proofs.Common.{◌≡◌, ℕ, ◌+◌, ◌<◌, Some, false, refl, sym, subst, ap, ◌∙◌, arith}
 use Rattle.std.specs.Prelude.{None, option_map, unwrap_or}
 use Rattle.camac_branch.specs.Branch.{pattern_of}
 use Rattle.camac_branch.specs.Crates.{Crates, branch_of}
@@ -12,7 +12,7 @@ use Rattle.camac_run_machine.specs.MachineState.{context_in, pending_of, bit_at}
 use Rattle.camac_run_machine.specs.Rest.{onward, served, says}
 use Rattle.camac_run.specs.Runner.{RunnerState, rest, with_event, last_words_in}
 use Rattle.camac_run_machine.proofs.Lists.{place}
-use Rattle.camac_run.proofs.Leaving.{idle_free}
+use Rattle.camac_run.proofs.Early.{idle_free}
 use Rattle.camac_run.proofs.Serving.{onward_passes, onward_serves}
 use Rattle.camac_run.proofs.Sizes.{machine_fits}
 use Rattle.camac_run.proofs.Told.{told_along, counted, sound_after, serve_fine, none_wanted, below_along, each_some, along_some}
@@ -76,8 +76,8 @@ invariant_of-self-in-Some g c =
     let s = c.serve.ensures p.0 p.1 in
     let new = c.serve.new.self in
     let pending : r.pending ≡ None = none_wanted pending_of r.pending (ap (λ h. h.pending) c.self.view_is ∙ c.requires.idle) in
-    let free : (n : ℕ) → (branch_of c.copy.result n).locked ≡ false = λ n. subst (λ (b : Crates). (branch_of b n).locked ≡ false) (sym c.copy.ensures) (idle_free r.machine (rw pending at inv.idle) inv.room n) in
-    sound_after r.machine new c.take-unlocks.new.self r.pending c.serve.new.pending r.fed r.events i r.at_demand c.copy.result c.take-unlocks.ensures.after inv (each_some c.serve.new.pending _ free) s.room s.checked s.service c.in-Some.ensures.known s.awaits s.begun s.over
+    let free : (n : ℕ) → (branch_of c.copy-self-inside.result n).locked ≡ false = λ n. subst (λ (b : Crates). (branch_of b n).locked ≡ false) (sym c.copy-self-inside.ensures) (idle_free r.machine (rw pending at inv.idle) inv.room n) in
+    sound_after r.machine new c.take-unlocks.new.self r.pending c.serve.new.pending r.fed r.events i r.at_demand c.copy-self-inside.result c.take-unlocks.ensures.after inv (each_some c.serve.new.pending _ free) s.room s.checked s.service c.in-Some.ensures.known s.awaits s.begun s.over
     (serve_fine r.machine new i p.0 c.serve.new.pending inv.checked p.1 s)
 
 pub close-event-requires : goal.close-event-requires
@@ -111,7 +111,7 @@ returns-in-Some g c =
     let called : service_for (context_in k) (pattern_of k.plan b c.args.answer.gl) k.script.services ≡ Some v =
     ap (λ n. service_for (context_in k) n k.script.services) (sym pat) ∙ c.in-Some.ensures.chosen ∙ ap (option_map (λ w. record { number = i; bit = bit; service = w })) p.1 in
     let its : bit_at k i ≡ bit = ap (λ o. unwrap_or o 0) c.in-Some.ensures.bit in
-    let all = counted new next' event (r.fed + 1) r.events r.has_event r.overrun c.copy.result after s.room.missed c.close-event.ensures.ended c.close-event.ensures.goes_on in
+    let all = counted new next' event (r.fed + 1) r.events r.has_event r.overrun c.copy-self-inside.result after s.room.missed c.close-event.ensures.ended c.close-event.ensures.goes_on in
     rw (← c.self.view_is) (record {
       first = first;
       goes = λ answers. rw pending
@@ -119,7 +119,7 @@ returns-in-Some g c =
           ∙ ap (λ n. does (demanded n (Some i)) (served (context_in k) k.script.services bit (service_meaning (context_in k) most_turns p.0 b answers))) (sym pat)
           ∙ ap (does (demanded c.demand-pattern.result (Some i)))
           (ap (served (context_in k) k.script.services bit) (sym (s.goes answers))
-          ∙ told_along new r.machine.checked i bit next' event (r.fed + 1) r.events r.has_event r.overrun c.copy.result after answers s.checked s.service its s.over c.close-event.ensures.ended c.close-event.ensures.goes_on new.unlocks.items
+          ∙ told_along new r.machine.checked i bit next' event (r.fed + 1) r.events r.has_event r.overrun c.copy-self-inside.result after answers s.checked s.service its s.over c.close-event.ensures.ended c.close-event.ensures.goes_on new.unlocks.items
           ∙ ap (λ us. says us (with_event event (last_words_in after) (rest after answers))) (ap (λ (v : ArrayVec ℕ). v.items) (sym c.take-unlocks.ensures.value))));
       fed = all.3;
       same = all.0;
@@ -127,5 +127,5 @@ returns-in-Some g c =
       none = all.2;
       overrun = all.4 ∙ first;
       checked = all.5 ∙ ap (λ (z : Bor CheckedScript). z.now) s.checked;
-      at_demand = rw pending (along_some after.pending after.at_demand c.copy.result r.machine.branch c.copy.ensures all.6);
+      at_demand = rw pending (along_some after.pending after.at_demand c.copy-self-inside.result r.machine.branch c.copy-self-inside.ensures all.6);
     })
