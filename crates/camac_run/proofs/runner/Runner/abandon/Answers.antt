@@ -15,7 +15,7 @@ pub leave_service-requires : goal.leave_service-requires
 leave_service-requires g c =
     let inv = c.self.invariant in
     let free = rw c.in-Some.is at inv.free in
-    (machine_fits _ c.requires-raw.1.1.1.0, (inv.room, (inv.quiet, λ n. subst (λ (b : Crates). (branch_of b n).locked ≡ false) (sym c.copy.ensures) (free n))))
+    (machine_fits _ c.requires-raw.1.1.1, (inv.room, (inv.quiet, λ n. subst (λ (b : Crates). (branch_of b n).locked ≡ false) (sym c.copy.ensures) (free n))))
 
 pub invariant_of-self : goal.invariant_of-self
 invariant_of-self g c =
