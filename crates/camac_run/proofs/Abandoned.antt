@@ -1,15 +1,13 @@
 -- A service that is left before its end, and the run that goes on.
-use Rattle.std.proofs.Common.{◌≡◌, ℕ, List, [], true, refl, sym, ap, subst, ◌∙◌}
+use Rattle.std.proofs.Common.{◌≡◌, ℕ, List, [], true, refl, sym, ap, ◌∙◌}
 use Rattle.std.specs.Prelude.{Option, Some, None, is_some}
 use Rattle.std.proofs.lemmas.Bool.{false≢true}
-use Rattle.camac_branch.specs.Branch.{Answer}
 use Rattle.camac_branch.specs.Crates.{Crates, branch_of}
 use Rattle.camac_branch.specs.declared.answer.Overrun.{Overrun}
 use Rattle.camac_check_result.specs.Checked.{CheckedScript}
-use Rattle.camac_model.specs.Behaviour.{Behaviour}
 use Rattle.camac_run.specs.Abandoned.{LeavesIf, AbandoningHolds}
 use Rattle.camac_run.specs.Holds.{after}
-use Rattle.camac_run.specs.Runner.{RunnerState, rest, rest_from}
+use Rattle.camac_run.specs.Runner.{RunnerState, rest_from}
 use Rattle.camac_run_machine.specs.MachineState.{context_in}
 use Rattle.camac_run_machine.specs.Rest.{Operation, onward}
 

@@ -1,5 +1,5 @@
 -- Where a run stands in its script.
-use Rattle.std.specs.Prelude.{◌≡◌, ℕ, IfSome, IsSomeAnd}
+use Rattle.std.specs.Prelude.{◌≡◌, IfSome, IsSomeAnd}
 use Rattle.camac_lang.specs.Tree.{line_of}
 use Rattle.camac_run_machine.specs.MachineState.{context_in, IsOperationOf}
 use Rattle.camac_run.specs.Runner.{RunnerState}

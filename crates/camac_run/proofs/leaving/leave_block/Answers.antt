@@ -1,4 +1,4 @@
-use Rattle.std.proofs.Common.{◌≡◌, ◌++◌, ◌∷◌, [], false, refl, ap, ◌∙◌, sym, rules}
+use Rattle.std.proofs.Common.{◌++◌, ◌∷◌, [], false, refl, ap, ◌∙◌, sym, rules}
 use Rattle.std.proofs.lemmas.Bool.{false≢true}
 use Rattle.std.proofs.lemmas.List.{append-nil}
 use Rattle.camac_branch.specs.Branch.{with_lock}

@@ -1,6 +1,4 @@
-use Rattle.std.proofs.Common.{◌≡◌, ◌+◌, ◌++◌, ◌∷◌, [], List, ℕ, length, length-append, refl, ap, sym, ◌∙◌, append-nil, rules, arith}
-use Rattle.arrayvec.specs.ArrayVec.{ArrayVec}
-use Rattle.camac_run_machine.specs.declared.machine.Frame.{Frame}
+use Rattle.std.proofs.Common.{◌++◌, ◌∷◌, [], List, ℕ, length, length-append, refl, ap, ◌∙◌, rules, arith}
 use Rattle.camac_run_machine.specs.declared.machine.Machine.{Machine}
 use Rattle.camac_run.specs.Locks.{locks_in}
 use Rattle.camac_run_machine.specs.MachineState.{open_in, opens_in}

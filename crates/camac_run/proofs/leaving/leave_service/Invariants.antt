@@ -1,4 +1,4 @@
-use Rattle.std.proofs.Common.{◌≡◌, ◌++◌, List, length}
+use Rattle.std.proofs.Common.{◌≡◌, ◌++◌, length}
 use Rattle.camac_run.specs.Locks.{locks_in}
 use Rattle.camac_run_machine.specs.MachineState.{opens_in, HasRoom}
 use Rattle.camac_run.proofs.leaving.leave_service.Given as goal

@@ -1,4 +1,4 @@
-use Rattle.std.proofs.Common.{◌≡◌, ℕ, List, [], Some, None, false, refl, sym, subst, ap, ◌∙◌}
+use Rattle.std.proofs.Common.{◌≡◌, ℕ, None, false, refl, sym, subst, ap, ◌∙◌}
 use Rattle.std.specs.Borrow.{Bor}
 use Rattle.arrayvec.specs.ArrayVec.{ArrayVec}
 use Rattle.camac_branch.specs.Crates.{Crates, branch_of}
