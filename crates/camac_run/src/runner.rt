@@ -196,9 +196,9 @@ impl<'a, const V: usize, const DEPTH: usize, const CAP: usize> Runner<'a, V, DEP
         }
     }
 
-    /// Leaves the service in progress, as after a fault of the crates. It leaves no event, and the run goes on at the demand that called it: with the
+    /// Leaves the service in progress, as after a fault of the crates, without an event. The run goes on at the demand that called it: with the
     /// crates and the number of events of then, and without the answers that it has used. Returns the crates whose lockout it held, in the
-    /// order in which they are to be released. Where no service is in progress, and after a wait that was not permitted, nothing changes.
+    /// order in which to release them. Between services, and after a wait that was not permitted, nothing changes.
     pub fn abandon(&mut self) -> ArrayVec<CrateNo, 7>
         ensures { Abandons self.old result.items self.new }
     {
