@@ -11,6 +11,7 @@ import subprocess
 import tempfile
 import unittest
 
+from support import plans
 from support.program import PROGRAM
 from support.rows import FILE_ONE, FILE_TWO, NOT_MADE, NO_EVENTS, ROWS, SAMPLE, STRAIGHT_LINE, Wrong, event_file, read_rows
 
@@ -118,26 +119,6 @@ def service(body, cycles, words):
     return f"cdlam adc 1 1 5 12\nvar v k i t n table g = 1 2 3\n{heading} {{\n{body}\n}}\n".encode()
 
 
-# What the sample plan has, what stands there instead, and the refusal.
-TABLES = [
-    ("gl = 3", "gl = 25", "P4: value out of range"),
-    ('name = "REG"', 'name = "REG"\ncolour = 1', "P2: unknown key"),
-    ('name = "REG"', "", "P3: missing key or wrong kind"),
-    ('type = "REG"', 'type = "X"', "P7: unknown module type"),
-]
-TWICE = [
-    ("[[crate]]", "[[crate]]\nnumber = 1\n[[crate]]", "P5: crate twice"),
-    ("n = 6", "n = 5", "P6: station twice"),
-    ("{ f = 8, a = 12 }", "{ f = 8, a = 12 }, { f = 0, a = 11 }", "P8: declared twice"),
-    ('type = "REG"', 'type = "REG"\ngl = 3', "P9: GL bit twice"),
-]
-FIELDS = [
-    ("{ f = 8,", "{ f = 32,", "P4: value out of range"),
-    ('name = "ADC"', 'name = "a b"', "P4: value out of range"),
-    ("a = 12, to = 15", "a = 12, to = 11", "P4: value out of range"),
-    ("probe = true", "probe = true, width = 12", "P4: value out of range"),
-]
-
 def deep(levels, inner="1"):
     return levels * "[" + inner + levels * "]"
 
@@ -223,11 +204,11 @@ class NoRows(Playing):
                 self.expect("plan", 1, f"refused {refusal}\n".encode(), PLAN=SAMPLE.decode().replace(old, new).encode())
 
     def test_plan_faults_of_tables(self):
-        self.expect_refused_plans(TABLES)
+        self.expect_refused_plans(plans.TABLES)
         self.expect("plan", 1, b"refused P1: not TOML\n", PLAN=b"=")
 
     def test_plan_faults_of_what_is_twice(self):
-        self.expect_refused_plans(TWICE)
+        self.expect_refused_plans(plans.TWICE)
 
     def test_plans_that_nest(self):
         for text, depth in NESTED:
@@ -236,7 +217,7 @@ class NoRows(Playing):
                 self.expect("plan", 1, b"refused " + refusal + b"\n", PLAN=text.encode())
 
     def test_plan_field_faults(self):
-        self.expect_refused_plans(FIELDS)
+        self.expect_refused_plans(plans.FIELDS)
 
     def test_plan_field_faults_of_many_types(self):
         types = [f'[[type]]\ncommands = []\nname = "T{number}"\n' for number in range(65)]
