@@ -5,7 +5,7 @@ usage: bench/long_live.py [--answers N] [PROGRAM]
 
 N is ten million unless given. PROGRAM is, unless given, what CAMAC_PROGRAM names, or `camac` in PATH, or that of this clone. The services
 read a word that is another one each time, and make two more cycles. Answers are written ahead, so that the pipe and not a driver sets the
-pace; `bench/live.py` measures the exchange of one answer at a time. The status is 1 where a request, the last line or an event is not the
+pace; `bench/live.py` measures the exchange of one answer at a time. The status is 1 if a request, the last line or an event is not the
 one that these answers call for, or where the run took more memory at its end than after its first tenth. Peak memory is the VmHWM of
 Linux's /proc.
 """
@@ -44,7 +44,7 @@ def feed(pipe, services):
 
 
 def take(pipe, text):
-    """Reads as many bytes as this text has, and ends the program where they are others."""
+    """Reads as many bytes as this text has, and ends the program if they are others."""
     found = pipe.read(len(text))
     if found != text:
         sys.exit(f"not what was to be written: {found[:200]!r}")

@@ -3,7 +3,7 @@
 
 usage: bench/play.py PACKAGE LIBRARY [PACKAGE LIBRARY ..]
 
-PACKAGE is the folder in which the Python package camac stands (python), LIBRARY its libcamac.so.0. Of several the rounds take turns, so that
+PACKAGE is the folder in which the Python package camac is (python), LIBRARY its libcamac.so.0. Of several the rounds take turns, so that
 they are compared side by side. The time is the processor's, in microseconds, the least of seven rounds. The branch does nothing.
 """
 import os

@@ -3,7 +3,7 @@
 
 usage: tests/arrays_test.py [-v] [TEST ..]     from any folder; takes some seconds
 
-It is left out where numpy (package python3-numpy of Debian) is not there for this Python.
+It is left out if numpy (package python3-numpy of Debian) is not there for this Python.
 """
 import importlib.util
 import random

@@ -1,5 +1,5 @@
 #!/usr/bin/env python3
-"""Tests of the Python package's side of a live run, without the program: tests/fake_camac stands in its place. Tests of its models of modules.
+"""Tests of the Python package's side of a live run, without the program: tests/fake_camac is in its place. Tests of its models of modules.
 
 usage: tests/client_test.py [-v] [TEST ..]     from any folder; takes a few seconds
 """

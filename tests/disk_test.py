@@ -4,7 +4,7 @@
 usage: tests/disk_test.py [-v] [TEST ..]     from any folder; takes some seconds
 
 The program is crates/camac/out/camac (cd crates/camac && rt run makes it), or what the environment variable CAMAC_PROGRAM names. A small disk is
-mounted for one process alone, where the system lets us.
+mounted for one process alone, if the system lets us.
 """
 import errno
 import os

@@ -3,7 +3,7 @@
 
 usage: tests/explain_test.py [-v] [TEST ..]     from any folder; takes about half a minute
 
-CAMAC_CASES tells how many random scripts two of the tests try, 300 where it is not set. SEED begins them, 1 where it is not set.
+CAMAC_CASES tells how many random scripts two of the tests try, 300 if it is not set. SEED begins them, 1 if it is not set.
 
 The program is crates/camac/out/camac (cd crates/camac && rt run makes it), or what the environment variable CAMAC_PROGRAM names.
 """
@@ -38,7 +38,7 @@ def procedure(call, numbers="within 3 cycles event 1 words steps 3", body="put s
 
 
 def beside(statement):
-    """A procedure with a statement on its line 3, whose parameters stand at the places of the script's variables."""
+    """A procedure with a statement on its line 3, whose parameters are at the places of the script's variables."""
     return f"var count k\nproc p(n in 0..5, i in 0..5) within 9 cycles event 99 words steps 99 {{\n  {statement}\n}}\n"
 
 
@@ -320,7 +320,7 @@ class Explain(unittest.TestCase):
         return text.splitlines()
 
     def assert_marked(self, source, mark, said):
-        """The mark stands below the first word or sign in quotes that the sentence tells, if it is the one that was found."""
+        """The mark is below the first word or sign in quotes that the sentence tells, if it is the one that was found."""
         self.assertRegex(mark, r"^      \| [ \t]*\^$")
         found = re.match(r"(?:Found|The (?:name|number|byte|character|procedure)|The limit is passed at|The branch is) `([^`]*)`", said)
         if found:
@@ -495,7 +495,7 @@ class Explain(unittest.TestCase):
         self.assertEqual(self.explain("cdlam adc 1 1 5 12\nservice adc within 0 cycles event 0 words { }\n")[0], "accepted")
 
     def test_lines(self):
-        """Tabs and bytes from 128 stand as they are, other control bytes as `?`; a long line is cut."""
+        """Tabs and bytes from 128 are as they are, other control bytes as `?`; a long line is cut."""
         shown = self.explain("\tput \x00\x7f\r\xc3\xa9 v\n")[1]
         self.assertEqual(shown, "    1 | \tput ???\xc3\xa9 v")
         self.assertEqual(self.explain("# \xc3\xa9\n\tvar \xc3\xa9")[1:3], ["    2 | \tvar \xc3\xa9", "      | \t    ^"])

@@ -162,7 +162,7 @@ Call = collections.namedtuple("Call", "name place asked answer bytes")
 
 class Ran:
     """What the program answered, what is in EVENTS after it, and its calls but those on standard error, each with its number. The calls
-    that close a file stand apart: what is closed at the end has no part in the order."""
+    that close a file are apart: what is closed at the end has no part in the order."""
 
     def __init__(self, answer, events, log):
         self.status, self.out, self.err = answer
@@ -197,7 +197,7 @@ class Logged(Case):
         subprocess.run([compiler, "-shared", "-fPIC", "-O1", "-xc", "-o", cls.library, "-"], input=SHIM.encode(), check=True)
 
     def ran(self, line, given=None, turn=0, error=0, piece=0, there=None, later=False):
-        """The program on the words of a line. `given` names the file behind standard input (`|NAME`: a pipe from it), `there` is what stands in EVENTS before. The
+        """The program on the words of a line. `given` names the file behind standard input (`|NAME`: a pipe from it), `there` is what is in EVENTS before. The
         call number `turn` fails, and with `later` all later ones of its kind."""
         log, events = self.room / "calls", self.room / "e"
         log.write_text("")
@@ -362,7 +362,7 @@ class Fails(Logged):
         self.assertTrue(ran.calls == wanted)
 
     def expect_left(self, ran, there):
-        """What the calls wrote is there, and no more; EVENTS is as it was where it was not opened."""
+        """The calls wrote what is there, and no more; EVENTS is as it was if it was not opened."""
         left = collections.defaultdict(bytes, {} if there is None else {"e": there})
         for call in ran.calls:
             if call.name == "open" and call.place == "e" and call.answer > 0:

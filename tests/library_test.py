@@ -95,7 +95,7 @@ cam_lam_read 2 -> 1 1 000000 0 800004
 """
 # what `response` tells of a script's only service, of 3 cycles: its rate, and what was told of its end
 ONE_SERVICE = "service adc gl 3 cycles 3 {} start 0 end 3 {}longest 3\n"
-# what stands on which line is counted by hand in test_where_a_session_stands
+# what is on which line is counted by hand in test_where_a_session_stands
 PLACES = """cdlam adc 1 1 5 12   cdlam reg 1 1 6 0
 var v n i
 proc read(k in 0..11) within 4 cycles event 0 words steps 4 {
@@ -139,7 +139,7 @@ def names(*words):
 
 
 def accepted_script(number):
-    """A plan and a script that a seed makes; None where it is refused."""
+    """A plan and a script that a seed makes; None if it is refused."""
     random = Random(f"library/{number}")
     plan = make_plan(random)
     script = make_script(random, read_plan(plan))
@@ -201,7 +201,7 @@ class Headers(Case):
         self.assertEqual(len(items[0]), 5)
 
     def test_manual_page(self):
-        """It has the loop of the header and the prototypes and codes that stand there."""
+        """It has the loop of the header and the prototypes and codes that are there."""
         header, page = (TOP / "include/camac/camac.h").read_text(), (TOP / "man/camac.3").read_text()
         synopsis, example = page.partition(".Sh SYNOPSIS")[2].partition(".Sh")[0], page.partition("-offset indent\n")[2].partition(".Ed")[0]
         self.assertIn("".join(f" *     {line}\n" for line in example.splitlines()), header)

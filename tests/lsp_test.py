@@ -62,7 +62,7 @@ class Served(Case):
         return self.client.open(self.room / name, text, **how)
 
     def shown(self, uri, version=None):
-        """The diagnostics of the last version, or another: lines and columns, codes, and the text that they stand at."""
+        """The diagnostics of the last version, or another: lines and columns, codes, and the text that they are at."""
         return [(it["range"]["start"]["line"], it["range"]["start"]["character"], it["range"]["end"]["character"], it["code"]) for it in self.client.found(uri, version)]
 
     def warned(self, uri, count):
@@ -290,7 +290,7 @@ class Plans(Served):
 
 class Shown(Served):
     def test_refusals(self):
-        """Each stands at its statement or word, the first of each body, and goes with its mend."""
+        """Each is at its statement or word, the first of each body, and goes with its mend."""
         for text, wanted in [
             (SCRIPT, []),
             (SCRIPT.replace("put s", "puts s"), [(5, 2, 6, "S5")]),

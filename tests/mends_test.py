@@ -4,7 +4,7 @@ the case has to be gone.
 
 usage: tests/mends_test.py [--whole] [-v] [TEST ..]     from any folder; takes ten seconds of the processor
 
-With --whole 2,000 refusals are tried, in place of 800. SEED begins them, 1 where it is not set. Where the library for C is there (tests/of_c.py), it
+With --whole 2,000 refusals are tried, in place of 800. SEED begins them, 1 if it is not set. If the library for C is there (tests/of_c.py), it
 judges, else the program: crates/camac/out/camac (cd crates/camac && rt run makes it), or what CAMAC_PROGRAM names.
 """
 import collections
@@ -63,7 +63,7 @@ def broken(chance):
     if chance.random() < 0.6:
         plan, script = None, SCRIPT + "".join(f"  {it}\n" for it in chance.sample(TROUBLES, chance.randrange(1, 4))) + "  cclc adc\n}\n"
     else:
-        # What is no ASCII stands in comments, and is left out.
+        # What is no ASCII is in comments, and is left out.
         plan, script = (lambda it: (it.plan, it.script.decode("ascii", "ignore")))(script_case(chance).inputs)
     it = chance.choice(tokens_of(script.encode()))
     kind = chance.randrange(12)
@@ -161,7 +161,7 @@ class Refused:
             yield "E17 another variable", (Edit(0, 0, f"var {FRESH}\n"), Edit(its.start, its.start + len(name[0]), FRESH))
 
     def of_ranges(self, text):
-        """A range that is made wider, or what has to stand in it bounded: of an argument, and of what a loop keeps."""
+        """A range that is made wider, or what has to be in it bounded: of an argument, and of what a loop keeps."""
         its, sentence = self.first, self.first.sentence
         argument = re.match(r"Argument 1 may be (\d+)(?: to (\d+))?, and `(\w+)` takes (\d+) to (\d+)", sentence)
         if argument:
@@ -188,7 +188,7 @@ class Refused:
         return block is not None and not block.is_service
 
     def of_difference(self, text):
-        """The greatest number of the right side is added first, where one difference of two names stands in the statement."""
+        """The greatest number of the right side is added first, where one difference of two names is in the statement."""
         sides = re.findall(r"(\w+) - (\w+)", text)
         ranges = re.findall(r"(\d+) to (\d+)", self.first.sentence)
         if len(sides) == 1 and text.count("-") - text.count("->") - text.count("<-") == 1 and ranges:

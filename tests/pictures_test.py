@@ -4,7 +4,7 @@
 usage: tests/pictures_test.py [-v] [TEST ..]     from any folder; takes about a minute
 
 The program is crates/camac/out/camac (cd crates/camac && rt run makes it), or what the environment variable CAMAC_PROGRAM names. What needs
-Chromium is left out where that is not there. The pictures that are kept in tests/pictures are compared byte by byte; `tests/pictures_test.py --keep` writes them anew, to be looked at before they are committed.
+Chromium is left out if that is not there. The pictures that are kept in tests/pictures are compared byte by byte; `tests/pictures_test.py --keep` writes them anew, to be looked at before they are committed.
 """
 import os
 import re
@@ -113,7 +113,7 @@ class Numbers(laboratory.BenchCase):
                 self.assertTrue(number(found) is value is None or abs(number(found) - value) < 0.051, (row, wanted))
 
     def test_histograms(self):
-        """What stands in the bins and in the lines of a panel, beside what is counted here: bins from 0 on, at most 128 of one width."""
+        """What is in the bins and in the lines of a panel, beside what is counted here: bins from 0 on, at most 128 of one width."""
         page = self.page
         counts = page.parts["Cycles and words of an event"]["counts"]
         names = [it.name for it in self.sums.services]

@@ -416,7 +416,7 @@ class Kept(Case):
             self.assertEqual(self.file("e"), b"of an earlier run", name)
 
     def test_events_is_standard_error(self):
-        """A fault that is told there would stand in the event file."""
+        """A fault that is told there would be in the event file."""
         for command, there in (("run plan.toml straight.script answers", b"of an earlier run"), ("drive plan.toml straight.script", b"")):
             for name in ("e", "soft", "/dev/stderr", "/proc/self/fd/2"):
                 (self.room / "soft").unlink(missing_ok=True)

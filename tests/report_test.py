@@ -330,7 +330,7 @@ class Pages(unittest.TestCase):
     """The manual pages and the completions of the commands of the package, compared with their help."""
 
     def options(self, command):
-        """Each option as it stands in the help: its short name, if it has one, and its long one."""
+        """Each option as it is in the help: its short name, if it has one, and its long one."""
         told = ran(command, "--help")[1]
         self.assertTrue(told.startswith(f"usage: camac-{command} "), told)
         return re.findall(r"^  (?:-(\w)(?: [A-Z]+)?, )?--(\w+)", told, re.M)

@@ -179,7 +179,7 @@ class Citation(unittest.TestCase):
 
 
 class Editors(unittest.TestCase):
-    """Without a blank at its begin, each script of the examples is indented as it stands there. What camac-check says is a list of places."""
+    """Without a blank at its begin, each script of the examples is indented as it is there. What camac-check says is a list of places."""
 
     said = "a.script:4:3: refused E12: more cycles than annotated\na.script:5: warning W4: this kept bound is not needed\nb.script: fault: No such file or directory\n"
 

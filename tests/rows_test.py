@@ -143,7 +143,7 @@ NESTED = [
     *((f"a = {{\n  b.c = [ [\n 1 ] ],\n  d = {deep(it)} }}", it + 1) for it in (15, 16)),
     # the dot of a number is none of a key
     (f"a = {deep(16, '1.5, 1979-05-27T07:32:00.25Z')}", 16),
-    # what stands in strings and comments opens and ends nothing
+    # what is in strings and comments opens and ends nothing
     (f'a = "{OPEN}"\nb = \'{OPEN}\' # {OPEN}', 0),
     *((rf'a = "\"{OPEN}" # "' + rf"{OPEN}" + f"\nb = '\\'\nc = {deep(it)}", it) for it in (16, 17)),
     *((f"a = \"\"\nb = ''\nc = {deep(it)}", it) for it in (16, 17)),
@@ -153,7 +153,7 @@ NESTED = [
     *((f"\"b]\" . 'c.d' = [\n # ]\n {deep(it)} ]", it + 2) for it in (14, 15)),
 ]
 
-# The begin of a service, what stands there many times, how often, and what is said of it.
+# The begin of a service, what is there many times, how often, and what is said of it.
 SERVICE = "cdlam adc 1 1 5 12\nvar v\nservice adc within 100 cycles event 100 words {"
 REPEATED = [
     ("cdlam adc 1 1 5 12\n", "service adc within 1 cycles event 0 words {}\n", 25, "S6 line 26: limit passed"),

@@ -42,7 +42,7 @@ class Warnings(Case):
         return [(it.line, it.code.value) for it in camac.warnings("@sample", self.write("a.script", text))]
 
     def test_unreached(self):
-        """The first statement of each block is told, and not what stands in a block of it."""
+        """The first statement of each block is told, and not what is in a block of it."""
         read = READ.split("\n")
         for body, wanted in [
             ([*read, "if v > 4095 { put v }", "cclc adc"], [(6, "W1")]),
@@ -110,7 +110,7 @@ class Warnings(Case):
             ("k in 0..9,\n v in 0..9", "k = 1 v = 2", "put k + v", [(4, "W8"), (5, "W8")]),
             # the least ranges of two that go round together
             ("k in 0..9,\n v in 0..9", "t = k k = v v = t", "put k + v", [(4, "W8"), (5, "W8")]),
-            # what is too wide because of a bound that is not needed is not told while that stands there
+            # a range that is too wide because of a bound that is not needed is not shown while that bound is there
             ("k in 0..4095,\n v in 0..4095", "if k < v { k = k + 1 }", "put k", [(5, "W4")]),
             ("k in 0..16777215", "if k < 100 { k = k + 7 }", "put k", [(4, "W8")]),
             ("k in 0..106", "if k < 100 { k = k + 7 }", "put k", []),

@@ -5,7 +5,7 @@ and to whom; and the page in a browser.
 usage: tests/watch_test.py [-v] [TEST ..]     from any folder; takes some seconds
 
 The program is crates/camac/out/camac (cd crates/camac && rt run makes it), or what the environment variable CAMAC_PROGRAM names. What needs
-Chromium is left out where that is not there.
+Chromium is left out if that is not there.
 """
 import dataclasses
 import http.client
@@ -78,7 +78,7 @@ class Following(Case):
         return self.follower.counts.events
 
     def check(self, wanted):
-        """What is counted is what stands in these events."""
+        """What is counted is what is in these events."""
         counts = self.follower.counts
         self.assertEqual(counts.events, len(wanted))
         for gl, its in counts.bits.items():

@@ -159,7 +159,7 @@ class OfFile(Case):
 
 
 class Told:
-    """A branch whose words tell where they were read: crate, station and sub-address in a byte each. Sub-addresses from `ends` on answer Q = 0."""
+    """A branch whose words say where they were read: crate, station and sub-address in a byte each. Sub-addresses from `ends` on answer Q = 0."""
 
     def __init__(self, gl, count, ends):
         self.gl, self.count, self.ends = gl, count, ends
@@ -195,7 +195,7 @@ type = "ADC"
 
 
 class OfScript(Case):
-    """Names that a script gives: each word of a run tells where it was read, and so has to tell its name."""
+    """Names that a script gives: each word of a run says where it was read, and so has to say its name."""
 
     def told(self, body, ends=12):
         text = "proc one(n in 3..4, a in 0..11) within 100 cycles event 1 words steps 999 { cdreg r 1 2 n a  cfsa 0 r -> a  put a }\n"

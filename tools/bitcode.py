@@ -41,7 +41,7 @@ def without_tests(text):
 
 def hints(folders):
     """What the sources say of functions: by its name the path of the module and the word of LLVM. `folders` hold crates. The methods of a type
-    may stand in modules below that of the type, so the path is that of the module around."""
+    may be in modules below that of the type, so the path is that of the module around."""
     found = {}
     for folder in folders:
         for file in glob.glob(f"{folder}/*/src/**/*.rt", recursive=True):

@@ -1,5 +1,5 @@
 #!/usr/bin/env python3
-"""The sum of the sources that the gate has passed, which stands in the file crates.sum.
+"""The sum of the sources that the gate has passed, which is in the file crates.sum.
 
 usage: tools/sources_sum.py [--write]
 

@@ -21,11 +21,11 @@ from camac.transfers import transfer_commands
 from camac.words import Column, Words
 
 Operation = Union[Cycle, Lock, Unlock]
-# Of a service that is shown cycle by cycle, so many operations are kept.
+# The operations that are kept of a service that is shown cycle by cycle.
 KEPT_OPERATIONS = 150
 GREATEST_MISSED = 65_535
 CONTROLLER_STATIONS = (28, 30)
-# A register of so many bits is taken for a scaler.
+# The bits of a register that is taken for a scaler.
 SCALER = (1 << 24) - 1
 
 
@@ -65,7 +65,7 @@ class Kept(NamedTuple):
 
 @dataclasses.dataclass(frozen=True)
 class Seen:
-    """What was seen of a number in so many services."""
+    """The counts of a number in some services."""
 
     count: int
     least: int
@@ -163,7 +163,7 @@ class Run:
     `has_listing` is False of an event file alone, which tells no waits, no Q, no commands and no locks; `has_cycles` is False of one of
     version one. `end` is the end of a run, `fault` the fault of an event file. `kept` are services to be shown cycle by cycle.
     `by_place` has the words by the bit and by their place in the event, `channels` those of which a column is told, `pairs` those of two columns
-    that stand in one event, `seen` what was seen of the services of each bit, and `late` how late they ended, where a listing and `camac
+    that are in one event, `seen` what was seen of the services of each bit, and `late` how late they ended, where a listing and `camac
     response` tell that."""
 
     def __init__(self, has_listing: bool, asked: Optional[Asked] = None) -> None:
@@ -223,7 +223,7 @@ class Run:
 
 
 def is_event_file(file: File) -> bool:
-    """Whether a file begins as an event file does. Raises OSError where it cannot be read."""
+    """Whether a file begins as an event file does. Raises OSError if it cannot be read."""
     with open(file, "rb") as opened:
         return opened.read(6) == b"CAMACE"
 
@@ -239,7 +239,7 @@ def collect(
     """Plays the answers, or reads the event file, and returns what the run did. `responses` are what `camac response` says of the script;
     without them it is not told how late services ended. `asked` tells columns of the words of events.
 
-    Raises OSError where a file cannot be read, and Refused and ProgramFault as `camac.run`."""
+    Raises OSError if a file cannot be read, and Refused and ProgramFault as `camac.run`."""
     if is_event_file(inputs.source):
         collected = _read_event_file(inputs.source, services, asked)
     else:
@@ -263,7 +263,7 @@ def by_bit(bits: Sequence[int], *columns: Sequence[int]) -> Iterator[Tuple[int, 
 
 
 def _seen(run: Run) -> Dict[int, SeenOfBit]:
-    """By bit, what was seen of its services."""
+    """By bit, the counts of its services."""
     columns = by_bit(run.gl, run.cycles, run.words, run.waits, run.no_q, run.of_transfers, run.no_x)
     return {gl: SeenOfBit(_seen_of(its[0]), _seen_of(its[1]), *map(sum, its[2:])) for gl, its in columns}
 
@@ -358,7 +358,7 @@ class _Collector:
 
 
 def _compare(collector: _Collector, path: File, services: List[Service]) -> Run:
-    """Reads the event file of a run beside its listing. An event stands there once its service ended."""
+    """Reads the event file of a run beside its listing. An event is there once its service ended."""
     run, of = collector.run, {it.gl: it for it in services}
     count = alike = missed = within = 0
     for batch in batches(read_events(path)):

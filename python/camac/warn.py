@@ -28,7 +28,7 @@ class Code(enum.Enum):
 
 
 class Warned(NamedTuple):
-    """A warning: the line of the script, from 1, what it is about, a sentence, and the edits that mend it, where they are known."""
+    """A warning: the line of the script, from 1, what it is about, a sentence, and the edits that mend it, if they are known."""
 
     line: int
     code: Code
@@ -101,7 +101,7 @@ def _left_calling(script: Script) -> Iterator[Warned]:
 
 
 def _touched(statements: List[Statement], places: Set[Place], lams: Dict[str, Place], before: Dict[str, Set[Place]]) -> Set[Place]:
-    """The places of modules that statements may read or clear, or whose look-at-me they may silence: all of `places` where one is computed.
+    """The places of modules that statements may read or clear, or whose look-at-me they may silence: all of `places` if one is computed.
     `before` has those of procedures."""
     registers: Dict[str, Set[Tuple[Optional[int], Optional[int]]]] = {}
     for it in statements:

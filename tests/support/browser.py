@@ -1,4 +1,4 @@
-"""A browser for tests: headless Chromium, where it is, spoken to through two pipes by its own protocol (Chrome DevTools Protocol)."""
+"""A browser for tests: headless Chromium, if it is there, spoken to through two pipes by its own protocol (Chrome DevTools Protocol)."""
 import base64
 import fcntl
 import json

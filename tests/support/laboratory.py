@@ -229,7 +229,7 @@ class Sums:
 
 
 class Page(html.parser.HTMLParser):
-    """What stands under each heading of a page: tables (rows of texts), tips of marks, counts of histograms, texts of pictures."""
+    """What is under each heading of a page: tables (rows of texts), tips of marks, counts of histograms, texts of pictures."""
 
     def __init__(self, text):
         super().__init__()

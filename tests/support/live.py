@@ -85,7 +85,7 @@ class Pipes:
         self.process.communicate()
 
     def read(self):
-        """What stands on the pipe as soon as something does; nothing at the end of the output."""
+        """What is on the pipe as soon as something does; nothing at the end of the output."""
         if not select.select([self.process.stdout], [], [], PATIENCE)[0]:
             raise TimeoutError("the program wrote nothing")
         return self.process.stdout.read(65_536)

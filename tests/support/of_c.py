@@ -18,7 +18,7 @@ STANDARD = {".c": ("gcc", "-std=c99"), ".cpp": ("g++", "-std=c++17")}
 
 
 def lacking():
-    """Why there is no library to test with; nothing where there is one."""
+    """Why there is no library to test with; nothing if there is one."""
     tools = [it for it in TOOLS if not shutil.which(it)]
     if tools:
         return f"{tools[0]} is not here"
@@ -29,7 +29,7 @@ def lacking():
 
 @functools.lru_cache(maxsize=None)
 def prefix():
-    """A folder in which headers, library and the files for pkg-config and CMake stand as ./install puts them."""
+    """A folder in which headers, library and the files for pkg-config and CMake are as ./install puts them."""
     room = tempfile.TemporaryDirectory(prefix="camac-library-")
     atexit.register(room.cleanup)
     folder = pathlib.Path(room.name)

@@ -11,7 +11,7 @@ PLAYED = re.compile(r"(plan|plan --commands|check|explain|bounds|costs|response(
 OF_A_PLAN = ("plan", "plan --commands", "explain")
 EVENT = re.compile(r"gl (\d+) cycles (\d+) missed (\d+) words((?: [0-9a-f]{6})*)")
 NO_EVENTS = b"CAMACEV2"
-# Where there is no event file; what a row says of an event file without a byte.
+# If there is no event file; what a row says of an event file without a byte.
 NOT_MADE = b"no file"
 
 
@@ -24,7 +24,7 @@ class Case(typing.NamedTuple):
     status: int
     printed: bytes
     inputs: typing.Dict[str, bytes]
-    # None where the event file is not looked at
+    # None if the event file is not looked at
     events: typing.Optional[bytes]
 
 

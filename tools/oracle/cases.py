@@ -26,7 +26,7 @@ class Case(NamedTuple):
 
 
 def script_case(random: Random) -> Case:
-    """A plan, a script for it, and answers where it is accepted."""
+    """A plan, a script for it, and answers if it is accepted."""
     text = None if random.random() < 0.35 else make_plan(random)
     return played(random, Inputs(text, make_script(random, sample_plan() if text is None else read_plan(text))))
 
@@ -36,7 +36,7 @@ def edge_case(random: Random) -> Case:
 
 
 def played(random: Random, inputs: Inputs) -> Case:
-    """The script is judged, and played where it is accepted."""
+    """The script is judged, and played if it is accepted."""
     commands = ["check", "bounds" if random.random() < 0.4 else "costs"]
     try:
         checker = checked(inputs)

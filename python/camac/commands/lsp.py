@@ -13,7 +13,7 @@ def add_to(commands: Any) -> None:
 
 
 def do(_: argparse.Namespace) -> int:
-    # What a server needs would take a fifth of the time in which every other command starts.
+    # The modules of the server would take a fifth of the time in which every other command starts.
     from camac.lsp.server import serve
 
     return serve()

@@ -50,7 +50,7 @@ class Trials:
         return verdict(command, self.plan, edited(self.text, [*self.breaks, *kept]), self.program)
 
     def stopped(self, command: str, edits: Sequence[Edit]) -> Optional[Stopped]:
-        """What refuses the script with these changes; None where it is accepted."""
+        """What refuses the script with these changes; None if it is accepted."""
         told = self.judged(command, edits)
         return None if told.accepted else self.read(Refused(told.text.partition("\n")[0]))
 

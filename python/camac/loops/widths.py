@@ -24,7 +24,7 @@ class Widths:
         self.found: Dict[Key, int] = {}
 
     def greatest(self, function: int, address: Address) -> int:
-        """The greatest width of a read at the places of an address that declare it; 24 where none does."""
+        """The greatest width of a read at the places of an address that declare it; 24 if none does."""
         crate, station, sub = address
         key = function, crate[0], crate[1], station[0], station[1], sub[0], sub[1]
         if key not in self.found:
@@ -42,7 +42,7 @@ class Widths:
         return widest or WORD
 
     def _at(self, name: str, crate: int, station: int, sub: int, function: int) -> Optional[int]:
-        """The width there; None where the command is not declared."""
+        """The width there; None if the command is not declared."""
         key = name, sub, function
         if key not in self.asked:
             its = self.plan.types[name].declarations

@@ -75,7 +75,7 @@ def of_plan(judge: Judge, text: Text) -> List[Diagnostic]:
 
 
 def warned(judged: Judged) -> List[Warned]:
-    """The warnings of a script; none where it is refused. This may take long."""
+    """The warnings of a script; none if it is refused. This may take long."""
     told = judged.ask("check")
     if not told.accepted:
         return []

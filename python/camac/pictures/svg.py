@@ -83,7 +83,7 @@ def variables(theme: int) -> str:
 
 
 def _colour_rules(colour: Callable[[str], str]) -> str:
-    """The rules of colours; `colour` gives that of a name. Outlines stand first, so that a class of areas fills what is outlined."""
+    """The rules of colours; `colour` gives that of a name. Outlines are first, so that a class of areas fills what is outlined."""
     rules = [f"svg.camac{{background:{colour('ground')}}}"]
     rules += [f"svg.camac .l-{name}{{stroke:{colour(name)};fill:none}}" for name in COLOURS]
     rules += [f"svg.camac .{name}{{fill:{colour(name)}}}" for name in COLOURS]
@@ -109,7 +109,7 @@ def page_style() -> str:
 
 
 def picture_style() -> str:
-    """The style of a picture that stands alone, by plain colours, which every reader of SVG knows."""
+    """The style of a picture by itself, by plain colours, which every reader of SVG knows."""
     light, dark = _colour_rules(lambda name: COLOURS[name][LIGHT]), _colour_rules(lambda name: COLOURS[name][DARK])
     return f"{light}@media (prefers-color-scheme:dark){{{dark}}}{_form_rules()}"
 
@@ -155,7 +155,7 @@ class Canvas:
             self.parts.append(f'<path d="{"".join(way)}" class="{kind}"/>')
 
     def legend(self, x: float, y: float, names: Sequence[Tuple[str, str]], step: Callable[[str], float]) -> float:
-        """Small boxes with their words; returns where the next one would stand."""
+        """Small boxes with their words; returns where the next one would be."""
         for kind, word in names:
             self.rect((x, y, 11, 11), kind)
             self.text(x + 16, y + 10, word, "s11")

@@ -11,7 +11,7 @@ COLUMNS, LEAST_COLUMNS = 260, 12
 HIGH, LOW, MOST_HIGH_PANELS = 110, 56, 6
 # A label is so much below another one at least.
 APART = 13
-# Where the annotated number is above so many times the bound, it stands outside of the picture.
+# Where the annotated number is above so many times the bound, it is outside of the picture.
 FAR = 2
 
 

@@ -77,7 +77,7 @@ def tables_of(random: Random) -> Table:
 
 
 def all_tables(table: Table) -> List[Table]:
-    """A table with all that stand in it."""
+    """A table with all that are in it."""
     found = [table]
     for value in table.values():
         for it in value if isinstance(value, list) else [value]:
@@ -130,7 +130,7 @@ def table_twice(random: Random, plan: Table, _table: Table) -> None:
 
 
 def nested_value(random: Random, _plan: Table, table: Table) -> None:
-    """A value that stands as deep as it may, or deeper, in arrays, tables and dotted keys."""
+    """A value that is as deep as it may be, or deeper, in arrays, tables and dotted keys."""
     value: Any = random.choice((1, 1.5, OPEN, [[OPEN], {"x.y": 1}]))
     for _ in range(random.choice((2, 5, 8, 11, 12, 13, 14, 15, 16, 17, 30, 90))):
         value = [value] if random.random() < 0.6 else {random.choice(("x", "x.y", "x.y.z")): value}

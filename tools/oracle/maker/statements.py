@@ -125,7 +125,7 @@ class Maker:
         return f"{number} + {self.variable()} % {count + self.odds(0.04)}"
 
     def register(self) -> Tuple[str, List[Node]]:
-        """A register, and the statement before it that sets it, where none is set yet. Now and then one that may be unset."""
+        """A register, and the statement before it that sets it, if none is set yet. Now and then one that may be unset."""
         if self.spots and self.odds(0.04):
             name = self.random.choice(list(self.spots))
             self.registers[name] = self.spots[name]

@@ -16,7 +16,7 @@ class Overrun(Exception):
 
 
 class Command(NamedTuple):
-    """A command, and what is written: None where nothing is."""
+    """A command, and what is written: None if nothing is."""
 
     crate: int
     station: int

@@ -74,7 +74,7 @@ class Cursor:
         return self.token.text
 
     def within(self, count: int, limit: str) -> None:
-        """S6 at the token in hand where it is the one too many of `count` before it."""
+        """S6 at the token in hand if it is the one too many of `count` before it."""
         if count >= LIMITS[limit]:
             self.stop("S6")
 
@@ -165,7 +165,7 @@ class Cursor:
         return Keep(name, first, self.number())
 
     def keeps(self, own: str) -> List[Keep]:
-        """The list after `keep`, where there is one. `own` is the loop's variable or measure, which it may not hold."""
+        """The list after `keep`, if there is one. `own` is the loop's variable or measure, which it may not hold."""
         kept: List[Keep] = []
         while self.sees("," if kept else "keep"):
             self.take(self.token.kind)

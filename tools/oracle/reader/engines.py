@@ -18,7 +18,7 @@ GOOD, REFUSED, MISUSE, FAULT = range(4)
 
 
 class Told(NamedTuple):
-    """A status, what stands on standard output and on standard error, and in EVENTS (None where it is not made)."""
+    """A status, what is on standard output and on standard error, and in EVENTS (None if it is not made)."""
 
     status: int
     out: bytes
@@ -135,7 +135,7 @@ def tell(command: str, inputs: Inputs) -> Told:
 
 
 def words_of(command: str) -> Tuple[str, ...]:
-    """The inputs and outputs that stand after a subcommand."""
+    """The inputs and outputs that are after a subcommand."""
     return {
         "plan": ("plan",), "check": ("plan", "script"), "bounds": ("plan", "script"), "costs": ("plan", "script"),
         "response": ("plan", "script"), "run": ("plan", "script", "answers", "EVENTS"), "drive": ("plan", "script", "EVENTS"), "events": ("file",),

@@ -17,7 +17,7 @@ class WordFault(Exception):
 
 
 class Service(NamedTuple):
-    """A service: its name, its graded-L bit, its bound in cycles, and the least cycles between two look-at-mes (None where nothing was said)."""
+    """A service: its name, its graded-L bit, its bound in cycles, and the least cycles between two look-at-mes (None if nothing was said)."""
 
     name: str
     bit: int
@@ -42,7 +42,7 @@ class NoNumber(Exception):
 
 
 class Search:
-    """Finds the least numbers that stand still. All of one service share the limit of rounds."""
+    """Finds the least numbers that do not change. All of one service share the limit of rounds."""
 
     def __init__(self) -> None:
         self.rounds = 0

@@ -44,7 +44,7 @@ class Subset:
             self.take(BLANK)
 
     def sees(self, pattern: "re.Pattern[str]") -> Optional[Match[str]]:
-        """What stands here, which is passed over."""
+        """What is here, which is passed over."""
         found = pattern.match(self.text, self.at)
         if found:
             self.at = found.end()

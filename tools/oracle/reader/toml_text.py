@@ -25,7 +25,7 @@ READS_ALL = tomllib is not None
 
 
 def read_toml(text: bytes) -> Dict[str, Any]:
-    """The top table of a text. P1 where it is no TOML, or has a number of more than 64 bits."""
+    """The top table of a text. P1 if it is no TOML, or has a number of more than 64 bits."""
     if tomllib is None:
         return read_subset(text)
     try:
