@@ -2,8 +2,6 @@
 """Texts and event files that are cut after each byte, and that have each byte changed: each is answered, by lines of its own or by one refusal.
 
 usage: tests/changes_test.py [-v] [TEST ..]     from any folder; takes about a minute
-
-The program is crates/camac/out/camac (cd crates/camac && rt run makes it), or what the environment variable CAMAC_PROGRAM names.
 """
 import concurrent.futures
 import os

@@ -2,8 +2,6 @@
 """Tries `python3 -m camac diff`, and `camac-check --format sarif`.
 
 usage: tests/diff_test.py [-v] [TEST ..]     from any folder; takes some seconds
-
-The program is crates/camac/out/camac (cd crates/camac && rt run makes it), or what the environment variable CAMAC_PROGRAM names.
 """
 import json
 import os

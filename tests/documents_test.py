@@ -1,6 +1,6 @@
 #!/usr/bin/env python3
-"""Runs what README.md, the pages of docs/ and the examples of man/camac.1 and man/*.5 show, and compares it with what they say comes of it; follows
-their links. Checks that the diffs of the tasks in docs/inside/CHANGING.md apply.
+"""Runs the examples of README.md, of the pages of docs/ and of man/camac.1 and man/*.5, and compares their output with the pages; follows
+links. Checks that the diffs of the tasks in docs/inside/CHANGING.md apply.
 
 usage: tests/documents_test.py [-v] [TEST ..]     from any folder; takes a few seconds
 
@@ -56,7 +56,7 @@ COMPILER = re.compile(r"^\$ (?:cc|c\+\+) ", re.M)
 LIBRARY = re.compile(r"pkg-config|in_this_process\.py")
 ARRAYS = re.compile(r"^\$ .*(?:numpy|h5py|\.npz|\.h5)\b", re.M)
 CELL = re.compile(r"^\|(?:[^|\n]*\|)*([^|\n]*)\|$")
-# What a piece of a script may be: a statement, its begin, a condition, the end of one, an expression, the end of one.
+# The places for a piece of a script: a statement, its begin, a condition, the end of one, an expression, the end of one.
 PLACES = ("{}", "{} {{ }}", "if {} {{ }}", "if v > 0 {} {{ }}", "put ({}) % 2", "put (v {}) % 2")
 READ = """cdlam adc 1 1 5 12
 var a b c d k v
@@ -71,7 +71,7 @@ SCRIPT = "cdlam adc 1 1 5 12\nservice adc within 3 cycles event 0 words { }\n"
 
 
 class Wrong(Exception):
-    """What a page shows does not come of what it runs."""
+    """A page shows another output than its commands print."""
 
 
 def run(command, room, given=b""):

@@ -1,6 +1,6 @@
 #!/usr/bin/env python3
 """Tries the language server (camac-lsp) in the editors that are here, as the files for editors set it up: a script is opened and a wrong one judged, its fault is
-mended by a fix, and nothing is shown then; what is told under the pointer; and a name gets another one.
+mended by a fix, and nothing is shown then; hover texts; and a name gets another one.
 
 usage: tests/editors_test.py [-v] [TEST ..]     from any folder; takes some seconds
 

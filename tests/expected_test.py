@@ -1,13 +1,11 @@
 #!/usr/bin/env python3
-"""Tests that what `explain` says may be at a place is what the parser takes there, for every token of the language.
+"""Tests that the parser takes at a place exactly the tokens that `explain` names, for every token of the language.
 
 usage: tests/expected_test.py [-v] [TEST ..]     from any folder; takes about a minute
 
 A token may be there if the text up to the fault, followed by that token, is not refused by S2 at that token. A name and a number stand for
-their whole kinds: which name or number fits, other rules say. CAMAC_CASES tells how many changed scripts with such a fault are tried, 300
+their whole kinds: which name or number fits, other rules say. CAMAC_CASES is how many changed scripts with such a fault are tried, 300
 if it is not set. SEED begins them, 1 if it is not set.
-
-The program is crates/camac/out/camac (cd crates/camac && rt run makes it), or what the environment variable CAMAC_PROGRAM names.
 """
 import concurrent.futures
 import os

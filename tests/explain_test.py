@@ -1,11 +1,9 @@
 #!/usr/bin/env python3
-"""Tests that each rule has a worked explanation, and what is said of typical mistakes; compares the texts with docs/REFUSALS.md.
+"""Tests that each rule has a worked explanation, and the explanations of typical mistakes; compares the texts with docs/REFUSALS.md.
 
 usage: tests/explain_test.py [-v] [TEST ..]     from any folder; takes about half a minute
 
-CAMAC_CASES tells how many random scripts two of the tests try, 300 if it is not set. SEED begins them, 1 if it is not set.
-
-The program is crates/camac/out/camac (cd crates/camac && rt run makes it), or what the environment variable CAMAC_PROGRAM names.
+CAMAC_CASES is how many random scripts two of the tests try, 300 if it is not set. SEED begins them, 1 if it is not set.
 """
 import os
 import pathlib

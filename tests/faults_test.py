@@ -3,8 +3,6 @@
 library in front of the C library writes all calls of the program into one log. It is compiled here by cc or clang.
 
 usage: tests/faults_test.py [-v] [TEST ..]     from any folder; takes about half a minute
-
-The program is crates/camac/out/camac (cd crates/camac && rt run makes it), or what the environment variable CAMAC_PROGRAM names.
 """
 import collections
 import os
@@ -221,7 +219,7 @@ def is_reading(line, call):
 
 
 def told(line, call, error):
-    """What is told where this call fails."""
+    """The lines of the fault if this call fails."""
     streams = {"in": "@in", "/proc/self/fd/0": "@in", "out": "standard output"}
     names = {**streams, **{os.path.basename(word): word for word in line.split()}}
     return fault("read" if is_reading(line, call) else "write", names.get(call.place, call.place), error or "it takes no bytes")

@@ -1,5 +1,5 @@
 #!/usr/bin/env python3
-"""Tries ./camac and ./install where something is missing or named wrongly, and what ./install says and makes for other programs.
+"""Tries ./camac and ./install with missing tools and wrong names, and the lines and files of ./install for other programs.
 
 usage: tests/install_test.py [-v] [TEST ..]     from any folder; takes half a minute
 

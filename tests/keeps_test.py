@@ -4,7 +4,7 @@ out; and against the independent reader of tools/oracle.
 
 usage: tests/keeps_test.py [--whole] [-v] [TEST ..]     from any folder; takes some seconds
 
-With --whole all of it is tried and the figures are told: 300 accepted scripts made at random that keep something, and 300 that are refused without
+With --whole all of it is tried and the figures are printed: 300 accepted scripts made at random that keep something, and 300 that are refused without
 it. That takes about five minutes. If the library for C is there (tests/support/of_c.py), it judges, else the program: crates/camac/out/camac (cd crates/camac && rt
 run makes it), or what the environment variable CAMAC_PROGRAM names. CAMAC_SEED is another seed than the usual one.
 """
@@ -49,9 +49,9 @@ from oracle.reader.refusals import Refused
 
 SEED = os.environ.get("CAMAC_SEED") or "camac"
 HERE = TOP / "tests/loops"
-# The sample of the gate: one loop of so many, and so many scripts; and how many scripts the whole has.
+# The sample of the gate: one of this number of loops, this number of scripts; and the scripts of the whole.
 EVERY, SAMPLES, WHOLE = 5, 20, 300
-# What no range and no change of a statement helps, as somebody who knows camac says: another script does.
+# Loops that no range and no change of a statement helps, by the judgement of an expert: another script does.
 LEFT = {
     "exponential_mean_by_parts", "fibonacci", "follow_the_place", "moving_sum_of_three", "ramp_that_is_too_long", "scaled_mean", "time_between_pulses",
 }

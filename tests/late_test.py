@@ -1,9 +1,7 @@
 #!/usr/bin/env python3
-"""Tests of what is told of how late services are: the lines of `camac response`, the picture, and the part of the report.
+"""Tests of how late services are said to be: the lines of `camac response`, the picture, and the part of the report.
 
 usage: tests/late_test.py [-v] [TEST ..]     from any folder; takes a few seconds
-
-The program is crates/camac/out/camac (cd crates/camac && rt run makes it), or what the environment variable CAMAC_PROGRAM names.
 """
 import contextlib
 import io

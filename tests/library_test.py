@@ -1,12 +1,10 @@
 #!/usr/bin/env python3
-"""Tries the library for C: headers, calls and codes, the examples, the Python module over it, and the package. What a session, `camac_run` and
-the program make of the same answers has to be the same, byte for byte.
+"""Tries the library for C: headers, calls and codes, the examples, the Python module over it, and the package. A session, `camac_run` and
+the program have to write the same for the same answers, byte for byte.
 
 usage: tests/library_test.py [-v] [TEST ..]     from any folder; takes a minute or two on four cores
 
-It needs gcc and the archive that tests/support/of_c.py names, else all is left out. The program is crates/camac/out/camac (cd crates/camac && rt run
-makes it), or what the environment variable CAMAC_PROGRAM names.
-"""
+It needs gcc and the archive that tests/support/of_c.py names, else all is left out. """
 import collections
 import concurrent.futures
 import functools
@@ -37,10 +35,10 @@ from oracle.reader.plan import read_plan
 EXAMPLES = TOP / "examples"
 SAMPLE = EXAMPLES / "sample_plan.toml"
 HERE = TOP / "tests/library"
-# so many lists of answers for the scripts of examples, and for those of the folders in it
+# the lists of answers for each script of examples, and for each one of the folders in it
 LISTS, FEW_LISTS = 1000, 50
 OPENINGS = 1_000_000
-# so many scripts are played by a consumer
+# the scripts that are played by a consumer
 SCRIPTS = 1000
 MOST_KIB = 4096
 SHORT_PLAN = '''[[type]]
@@ -93,9 +91,9 @@ cam_inhibit_set 2 -> 1 1 000000 0 000000
 cam_lam_read 2 -> 1 1 000000 0 800004
 cam_lam_read 2 -> 1 1 000000 0 800004
 """
-# what `response` tells of a script's only service, of 3 cycles: its rate, and what was told of its end
+# the rate of a script's only service, of 3 cycles, and what `response` says of its end
 ONE_SERVICE = "service adc gl 3 cycles 3 {} start 0 end 3 {}longest 3\n"
-# what is on which line is counted by hand in test_where_a_session_stands
+# test_where_a_session_stands has the numbers of these lines
 PLACES = """cdlam adc 1 1 5 12   cdlam reg 1 1 6 0
 var v n i
 proc read(k in 0..11) within 4 cycles event 0 words steps 4 {

@@ -2,8 +2,6 @@
 """Tests of live runs with the program: `camac drive` over pipes, `camac.drive` of the Python package, and its branch without hardware.
 
 usage: tests/live_test.py [-v] [TEST ..]     from any folder; takes about half a minute
-
-The program is crates/camac/out/camac (cd crates/camac && rt run makes it), or what the environment variable CAMAC_PROGRAM names.
 """
 import contextlib
 import os

@@ -1,5 +1,5 @@
 #!/usr/bin/env python3
-"""Tries whether the mends help that explanations tell: scripts are broken at random, each mend that a program can apply is applied, and the refusal of
+"""Tries whether the fixes of explanations help: scripts are broken at random, each mend that a program can apply is applied, and the refusal of
 the case has to be gone.
 
 usage: tests/mends_test.py [--whole] [-v] [TEST ..]     from any folder; takes ten seconds of the processor
@@ -54,7 +54,7 @@ TROUBLES = [
 # Of these kinds of mends not all help today. The number is how many of a hundred do at least. `put i + 4294967295` is told of a loop that is not there; a
 # variable that is kept, and that its loop does not write, is not found by --keeps; nor is one that has to stay above the right side of a difference.
 PARTLY = {"E16 --keeps": 0, "E8 --keeps": 60, "E4 --keeps": 80}
-# So many kinds are tried at least: else the texts of explanations are other ones than this test looks for.
+# The least number of kinds that are tried: else explanations have other texts than this test looks for.
 LEAST_KINDS = 28
 
 

@@ -3,8 +3,6 @@
 the benches in examples/benches have no others.
 
 usage: tests/modules_test.py [-v] [TEST ..]     from any folder; takes a second
-
-The program is crates/camac/out/camac (cd crates/camac && rt run makes it), or what the environment variable CAMAC_PROGRAM names.
 """
 import os
 import re

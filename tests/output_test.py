@@ -1,5 +1,5 @@
 #!/usr/bin/env python3
-"""Tests of what the commands of the Python package write: whatever is at the place of OUT, nothing of the user's is lost or half there.
+"""Tests of the output of the Python package's commands: whatever is at the place of OUT, nothing of the user's is lost or half there.
 
 usage: tests/output_test.py [-v] [TEST ..]     from any folder; takes a few seconds
 

@@ -3,8 +3,8 @@
 
 usage: tests/pictures_test.py [-v] [TEST ..]     from any folder; takes about a minute
 
-The program is crates/camac/out/camac (cd crates/camac && rt run makes it), or what the environment variable CAMAC_PROGRAM names. What needs
-Chromium is left out if that is not there. The pictures that are kept in tests/pictures are compared byte by byte; `tests/pictures_test.py --keep` writes them anew, to be looked at before they are committed.
+Tests in Chromium are left out if it is not installed. The pictures that are kept in tests/pictures are compared byte by byte; `tests/pictures_test.py
+--keep` writes them anew, to be looked at before they are committed.
 """
 import os
 import re

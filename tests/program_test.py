@@ -1,9 +1,7 @@
 #!/usr/bin/env python3
-"""Tries the built program as a user does: from folders, through pipes, with files that lack, and compares it with its pages.
+"""Tries the built program as a user does: from folders, through pipes, with missing files. Compares it with its pages.
 
 usage: tests/program_test.py [-v] [TEST ..]     from any folder; takes a few seconds
-
-The program is crates/camac/out/camac (cd crates/camac && rt run makes it), or what the environment variable CAMAC_PROGRAM names.
 """
 import errno
 import json
@@ -184,7 +182,7 @@ class Version(Case):
 
 
 class Files(Case):
-    """Files that lack, folders in their place, inputs that are too long."""
+    """Missing files, folders in their place, inputs that are too long."""
 
     def test_inputs_that_lack(self):
         for words in (["plan", "none"], ["check", "none", "straight.script"], ["check", "@sample", "none"], ["events", "none"]):

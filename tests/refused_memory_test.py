@@ -4,8 +4,7 @@ with nothing written; or, if it does without that allocation (a list that is mad
 
 usage: tests/refused_memory_test.py [-v] [TEST ..]     from any folder; takes some seconds
 
-The program is crates/camac/out/camac (cd crates/camac && rt run makes it), or what the environment variable CAMAC_PROGRAM names. A small
-library in front of the C library's allocator answers null; it is compiled here by cc or clang.
+A small library in front of the C library's allocator answers null; it is compiled here by cc or clang.
 """
 import pathlib
 import shutil

@@ -2,8 +2,6 @@
 """Tests of `python3 -m camac report` and of the other commands: each input, each end of a run, statuses, sizes and times.
 
 usage: tests/report_test.py [-v] [TEST ..]     from any folder; takes about a minute
-
-The program is crates/camac/out/camac (cd crates/camac && rt run makes it), or what the environment variable CAMAC_PROGRAM names.
 """
 import contextlib
 import io

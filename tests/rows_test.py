@@ -1,9 +1,7 @@
 #!/usr/bin/env python3
-"""Plays the worked rows of tests/rows, and those that no text of lines can hold. tests/rows/README.md tells the form of a row.
+"""Plays the worked rows of tests/rows, and those that no text of lines can hold. tests/rows/README.md shows the form of a row.
 
 usage: tests/rows_test.py [-v] [TEST ..]     from any folder; takes a few seconds
-
-The program is crates/camac/out/camac (cd crates/camac && rt run makes it), or what the environment variable CAMAC_PROGRAM names.
 """
 import pathlib
 import struct

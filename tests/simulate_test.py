@@ -2,8 +2,6 @@
 """Tests of the simulation: what is lost beside what theory says of one service, how late services are beside what is proved, and the command.
 
 usage: tests/simulate_test.py [-v] [TEST ..]     from any folder; takes some seconds
-
-The program is crates/camac/out/camac (cd crates/camac && rt run makes it), or what the environment variable CAMAC_PROGRAM names.
 """
 import contextlib
 import io

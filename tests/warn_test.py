@@ -2,8 +2,6 @@
 """Tests of `python3 -m camac check`: its warnings (docs/REFUSALS.md), lines, JSON and statuses.
 
 usage: tests/warn_test.py [-v] [TEST ..]     from any folder; takes a few seconds
-
-The program is crates/camac/out/camac (cd crates/camac && rt run makes it), or what the environment variable CAMAC_PROGRAM names.
 """
 import json
 import os

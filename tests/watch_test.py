@@ -4,8 +4,7 @@ and to whom; and the page in a browser.
 
 usage: tests/watch_test.py [-v] [TEST ..]     from any folder; takes some seconds
 
-The program is crates/camac/out/camac (cd crates/camac && rt run makes it), or what the environment variable CAMAC_PROGRAM names. What needs
-Chromium is left out if that is not there.
+Tests in Chromium are left out if it is not installed.
 """
 import dataclasses
 import http.client

@@ -3,7 +3,7 @@
 
 usage: tests/words_test.py [-v] [TEST ..]     from any folder, over a built program; takes some seconds
 
-What needs numpy or h5py is left out where these are not there (Debian's packages python3-numpy and python3-h5py).
+Tests with numpy or h5py are left out if these are not installed (Debian's packages python3-numpy and python3-h5py).
 """
 import contextlib
 import csv

@@ -1,4 +1,4 @@
-"""What tests of pictures share: a bench of two crates and its script, the largest plan, answers, sums made apart from the Python package,
+"""Shared by tests of pictures: a bench of two crates and its script, the largest plan, answers, sums made apart from the Python package,
 and a reader of pages."""
 import html.parser
 import os

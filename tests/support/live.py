@@ -1,4 +1,4 @@
-"""What tests of live runs share: a folder for each test, a branch that answers from a list, and the program's Python package."""
+"""Shared by tests of live runs: a folder for each test, a branch that answers from a list, and the program's Python package."""
 import pathlib
 import select
 import subprocess

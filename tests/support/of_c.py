@@ -1,4 +1,4 @@
-"""What tests in C share: the library for C, made of the archive of its crate as ./install makes it, and programs compiled against it.
+"""Shared by tests in C: the library for C, made of the archive of its crate as ./install makes it, and programs compiled against it.
 
 The archive is crates/camac_c/out/libcamac_c.a (after `rt ci` tools/proved_library makes it), or what the environment variable CAMAC_ARCHIVE names."""
 import atexit
