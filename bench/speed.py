@@ -45,7 +45,7 @@ MIXED_ANSWERS = QUIET * 3 + DEMAND + (CYCLE + AGAIN) * 2
 
 
 def long_statements(count):
-    """So many statements of 27 tokens each, in 230 bytes."""
+    """Statements of 27 tokens each, in 230 bytes."""
     words = [f"number_{n:02}_here" for n in range(13)]
     line = f"{words[0]} = {' + '.join(words)}\n"
     return f"{large_inputs.OPENING}var {' '.join(words)}\nservice adc within 0 cycles event 0 words {{\n{line * (count - 1)}}}\n"

@@ -30,7 +30,7 @@ Generator: camac
 Root-Is-Purelib: {pure}
 Tag: {tag}
 """
-# The earliest time that a zip file can tell, so that the same sources make the same wheel.
+# The earliest time of a zip file, so that the same sources make the same wheel.
 TIME = (1980, 1, 1, 0, 0, 0)
 
 

@@ -4,8 +4,7 @@
 usage: tools/sources_sum.py [--write]
 
 A program that is built of sources with this sum needs no tests of its arithmetic: the gate proved that they never fail. Prints whether the sum is
-that of the sources here, status 0 or 1; with --write it is made that. A test of the gate compares both, so crates.sum is true of each state that
-has passed.
+that of the sources here, status 0 or 1; with --write it is written. A test of the gate compares both.
 """
 import hashlib
 import os

@@ -48,7 +48,7 @@ class Modules(Answers):
         return answer
 
     def reply(self, most: int) -> Answer:
-        """The answer to a cycle or a lock before which so many waits are permitted."""
+        """The answer to a cycle or a lock, with at most this number of waits."""
         chance = self.random.random
         return Answer(int(chance() < 0.9), int(chance() < 0.8), self.random.randrange(2**24), self.random.choice((0, most, most // 2)), 0)
 

@@ -144,7 +144,7 @@ BREAKS: List[Callable[[Random, Table, Table], None]] = [
 
 
 def break_plan(random: Random, plan: Table) -> None:
-    """Puts a fault into a plan: a key that is unknown, lacks, or has a wrong value; or something twice."""
+    """Puts a fault into a plan: a key that is unknown, missing, or has a wrong value; or something twice."""
     random.choice(BREAKS)(random, plan, random.choice(all_tables(plan)))
 
 

@@ -93,7 +93,7 @@ class ScriptMaker:
         return None
 
     def repair(self) -> bool:
-        """Takes out what is refused, statement by statement, and tells whether the rest is accepted. Now and then it leaves a refusal."""
+        """Takes out what is refused, statement by statement, and returns whether the rest is accepted. Now and then it leaves a refusal."""
         for _ in range(40):
             try:
                 refused = self.refusal()

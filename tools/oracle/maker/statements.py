@@ -61,7 +61,7 @@ class Maker:
         return f"({made})" if depth < 2 or self.odds(0.2) else made
 
     def at_most(self, most: int) -> str:
-        """An expression that is at most so much, mostly at its edge."""
+        """An expression that is at most this number, mostly at its edge."""
         if most < 0 or self.odds(0.04):
             return self.expression()
         if self.odds(0.04):
@@ -288,7 +288,7 @@ class Maker:
         return [start, Node(f"for {turn} = 0 to {self.random.randrange(4)} keep {count} in 0..{most}", [counting, *self.block()])]
 
     def watch(self) -> List[Node]:
-        """A loop whose cost tells the least or the greatest number that a variable can be."""
+        """A loop whose cost shows the least or the greatest number of a variable."""
         turn, watched = self.free_variable(), self.variable()
         ends = self.random.choice((f"1 to {watched}", f"{watched} to 65000", f"{watched} to {self.variable()}", f"0 to {watched} % 65535"))
         return [Node(f"for {turn} = {ends}", [])]

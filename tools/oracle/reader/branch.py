@@ -43,7 +43,7 @@ class Branch:
         self.locked: Set[int] = set()
 
     def permit(self, crate: int, wait: int) -> None:
-        """Overrun where a wait is not permitted."""
+        """Overrun if a wait is not permitted."""
         if wait and (crate in self.locked or wait > self.plan.waits(crate)):
             raise Overrun(crate, wait)
 

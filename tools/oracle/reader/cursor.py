@@ -1,4 +1,4 @@
-"""The token in hand, the names in sight, the limits, and expressions and conditions: what every rule of the grammar needs."""
+"""The token in hand, the names in sight, the limits, and expressions and conditions: the common parts of the grammar's rules."""
 from __future__ import annotations
 
 from typing import Container, Dict, List, Set
@@ -21,7 +21,7 @@ class Cursor:
         self.tokens = read_tokens(text)
         self.at = 0
         self.script = Script()
-        # What S4 looks at: tables, LAMs, variables, procedures, and the parameters of the procedure in hand.
+        # The names for S4: tables, LAMs, variables, procedures, and the parameters of the procedure in hand.
         self.declared: Set[str] = set()
         self.seen: Set[str] = set()
         self.registers: Set[str] = set()

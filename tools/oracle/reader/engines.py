@@ -1,4 +1,4 @@
-"""What the program has to answer on the bytes of its inputs, by subcommand."""
+"""The right answers of the program to the bytes of its inputs, by subcommand."""
 from __future__ import annotations
 
 import functools
@@ -24,7 +24,7 @@ class Told(NamedTuple):
     out: bytes
     err: bytes = b""
     events: Optional[bytes] = None
-    # What was reached, for the table: a code, `accepted`, or how a run ended.
+    # The entry in the table: a code, `accepted`, or how a run ended.
     reached: str = ""
 
 
@@ -123,7 +123,7 @@ TELL: Dict[str, Callable[[Inputs], Told]] = {
 
 
 def tell(command: str, inputs: Inputs) -> Told:
-    """What the program has to answer. `LeftOut` where this reader does not judge the plan."""
+    """What the program has to answer. `LeftOut` if this reader does not judge the plan."""
     try:
         return TELL[command](inputs)
     except Refused as refused:

@@ -83,7 +83,7 @@ class Shares:
             yield from self.inside(it, depth, here)
 
     def own(self, it: Statement, known: State, each: Cost) -> Cost:
-        """What one time costs without what is in its block."""
+        """The cost of one time without its block."""
         if known is None:
             return NOTHING
         if isinstance(it, If):
@@ -115,7 +115,7 @@ class Shares:
             yield from self.rows(it.otherwise, depth + 1, here._replace(weight=multiplied(here.weight, of_second)))
 
     def tail(self, it: Statement, known: State) -> str:
-        """What else there is to tell. The address of a LAM and the name of a procedure are known in any case."""
+        """The tail of a row. The address of a LAM and the name of a procedure are known in any case."""
         if isinstance(it, LamCall):
             lam = self.checker.script.lams[it.lam]
             return f" at {lam.crate} {lam.station} {lam.sub}"
