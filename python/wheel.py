@@ -40,7 +40,7 @@ def said(key):
 
 
 def commands():
-    """The entry points, as a file of the wheel tells them."""
+    """The entry points, as in a file of the wheel."""
     section = (HERE / "pyproject.toml").read_text(encoding="utf-8").partition("[project.scripts]\n")[2].partition("\n[")[0]
     return "[console_scripts]\n" + section.replace('"', "")
 

@@ -3,7 +3,7 @@
 
 usage: tests/costs_test.py [-v] [TEST ..]     from any folder; takes half a minute
 
-The worked rows of tests/rows/costs.rows are played by tests/rows_test.py. The scripts are made by tools/oracle, which also tells each row.
+The worked rows of tests/rows/costs.rows are played by tests/rows_test.py. The scripts are made by tools/oracle, which also has each row.
 """
 import os
 import pathlib

@@ -338,7 +338,7 @@ class Documents(unittest.TestCase):
 
 
 class Tasks(unittest.TestCase):
-    """The diffs of tasks, which docs/inside/CHANGING.md tells step by step."""
+    """The diffs of tasks, which docs/inside/CHANGING.md explains step by step."""
 
     def applies(self, *words):
         """Whether git would apply a diff to these sources."""

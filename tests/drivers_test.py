@@ -142,7 +142,7 @@ class Misbehaving(Case):
                 self.assertEqual(self.events.read_bytes(), wanted(STRAIGHT_LINE, given)[2])
 
     def expect_fault(self, pipes, events):
-        """The requests have no reader any more, of which nothing is told."""
+        """The requests have no reader any more, and no fault names them."""
         self.assertEqual((pipes.process.stderr.read(), pipes.process.wait(PATIENCE)), (b"", 141))
         self.assertEqual(self.events.read_bytes(), events)
 

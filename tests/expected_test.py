@@ -106,7 +106,7 @@ def taken(start):
 
 
 def difference(seed):
-    """A changed script, where what is told differs from what the parser takes; whether it was one to be tried."""
+    """A changed script for which `explain` and the parser differ; whether it was one to be tried."""
     text = changed(random.Random(seed))
     lines = call("explain", text).splitlines()
     tokens = told(lines) if len(lines) > 3 else None

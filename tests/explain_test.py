@@ -241,7 +241,7 @@ MENDS = [
 
 
 class Mistake(NamedTuple):
-    """A mistake of tests/mistakes.text: the text with it, its rule and line, and what has to be told."""
+    """A mistake of tests/mistakes.text: the text with it, its rule and line, and the words of its explanation."""
 
     kind: str
     text: str
@@ -318,7 +318,7 @@ class Explain(unittest.TestCase):
         return text.splitlines()
 
     def assert_marked(self, source, mark, said):
-        """The mark is below the first word or sign in quotes that the sentence tells, if it is the one that was found."""
+        """The mark is below the first word or sign in quotes of the sentence, if it is the one that was found."""
         self.assertRegex(mark, r"^      \| [ \t]*\^$")
         found = re.match(r"(?:Found|The (?:name|number|byte|character|procedure)|The limit is passed at|The branch is) `([^`]*)`", said)
         if found:
@@ -416,7 +416,7 @@ class Explain(unittest.TestCase):
         return status, text.rstrip("\n")
 
     def test_mends(self):
-        """Of several mends of a rule the one that helps in this case is told."""
+        """Of several fixes of a rule the one that helps in this case is shown."""
         found = set()
         for what, script, mend, mended in MENDS:
             with self.subTest(what=what):
@@ -460,7 +460,7 @@ class Explain(unittest.TestCase):
         self.assertGreater(tried, 20)
 
     def test_numbers(self):
-        """A number that is told as needed is enough: put in, its rule is broken no more."""
+        """A number that an explanation asks for is enough: put in, its rule is broken no more."""
         tried = 0
         for chance in chances("numbers"):
             body, turns = chance.body(), 5

@@ -302,7 +302,7 @@ class InTurn(Logged):
 
 
 class Fails(Logged):
-    """A call that fails is the last one but for those that tell it, even where the next one would go well."""
+    """A call that fails is the last one but for those that report it, even if the next one would go well."""
 
     def setUp(self):
         super().setUp()
@@ -339,7 +339,7 @@ class Fails(Logged):
         return [it.name for it in whole.calls]
 
     def expect_closes(self, line, whole, given, piece, there):
-        """An error of the call that closes a file is not told: nothing is lost by it."""
+        """An error of the call that closes a file is not reported: nothing is lost by it."""
         for turn in whole.closes:
             for error in ERRORS["close"]:
                 with self.subTest(line=line, closing=turn, error=error):
@@ -450,7 +450,7 @@ class Told(Logged):
                     self.assertEqual(ran.calls, whole.calls[:place] + [call._replace(answer=-EIO, bytes=b"")])
 
     def test_lines_on_standard_error(self):
-        """The lines of a fault; where standard error does not take it, the status tells it alone."""
+        """The lines of a fault; if standard error does not take it, only the status shows it."""
         for line, status, told in (("plan none", 3, lacks("none")), ("check @in @in", 2, TWICE)):
             last = len(self.ran(line).calls) + 1
             self.assertEqual(self.answer(line, last, EINTR), (status, b"", told))

@@ -132,7 +132,7 @@ def call(*words, **how):
 
 
 def names(*words):
-    """The names that nm tells."""
+    """The names that nm prints."""
     return {it.split()[-1] for it in call("nm", *words)[1].splitlines() if len(it.split()) > 1}
 
 
@@ -281,7 +281,7 @@ class Calls(Case):
         self.assertEqual(call(program, SAMPLE, EXAMPLES / "straight_line.script"), (library.MISUSE, told))
 
     def test_a_run_in_cpp(self):
-        """It is played once, and twice where it tells much more than its answers let expect."""
+        """It is played once, and twice if it prints much more than its answers let expect."""
         program = of_c.compiled(self.room, "runs", HERE / "runs.cpp")
         many = "var i\ncdlam adc 1 1 5 12\nservice adc within 0 cycles event 4096 words { for i = 1 to 4096 { put i } }\n"
         for runs, its, answers in ((1, STRAIGHT_LINE, "0 0 000000 0 000004\n1 1 123fff 0 000000\n" * 2000), (2, many, "0 0 000000 0 000004\n")):
@@ -348,7 +348,7 @@ class Python(Case):
         self.assertEqual((str(found.exception), found.exception.status), ("fault input too long", 3))
 
     def test_in_the_place_of_the_program(self):
-        """What the package is told by the program and by the library is the same, byte for byte and fault for fault."""
+        """The package gets the same from the program and from the library, byte for byte and fault for fault."""
         odd = self.room / "odd.script"
         odd.write_bytes(STRAIGHT_LINE.replace("within 3 cycles", "within 0 cycles").replace("{", "{ # \xe9", 1).encode("latin-1"))
         plan = self.write("bad.toml", "[[types]]\n")
@@ -452,7 +452,7 @@ class Python(Case):
             self.assertEqual(library.events(runs[1][2]).text.splitlines()[-1], f"events {failing}")
 
     def test_threads(self):
-        """A session that another thread closes is closed, and one that is open is never told to be closed."""
+        """A session that another thread closes is closed, and an open one never answers as closed."""
         self.addCleanup(sys.setswitchinterval, sys.getswitchinterval())
         sys.setswitchinterval(1e-5)
         for _ in range(100):

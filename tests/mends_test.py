@@ -51,7 +51,7 @@ TROUBLES = [
     "while k > 0 turns 3 by t { k = k - 1 }", "for i = 1 to 3 keep k in 1..5 { k = 2 }", "for i = 0 to 9 keep k in 0..5 { k = k + 1 }", "for i = 1 to 9 { t = t + 1 } put i - t", "cfsa 0 r -> t put t * t",
     "for i = 1 to 9 { cfsa 0 r -> t k = k + t } put k", "cfsa 0 r -> t cfsa 0 r -> k put t + k", "cfsa 0 r -> t cfsa 16 r <- t + 1", "cssa 16 r <- 70000", "call get(i - 1)", "put t - 1",
 ]
-# Of these kinds of mends not all help today. The number is how many of a hundred do at least. `put i + 4294967295` is told of a loop that is not there; a
+# Of these kinds of mends not all help today. The number is how many of a hundred do at least. `put i + 4294967295` has the fix of a loop that is not there; a
 # variable that is kept, and that its loop does not write, is not found by --keeps; nor is one that has to stay above the right side of a difference.
 PARTLY = {"E16 --keeps": 0, "E8 --keeps": 60, "E4 --keeps": 80}
 # The least number of kinds that are tried: else explanations have other texts than this test looks for.
@@ -93,7 +93,7 @@ class Refused:
         return self.first and (self.first.code, self.first.line, self.first.sentence)
 
     def is_gone(self, edits):
-        """Whether the case is told no more, with a text that is changed so: lines may have come before it."""
+        """Whether the case is gone with a text that is changed so: lines may have come before it."""
         changed = edited(self.data, edits)
         more = sum(it.text.count("\n") for it in edits if it.start <= self.first.start)
         now = Refused(self.judge, changed).told()

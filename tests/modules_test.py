@@ -1,5 +1,5 @@
 #!/usr/bin/env python3
-"""Tries the kinds of modules in examples/modules: each file is taken as a plan, all types are in one plan, docs/PLANS.md tells them as they are, and
+"""Tries the kinds of modules in examples/modules: each file is taken as a plan, all types are in one plan, docs/PLANS.md has them as they are, and
 the benches in examples/benches have no others.
 
 usage: tests/modules_test.py [-v] [TEST ..]     from any folder; takes a second

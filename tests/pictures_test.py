@@ -187,7 +187,7 @@ class Numbers(laboratory.BenchCase):
         self.assertEqual([row[0] for row in rows], ["agrees"] * 6)
 
     def test_checks_that_differ(self):
-        """Each number that is told twice, changed in one place."""
+        """Each number that is there twice, changed in one place."""
         services = camac.check(*self.files[:2])
         events = list(read_events(self.events))
         first = events[0]
@@ -221,7 +221,7 @@ class Numbers(laboratory.BenchCase):
         self.assertIn(f"{len(pairs)} events with both", page.parts["Two numbers of an event"]["texts"])
 
     def test_event_file(self):
-        """Of an event file alone the page tells what it holds, and the numbers are those of the listing."""
+        """Of an event file alone the page shows what it holds, and the numbers are those of the listing."""
         self.inputs = self.inputs._replace(source=self.events)
         made = report(self.inputs)
         page = laboratory.Page(made.text)

@@ -255,7 +255,7 @@ class Commands(laboratory.BenchCase):
             self.assertIn("none", self.call("draw", "plan", plan, "-o", out, status=3)[1])
 
     def test_a_fault_of_the_program(self):
-        """Its second line, which names the file, is told in the same line."""
+        """Its second line, which names the file, is put into the same line."""
         fake = self.write("fake", "#!/bin/sh\nprintf 'fault read\\n  plan.toml: Is a directory\\n' >&2\nexit 3\n")
         fake.chmod(0o755)
         with mock.patch.dict(os.environ, {"CAMAC_PROGRAM": str(fake)}):

@@ -40,7 +40,7 @@ class Warnings(Case):
         return [(it.line, it.code.value) for it in camac.warnings("@sample", self.write("a.script", text))]
 
     def test_unreached(self):
-        """The first statement of each block is told, and not what is in a block of it."""
+        """The first statement of each block has a warning, and no statement in a block of it."""
         read = READ.split("\n")
         for body, wanted in [
             ([*read, "if v > 4095 { put v }", "cclc adc"], [(6, "W1")]),
@@ -122,7 +122,7 @@ class Warnings(Case):
         self.assertEqual((found.line, found.text), (5, "this kept bound of `k` is wider than it has to be: `k in 0..4095` is accepted, too"))
 
     def test_split(self):
-        """Conditions on a loop's own variable: as two loops, or three, it pays for less. Each is told as its starts, and what is less."""
+        """Conditions on a loop's own variable: as two loops, or three, it pays for less. Each is shown by its starts, and what is less."""
         read = "cfsa 0 r -> v"
         for head, block, wanted in [
             ("for i = 0 to 15", f"put i if i < 8 {{ {read} }}", ("8", "24 cycles in place of 48")),
@@ -160,7 +160,7 @@ class Warnings(Case):
                 self.assertEqual(self.codes(text), [(1, "W5")])
 
     def test_held_up(self):
-        """Services of a bit and so many cycles, each on a line: told are the short ones, and of longer ones on lower bits the longest."""
+        """Services of a bit and so many cycles, each on a line: warned of are the short ones, and of longer ones on lower bits the longest."""
         for services, wanted in [
             ([(1, 11), (2, 10)], [(2, "(bit 2, cycles 10) can be held up by `s1` (bit 1, cycles 11)")]),
             ([(2, 10), (1, 11)], [(1, "(bit 2, cycles 10) can be held up by `s1` (bit 1, cycles 11)")]),
@@ -290,7 +290,7 @@ class Command(Case):
         self.assertEqual(sorted(it.name for it in self.room.iterdir()), ["a.script", "link"])
 
     def test_refused_headings(self):
-        """What no heading mends is told, and the file is as it was. Where `explain` speaks of a heading first, nothing of it is told."""
+        """A refusal that no heading mends is shown, and the file is as it was. If `explain` names a heading first, that is left out."""
         wide = DRAFT.replace(b"event 001", b"event 0").replace(b"call read(11)", b"put 16777216")
         for text, wanted, begins in (
             (wide, "refused E16: word above 24 bits", []),

@@ -160,7 +160,7 @@ class Following(Case):
         self.assertEqual(self.poll(), 3)
 
     def test_wrong_field(self):
-        """The events before a fault stay, and the fault is told, until another file comes."""
+        """The events before a fault stay, and the fault is reported, until another file comes."""
         its = events(20)
         place = 8 + sum(map(len, map(record, its)))
         self.add(NEW_FILE + b"".join(map(record, its)) + b"\xca\x4e" + bytes(14))

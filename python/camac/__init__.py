@@ -5,7 +5,7 @@ what is probably not meant, and `propose` what the loops of a refused script hav
 it as `camac events` does (`whole` and `whole_size`: one that was cut; `event_arrays`: as arrays, if numpy is). A branch driver in Python is
 run by a checked script (`drive`, and `call` for one service once), and `camac.mock` has a branch without hardware. `play` does what `drive`
 does in this process, over the library for C (`camac.library`). If no program is there, the library answers what needs no run. Both write a
-record of the run if it is asked for (`Recording`, `read_record`). `read_words` and `words_of_script` tell what the words of events mean.
+record of the run if it is asked for (`Recording`, `read_record`). `read_words` and `words_of_script` say what the words of events mean.
 `python3 -m camac` judges scripts, lays them out, compares what they may take, serves editors (`camac.lsp`), draws pictures, makes a report of a run, and
 exports events (`camac.pictures`, `camac.report`, `camac.export`).
 

@@ -51,7 +51,7 @@ PLAN may be @sample, the built-in plan. The first bytes tell an event file from 
 
 class Source:
     """The files of a picture, and what the program and a run say of them, each read once. A script or a run that is not given is an empty
-    one. `every` are the rates of modules, if it is drawn how late services can be; `naming` tells of the words of events, and `scale`
+    one. `every` are the rates of modules, if it is drawn how late services can be; `naming` names the words of events, and `scale`
     how counts are drawn."""
 
     def __init__(

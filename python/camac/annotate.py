@@ -30,7 +30,7 @@ class _Answers:
 def annotate(plan: File, script: File, answers: File, program: Optional[File] = None) -> Iterator[str]:
     """Plays a script against answers, and yields a line for each operation: the number of its answer line, that line, and what the program
     lists. Cycles and locks are further right than the demands, whose services are counted. An answer that ended the run is beside
-    the last line. Behind it, it is told how many answer lines were not used.
+    the last line. The number of answer lines that were not used follows it.
 
     Raises OSError if a file cannot be read, and Refused, UsageFault and ProgramFault as `camac.run`."""
     with open(answers, "rb") as file, tempfile.NamedTemporaryFile(suffix=".events") as events:

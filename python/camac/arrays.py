@@ -15,7 +15,7 @@ Array = Any
 
 
 class EventArrays(NamedTuple):
-    """All events of a file. Element k tells of event k + 1: its bit of the graded-L pattern, the dataway cycles that it cost, and how many
+    """All events of a file. Element k is of event k + 1: its bit of the graded-L pattern, the dataway cycles that it cost, and how many
     of them had no X. Its words are words[first[k]:first[k + 1]]. A file of version one has no cycles and no missed."""
 
     gl: Array

@@ -123,7 +123,7 @@ def parse_costs(printed: str) -> List[Body]:
 
 
 def rows_of_line(printed: str, line: int) -> List[Row]:
-    """The rows of a line of the script, in their order, in what `camac costs` prints. Waits and slack are not told."""
+    """The rows of a line of the script, in their order, in what `camac costs` prints. Waits and slack are not in it."""
     found = re.findall(rf"(?m)^line {line} .*$", printed)
     return [_read_row(it) for it in map(ROW.fullmatch, found) if it]
 

@@ -20,7 +20,7 @@ class Naming:
 
 
 def ask(naming: Naming, inputs: Inputs, plan: Plan, services: List[Service]) -> Asked:
-    """The columns of a run. Answers tell the words of each module, so those of a script are asked for of an event file alone, and of a pair.
+    """The columns of a run. Answers show the words of each module, so those of a script are used for an event file alone, and for a pair.
 
     Raises UsageFault if a name of the pair is none of a column, WordsFault, ProgramFault, and OSError if a file cannot be read."""
     names = Words()

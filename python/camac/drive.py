@@ -291,7 +291,7 @@ class _Run:
         self.cycles: Dict[bytes, Tuple[int, int, int, int, Optional[int]]] = {}
 
     def serve(self) -> Optional[RunEnd]:
-        """Has the branch make all that is requested, and returns the end that the last line tells, or None if there is no last line."""
+        """Has the branch make all that is requested, and returns the end by the last line, or None if there is no last line."""
         while (line := self.program.read_line()) is not None:
             if line in self.cycles and self.is_open:
                 self.hand_on(line, self.branch.cycle(*self.cycles[line]))
@@ -399,7 +399,7 @@ class _Program:
         return line
 
     def skip_to_end(self) -> Optional[RunEnd]:
-        """Ends the input, reads all output, and returns the end that its last line tells. The program has some time for that."""
+        """Ends the input, reads all output, and returns the end by its last line. The program has some time for that."""
         self.end_input()
         self.timeout = PATIENCE if self.timeout is None else self.timeout
         end = None

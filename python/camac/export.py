@@ -92,7 +92,7 @@ def learn(given: Given, program: Optional[File] = None) -> About:
 
 
 def _judge(plan: Source, script: Source, program: Optional[File]) -> Tuple[List[Service], Words]:
-    """The services of a script that is given as its text, and what it tells of words."""
+    """The services of a script that is given as its text, and what it says of words."""
     with tempfile.TemporaryDirectory(prefix="camac-") as room:
         files = []
         for name, source in (("plan", plan), ("script", script)):

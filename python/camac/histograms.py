@@ -41,7 +41,7 @@ class Totals:
 
 class Spectrum(Totals):
     """Counts on an axis from 0 to `end`, in at most `MOST` bins of one width, a power of two. Numbers from `end` on are counted as overflow.
-    If no end is told the axis doubles until it holds all numbers."""
+    If no end is given the axis doubles until it holds all numbers."""
 
     __slots__ = ("end", "is_open", "shift", "counts", "overflow")
     MOST = 128
@@ -146,7 +146,7 @@ def _halved(columns: Dict[int, Tuple[int, int]]) -> Dict[int, Tuple[int, int]]:
 
 
 class Pairs:
-    """Counts of pairs of numbers, each on an axis from 0 to its end, in at most 64 by 64 cells. If no end is told an axis doubles until it
+    """Counts of pairs of numbers, each on an axis from 0 to its end, in at most 64 by 64 cells. If no end is given an axis doubles until it
     holds all numbers."""
 
     __slots__ = ("ends", "shifts", "cells", "count")

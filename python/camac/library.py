@@ -256,7 +256,7 @@ class Session:
         return self._want
 
     def next(self, answer: Answer) -> Progress:
-        """Takes an answer, and tells what it did. The next call fills the same object again. Raises OverflowError if the run has used
+        """Takes an answer, and returns what it did. The next call fills the same object again. Raises OverflowError if the run has used
         4,294,967,295 answers."""
         self._give(answer)
         _check_taken(self._calls.camac_next(self._at, self._to_answer, self._to_progress))

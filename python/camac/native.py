@@ -57,7 +57,7 @@ BEHIND_SIZE = 4
 
 
 class Progress(_Sized):
-    """What an answer did, as camac.h tells it. Of an overrun `kind` is STOPPED, with its crate `c` and its `wait`."""
+    """What an answer did, as in camac.h. Of an overrun `kind` is STOPPED, with its crate `c` and its `wait`."""
 
     _fields_ = [
         ("size", c_uint32),

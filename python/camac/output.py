@@ -38,7 +38,7 @@ def bytes_output(path: Optional[str]) -> Iterator[BinaryIO]:
 
 
 def holds_bytes(path: Any) -> bool:
-    """Whether a regular file is there that is not empty: what would be lost, were it written over. Raises OSError if that cannot be told."""
+    """Whether a regular file is there that is not empty: what would be lost, were it written over. Raises OSError if that cannot be known."""
     try:
         its = os.stat(path)
     except FileNotFoundError:
@@ -167,7 +167,7 @@ def say(text: str) -> None:
 
 
 def end_by(number: signal.Signals) -> int:
-    """Ends this process by a signal, so that its caller sees what a program sees that does not handle it: a shell tells 128 and the number."""
+    """Ends this process by a signal, so that its caller sees what a program sees that does not handle it: a shell reports 128 and the number."""
     signal.signal(number, signal.SIG_DFL)
     os.kill(os.getpid(), number)
     return 128 + number

@@ -1,4 +1,4 @@
-"""The record of a live run: a JSON file beside its event file that tells what made it, when, how it ended, and how long it took.
+"""The record of a live run: a JSON file beside its event file: what made it, when, how it ended, and how long it took.
 
 Times are the computer's clock, and seconds are measured in this process: from the answer to a demand that calls a service until the next
 demand is asked for, the modules wait for the service (dead time); the rest is spent in demands (live time). No proof says anything of them."""

@@ -160,11 +160,11 @@ class Run:
     and its event words. `no_q` leaves out the commands of controllers (N28, N30), whose Q nobody reads, and those of `of_transfers`: there
     Q = 0 ends a scan or a block, or has a command sent again.
 
-    `has_listing` is False of an event file alone, which tells no waits, no Q, no commands and no locks; `has_cycles` is False of one of
+    `has_listing` is False of an event file alone, which has no waits, no Q, no commands and no locks; `has_cycles` is False of one of
     version one. `end` is the end of a run, `fault` the fault of an event file. `kept` are services to be shown cycle by cycle.
-    `by_place` has the words by the bit and by their place in the event, `channels` those of which a column is told, `pairs` those of two columns
+    `by_place` has the words by the bit and by their place in the event, `channels` those of a column, `pairs` those of two columns
     that are in one event, `seen` what was seen of the services of each bit, and `late` how late they ended, where a listing and `camac
-    response` tell that."""
+    response` show that."""
 
     def __init__(self, has_listing: bool, asked: Optional[Asked] = None) -> None:
         self.has_listing, self.has_cycles = has_listing, True
@@ -217,7 +217,7 @@ class Run:
                     self.pairs.add(*(first[column] for column in self.asked.pair))
 
     def list_channels(self) -> List[Channel]:
-        """The channels that have a number, in the order in which their columns are told."""
+        """The channels that have a number, in the order of their columns."""
         columns = [column for gl in sorted({*self.gl}) for column in self.asked.names.columns(gl)]
         return [self.channels[it] for it in columns if it in self.channels]
 
@@ -237,7 +237,7 @@ def collect(
     asked: Optional[Asked] = None,
 ) -> Run:
     """Plays the answers, or reads the event file, and returns what the run did. `responses` are what `camac response` says of the script;
-    without them it is not told how late services ended. `asked` tells columns of the words of events.
+    without them it is not known how late services ended. `asked` has columns of the words of events.
 
     Raises OSError if a file cannot be read, and Refused and ProgramFault as `camac.run`."""
     if is_event_file(inputs.source):
@@ -273,7 +273,7 @@ def _seen_of(numbers: Sequence[int]) -> Seen:
 
 
 class _Collector:
-    """Gathers a run from the items of its listing. The last service is left open: the listing alone does not tell whether it ended."""
+    """Gathers a run from the items of its listing. The last service is left open: the listing alone does not show whether it ended."""
 
     def __init__(self, plan: Plan, bits: Dict[str, int], watch: Watch, meant: FrozenSet[Command], asked: Optional[Asked]) -> None:
         self.plan, self.bits, self.watch, self.meant = plan, bits, watch, meant

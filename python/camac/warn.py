@@ -51,7 +51,7 @@ def warnings(plan: File, script: File, program: Optional[File] = None) -> List[W
 
 
 def look(plan: File, script: File, program: Optional[File] = None) -> Tuple[List[Service], List[Warned]]:
-    """Returns the services of an accepted script, and what `warnings` does: one judgement tells both."""
+    """Returns the services of an accepted script, and what `warnings` does: one judgement serves both."""
     script = script if isinstance(script, TextFile) else TextFile(script)
     bodies = costs(plan, script, program) if looks_for_all(program) else []
     services = services_of(bodies) if bodies else check(plan, script, program)
@@ -59,7 +59,7 @@ def look(plan: File, script: File, program: Optional[File] = None) -> Tuple[List
 
 
 def warnings_of(plan: File, text: bytes, services: List[Service], bodies: List[Body], program: Optional[File] = None) -> List[Warned]:
-    """What `warnings` returns of an accepted script that is given as its text, with its services and what `costs` tells of its bodies."""
+    """What `warnings` returns of an accepted script that is given as its text, with its services and its bodies by `costs`."""
     if not services:
         return [Warned(1, Code.NO_SERVICE, "this script has no service, so a run of it makes no cycle")]
     its = read_script(text)
@@ -68,7 +68,7 @@ def warnings_of(plan: File, text: bytes, services: List[Service], bodies: List[B
 
 
 def looks_for_all(program: Optional[File] = None) -> bool:
-    """Whether the program has `costs`, of which W1 and W2 are told."""
+    """Whether the program has `costs`, which W1 and W2 need."""
     return knows_command("costs", program)
 
 
@@ -125,7 +125,7 @@ def _touched(statements: List[Statement], places: Set[Place], lams: Dict[str, Pl
 
 
 def _held_up(script: Script, services: List[Service]) -> Iterator[Warned]:
-    """Short services that a longer one on a lower bit can hold up; the longest of those is told."""
+    """Short services that a longer one on a lower bit can hold up; the longest of those is named."""
     lines = {it.name: it.line for it in script.bodies}
     for it in services:
         lower = [other for other in services if other.gl < it.gl and other.cycles > SHORT]

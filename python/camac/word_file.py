@@ -1,4 +1,4 @@
-"""Reads words.toml, in which a user tells what the words of his events mean.
+"""Reads words.toml, in which a user says what the words of his events mean.
 
 The file is TOML of one kind: tables `[[word]]` with lines `KEY = VALUE`, whose values are strings of one line and numbers. It is read here, and
 not by Python's `tomllib`, since a fault has to name its line, and since Python has that from 3.11 on alone."""
@@ -45,7 +45,7 @@ class _Table(NamedTuple):
 
 
 def read_words(file: File, services: Sequence[Service] = ()) -> Words:
-    """Reads a file of words. `services` are those of the script whose events they are, as `camac.check` gives them: they tell which bit the name
+    """Reads a file of words. `services` are those of the script whose events they are, as `camac.check` gives them: by them it is known which bit the name
     of a service stands for.
 
     Raises WordsFault at the first line that cannot be read, and ProgramFault if the file cannot be."""

@@ -133,7 +133,7 @@ class _Walk:
         self.block(body.statements, _State(parameters, {}))
 
     def choice(self, it: If, state: _State) -> None:
-        """Either arm is gone. Both have to put as many words; it is not told what these are."""
+        """Either arm is gone. Both have to put as many words; their columns stay unknown."""
         counts = [self.counted(block, state) for block in (it.body, it.other)]
         if counts[0] != counts[1]:
             raise _Lost

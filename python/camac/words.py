@@ -158,7 +158,7 @@ class _Reader:
 
 
 class Words:
-    """The columns of words, by the bit of their service. Fields are in the order in which they are told."""
+    """The columns of words, by the bit of their service. Fields are in the order of the file."""
 
     def __init__(self, fields: Sequence[Field] = ()) -> None:
         self.fields = tuple(fields)
@@ -187,7 +187,7 @@ class Words:
         return found
 
     def values(self, event: Event) -> Iterator[Value]:
-        """The numbers in an event, by place. A word of which nothing is told has none."""
+        """The numbers in an event, by place. A word without a column has none."""
         layout = self._layout(event.gl, len(event.words))
         for place, (word, readers) in enumerate(zip(event.words, layout), 1):
             for it in readers:

@@ -39,7 +39,7 @@ class Flow:
         return state
 
     def reach(self, it: Statement, state: State) -> None:
-        """Is told what is known before each statement."""
+        """Is called with what is known before each statement."""
 
     def assign(self, it: Assign, state: State) -> Optional[State]:
         state.variables[it.name] = value_of(it.value, state.variables)

@@ -22,7 +22,7 @@ def leave_out(found: Found, sure: Set[Cause], is_good: IsGood) -> None:
 
 
 def leave_out_of(its: Sequence[T], without: Callable[[Sequence[T]], bool]) -> None:
-    """Leaves out as many of these as may be: all at once if there are many, else one by one. `without` tells whether some are left out."""
+    """Leaves out as many of these as may be: all at once if there are many, else one by one. `without` leaves some out, and returns whether the rest is good."""
     if len(its) > FEW and without(its):
         return
     if len(its) > 1:

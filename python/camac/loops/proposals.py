@@ -75,11 +75,11 @@ class Found:
         self.changed = {it: change for it, change in self.changed.items() if it.start <= place}
 
     def without_ranges(self, its: Iterable[Cause], is_good: Callable[[], bool]) -> bool:
-        """Leaves ranges out if the rest is good, and tells whether it is."""
+        """Leaves ranges out if the rest is good, and returns whether it is."""
         return _without(self.kept, its, is_good)
 
     def without_changes(self, its: Iterable[Statement], is_good: Callable[[], bool]) -> bool:
-        """Leaves changes out if the rest is good, and tells whether it is."""
+        """Leaves changes out if the rest is good, and returns whether it is."""
         return _without(self.changed, its, is_good)
 
 

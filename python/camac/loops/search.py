@@ -134,7 +134,7 @@ class _Search:
         return known
 
     def help(self, stopped: Stopped) -> bool:
-        """Keeps or changes something more because of a refusal, and tells whether there was something."""
+        """Keeps or changes something more because of a refusal, and returns whether there was something."""
         about = stopped.about
         body = next((it for it in self.bodies if about is not None and it.start <= about.start < it.end), None)
         if body is None:

@@ -43,7 +43,7 @@ class Trials:
                 self.at[it.line + len(self.breaks)] = it
 
     def judged(self, command: str, edits: Sequence[Edit]) -> Verdict:
-        """What `camac check`, or `camac bounds`, which does not look at headings, tells of the script with these changes."""
+        """What `camac check`, or `camac bounds`, which does not look at headings, says of the script with these changes."""
         self.calls += 1
         # What is replaced keeps its lines.
         kept = [it._replace(text=it.text + "\n" * self.text.count(b"\n", it.start, it.end)) for it in edits]

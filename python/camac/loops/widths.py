@@ -9,7 +9,7 @@ from camac.plans import plan as read_plan
 from camac.texts import plan_text
 
 WORD = 24
-# `explain` tells of it which numbers a read may give.
+# `explain` says which numbers a read of it may give.
 READ = "proc p(v in 0..0) within 0 cycles event 0 words steps 0 {{ cdreg r 1 {} {} {} cfsa {} r -> v v = v - 4294967295 }}"
 MAY_STAND = re.compile(r"^The left of `-` may be 0 to (\d+), ", re.M)
 Key = Tuple[int, int, int, int, int, int, int]

@@ -62,7 +62,7 @@ def _of_refusal(judged: Judged, it: Refusal) -> Iterator[Fix]:
 
 
 def _number(judged: Judged, it: Refusal) -> Optional[Fix]:
-    """The number that a refusal tells, put after its word."""
+    """The number in a refusal, put after its word."""
     turns, annotated, heading = TURNS.search(it.sentence), ANNOTATED.search(it.sentence), HEADING.search(it.sentence)
     if heading:
         word, number = WORD_BEFORE[heading[2]], heading[1]

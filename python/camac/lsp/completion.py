@@ -40,8 +40,8 @@ class Expected(NamedTuple):
 
 
 def expected(ask: Callable[[bytes], str], before: bytes) -> Expected:
-    """What may be behind a text, as the checker tells of it where it ends there. `ask` gives what `camac explain` says of a script. This alone
-    knows how that is told."""
+    """What may be behind a text, as the checker says if the text ends there. `ask` gives what `camac explain` says of a script. Only this
+    knows the form of that sentence."""
     told = ask(before)
     found = MAY_STAND.search(told)
     if found:

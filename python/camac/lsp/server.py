@@ -145,7 +145,7 @@ class Server:
         return self.requests[method](params)
 
     def guarded(self, call: Callable[[], None]) -> None:
-        """Does what a notification asks for. A fault is told, and the server goes on."""
+        """Does what a notification asks for. A fault is reported, and the server goes on."""
         try:
             call()
         except (*FAULTS, *OF_PARAMS) as why:
@@ -293,7 +293,7 @@ class Server:
         self.client.put(Own(uri=uri, judged=judged, found=found))
 
     def publish_late(self, own: Message) -> None:
-        """Publishes a script's warnings, if it is still the version of which they are told."""
+        """Publishes a script's warnings, if it is still their version."""
         its = self.workspace.documents.get(own["uri"])
         if its is None or its.judged is not own["judged"] or its.text is not its.judged.text:
             return

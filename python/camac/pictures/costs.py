@@ -11,7 +11,7 @@ FIRST_BAR, BAR, STEP = 22, 20, 21
 DEEPEST = 16
 # Where the heading promises more than FAR times what is needed, the picture is cut at SHOWN times, so that what is needed has room.
 FAR, SHOWN = 1.5, 1.3
-# Narrower bars are not drawn, and marks narrower than MARK tell nothing.
+# Narrower bars are not drawn, and marks narrower than MARK have no tip.
 NARROWEST, MARK = 0.8, 2
 
 
@@ -115,7 +115,7 @@ def _draw_whole(canvas: Canvas, y: float, body: Body, scale: Scale) -> None:
 
 
 def _draw_seen(canvas: Canvas, y: float, seen: Seen, scale: Scale) -> None:
-    """Two triangles above the first bar: the mean and the most of a run. If they are near to each other, one text tells both."""
+    """Two triangles above the first bar: the mean and the most of a run. If they are near to each other, one text says both."""
     for value in (seen.mean, seen.most):
         x = min(value * scale.cycle, WIDE)
         canvas.path(f"M{number(x)} {number(y - 1)}l-4 -7h8z", "ink")

@@ -19,7 +19,7 @@ CONTROLLER = 24
 
 
 class Scene(NamedTuple):
-    """What a picture of a plan tells of: services by bit (None if no script is known), and cycles of the run by crate and station
+    """The contents of a picture of a plan: services by bit (None if no script is known), and cycles of the run by crate and station
     (None if they are not known)."""
 
     plan: Plan
@@ -120,7 +120,7 @@ def _draw_demand(canvas: Canvas, y: float, gl: int, scene: Scene, place: str) ->
 
 
 def _station_tip(crate: Crate, station: Station, scene: Scene) -> List[str]:
-    """What is told of a station: itself, its bit, its cycles in the run, and each of its commands."""
+    """The tip of a station: itself, its bit, its cycles in the run, and each of its commands."""
     lines = [f"crate {crate.number} station {station.number}: {station.type}"]
     if station.gl:
         service = (scene.services or {}).get(station.gl)

@@ -14,7 +14,7 @@ NO_NUMBER = "no number (-): no bound was found for when all look-at-mes up to th
 
 class Piece(NamedTuple):
     """A part of the time from a look-at-me to the end of its service: its colour, its cycles, whose they are, its term of the sum, and what
-    is told of it."""
+    is said of it."""
 
     kind: str
     cycles: int

@@ -3,7 +3,7 @@ import re
 from typing import Callable, Dict, List, Optional, Sequence, Tuple, Union
 
 WIDTH = 960
-# Of each name the colour in the light and in the dark theme. What is told by text has a contrast of 4.5 or more (WCAG 2).
+# Of each name the colour in the light and in the dark theme. Text has a contrast of 4.5 or more (WCAG 2).
 COLOURS: Dict[str, Tuple[str, str]] = {
     "ground": ("#ffffff", "#16191d"),
     "face": ("#f3f5f7", "#20262c"),
@@ -132,7 +132,7 @@ class Canvas:
         self.parts.append(head + (f"><title>{escape(tip)}</title></rect>" if tip else "/>"))
 
     def hit(self, box: Box, tip: str, extra: str = "") -> None:
-        """A place without a mark of its own that tells of what is there."""
+        """A place without a mark of its own, with a tip."""
         self.rect(box, "hit", tip, extra)
 
     def text(self, x: float, y: float, text: object, kind: str = "", extra: str = "") -> None:

@@ -193,7 +193,7 @@ def _draw_strip(canvas: Canvas, y: float, kind: str, cycles: Dict[int, int], of:
 
 
 def _column_tip(run: Run, axis: Axis, at: int, it: Column, service: Service) -> str:
-    """What is told of a column."""
+    """The tip of a column."""
     first = at * axis.per + 1
     last = min(first + axis.per - 1, axis.total)
     lines = [f"service {first:,}" if axis.per == 1 else f"services {first:,} to {last:,}: {it.services:,} of {service.name}"]

@@ -42,7 +42,7 @@ NO_DEMAND_WAS_SERVED = (
 
 
 class Facts(NamedTuple):
-    """All that the page tells. `bodies` and `responses` are None if the program does not tell the cost of lines, or how late services
+    """The contents of the page. `bodies` and `responses` are None if the program does not print the cost of lines, or how late services
     can be."""
 
     inputs: Inputs
@@ -216,7 +216,7 @@ def _kinds_table(facts: Facts) -> str:
     return _known_table(run, columns, rows)
 
 
-# The columns of which an event file tells nothing, and those of which one of version one tells nothing either.
+# The columns that an event file does not have, and those that one of version one does not have either.
 OF_LISTINGS = ("waits mean", "waits", "in a lock", "Q = 0", "Q end")
 OF_CYCLES = ("cycles least", "mean", "most", "cycles", "of bound", "X = 0")
 
