@@ -7,7 +7,6 @@ A language server (Language Server Protocol 3.17) for scripts and plans. An edit
 
 
 def add_to(commands: Any) -> None:
-    """Adds the command to those of the package."""
     it = commands.add_parser("lsp", prog="camac-lsp", help="Serves editors over standard input and output", description=ABOUT)
     it.set_defaults(do=do, out=None)
 

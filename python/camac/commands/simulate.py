@@ -31,7 +31,6 @@ Status: 0 done; 1 plan or script is refused; 2 usage; 3 a file or the program fa
 
 
 def add_to(commands: Any) -> None:
-    """Adds the command to those of the package."""
     raw = argparse.RawDescriptionHelpFormatter
     it = commands.add_parser("simulate", help="Prints what is lost at a rate, and how long look-at-mes wait", epilog=ABOUT, formatter_class=raw)
     it.add_argument("plan", metavar="PLAN", help="a plan: a TOML file, or @sample, the built-in plan")
