@@ -69,7 +69,6 @@ def instructions(program, script, calls, room):
 
 
 def measure(program, room):
-    """Prints the table."""
     print("| script | calls | interface | runner | loop in C | ns an answer |\n|---|---|---|---|---|---|")
     for name, calls in itertools.product(SCRIPTS, CALLS):
         script = f"{TOP}/examples/{name}.script"

@@ -113,7 +113,6 @@ class Case:
         return Case(self.name, self.words, text, self.script)
 
     def put(self, room):
-        """Writes the inputs, and returns the words of the call and the output."""
         for name, text in (("input", self.text), ("script", self.script.encode())):
             with open(os.path.join(room, name), "wb") as file:
                 file.write(text)

@@ -254,8 +254,6 @@ class Client(Case):
 
 
 class Modules(unittest.TestCase):
-    """The models of modules."""
-
     def test_look_at_me(self):
         module = Module(lam_at=12)
         self.assertEqual(module.cycle(12, 8, None), Reply(q=0))

@@ -419,8 +419,6 @@ class Proposed(Case):
 
 
 class Command(Case):
-    """The command line."""
-
     def command(self, *words):
         env = {**os.environ, "PYTHONPATH": str(TOP / "python"), "CAMAC_PROGRAM": PROGRAM, "PYTHONDONTWRITEBYTECODE": "1"}
         words = [sys.executable, "-m", "camac", "check", *map(str, words)]

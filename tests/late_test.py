@@ -145,8 +145,6 @@ class Pieces(unittest.TestCase):
 
 
 class Watched(unittest.TestCase):
-    """What a run shows."""
-
     def test_by_hand(self):
         """Veto may call again after 15 cycles, strip after 6."""
         its = (VETO, STRIP, SPILL)

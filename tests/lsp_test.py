@@ -47,8 +47,6 @@ def setUpModule():
 
 
 class Served(Case):
-    """A test with a server."""
-
     def setUp(self):
         super().setUp()
         self.client = self.start()

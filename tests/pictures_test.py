@@ -235,8 +235,6 @@ class Numbers(laboratory.BenchCase):
 
 
 class Costs(laboratory.BenchCase):
-    """The cost of each line."""
-
     def test_what_is_told_without_the_program(self):
         """The texts of which the kept pictures are drawn are those that the program prints."""
         plan, script, _ = self.files
@@ -556,8 +554,6 @@ class Kept(unittest.TestCase):
 
 @unittest.skipUnless(CHROMIUM, "Chromium is not here")
 class InChromium(laboratory.BenchCase):
-    """The page in a browser."""
-
     def opened(self, browser, text):
         browser.open(self.write("page.html", text))
         self.assertEqual(browser.said, [])

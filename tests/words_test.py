@@ -76,8 +76,6 @@ def text_of(events):
 
 
 class OfFile(Case):
-    """Files of words."""
-
     def read(self, text):
         return parse_words(text.encode(), "words.toml", SERVICES)
 

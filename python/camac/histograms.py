@@ -84,7 +84,6 @@ class Spectrum(Totals):
         return self.count - self.overflow
 
     def bins(self) -> Bins:
-        """All bins of the axis."""
         return Bins(0, 1 << self.shift, [self.counts[at] for at in range(((self.end - 1) >> self.shift) + 1)])
 
     def peak(self) -> Optional[int]:
@@ -123,7 +122,6 @@ class Series:
             self.last = value
 
     def widen(self, last: int) -> None:
-        """Makes room for the service of a number."""
         while last > self.per * self.MOST:
             self.per *= 2
             self.columns, self.rises = _halved(self.columns), _halved(self.rises)
@@ -164,7 +162,6 @@ class Pairs:
         self.cells[across >> self.shifts[0], up >> self.shifts[1]] += 1
 
     def widen(self, *numbers: int) -> None:
-        """Makes room for two numbers."""
         for axis, number in enumerate(numbers):
             while number >= self.ends[axis]:
                 self._double(axis)

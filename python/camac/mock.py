@@ -357,7 +357,6 @@ class MockBranch:
         return [module for (crate, _), module in self.modules.items() if crate == c]
 
     def initialise(self, c: int) -> None:
-        """Z in crate c."""
         for module in self.modules_of(c):
             module.initialise()
         self.inhibited.add(c)

@@ -51,7 +51,6 @@ def script_text(script: File) -> bytes:
 
 
 def _place(plan: File) -> File:
-    """The file of a plan."""
     return os.path.join(os.path.dirname(__file__), "sample_plan.toml") if is_sample(plan) else plan
 
 

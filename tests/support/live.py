@@ -24,8 +24,6 @@ def script(body, cycles=100, words=100):
 
 
 class Case(unittest.TestCase):
-    """A test in a folder of its own."""
-
     def setUp(self):
         room = tempfile.TemporaryDirectory(prefix="camac-live-")
         self.addCleanup(room.cleanup)

@@ -89,8 +89,6 @@ def draw_lines(
 
 
 class _Table:
-    """The place at which the next line is."""
-
     def __init__(self, canvas: Canvas, y: float, most: int, lines: Dict[int, Line]) -> None:
         self.canvas, self.most, self.lines = canvas, most, lines
         self.y = y

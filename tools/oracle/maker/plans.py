@@ -195,7 +195,6 @@ def text_of(random: Random, plan: Table) -> bytes:
 
 
 def make_plan(random: Random) -> bytes:
-    """A plan with no fault."""
     return text_of(random, tables_of(random))
 
 

@@ -8,8 +8,6 @@ from oracle.reader.plan import CONTROLLER, Plan
 
 
 class Overrun(Exception):
-    """A wait that a crate does not permit."""
-
     def __init__(self, crate: int, wait: int) -> None:
         super().__init__(crate, wait)
         self.crate, self.wait = crate, wait
@@ -72,5 +70,4 @@ class Branch:
         return Reply(1, 0, 0)
 
     def demand(self, gl: int) -> int:
-        """The pattern of a graded-L operation."""
         return gl & sum(self.plan.bits(it) for it in self.plan.crates if it not in self.silent)
