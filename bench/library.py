@@ -1,12 +1,12 @@
 #!/usr/bin/env python3
-"""Measures the cost of an answer through the library for C: by `camac_wants` and `camac_next`, or by `camac_step`; and `camac_words` at the
-end of an event.
+"""Measures the cost of an answer through the library for C: by `camac_wants` and `camac_next`, or by `camac_step`; and `camac_words` at the end of an
+event.
 
 usage: bench/library.py [ARCHIVE]     ARCHIVE is crates/camac_c/out/libcamac_c.a unless given (built by: cd crates/camac_c && rt lib)
 
-The instructions are those of valgrind's callgrind. There is a number for the interface (the exports and their copies), one for the runner that
-it calls, and one for the loop in C around them. The time is the processor's, in nanoseconds, the least of five runs. It needs gcc, and valgrind
-for the instructions.
+The instructions are those of valgrind's callgrind. There is a number for the interface (the exports and their copies), one for the runner that it
+calls, and one for the loop in C around them. The time is the processor's, in nanoseconds, the least of five runs. It needs gcc, and valgrind for the
+instructions.
 """
 import argparse
 import itertools

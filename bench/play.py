@@ -3,7 +3,8 @@
 
 usage: bench/play.py PACKAGE LIBRARY [PACKAGE LIBRARY ..]
 
-PACKAGE is the folder in which the Python package camac is (python), LIBRARY its libcamac.so.0. Rounds of several packages take turns. The time is the processor's, in microseconds, the least of seven rounds. The branch does nothing.
+PACKAGE is the folder in which the Python package camac is (python), LIBRARY its libcamac.so.0. Rounds of several packages take turns. The time is the
+processor's, in microseconds, the least of seven rounds. The branch does nothing.
 """
 import os
 import subprocess

@@ -4,8 +4,8 @@ mended by a fix, and nothing is shown then; hover texts; and a name gets another
 
 usage: tests/editors_test.py [-v] [TEST ..]     from any folder; takes some seconds
 
-Neovim, Emacs with eglot, Vim with ALE, and Node for the extension of VS Code are each left out if they are not here. If the library for C is there (tests/support/of_c.py), it
-judges, else the program: crates/camac/out/camac (cd crates/camac && rt run makes it), or what CAMAC_PROGRAM names.
+Neovim, Emacs with eglot, Vim with ALE, and Node for the extension of VS Code are each left out if they are not here. If the library for C is there
+(tests/support/of_c.py), it judges, else the program: crates/camac/out/camac (cd crates/camac && rt run makes it), or what CAMAC_PROGRAM names.
 """
 import json
 import os

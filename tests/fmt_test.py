@@ -4,8 +4,8 @@ file of a run are as before; so they are with a name that is another one (camac-
 
 usage: tests/fmt_test.py [-v] [TEST ..]     from any folder; takes some seconds
 
-CAMAC_CASES is how many random scripts are tried, 60 if it is not set; SEED begins them. If the library for C is there (tests/support/of_c.py), it judges,
-else what needs it is left out.
+CAMAC_CASES is how many random scripts are tried, 60 if it is not set; SEED begins them. If the library for C is there (tests/support/of_c.py), it
+judges, else what needs it is left out.
 """
 import os
 import random

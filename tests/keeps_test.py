@@ -5,8 +5,8 @@ out; and against the independent reader of tools/oracle.
 usage: tests/keeps_test.py [--whole] [-v] [TEST ..]     from any folder; takes some seconds
 
 With --whole all of it is tried and the figures are printed: 300 accepted scripts made at random that keep something, and 300 that are refused without
-it. That takes about five minutes. If the library for C is there (tests/support/of_c.py), it judges, else the program: crates/camac/out/camac (cd crates/camac && rt
-run makes it), or what the environment variable CAMAC_PROGRAM names. CAMAC_SEED is another seed than the usual one.
+it. That takes about five minutes. If the library for C is there (tests/support/of_c.py), it judges, else the program: crates/camac/out/camac (cd
+crates/camac && rt run makes it), or what the environment variable CAMAC_PROGRAM names. CAMAC_SEED is another seed than the usual one.
 """
 import functools
 import json

@@ -1,6 +1,6 @@
 #!/usr/bin/env python3
-"""Tries whether the fixes of explanations help: scripts are broken at random, each mend that a program can apply is applied, and the refusal of
-the case has to be gone.
+"""Tries whether the fixes of explanations help: scripts are broken at random, each mend that a program can apply is applied, and the refusal of the case
+has to be gone.
 
 usage: tests/mends_test.py [--whole] [-v] [TEST ..]     from any folder; takes ten seconds of the processor
 
